@@ -1,0 +1,97 @@
+// A pair of states under a relation: rows of inputs, and what must hold after a scan.
+ghost use Rattle.std.specs.Prelude.{◌≡◌};
+ghost use Rattle.st_tree.specs.View.{expr_view, exprs_view, program_view};
+ghost use Rattle.scan_model.specs.Values.{is_truth};
+ghost use Rattle.scan_model.specs.Pairs.{is_value, fits_input, is_allowed, loaded_one, loaded, after_row, holds, all_hold, is_related, relation_view};
+
+use crate::interpreter::{evaluate, meets_fault, put, scan};
+use scan_model::{InputLine, Relation};
+use st_tree::{Elementary, Expr, Program};
+
+fn is_value(kind: Elementary, number: i64) -> bool
+    ensures { result ≡ is_value kind number }
+{
+    match kind {
+        Elementary::Bool => 0 <= number && number <= 1,
+    }
+}
+
+fn fits_input(line: InputLine, number: i64) -> bool
+    ensures { result ≡ fits_input line number }
+{
+    match line {
+        InputLine::Both { kind, .. } => is_value(kind, number),
+    }
+}
+
+/// Whether a row has one number for each INPUT line, in its range.
+pub fn is_allowed(lines: &[InputLine], row: &[i64]) -> bool
+    ensures { result ≡ is_allowed lines.now row.now }
+{
+    if lines.len() != row.len() {
+        return false;
+    }
+    for place in 0..lines.len() {
+        if !fits_input(lines[place], row[place]) {
+            return false;
+        }
+    }
+    true
+}
+
+fn load_one(line: InputLine, number: i64, old_state: &mut [i64], new_state: &mut [i64])
+    ensures { let pair = loaded_one line number (record { old = old_state.old; new = new_state.old }) in (old_state.new ≡ pair.old) × (new_state.new ≡ pair.new) }
+{
+    match line {
+        InputLine::Both { old, new, .. } => {
+            put(old_state, old, number);
+            put(new_state, new, number);
+        }
+    }
+}
+
+// Puts each number of a row into the cells that its line names.
+fn load(lines: &[InputLine], row: &[i64], old_state: &mut [i64], new_state: &mut [i64])
+    ensures { let pair = loaded lines.now row.now (record { old = old_state.old; new = new_state.old }) in (old_state.new ≡ pair.old) × (new_state.new ≡ pair.new) }
+{
+    for (place, line) in lines.iter().enumerate() {
+        if place >= row.len() {
+            return;
+        }
+        load_one(*line, row[place], old_state, new_state);
+    }
+}
+
+/// Loads a row, and runs both programs one scan.
+pub fn step(
+    old: &Program,
+    new: &Program,
+    relation: &Relation,
+    row: &[i64],
+    old_state: &mut [i64],
+    new_state: &mut [i64],
+)
+    ensures { let pair = after_row (program_view old.now) (program_view new.now) (relation_view relation.now) row.now (record { old = old_state.old; new = new_state.old }) in (old_state.new ≡ pair.old) × (new_state.new ≡ pair.new) }
+{
+    load(&relation.inputs, row, old_state, new_state);
+    scan(old, old_state);
+    scan(new, new_state);
+}
+
+fn holds(clause: &Expr, old_state: &[i64], new_state: &[i64]) -> bool
+    ensures { result ≡ holds (expr_view clause.now) (record { old = old_state.now; new = new_state.now }) }
+{
+    evaluate(clause, old_state, new_state) == 1 && !meets_fault(clause, old_state, new_state)
+}
+
+/// Whether every RELATE clause holds on the pair.
+pub fn is_related(relation: &Relation, old_state: &[i64], new_state: &[i64]) -> bool
+    ensures { result ≡ is_related (relation_view relation.now) (record { old = old_state.now; new = new_state.now }) }
+{
+    for clause in &relation.relates {
+        if !holds(clause, old_state, new_state) {
+            return false;
+        }
+    }
+    true
+}
