@@ -3,4 +3,5 @@
 
 mod interpreter;
 mod pair;
+mod play;
 mod show;
