@@ -2,7 +2,8 @@
 use Rattle.std.proofs.Common.{◌≡◌, ◌<◌, ℕ, suc, ◌+◌, ℤ, List, [], ◌∷◌, ◌++◌, length, take, drop, get_or, drop-cons, add-one, Vec, Bool, true, false, if◌then◌else◌, Option, Some, None, Result, Ok, Err, OnErr, refl, sym, ap, ◌∙◌, subst, append_assoc, append-nil}
 use Rattle.std.proofs.lemmas.List.{take-append-drop}
 use Rattle.std.specs.declared.alloc.Global.{Global}
-use Rattle.outside.specs.Contents.{extended}
+use Rattle.outside.specs.declared.OutErr.{OutErr}
+use Rattle.outside.specs.Contents.{extended, Adds}
 use Rattle.st_tree.specs.Tree.{ProgramData}
 use Rattle.scan_model.specs.declared.relation.Ending.{Ending}
 use Rattle.scan_model.specs.declared.relation.Ending.TheVariants.{Unrelated}
@@ -59,8 +60,11 @@ pub nothing_put : (told : Option (List ℕ)) (text : List ℕ) → PutsPart told
 nothing_put told text = record { kept = []; rest = text; whole = refl; put = sym (extended-nothing told) }
 
 -- what an error of the sink leaves
-pub taken_part : (old new : Option (List ℕ)) (text : List ℕ) → (count : ℕ) × (new ≡ extended old (take count text)) → PutsPart old new text
-taken_part old new text (count, e) = record { kept = take count text; rest = drop count text; whole = sym (take-append-drop count text); put = e }
+pub adds_part : {T : Type 0} (result : Result T OutErr) (old new : Option (List ℕ)) (bytes text : List ℕ) → bytes ≡ text → Adds old new bytes result → OnErr result (PutsPart old new text)
+adds_part (Ok v) old new bytes text same h = tt
+adds_part (Err e) old new bytes text same h =
+    let count = h.part.0 in
+    subst (PutsPart old new) same (record { kept = take count bytes; rest = drop count bytes; whole = sym (take-append-drop count bytes); put = h.part.1 })
 
 -- ---- one row
 

@@ -11,6 +11,7 @@ ghost use Rattle.regver_top.specs.Puts.{PutsPart};
 ghost use Rattle.regver_top.specs.Held.{rows_of, pair_of};
 
 use crate::pair::{States, is_allowed, is_related, start, step};
+use crate::put::put_text;
 use crate::show::show_scan;
 use outside::{OutErr, Sink};
 use scan_model::{Ending, Relation};
@@ -37,19 +38,6 @@ impl From<AllocError> for PlayError {
     }
 }
 
-// Puts a line.
-fn put_line<K: Sink>(out: &mut K, line: &str) -> Result<(), PlayError>
-    ensures whole { OnOk result (K.taken out.new ≡ extended (K.taken out.old) line.now) }
-    ensures part { OnErr result (PutsPart (K.taken out.old) (K.taken out.new) line.now) }
-    ensures later { K.faults out.old ≤ K.faults out.new }
-    ensures cause { result ≡ Err (PlayError.Sink Fault) → Rose (K.faults out.old) (K.faults out.new) }
-{
-    match out.put(line.as_bytes()) {
-        Ok(()) => Ok(()),
-        Err(error) => Err(PlayError::Sink(error)),
-    }
-}
-
 // Puts the line of a scan, which it makes in a text that is kept for the next.
 fn put_scan<K: Sink>(
     out: &mut K,
@@ -66,7 +54,10 @@ fn put_scan<K: Sink>(
 {
     line.clear();
     show_scan(line, number, old, &states.of_old, new, &states.of_new)?;
-    put_line(out, line)
+    match put_text(out, line.as_str()) {
+        Ok(()) => Ok(()),
+        Err(error) => Err(PlayError::Sink(error)),
+    }
 }
 
 /// Runs both programs on the rows, and puts a line for each row that was run.
