@@ -1,2 +1,14 @@
 pub mod Lines
 pub mod Outcomes
+pub mod Puts
+pub mod Held
+pub mod Kept
+pub mod Programs
+pub mod Relations
+pub mod Traces
+pub mod Accepting
+pub mod Accepted
+pub mod Reports
+pub mod Played
+pub mod Answers
+pub mod Codes

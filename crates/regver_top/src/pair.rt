@@ -1,12 +1,13 @@
 // A pair of states under a relation: rows of inputs, and what must hold after a scan.
-ghost use Rattle.std.specs.Prelude.{◌≡◌};
-ghost use Rattle.st_tree.specs.View.{expr_view, exprs_view, program_view};
-ghost use Rattle.scan_model.specs.Values.{is_truth};
-ghost use Rattle.scan_model.specs.Pairs.{is_value, fits_input, is_allowed, loaded_one, loaded, after_row, holds, all_hold, is_related, relation_view};
+ghost use Rattle.std.specs.Prelude.{◌≡◌, IfOk};
+ghost use Rattle.st_tree.specs.View.{expr_view, program_view};
+ghost use Rattle.scan_model.specs.Pairs.{start, is_value, fits_input, is_allowed, loaded_one, loaded, after_row, holds, is_related, relation_view};
+ghost use Rattle.regver_top.specs.Held.{pair_of};
 
-use crate::interpreter::{evaluate, meets_fault, put, scan};
+use crate::interpreter::{evaluate, initial, meets_fault, put, scan};
 use scan_model::{InputLine, Relation};
 use st_tree::{Elementary, Expr, Program};
+use std::alloc::{AllocError, Global};
 
 fn is_value(kind: Elementary, number: i64) -> bool
     ensures { result ≡ is_value kind number }
@@ -62,34 +63,46 @@ fn load(lines: &[InputLine], row: &[i64], old_state: &mut [i64], new_state: &mut
     }
 }
 
-/// Loads a row, and runs both programs one scan.
-pub fn step(
-    old: &Program,
-    new: &Program,
-    relation: &Relation,
-    row: &[i64],
-    old_state: &mut [i64],
-    new_state: &mut [i64],
-)
-    ensures { let pair = after_row (program_view old.now) (program_view new.now) (relation_view relation.now) row.now (record { old = old_state.old; new = new_state.old }) in (old_state.new ≡ pair.old) × (new_state.new ≡ pair.new) }
-{
-    load(&relation.inputs, row, old_state, new_state);
-    scan(old, old_state);
-    scan(new, new_state);
+/// The states of both programs.
+#[derive(Drop)]
+pub struct States {
+    pub of_old: Vec<i64>,
+    pub of_new: Vec<i64>,
 }
 
-fn holds(clause: &Expr, old_state: &[i64], new_state: &[i64]) -> bool
-    ensures { result ≡ holds (expr_view clause.now) (record { old = old_state.now; new = new_state.now }) }
+/// Both programs as they begin.
+pub fn start(alloc: Global, old: &Program, new: &Program) -> Result<States, AllocError>
+    ensures { IfOk result (λ s. pair_of s ≡ start (program_view old.now) (program_view new.now)) }
 {
-    evaluate(clause, old_state, new_state) == 1 && !meets_fault(clause, old_state, new_state)
+    Ok(States {
+        of_old: initial(alloc, &old.cells)?,
+        of_new: initial(alloc, &new.cells)?,
+    })
+}
+
+/// Loads a row, and runs both programs one scan.
+pub fn step(old: &Program, new: &Program, relation: &Relation, row: &[i64], states: &mut States)
+    ensures { pair_of states.new ≡ after_row (program_view old.now) (program_view new.now) (relation_view relation.now) row.now (pair_of states.old) }
+{
+    load(&relation.inputs, row, &mut states.of_old, &mut states.of_new);
+    scan(old, &mut states.of_old);
+    scan(new, &mut states.of_new);
+}
+
+fn holds(clause: &Expr, states: &States) -> bool
+    ensures { result ≡ holds (expr_view clause.now) (pair_of states.now) }
+{
+    let old = states.of_old.as_slice();
+    let new = states.of_new.as_slice();
+    evaluate(clause, old, new) == 1 && !meets_fault(clause, old, new)
 }
 
 /// Whether every RELATE clause holds on the pair.
-pub fn is_related(relation: &Relation, old_state: &[i64], new_state: &[i64]) -> bool
-    ensures { result ≡ is_related (relation_view relation.now) (record { old = old_state.now; new = new_state.now }) }
+pub fn is_related(relation: &Relation, states: &States) -> bool
+    ensures { result ≡ is_related (relation_view relation.now) (pair_of states.now) }
 {
     for clause in &relation.relates {
-        if !holds(clause, old_state, new_state) {
+        if !holds(clause, states) {
             return false;
         }
     }

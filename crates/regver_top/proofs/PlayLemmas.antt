@@ -1,0 +1,125 @@
+-- What has been put of a replay while it goes on.
+use Rattle.std.proofs.Common.{◌≡◌, ◌<◌, ℕ, suc, ◌+◌, ℤ, List, [], ◌∷◌, ◌++◌, length, take, drop, get_or, drop-cons, add-one, Vec, Bool, true, false, if◌then◌else◌, Option, Some, None, Result, Ok, Err, OnErr, refl, sym, ap, ◌∙◌, subst, append_assoc, append-nil}
+use Rattle.std.proofs.lemmas.List.{take-append-drop}
+use Rattle.std.specs.declared.alloc.Global.{Global}
+use Rattle.outside.specs.declared.OutErr.{OutErr}
+use Rattle.outside.specs.Contents.{extended, Adds}
+use Rattle.st_tree.specs.Tree.{ProgramData}
+use Rattle.scan_model.specs.declared.relation.Ending.{Ending}
+use Rattle.scan_model.specs.declared.relation.Ending.TheVariants.{Unrelated}
+use Rattle.scan_model.specs.Pairs.{RelationData, Row, Pair, is_allowed, is_related, after_row}
+use Rattle.regver_top.specs.Held.{rows_of}
+use Rattle.regver_top.specs.Lines.{scan_line}
+use Rattle.regver_top.specs.Outcomes.{Outcome, ended, with_line, outcome_from}
+use Rattle.regver_top.specs.Puts.{PutsPart}
+
+pub extended-twice : (told : Option (List ℕ)) (a b : List ℕ) → extended (extended told a) b ≡ extended told (a ++ b)
+extended-twice None a b = refl
+extended-twice (Some bytes) a b = ap Some (append_assoc bytes a b)
+
+pub extended-nothing : (told : Option (List ℕ)) → extended told [] ≡ told
+extended-nothing None = refl
+extended-nothing (Some bytes) = ap Some (append-nil bytes)
+
+-- these bytes were put of a whole replay, and the rest of it is still to come
+pub record HasPlayed (old now : Option (List ℕ)) (all rest : Outcome) : Type 0 where
+  pub done : List ℕ
+  pub put : now ≡ extended old done
+  pub lines : all.lines ≡ done ++ rest.lines
+  pub ending : all.ending ≡ rest.ending
+
+pub nothing_played : (told : Option (List ℕ)) (all : Outcome) → HasPlayed told told all all
+nothing_played told all = record { done = []; put = sym (extended-nothing told); lines = refl; ending = refl }
+
+-- a line more was put
+pub line_played : (old now next : Option (List ℕ)) (all rest : Outcome) (line : List ℕ)
+    → HasPlayed old now all (with_line line rest) → next ≡ extended now line → HasPlayed old next all rest
+line_played old now next all rest line h e = record {
+  done = h.done ++ line;
+  put = e ∙ ap (λ o. extended o line) h.put ∙ extended-twice old h.done line;
+  lines = h.lines ∙ sym (append_assoc h.done line rest.lines);
+  ending = h.ending;
+}
+
+-- a part of the next line was put
+pub part_played : (old now next : Option (List ℕ)) (all rest : Outcome) (line : List ℕ)
+    → HasPlayed old now all (with_line line rest) → PutsPart now next line → PutsPart old next all.lines
+part_played old now next all rest line h p = record {
+  kept = h.done ++ p.kept;
+  rest = p.rest ++ rest.lines;
+  whole = h.lines ∙ ap (λ l. h.done ++ (l ++ rest.lines)) p.whole ∙ ap (λ l. h.done ++ l) (append_assoc p.kept p.rest rest.lines) ∙ sym (append_assoc h.done p.kept (p.rest ++ rest.lines));
+  put = p.put ∙ ap (λ o. extended o p.kept) h.put ∙ extended-twice old h.done p.kept;
+}
+
+-- all was put
+pub all_played : (old now : Option (List ℕ)) (all : Outcome) (ending : Ending) → HasPlayed old now all (ended ending) → (now ≡ extended old all.lines) × (ending ≡ all.ending)
+all_played old now all ending h = (h.put ∙ ap (extended old) (sym (append-nil h.done) ∙ sym h.lines), sym h.ending)
+
+-- nothing was put of what was to come
+pub nothing_put : (told : Option (List ℕ)) (text : List ℕ) → PutsPart told told text
+nothing_put told text = record { kept = []; rest = text; whole = refl; put = sym (extended-nothing told) }
+
+-- what an error of the sink leaves
+pub adds_part : {T : Type 0} (result : Result T OutErr) (old new : Option (List ℕ)) (bytes text : List ℕ) → bytes ≡ text → Adds old new bytes result → OnErr result (PutsPart old new text)
+adds_part (Ok v) old new bytes text same h = tt
+adds_part (Err e) old new bytes text same h =
+    let count = h.part.0 in
+    subst (PutsPart old new) same (record { kept = take count bytes; rest = drop count bytes; whole = sym (take-append-drop count bytes); put = h.part.1 })
+
+-- ---- one row
+
+outcome-row : (old new : ProgramData) (rel : RelationData) (k : ℕ) (pair : Pair) (row : Row) (rows : List Row) → is_allowed rel.inputs row ≡ true
+    → outcome_from old new rel k pair (row ∷ rows) ≡ with_line (scan_line old new (k + 1) (after_row old new rel row pair))
+      (if is_related rel (after_row old new rel row pair) then outcome_from old new rel (k + 1) (after_row old new rel row pair) rows else ended (Unrelated (k + 1)))
+outcome-row old new rel k pair row rows a = rw a refl
+
+rows_of-drop : (rows : List (Vec ℤ Global)) (done : ℕ) (vec : Vec ℤ Global) → done < length rows → vec ≡ get_or rows done vec → rows_of (drop done rows) ≡ vec.items ∷ rows_of (drop (done + 1) rows)
+rows_of-drop rows done vec h e =
+    ap rows_of (drop-cons rows done vec h) ∙ ap (λ v. v.items ∷ rows_of (drop (suc done) rows)) (sym e) ∙ ap (λ n. vec.items ∷ rows_of (drop n rows)) (sym (add-one done))
+
+-- what is to come after a row that is allowed: its line, and then by the pair that it leaves
+abbrev to_come : ProgramData → ProgramData → RelationData → ℕ → Pair → List Row → Outcome
+to_come old new rel done next rows = if is_related rel next then outcome_from old new rel (done + 1) next rows else ended (Unrelated (done + 1))
+
+-- a row was run, and its line is to be put
+pub record HasRunRow (old new : ProgramData) (rel : RelationData) (told now : Option (List ℕ)) (all : Outcome) (done : ℕ) (next : Pair) (rows : List Row) : Type 0 where
+  pub played : HasPlayed told now all (with_line (scan_line old new (done + 1) next) (to_come old new rel done next rows))
+
+pub row_run : (old new : ProgramData) (rel : RelationData) (told now : Option (List ℕ)) (all : Outcome) (done : ℕ) (pair next : Pair) (rows : List (Vec ℤ Global)) (vec : Vec ℤ Global) (row : Row)
+    → HasPlayed told now all (outcome_from old new rel done pair (rows_of (drop done rows)))
+    → done < length rows → vec ≡ get_or rows done vec → row ≡ vec.items → is_allowed rel.inputs row ≡ true → next ≡ after_row old new rel row pair
+    → HasRunRow old new rel told now all done next (rows_of (drop (done + 1) rows))
+row_run old new rel told now all done pair next rows vec row h short at same allowed stepped =
+    let more = rows_of (drop (done + 1) rows) in
+    let cut : rows_of (drop done rows) ≡ row ∷ more = rows_of-drop rows done vec short at ∙ ap (λ r. r ∷ more) (sym same) in
+    let first = subst (λ r. HasPlayed told now all (outcome_from old new rel done pair r)) cut h in
+    let then_line = subst (HasPlayed told now all) (outcome-row old new rel done pair row more allowed) first in
+    record { played = subst (λ p. HasPlayed told now all (with_line (scan_line old new (done + 1) p) (to_come old new rel done p more))) (sym stepped) then_line }
+
+-- its line was put, and the pair is related
+pub row_related : (old new : ProgramData) (rel : RelationData) (told now put : Option (List ℕ)) (all : Outcome) (done : ℕ) (next : Pair) (rows : List Row)
+    → HasRunRow old new rel told now all done next rows → put ≡ extended now (scan_line old new (done + 1) next) → is_related rel next ≡ true
+    → HasPlayed told put all (outcome_from old new rel (done + 1) next rows)
+row_related old new rel told now put all done next rows h e r =
+    let line = scan_line old new (done + 1) next in
+    line_played told now put all (outcome_from old new rel (done + 1) next rows) line
+      (subst (λ b. HasPlayed told now all (with_line line (if b then outcome_from old new rel (done + 1) next rows else ended (Unrelated (done + 1))))) r h.played) e
+
+-- its line was put, and the pair is not related
+pub row_unrelated : (old new : ProgramData) (rel : RelationData) (told now put : Option (List ℕ)) (all : Outcome) (done : ℕ) (next : Pair) (rows : List Row)
+    → HasRunRow old new rel told now all done next rows → put ≡ extended now (scan_line old new (done + 1) next) → is_related rel next ≡ false
+    → (put ≡ extended told all.lines) × (Unrelated (done + 1) ≡ all.ending)
+row_unrelated old new rel told now put all done next rows h e r =
+    let line = scan_line old new (done + 1) next in
+    all_played told put all (Unrelated (done + 1)) (line_played told now put all (ended (Unrelated (done + 1))) line
+      (subst (λ b. HasPlayed told now all (with_line line (if b then outcome_from old new rel (done + 1) next rows else ended (Unrelated (done + 1))))) r h.played) e)
+
+-- a part of its line was put
+pub row_part : (old new : ProgramData) (rel : RelationData) (told now put : Option (List ℕ)) (all : Outcome) (done : ℕ) (next : Pair) (rows : List Row)
+    → HasRunRow old new rel told now all done next rows → PutsPart now put (scan_line old new (done + 1) next) → PutsPart told put all.lines
+row_part old new rel told now put all done next rows h p =
+    part_played told now put all (to_come old new rel done next rows) (scan_line old new (done + 1) next) h.played p
+
+pub on_err : {T E : Type 0} (r : Result T E) (P : Type 0) → P → OnErr r P
+on_err (Ok v) P h = tt
+on_err (Err e) P h = h

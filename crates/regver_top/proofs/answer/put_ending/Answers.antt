@@ -1,0 +1,21 @@
+use Rattle.std.proofs.Common.{◌≡◌, refl, subst, ap, ◌∙◌}
+use Rattle.regver_top.specs.Lines.{ending_line}
+use Rattle.regver_top.specs.Played.{outcome_report}
+use Rattle.regver_top.specs.Reports.{ending_status}
+use Rattle.regver_top.specs.Answers.{HasPut}
+use Rattle.regver_top.proofs.AnswerLemmas.{answered, put_behind, memory_behind, is_plain-ending_status}
+use Rattle.regver_top.proofs.answer.put_ending.Goals as goal
+
+pub returns-in-Ok-clause-answer : goal.returns-in-Ok-clause-answer
+returns-in-Ok-clause-answer g c = λ told o e at.
+    let old = g.K.Sink.taken c.args.out.now in
+    let new = g.K.Sink.taken c.put_last.new.out in
+    let line = subst (λ l. HasPut l c.status_of.result c.put_last.result old new) (c.as_str.ensures.value ∙ c.in-Ok.ensures ∙ ap ending_line at) c.put_last.ensures.put in
+    let put = subst (λ s. HasPut (ending_line o.ending) s c.put_last.result old new) (c.status_of.ensures ∙ ap ending_status at) line in
+    answered (λ r. r ≡ outcome_report o) ⊥ (outcome_report o) c.put_last.result told new refl (is_plain-ending_status o.ending)
+      (put_behind o.lines (ending_line o.ending) (ending_status o.ending) c.put_last.result told old new e put)
+
+pub returns-in-Err-clause-answer : goal.returns-in-Err-clause-answer
+returns-in-Err-clause-answer g c = λ told o e at.
+    memory_behind (λ r. r ≡ outcome_report o) ⊥ (outcome_report o) o.lines (ending_line o.ending) c.put_last-in-Err.result told (g.K.Sink.taken c.args.out.now) (g.K.Sink.taken c.put_last-in-Err.new.out)
+      refl refl e c.put_last-in-Err.ensures.put

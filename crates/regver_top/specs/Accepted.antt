@@ -1,0 +1,33 @@
+-- What texts and what is accepted of them stand for in memory.
+use Rattle.std.specs.Prelude.{◌≡◌}
+use Rattle.st_tree.specs.View.{program_view}
+use Rattle.scan_model.specs.Pairs.{relation_view}
+use Rattle.regver_top.specs.declared.accept.KeptTexts.{KeptTexts}
+use Rattle.regver_top.specs.declared.accept.Replay.{Replay}
+use Rattle.regver_top.specs.declared.refusal.AcceptError.{AcceptError}
+use Rattle.regver_top.specs.declared.refusal.AcceptError.TheVariants.{Refused, Memory}
+use Rattle.regver_top.specs.declared.refusal.Source.{Source}
+use Rattle.regver_top.specs.declared.refusal.Refusal.{Refusal}
+use Rattle.regver_top.specs.Held.{rows_of}
+use Rattle.regver_top.specs.Kept.{IsKept}
+use Rattle.regver_top.specs.Accepting.{Texts, IsAccepted}
+
+-- all four texts, but for those that are too long
+pub record AreKept (kept : KeptTexts) (t : Texts) : Type 0 where
+  pub old : IsKept kept.old t.old
+  pub new : IsKept kept.new t.new
+  pub rel : IsKept kept.relation t.rel
+  pub trace : IsKept kept.trace t.trace
+
+abbrev pub ReplayIsAccepted : Texts → Replay → Type 0
+ReplayIsAccepted t r = IsAccepted t (program_view r.old) (program_view r.new) (relation_view r.relation) (rows_of r.rows.items)
+
+-- a fact of a refusal
+abbrev pub IfRefused : (Source → Refusal → Type 0) → AcceptError → Type 0
+IfRefused P (Refused file r) = P file r
+IfRefused P Memory = Unit {0}
+
+-- a refusal is of this file, and a fact of it
+abbrev pub IfRefusedOf : Source → (Refusal → Type 0) → AcceptError → Type 0
+IfRefusedOf source P (Refused file r) = (file ≡ source) × P r
+IfRefusedOf source P Memory = Unit {0}

@@ -1,0 +1,11 @@
+-- What rows and pairs in memory stand for.
+use Rattle.std.specs.Prelude.{List, map, ℤ, Vec}
+use Rattle.std.specs.declared.alloc.Global.{Global}
+use Rattle.scan_model.specs.Pairs.{Row, Pair}
+use Rattle.regver_top.specs.declared.pair.States.{States}
+
+abbrev pub rows_of : List (Vec ℤ Global) → List Row
+rows_of vs = map (λ v. v.items) vs
+
+abbrev pub pair_of : States → Pair
+pair_of s = record { old = s.of_old.items; new = s.of_new.items }

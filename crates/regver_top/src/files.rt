@@ -1,0 +1,33 @@
+// Whole texts of files.
+ghost use Rattle.std.specs.Prelude.{◌≡◌, IfOk, IfSome};
+ghost use Rattle.outside.specs.Causes.{HasFileCause, NoneFell};
+ghost use Rattle.regver_top.specs.Kept.{IsKept};
+
+use outside::{OutErr, Shelf};
+use std::alloc::Global;
+
+// How many bytes a text may have.
+const LIMIT: usize = 1_048_576;
+
+/// The text of a file, or none where it is too long.
+pub fn read_text<S: Shelf>(
+    alloc: Global,
+    shelf: &mut S,
+    name: &str,
+) -> Result<Option<Vec<u8>>, OutErr>
+    ensures text { IfSome (S.file shelf.old name.now) (λ bytes. IfOk result (λ o. IsKept o bytes)) }
+    ensures kept { S.file shelf.new ≡ S.file shelf.old }
+    ensures cause { HasFileCause (S.read_faults shelf.old) (S.read_faults shelf.new) name.now result }
+    ensures writes { NoneFell (S.write_faults shelf.old) (S.write_faults shelf.new) }
+{
+    let mut text = Vec::new(alloc);
+    let mut buffer = [0u8; 65536];
+    'parts: while text.len() <= LIMIT {
+        let count = shelf.read_at(name, text.len() as u64, &mut buffer)?;
+        if count == 0 {
+            return Ok(Some(text));
+        }
+        text.extend_from_slice(&buffer[..count])?;
+    }
+    Ok(None)
+}
