@@ -1,0 +1,69 @@
+// The files that the system has. What they hold is not told.
+ghost use Rattle.std.specs.Prelude.{◌≡◌, List, ℕ, None, IfOk, ◌≤◌, length};
+
+use crate::fault::counted;
+use outside::{OutErr, Shelf};
+use std::fs::{File, OpenOptions};
+use std::io::{self, Read, Seek, SeekFrom, Write};
+use std::rt::Files;
+
+/// Files by their paths, which are those of the folder that the program runs in.
+#[derive(Drop)]
+pub struct FileShelf<'a, R> {
+    rt: &'a R,
+    read_faults: u64,
+    write_faults: u64,
+}
+
+impl<'a, R: Files> FileShelf<'a, R> {
+    pub fn new(rt: &'a R) -> Self
+        ensures reads { (name : List ℕ) → ⟦<FileShelf<'a, R> as Shelf>⟧.read_faults result name ≡ 0 }
+        ensures writes { (name : List ℕ) → ⟦<FileShelf<'a, R> as Shelf>⟧.write_faults result name ≡ 0 }
+    {
+        FileShelf {
+            rt,
+            read_faults: 0,
+            write_faults: 0,
+        }
+    }
+}
+
+// Reads once from that place on. A folder, or a file that cannot be opened or has no places, is an error.
+fn read_from<R: Files>(rt: &R, name: &str, from: u64, buf: &mut [u8]) -> io::Result<usize>
+    ensures { IfOk result (λ count. count ≤ length buf.new) }
+{
+    let mut file = File::open(rt, name)?;
+    file.seek(SeekFrom::Start(from))?;
+    file.read(buf)
+}
+
+fn make_empty<R: Files>(rt: &R, name: &str) -> io::Result<()> {
+    File::create(rt, name)?;
+    Ok(())
+}
+
+fn add_to<R: Files>(rt: &R, name: &str, bytes: &[u8]) -> io::Result<()> {
+    let mut options = OpenOptions::new();
+    let mut file = options.append(true).create(true).open(rt, name)?;
+    file.write_all(bytes)
+}
+
+impl<R: Files> Shelf for FileShelf<'_, R> {
+    ghost file = { λ s name. None };
+
+    ghost read_faults = { λ s name. s.read_faults };
+
+    ghost write_faults = { λ s name. s.write_faults };
+
+    fn read_at(&mut self, name: &str, from: u64, buf: &mut [u8]) -> Result<usize, OutErr> {
+        counted(read_from(self.rt, name, from, buf), &mut self.read_faults)
+    }
+
+    fn create(&mut self, name: &str) -> Result<(), OutErr> {
+        counted(make_empty(self.rt, name), &mut self.write_faults)
+    }
+
+    fn append(&mut self, name: &str, bytes: &[u8]) -> Result<(), OutErr> {
+        counted(add_to(self.rt, name, bytes), &mut self.write_faults)
+    }
+}
