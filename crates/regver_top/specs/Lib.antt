@@ -1,4 +1,2 @@
-pub mod Lines
-pub mod Outcomes
-pub mod Puts
-pub mod Held
+pub mod Fronts
+pub mod Lexing

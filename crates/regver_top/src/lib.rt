@@ -1,7 +1,6 @@
 // The regression verifier's top call: what it puts on the sink and with which status it ends.
 #![tactic(auto)]
 
-mod interpreter;
-mod pair;
-mod play;
-mod show;
+mod classes;
+mod front;
+mod lex;
