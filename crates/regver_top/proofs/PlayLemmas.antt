@@ -70,7 +70,7 @@ adds_part (Err e) old new bytes text same h =
 
 outcome-row : (old new : ProgramData) (rel : RelationData) (k : ℕ) (pair : Pair) (row : Row) (rows : List Row) → is_allowed rel.inputs row ≡ true
     → outcome_from old new rel k pair (row ∷ rows) ≡ with_line (scan_line old new (k + 1) (after_row old new rel row pair))
-      (if is_related rel (after_row old new rel row pair) then outcome_from old new rel (k + 1) (after_row old new rel row pair) rows else ended (Unrelated (k + 1)))
+    (if is_related rel (after_row old new rel row pair) then outcome_from old new rel (k + 1) (after_row old new rel row pair) rows else ended (Unrelated (k + 1)))
 outcome-row old new rel k pair row rows a = rw a refl
 
 rows_of-drop : (rows : List (Vec ℤ Global)) (done : ℕ) (vec : Vec ℤ Global) → done < length rows → vec ≡ get_or rows done vec → rows_of (drop done rows) ≡ vec.items ∷ rows_of (drop (done + 1) rows)
@@ -103,7 +103,7 @@ pub row_related : (old new : ProgramData) (rel : RelationData) (told now put : O
 row_related old new rel told now put all done next rows h e r =
     let line = scan_line old new (done + 1) next in
     line_played told now put all (outcome_from old new rel (done + 1) next rows) line
-      (subst (λ b. HasPlayed told now all (with_line line (if b then outcome_from old new rel (done + 1) next rows else ended (Unrelated (done + 1))))) r h.played) e
+    (subst (λ b. HasPlayed told now all (with_line line (if b then outcome_from old new rel (done + 1) next rows else ended (Unrelated (done + 1))))) r h.played) e
 
 -- its line was put, and the pair is not related
 pub row_unrelated : (old new : ProgramData) (rel : RelationData) (told now put : Option (List ℕ)) (all : Outcome) (done : ℕ) (next : Pair) (rows : List Row)
@@ -112,7 +112,7 @@ pub row_unrelated : (old new : ProgramData) (rel : RelationData) (told now put :
 row_unrelated old new rel told now put all done next rows h e r =
     let line = scan_line old new (done + 1) next in
     all_played told put all (Unrelated (done + 1)) (line_played told now put all (ended (Unrelated (done + 1))) line
-      (subst (λ b. HasPlayed told now all (with_line line (if b then outcome_from old new rel (done + 1) next rows else ended (Unrelated (done + 1))))) r h.played) e)
+    (subst (λ b. HasPlayed told now all (with_line line (if b then outcome_from old new rel (done + 1) next rows else ended (Unrelated (done + 1))))) r h.played) e)
 
 -- a part of its line was put
 pub row_part : (old new : ProgramData) (rel : RelationData) (told now put : Option (List ℕ)) (all : Outcome) (done : ℕ) (next : Pair) (rows : List Row)

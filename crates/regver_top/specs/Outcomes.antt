@@ -22,7 +22,7 @@ outcome_from old new rel k pair [] = ended (Related k)
 outcome_from old new rel k pair (row ∷ rows) =
     if is_allowed rel.inputs row
     then with_line (scan_line old new (k + 1) (after_row old new rel row pair))
-      (if is_related rel (after_row old new rel row pair) then outcome_from old new rel (k + 1) (after_row old new rel row pair) rows else ended (Unrelated (k + 1)))
+    (if is_related rel (after_row old new rel row pair) then outcome_from old new rel (k + 1) (after_row old new rel row pair) rows else ended (Unrelated (k + 1)))
     else ended (NotAllowed (k + 1))
 
 abbrev pub outcome_of : ProgramData → ProgramData → RelationData → List Row → Outcome

@@ -5,8 +5,13 @@ use Rattle.regver_top.specs.Relations.{Words, Places}
 
 abbrev pub words_of : RelationWords → Words
 words_of w = record {
-  version = w.version.now; depth = w.depth.now; conflicts = w.conflicts.now;
-  old_input = w.old_input.now; new_input = w.new_input.now; old_output = w.old_output.now; new_output = w.new_output.now;
+  version = w.version.now;
+  depth = w.depth.now;
+  conflicts = w.conflicts.now;
+  old_input = w.old_input.now;
+  new_input = w.new_input.now;
+  old_output = w.old_output.now;
+  new_output = w.new_output.now;
 }
 
 abbrev pub sides_of : Sides → Places

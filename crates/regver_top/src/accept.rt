@@ -43,11 +43,7 @@ fn refused(source: Source, rule: Rule) -> AcceptError
     AcceptError::Refused(source, Refusal { rule, at: 0 })
 }
 
-fn program_in(
-    alloc: Global,
-    source: Source,
-    text: &Option<Vec<u8>>,
-) -> Result<Program, AcceptError>
+fn program_in(alloc: Global, source: Source, text: &Option<Vec<u8>>) -> Result<Program, AcceptError>
     ensures ok { (bytes : List ℕ) → IsKept text.now bytes → IfOk result (λ p. Accepts (IsProgram bytes) bytes (program_view p)) }
     ensures refused { (bytes : List ℕ) → IsKept text.now bytes → IfErr result (IfRefusedOf source (IsBroken (IsProgram bytes) NoForm bytes)) }
 {

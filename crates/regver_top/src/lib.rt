@@ -14,10 +14,14 @@ mod pair;
 mod play;
 mod put;
 mod read;
+#[cfg(test)]
+mod reader_tests;
 mod refusal;
 mod relate;
 mod show;
 mod status;
+#[cfg(test)]
+mod tests;
 mod top;
 mod trace;
 

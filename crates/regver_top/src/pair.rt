@@ -84,7 +84,12 @@ pub fn start(alloc: Global, old: &Program, new: &Program) -> Result<States, Allo
 pub fn step(old: &Program, new: &Program, relation: &Relation, row: &[i64], states: &mut States)
     ensures { pair_of states.new ≡ after_row (program_view old.now) (program_view new.now) (relation_view relation.now) row.now (pair_of states.old) }
 {
-    load(&relation.inputs, row, &mut states.of_old, &mut states.of_new);
+    load(
+        &relation.inputs,
+        row,
+        &mut states.of_old,
+        &mut states.of_new,
+    );
     scan(old, &mut states.of_old);
     scan(new, &mut states.of_new);
 }

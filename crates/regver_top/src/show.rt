@@ -57,12 +57,7 @@ pub fn show_scan(
     Ok(())
 }
 
-fn show_number(
-    line: &mut String,
-    front: &str,
-    number: usize,
-    back: &str,
-) -> Result<(), AllocError>
+fn show_number(line: &mut String, front: &str, number: usize, back: &str) -> Result<(), AllocError>
     ensures { OnOk result (string_bytes line.new ≡ string_bytes line.old ++ (front.now ++ decimal number ++ back.now)) }
 {
     let mut digits = Buffer::new();

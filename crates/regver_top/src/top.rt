@@ -31,11 +31,7 @@ fn word(words: &[String], place: usize) -> &str
 }
 
 // Reads the four files whole, in their order.
-fn read_texts<S: Shelf>(
-    alloc: Global,
-    words: &[String],
-    shelf: &mut S,
-) -> Result<KeptTexts, OutErr>
+fn read_texts<S: Shelf>(alloc: Global, words: &[String], shelf: &mut S) -> Result<KeptTexts, OutErr>
     requires { length words.now ≡ 6 }
     ensures texts { (t : Texts) → AreTold (S.file shelf.old) (map string_bytes words.now) t → IfOk result (λ kept. AreKept kept t) }
     ensures kept { S.file shelf.new ≡ S.file shelf.old }

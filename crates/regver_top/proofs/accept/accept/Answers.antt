@@ -19,12 +19,12 @@ pub returns-in_err-relation-clause-refused : goal.returns-in_err-relation-clause
 returns-in_err-relation-clause-refused c = λ t kept.
     let p = err_from_is_err_and c.from_residual-in_err-relation.result c.from_residual-in_err-relation.ensures.1 in
     rw (p.1, p.2) (at_relation t (program_view c.in_ok-old.old) (program_view c.in_ok-new.new) c.in_err-relation.field-0.0
-      (c.in_ok-old.ensures.ok t.old kept.old) (c.in_ok-new.ensures.ok t.new kept.new) (c.in_err-relation.ensures.refused t.rel kept.rel))
+    (c.in_ok-old.ensures.ok t.old kept.old) (c.in_ok-new.ensures.ok t.new kept.new) (c.in_err-relation.ensures.refused t.rel kept.rel))
 
 pub returns-in_err-rows-clause-refused : goal.returns-in_err-rows-clause-refused
 returns-in_err-rows-clause-refused c = λ t kept.
     let p = err_from_is_err_and c.from_residual-in_err-rows.result c.from_residual-in_err-rows.ensures.1 in
     let width : c.len.result ≡ length c.in_ok-relation.relation.inputs.items = c.len.ensures ∙ c.in_ok-relation.relation.inputs.ok.0 in
     rw (p.1, p.2) (at_trace t (program_view c.in_ok-old.old) (program_view c.in_ok-new.new) (relation_view c.in_ok-relation.relation) c.in_err-rows.field-0.0
-      (c.in_ok-old.ensures.ok t.old kept.old) (c.in_ok-new.ensures.ok t.new kept.new) (c.in_ok-relation.ensures.ok t.rel kept.rel)
-      (subst (λ n. IfRefusedOf Trace (IsBroken (IsTrace n t.trace) NoTrace t.trace) c.in_err-rows.field-0.0) width (c.in_err-rows.ensures.refused t.trace kept.trace)))
+    (c.in_ok-old.ensures.ok t.old kept.old) (c.in_ok-new.ensures.ok t.new kept.new) (c.in_ok-relation.ensures.ok t.rel kept.rel)
+    (subst (λ n. IfRefusedOf Trace (IsBroken (IsTrace n t.trace) NoTrace t.trace) c.in_err-rows.field-0.0) width (c.in_err-rows.ensures.refused t.trace kept.trace)))

@@ -16,9 +16,9 @@ returns-in-Ok-clause-answer g c = λ t kept.
     let rel = relation_view c.in-Ok.replay.relation in
     let rows = rows_of c.in-Ok.replay.rows.items in
     answers-wider (λ r. r ≡ outcome_report (outcome_of old new rel rows)) (Reports t) ⊥ ⊥ c.put_replay.result _ _
-      (λ r e. reports_outcome t old new rel rows r (c.in-Ok.ensures.ok t kept) e) (λ x. x) c.put_replay.ensures.answer
+    (λ r e. reports_outcome t old new rel rows r (c.in-Ok.ensures.ok t kept) e) (λ x. x) c.put_replay.ensures.answer
 
 pub returns-in-Err-Refused-clause-answer : goal.returns-in-Err-Refused-clause-answer
 returns-in-Err-Refused-clause-answer g c = λ t kept.
     answers-wider (λ r. r ≡ refusal_report c.in-Err-Refused.source c.in-Err-Refused.refusal) (Reports t) ⊥ ⊥ c.put_refusal.result _ _
-      (λ r e. refused c.in-Err-Refused.source c.in-Err-Refused.refusal (rw c.in-Err-Refused.field-0-is at (c.in-Err-Refused.ensures.refused t kept)) e) (λ x. x) c.put_refusal.ensures.answer
+    (λ r e. refused c.in-Err-Refused.source c.in-Err-Refused.refusal (rw c.in-Err-Refused.field-0-is at (c.in-Err-Refused.ensures.refused t kept)) e) (λ x. x) c.put_refusal.ensures.answer

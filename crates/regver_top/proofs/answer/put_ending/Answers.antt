@@ -13,9 +13,9 @@ returns-in-Ok-clause-answer g c = λ told o e at.
     let line = subst (λ l. HasPut l c.status_of.result c.put_last.result old new) (c.as_str.ensures.value ∙ c.in-Ok.ensures ∙ ap ending_line at) c.put_last.ensures.put in
     let put = subst (λ s. HasPut (ending_line o.ending) s c.put_last.result old new) (c.status_of.ensures ∙ ap ending_status at) line in
     answered (λ r. r ≡ outcome_report o) ⊥ (outcome_report o) c.put_last.result told new refl (is_plain-ending_status o.ending)
-      (put_behind o.lines (ending_line o.ending) (ending_status o.ending) c.put_last.result told old new e put)
+    (put_behind o.lines (ending_line o.ending) (ending_status o.ending) c.put_last.result told old new e put)
 
 pub returns-in-Err-clause-answer : goal.returns-in-Err-clause-answer
 returns-in-Err-clause-answer g c = λ told o e at.
     memory_behind (λ r. r ≡ outcome_report o) ⊥ (outcome_report o) o.lines (ending_line o.ending) c.put_last-in-Err.result told (g.K.Sink.taken c.args.out.now) (g.K.Sink.taken c.put_last-in-Err.new.out)
-      refl refl e c.put_last-in-Err.ensures.put
+    refl refl e c.put_last-in-Err.ensures.put
