@@ -3,8 +3,13 @@
 
 mod accept;
 mod answer;
+mod classes;
 mod files;
+mod form;
+mod front;
 mod interpreter;
+mod lex;
+mod names;
 mod pair;
 mod play;
 mod put;
@@ -16,5 +21,6 @@ mod status;
 mod top;
 mod trace;
 
+pub use lex::one_spelling;
 pub use status::Status;
 pub use top::{one_report, regver};

@@ -4,5 +4,5 @@
 mod token;
 mod tree;
 
-pub use token::{Kind, Piece, Tok};
+pub use token::{Kind, Tok};
 pub use tree::{Cell, Elementary, Expr, Operand, Operator, Part, Program, Stmt};

@@ -1,4 +1,6 @@
 // Tokens of a text.
+
+/// What a token is: a word, a number or a sign (IEC 61131-3, 2.1).
 #[derive(Clone, Copy, Debug, PartialEq, Eq)]
 pub enum Kind {
     Word,
@@ -6,14 +8,7 @@ pub enum Kind {
     Sign,
 }
 
-/// A piece at the front of a text, with its size: a gap or a token.
-#[derive(Clone, Copy, Debug, PartialEq, Eq)]
-pub enum Piece {
-    Gap(usize),
-    Token(Kind, usize),
-}
-
-/// A token: its kind, its slice of the text and its place.
+/// A token: its kind, its slice of the text, and the slice's place there, in bytes.
 #[derive(Clone, Copy)]
 pub struct Tok<'a> {
     pub kind: Kind,
