@@ -2,7 +2,7 @@
 ghost use Rattle.std.specs.Prelude.{true, false, ◌≡◌, ◌≢◌, ◌+◌, ◌∷◌, ◌++◌, ◌==◌, if◌then◌else◌, [], Some, None, Option, List, ℕ, IsErrOf, IsSome, IsNone, take, OnOk, OnErr, IfSome, IfErr, IfOk, length, ◌<◌, ◌≤◌, ◌⊎◌, option_map};
 ghost use Rattle.outside.specs.Contents.{Adds, IsRead, OthersStay, Empties};
 ghost use Rattle.outside.specs.Causes.{HasFileCause, NoneFell};
-ghost use Rattle.outside.specs.Failures.{FailsAsListed, next_failure, after_call, faults_after, schedule_at_start};
+ghost use Rattle.outside.specs.Failures.{FailsAsListed, after_call, faults_after, schedule_at_start};
 
 use crate::failures::{self, CallCounts, CallKind, Failure};
 use crate::files::{self, MemFile};
@@ -22,7 +22,7 @@ pub struct MemShelf {
 }
 
 impl MemShelf {
-    ghost use Rattle.outside.specs.Shelves.{file_of, bytes_of, schedule_of, read_faults_of, write_faults_of};
+    ghost use Rattle.outside.specs.Shelves.{file_of, bytes_of, schedule_of, read_faults_of, write_faults_of, OtherFilesStay};
 
     /// A shelf with no file.
     pub fn new(alloc: Global, failures: Vec<Failure>) -> Self
@@ -45,7 +45,7 @@ impl MemShelf {
     pub fn fill(&mut self, name: &str, bytes: &[u8]) -> Result<(), AllocError>
         ensures ok { OnOk result (file_of self.new name.now ≡ Some (bytes_of self.old name.now ++ bytes.now)) }
         ensures err { OnErr result (file_of self.new name.now ≡ file_of self.old name.now) }
-        ensures others { (other : List ℕ) → other ≢ name.now → file_of self.new other ≡ file_of self.old other }
+        ensures others { OtherFilesStay self.old self.new name.now }
         ensures schedule { schedule_of self.new ≡ schedule_of self.old }
         ensures read_faults { read_faults_of self.new ≡ read_faults_of self.old }
         ensures write_faults { write_faults_of self.new ≡ write_faults_of self.old }
@@ -76,7 +76,7 @@ impl MemShelf {
 }
 
 impl Shelf for MemShelf {
-    ghost use Rattle.outside.specs.Shelves.{file_of, bytes_of, schedule_of, read_faults_of, write_faults_of};
+    ghost use Rattle.outside.specs.Shelves.{file_of, bytes_of, schedule_of, failure_ahead, left_by_create, OtherFilesStay, read_faults_of, write_faults_of};
 
     ghost file = { λ s name. Some (bytes_of s name) };
 
@@ -89,8 +89,9 @@ impl Shelf for MemShelf {
         ensures within { IfOk result (λ count. count ≤ length buf.new) }
         ensures bytes { IfOk result (λ count. IsRead (bytes_of self.old name.now) from buf.new count) }
         ensures kept { file_of self.new ≡ file_of self.old }
-        ensures ok { OnOk result (IsNone (next_failure (schedule_of self.old) CallKind.Read) × IsSome (file_of self.old name.now)) }
-        ensures err { IfErr result (λ error. (error ≡ OutErr.Fault) × (IsSome (next_failure (schedule_of self.old) CallKind.Read) ⊎ IsNone (file_of self.old name.now))) }
+        ensures ok { OnOk result (IsNone (failure_ahead self.old CallKind.Read) × IsSome (file_of self.old name.now)) }
+        ensures err { OnErr result (IsSome (failure_ahead self.old CallKind.Read) ⊎ IsNone (file_of self.old name.now)) }
+        ensures no_memory { ¬ IsErrOf result OutErr.Memory }
         ensures schedule { schedule_of self.new ≡ after_call (schedule_of self.old) CallKind.Read }
         ensures faults { read_faults_of self.new ≡ faults_after (read_faults_of self.old) result }
         ensures cause { HasFileCause (λ _. read_faults_of self.old) (λ _. read_faults_of self.new) name.now result }
@@ -107,10 +108,11 @@ impl Shelf for MemShelf {
 
     fn create(&mut self, name: &str) -> Result<(), OutErr>
         ensures ok { OnOk result (file_of self.new name.now ≡ Some []) }
-        ensures kept { IfSome (next_failure (schedule_of self.old) CallKind.Create) (λ failure. IsErrOf result OutErr.Fault → file_of self.new name.now ≡ (if failure.kept == 0 then Some [] else file_of self.old name.now)) }
+        ensures kept { IfSome (failure_ahead self.old CallKind.Create) (λ failure. IsErrOf result OutErr.Fault →
+            file_of self.new name.now ≡ left_by_create failure (file_of self.old name.now)) }
         ensures memory { IsErrOf result OutErr.Memory → file_of self.new name.now ≡ file_of self.old name.now }
-        ensures others { (other : List ℕ) → other ≢ name.now → file_of self.new other ≡ file_of self.old other }
-        ensures listed { FailsAsListed (next_failure (schedule_of self.old) CallKind.Create) result }
+        ensures others { OtherFilesStay self.old self.new name.now }
+        ensures listed { FailsAsListed (failure_ahead self.old CallKind.Create) result }
         ensures schedule { schedule_of self.new ≡ after_call (schedule_of self.old) CallKind.Create }
         ensures faults { write_faults_of self.new ≡ faults_after (write_faults_of self.old) result }
         ensures cause { HasFileCause (λ _. write_faults_of self.old) (λ _. write_faults_of self.new) name.now result }
@@ -133,10 +135,11 @@ impl Shelf for MemShelf {
 
     fn append(&mut self, name: &str, bytes: &[u8]) -> Result<(), OutErr>
         ensures ok { OnOk result (file_of self.new name.now ≡ Some (bytes_of self.old name.now ++ bytes.now)) }
-        ensures kept { IfSome (next_failure (schedule_of self.old) CallKind.Append) (λ failure. IsErrOf result OutErr.Fault → file_of self.new name.now ≡ Some (bytes_of self.old name.now ++ take failure.kept bytes.now)) }
+        ensures kept { IfSome (failure_ahead self.old CallKind.Append) (λ failure. IsErrOf result OutErr.Fault →
+            file_of self.new name.now ≡ Some (bytes_of self.old name.now ++ take failure.kept bytes.now)) }
         ensures memory { IsErrOf result OutErr.Memory → file_of self.new name.now ≡ file_of self.old name.now }
-        ensures others { (other : List ℕ) → other ≢ name.now → file_of self.new other ≡ file_of self.old other }
-        ensures listed { FailsAsListed (next_failure (schedule_of self.old) CallKind.Append) result }
+        ensures others { OtherFilesStay self.old self.new name.now }
+        ensures listed { FailsAsListed (failure_ahead self.old CallKind.Append) result }
         ensures schedule { schedule_of self.new ≡ after_call (schedule_of self.old) CallKind.Append }
         ensures faults { write_faults_of self.new ≡ faults_after (write_faults_of self.old) result }
         ensures cause { HasFileCause (λ _. write_faults_of self.old) (λ _. write_faults_of self.new) name.now result }

@@ -2,7 +2,7 @@
 ghost use Rattle.std.specs.Prelude.{◌≡◌, ◌++◌, [], Some, Option, List, ℕ, IsErrOf, take, OnOk, IfSome};
 ghost use Rattle.outside.specs.Contents.{Adds};
 ghost use Rattle.outside.specs.Causes.{HasCause};
-ghost use Rattle.outside.specs.Failures.{FailsAsListed, next_failure, after_call, faults_after, schedule_at_start};
+ghost use Rattle.outside.specs.Failures.{FailsAsListed, after_call, faults_after, schedule_at_start};
 
 use crate::failures::{self, CallCounts, CallKind, Failure};
 use crate::{OutErr, Sink};
@@ -50,7 +50,7 @@ impl MemSink {
 }
 
 impl Sink for MemSink {
-    ghost use Rattle.outside.specs.Sinks.{taken_by, schedule_of, faults_of};
+    ghost use Rattle.outside.specs.Sinks.{taken_by, schedule_of, failure_ahead, faults_of};
 
     ghost taken = { λ s. Some (taken_by s) };
 
@@ -58,11 +58,12 @@ impl Sink for MemSink {
 
     fn put(&mut self, bytes: &[u8]) -> Result<(), OutErr>
         ensures ok { OnOk result (taken_by self.new ≡ taken_by self.old ++ bytes.now) }
-        ensures kept { IfSome (next_failure (schedule_of self.old) CallKind.Put) (λ failure. IsErrOf result OutErr.Fault → taken_by self.new ≡ taken_by self.old ++ take failure.kept bytes.now) }
+        ensures kept { IfSome (failure_ahead self.old) (λ failure. IsErrOf result OutErr.Fault →
+            taken_by self.new ≡ taken_by self.old ++ take failure.kept bytes.now) }
         ensures memory { IsErrOf result OutErr.Memory → taken_by self.new ≡ taken_by self.old }
-        ensures listed { FailsAsListed (next_failure (schedule_of self.old) CallKind.Put) result }
+        ensures listed { FailsAsListed (failure_ahead self.old) result }
         ensures schedule { schedule_of self.new ≡ after_call (schedule_of self.old) CallKind.Put }
-        ensures counted { faults_of self.new ≡ faults_after (faults_of self.old) result }
+        ensures faults { faults_of self.new ≡ faults_after (faults_of self.old) result }
         ensures added { Adds (Some (taken_by self.old)) (Some (taken_by self.new)) bytes.now result }
         ensures cause { HasCause (faults_of self.old) (faults_of self.new) result }
     {
