@@ -1,5 +1,5 @@
 -- How a run ends.
-use Rattle.std.proofs.Common.{◌≡◌, ◌≢◌, ℕ, List, [], ◌++◌, Bool, true, false, Option, refl, sym, ap, ◌∙◌, subst, append_assoc, append-nil}
+use Rattle.std.proofs.Common.{◌≡◌, ◌≢◌, ℕ, List, ◌++◌, Bool, true, false, Option, refl, sym, ap, ◌∙◌, subst, append_assoc}
 use Rattle.std.specs.Bool.{MatchBool}
 use Rattle.outside.specs.Contents.{extended}
 use Rattle.scan_model.specs.declared.relation.Ending.{Ending}
@@ -13,7 +13,7 @@ use Rattle.regver_top.specs.Puts.{PutsPart}
 use Rattle.regver_top.specs.Accepting.{Texts}
 use Rattle.regver_top.specs.Reports.{Report, Reports, Asked, usage, is_replay, ending_status}
 use Rattle.regver_top.specs.Answers.{Answers, HasPut, IsExact, PutsFront, MayPut, a_report, a_read_fault, no_memory, no_memory_behind, memory_line, read_fault_line}
-use Rattle.regver_top.proofs.PlayLemmas.{extended-twice, extended-nothing}
+use Rattle.regver_top.proofs.PlayLemmas.{extended-twice}
 
 -- a status with a report of its own
 abbrev pub is_plain : Status → Bool

@@ -1,5 +1,5 @@
 -- There is one report on four texts.
-use Rattle.std.proofs.Common.{◌≡◌, ℕ, List, length, refl, sym, ap, ◌∙◌, subst, arith, inl, inr}
+use Rattle.std.proofs.Common.{◌≡◌, ℕ, List, length, sym, ap, ◌∙◌, subst, arith, inl, inr}
 use Rattle.st_tree.specs.Tree.{ProgramData}
 use Rattle.scan_model.specs.declared.relation.Ending.{Ending}
 use Rattle.scan_model.specs.Pairs.{RelationData, Row, start}

@@ -1,5 +1,5 @@
 -- What has been put of a replay while it goes on.
-use Rattle.std.proofs.Common.{◌≡◌, ◌<◌, ℕ, suc, ◌+◌, ℤ, List, [], ◌∷◌, ◌++◌, length, take, drop, get_or, drop-cons, add-one, Vec, Bool, true, false, if◌then◌else◌, Option, Some, None, Result, Ok, Err, OnErr, refl, sym, ap, ◌∙◌, subst, append_assoc, append-nil}
+use Rattle.std.proofs.Common.{◌≡◌, ◌<◌, ℕ, suc, ◌+◌, ℤ, List, [], ◌∷◌, ◌++◌, length, take, drop, get_or, drop-cons, add-one, Vec, true, false, if◌then◌else◌, Option, Some, None, Result, Ok, Err, OnErr, refl, sym, ap, ◌∙◌, subst, append_assoc, append-nil}
 use Rattle.std.proofs.lemmas.List.{take-append-drop}
 use Rattle.std.specs.declared.alloc.Global.{Global}
 use Rattle.outside.specs.declared.OutErr.{OutErr}

@@ -1,10 +1,10 @@
 -- Which file is refused first.
-use Rattle.std.proofs.Common.{◌≡◌, length}
+use Rattle.std.proofs.Common.{length}
 use Rattle.st_tree.specs.Tree.{ProgramData}
 use Rattle.scan_model.specs.Pairs.{RelationData}
 use Rattle.regver_top.specs.declared.refusal.AcceptError.{AcceptError}
 use Rattle.regver_top.specs.declared.refusal.AcceptError.TheVariants.{Refused, Memory}
-use Rattle.regver_top.specs.declared.refusal.Source.TheVariants.{Old, New, Relation as RelationFile, Trace}
+use Rattle.regver_top.specs.declared.refusal.Source.TheVariants.{New, Relation as RelationFile, Trace}
 use Rattle.regver_top.specs.declared.refusal.Rule.TheVariants.{NoForm, NoTrace}
 use Rattle.regver_top.specs.Programs.{IsProgram}
 use Rattle.regver_top.specs.Relations.{IsRelation}

@@ -1,5 +1,5 @@
 -- Rows of another length than there are INPUT lines.
-use Rattle.std.proofs.Common.{◌≡◌, ◌≢◌, ℕ, List, [], ◌∷◌, length, false, Bool, true, ◌&&◌, refl, ap, ◌∙◌, arith, suc, drop, ◌≤◌}
+use Rattle.std.proofs.Common.{◌≡◌, ◌≢◌, ℕ, List, [], ◌∷◌, length, false, Bool, true, ◌&&◌, refl, ap, ◌∙◌, suc, drop, ◌≤◌}
 use Rattle.std.proofs.lemmas.List.{drop_all}
 use Rattle.scan_model.specs.declared.relation.InputLine.{InputLine}
 use Rattle.scan_model.specs.Pairs.{Row, Pair, is_allowed, fits_input, loaded}

@@ -1,5 +1,5 @@
 -- What the command `replay` answers.
-use Rattle.std.specs.Prelude.{◌≡◌, ◌⊎◌, ℕ, List, ◌++◌, length, codes, decimal, Bool, true, false, ◌&&◌, ◌==◌, slice_index_or, [], Option, Some}
+use Rattle.std.specs.Prelude.{◌≡◌, ◌⊎◌, ℕ, List, ◌++◌, length, codes, decimal, Bool, ◌&&◌, ◌==◌, slice_index_or, [], Option, Some}
 use Rattle.std.specs.Str.{bytes_eq}
 use Rattle.std.specs.Bool.{MatchBool}
 use Rattle.st_tree.specs.Tree.{ProgramData}
@@ -8,9 +8,8 @@ use Rattle.scan_model.specs.declared.relation.Ending.TheVariants.{Related, Unrel
 use Rattle.scan_model.specs.Pairs.{RelationData, Row, start}
 use Rattle.scan_model.specs.Runs.{IsRun}
 use Rattle.outside.specs.Causes.{Rose}
-use Rattle.outside.specs.Contents.{extended}
 use Rattle.regver_top.specs.declared.status.Status.{Status}
-use Rattle.regver_top.specs.declared.status.Status.TheVariants.{Replayed, Unrelated, NotAllowed, Usage, Refused, ReadFault, WriteFault, Memory}
+use Rattle.regver_top.specs.declared.status.Status.TheVariants.{Replayed, Unrelated, NotAllowed, Usage, Refused}
 use Rattle.regver_top.specs.declared.refusal.Source.{Source}
 use Rattle.regver_top.specs.declared.refusal.Source.TheVariants.{Old, New, Relation as RelationFile, Trace}
 use Rattle.regver_top.specs.declared.refusal.Rule.{Rule}

@@ -171,18 +171,20 @@ fn failing(
     Ok(status != Status::Replayed)
 }
 
+// How many calls of a kind there are: each of them fails in turn, until a run meets no failure.
+fn calls(rt: &(impl Abort + AllocGlobal), kind: CallKind, kept: usize) -> Result<u64, Fail> {
+    for number in 0..20 {
+        if !failing(rt, kind, number + 1, kept)? {
+            return Ok(number);
+        }
+    }
+    Ok(20)
+}
+
 #[test]
 fn faults(rt: HostRuntime) -> Result<(), Fail> {
-    let mut reads = 0;
-    while reads < 20 && failing(&rt, CallKind::Read, reads + 1, 0)? {
-        reads += 1;
-    }
-    assert_eq!(rt; reads, 8);
-    let mut puts = 0;
-    while puts < 20 && failing(&rt, CallKind::Put, puts + 1, 7)? {
-        puts += 1;
-    }
-    assert_eq!(rt; puts, 3);
+    assert_eq!(rt; calls(&rt, CallKind::Read, 0)?, 8);
+    assert_eq!(rt; calls(&rt, CallKind::Put, 7)?, 3);
     Ok(())
 }
 

@@ -1,6 +1,6 @@
 -- What statements do to a state, and one scan of a program.
-use Rattle.std.specs.Prelude.{ℕ, List, map, Bool, slice_set, ℤ, pos, if◌then◌else◌}
-use Rattle.st_tree.specs.Tree.{Expression, Statement, assign, Statements, no_statements, statement, CellData, ProgramData}
+use Rattle.std.specs.Prelude.{List, map, Bool, slice_set, pos, if◌then◌else◌}
+use Rattle.st_tree.specs.Tree.{Statement, assign, Statements, no_statements, statement, CellData, ProgramData}
 use Rattle.scan_model.specs.Values.{State, value_of, faults}
 
 -- a fault that is met is added to FAULT, the first cell

@@ -1,5 +1,5 @@
 -- The value of an expression in a state, and whether its evaluation meets a fault.
-use Rattle.std.specs.Prelude.{ℕ, List, Bool, true, false, ◌||◌, slice_index_or, ℤ, pos, if◌then◌else◌}
+use Rattle.std.specs.Prelude.{List, Bool, false, ◌||◌, slice_index_or, ℤ, pos, if◌then◌else◌}
 use Rattle.std.specs.Ordering.{int_eq}
 use Rattle.st_tree.specs.declared.tree.Operator.{Operator}
 use Rattle.st_tree.specs.declared.tree.Operator.TheVariants.{Equal}
