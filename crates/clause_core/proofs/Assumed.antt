@@ -1,18 +1,18 @@
 -- What a rising clause is where its literals are assumed false.
-use Rattle.std.proofs.Common.{◌≡◌, ◌≢◌, ℕ, zero, suc, ◌<◌, ◌≤◌, ◌+◌, Bool, true, false, ◌&&◌, List, [], ◌∷◌, ◌++◌, length, get_or, set, take, drop, refl, sym, ◌∙◌, ap, subst, arith, nat_lt, nat_le}
-use Rattle.std.specs.List.{All, Contains}
+use Rattle.std.proofs.Common.{◌≡◌, ◌≢◌, ℕ, suc, ◌<◌, ◌≤◌, Bool, true, false, ◌&&◌, List, [], ◌∷◌, ◌++◌, length, get_or, refl, ◌∙◌, ap, subst, arith, nat_lt, nat_le}
+use Rattle.std.specs.List.{All}
 use Rattle.std.proofs.lemmas.Bool.Decides.{nat_tests}
 use Rattle.std.proofs.lemmas.List.{get_or-set_other, get_or-set_same, length-set}
 use Rattle.std.proofs.lemmas.List.Elements.{All-nil, All-cons}
 use Rattle.clause_core.specs.declared.literal.Lit.{Lit}
-use Rattle.clause_core.specs.declared.literal.Truth.{Truth}
-use Rattle.clause_core.specs.declared.literal.Truth.TheVariants.{Open, True, False}
-use Rattle.clause_core.specs.Values.{value, put_false, signed_truth, opposite}
-use Rattle.clause_core.specs.Clauses.{rises, fits_in}
+use Rattle.clause_core.specs.declared.truth.Truth.{Truth}
+use Rattle.clause_core.specs.declared.truth.Truth.TheVariants.{Open, False}
+use Rattle.clause_core.specs.Values.{value, put_false, signed_truth}
+use Rattle.clause_core.specs.Clauses.{fits_in}
 use Rattle.clause_core.specs.Steps.{assume_false}
 use Rattle.clause_core.specs.Propagation.{Below, Extends}
 use Rattle.clause_core.proofs.Ranges.{and_both}
-use Rattle.clause_core.proofs.Freshness.{Below-value, Extends-put_false}
+use Rattle.clause_core.proofs.Extensions.{Below-value, Extends-put_false}
 
 pub above : (a b : ℕ) → nat_lt a b ≡ true → a < b
 above a b h = grind (arith, nat_tests)

@@ -1,19 +1,19 @@
 -- A rising clause with all literals but one assumed false.
-use Rattle.std.proofs.Common.{◌≡◌, ◌≢◌, ℕ, zero, suc, ◌<◌, ◌≤◌, ◌+◌, ◌&&◌, nat_lt, nat_le, Bool, true, false, List, [], ◌∷◌, ◌++◌, length, get_or, replicate, refl, sym, ◌∙◌, ap, subst, arith}
+use Rattle.std.proofs.Common.{◌≡◌, ◌≢◌, ℕ, zero, suc, ◌<◌, ◌≤◌, ◌+◌, ◌&&◌, nat_lt, nat_le, Bool, true, List, [], ◌∷◌, ◌++◌, get_or, replicate, refl, sym, ◌∙◌, ap, subst, arith}
 use Rattle.std.specs.List.{All, Contains}
 use Rattle.std.proofs.lemmas.List.{length-replicate}
 use Rattle.std.proofs.lemmas.List.Elements.{All-nil, All-cons}
 use Rattle.clause_core.specs.declared.literal.Lit.{Lit}
-use Rattle.clause_core.specs.declared.literal.Truth.{Truth}
-use Rattle.clause_core.specs.declared.literal.Truth.TheVariants.{Open, True, False}
+use Rattle.clause_core.specs.declared.truth.Truth.{Truth}
+use Rattle.clause_core.specs.declared.truth.Truth.TheVariants.{Open, True, False}
 use Rattle.clause_core.specs.Values.{value, signed_truth}
 use Rattle.clause_core.specs.Clauses.{rises, fits_in}
-use Rattle.clause_core.specs.Steps.{assume_false, VarsBelow}
+use Rattle.clause_core.specs.Steps.{assume_false, VariablesBelow}
 use Rattle.clause_core.specs.Propagation.{Below, Extends, IsClosed}
-use Rattle.clause_core.specs.Freshness.{ShowsFresh, Unforced}
-use Rattle.clause_core.proofs.Ranges.{and_both, VarsBelow-fits}
-use Rattle.clause_core.proofs.Freshness.{Below-value, Unforced-closed}
-use Rattle.clause_core.proofs.Assumed.{FitsParts, fits-parts, assume_false-keeps, value-assume_false, length-assume_false, False-extends, Extends-assume_false}
+use Rattle.clause_core.specs.Freshness.{ShowsFresh}
+use Rattle.clause_core.proofs.Ranges.{and_both, VariablesBelow-fits}
+use Rattle.clause_core.proofs.Extensions.{Below-value, Unforced-closed}
+use Rattle.clause_core.proofs.Assumed.{fits-parts, assume_false-keeps, value-assume_false, length-assume_false, False-extends, Extends-assume_false}
 
 -- the parts of a rising clause round one of its literals
 pub record Round (variables low : ℕ) (front : List Lit) (p : Lit) (back : List Lit) : Type 0 where
@@ -114,16 +114,16 @@ pub not_true-below : (rho vs : List Truth) (p : Lit) → Extends rho vs → valu
 not_true-below rho vs p e n = true-below (value vs p) (value rho p) (Below-value rho vs p e) n
 
 pub record PartsBelow (n : ℕ) (front : List Lit) (p : Lit) (back : List Lit) : Type 0 where
-  pub in_front : VarsBelow n front
+  pub in_front : VariablesBelow n front
   pub here : p.variable < n
-  pub in_back : VarsBelow n back
+  pub in_back : VariablesBelow n back
 
-middle-below : (n : ℕ) (front : List Lit) (p : Lit) (back : List Lit) → VarsBelow n (front ++ p ∷ back) → p.variable < n
+middle-below : (n : ℕ) (front : List Lit) (p : Lit) (back : List Lit) → VariablesBelow n (front ++ p ∷ back) → p.variable < n
 middle-below n [] p back a = a 0 p (omega arith)
 middle-below n (l ∷ ls) p back a = middle-below n ls p back (λ k d lt. a (suc k) d (omega arith))
 
 pub parts-below : (variables n : ℕ) (literals front : List Lit) (p : Lit) (back rest : List Lit) → n ≡ variables + 1 → rises variables literals ≡ true → literals ≡ front ++ rest → rest ≡ p ∷ back → PartsBelow n front p back
 parts-below variables n literals front p back rest en f e er =
-    let joined : VarsBelow (variables + 1) (front ++ p ∷ back) = VarsBelow-fits variables 0 (front ++ p ∷ back) (ap (rises variables) (sym (e ∙ ap (λ z. front ++ z) er)) ∙ f) in
+    let joined : VariablesBelow (variables + 1) (front ++ p ∷ back) = VariablesBelow-fits variables 0 (front ++ p ∷ back) (ap (rises variables) (sym (e ∙ ap (λ z. front ++ z) er)) ∙ f) in
     let r = all-front (λ l. l.variable < variables + 1) front p back joined in
     subst (λ m. PartsBelow m front p back) (sym en) (record { in_front = r.0; here = middle-below (variables + 1) front p back joined; in_back = r.1 })

@@ -1,10 +1,9 @@
 -- The set of some literals stands in order, and holds those literals and no others.
-use Rattle.std.proofs.Common.{◌≡◌, ◌≢◌, ℕ, zero, suc, ◌<◌, ◌≤◌, ◌+◌, ◌*◌, Bool, true, false, ◌&&◌, ◌||◌, ◌⊎◌, inl, inr, List, [], ◌∷◌, ◌++◌, length, get_or, take, drop, refl, sym, ◌∙◌, ap, subst, arith, cond, nat_lt, nat_le, IsTrue}
+use Rattle.std.proofs.Common.{◌≡◌, ◌≢◌, ℕ, zero, suc, ◌<◌, ◌≤◌, ◌+◌, ◌*◌, Bool, true, false, ◌&&◌, ◌||◌, ◌⊎◌, inl, inr, List, [], ◌∷◌, length, get_or, refl, sym, ◌∙◌, ap, subst, arith, cond, nat_lt, nat_le}
 use Rattle.std.specs.List.{list_all, list_any, insert}
-use Rattle.std.proofs.lemmas.Bool.{false≢true}
 use Rattle.std.proofs.lemmas.Bool.Decides.{nat_tests}
 use Rattle.clause_core.specs.declared.literal.Lit.{Lit}
-use Rattle.clause_core.specs.Clauses.{rank, is_inside, is_within, ascends, is_set, inserted, with_all, set_of, place_in}
+use Rattle.clause_core.specs.Clauses.{rank, ascends, is_set, inserted, with_all, set_of, place_in}
 use Rattle.clause_core.proofs.Ranges.{and_both}
 
 bool_cases : (b : Bool) → (b ≡ true) ⊎ (b ≡ false)

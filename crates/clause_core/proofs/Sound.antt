@@ -1,16 +1,15 @@
 -- An accepted step's clause is true wherever the held clauses are.
-use Rattle.std.proofs.Common.{◌≡◌, ◌≢◌, ℕ, zero, suc, ◌<◌, ◌≤◌, ◌+◌, ◌-◌, Bool, true, false, not, ◌&&◌, ◌||◌, List, [], ◌∷◌, ◌++◌, length, get_or, set, replicate, filter, Option, Some, None, ◌⊎◌, inl, inr, refl, sym, ◌∙◌, ap, subst, arith, cond, sub-one}
-use Rattle.std.specs.List.{list_any, list_all, slice_get}
-use Rattle.std.proofs.lemmas.Bool.{false≢true, cases_eq}
-use Rattle.std.proofs.lemmas.List.{get_or-set_same, get_or-set_other, get_or_past}
+use Rattle.std.proofs.Common.{◌≡◌, ℕ, zero, suc, ◌+◌, Bool, true, false, not, ◌&&◌, ◌||◌, List, [], ◌∷◌, get_or, set, replicate, Option, Some, None, refl, sym, ◌∙◌, ap, subst, cond}
+use Rattle.std.specs.List.{list_any, slice_get}
+use Rattle.std.proofs.lemmas.Bool.{false≢true}
 use Rattle.clause_core.specs.declared.literal.Lit.{Lit}
-use Rattle.clause_core.specs.declared.literal.Truth.{Truth}
-use Rattle.clause_core.specs.declared.literal.Truth.TheVariants.{Open, True, False}
-use Rattle.clause_core.specs.declared.step.Status.{Status}
-use Rattle.clause_core.specs.declared.step.Status.TheVariants.{Falsified, Unit as UnitLit, Neither}
-use Rattle.clause_core.specs.declared.step.Outcome.{Outcome}
-use Rattle.clause_core.specs.declared.step.Outcome.TheVariants.{Accepted, UnknownHint, NotUnit, NoConflict}
-use Rattle.clause_core.specs.Values.{value, put_true, put_false, is_false, is_true, is_open, signed_truth, opposite}
+use Rattle.clause_core.specs.declared.truth.Truth.{Truth}
+use Rattle.clause_core.specs.declared.truth.Truth.TheVariants.{Open, True, False}
+use Rattle.clause_core.specs.declared.status.Status.{Status}
+use Rattle.clause_core.specs.declared.status.Status.TheVariants.{Falsified, Unit as UnitLiteral, Neither}
+use Rattle.clause_core.specs.declared.check.Outcome.{Outcome}
+use Rattle.clause_core.specs.declared.check.Outcome.TheVariants.{Accepted}
+use Rattle.clause_core.specs.Values.{value, put_true, put_false, is_false, signed_truth}
 use Rattle.clause_core.specs.Satisfaction.{literal_true, clause_true, formula_true, signed}
 use Rattle.clause_core.specs.Steps.{not_false, left_of, status_of_one, status_of_left, clause_status, assume_false, clause_at, after_status, at_hint, follow_hints, outcome}
 
@@ -52,10 +51,10 @@ or_false : (b : Bool) → (b || false) ≡ b
 or_false true = refl
 or_false false = refl
 
--- what a clause_status says under an assignment that makes the clause true
+-- what a status says under an assignment that makes the clause true
 abbrev Says : (ℕ → Bool) → Status → Type 0
 Says v Falsified = ⊥
-Says v (UnitLit l) = literal_true v l ≡ true
+Says v (UnitLiteral l) = literal_true v l ≡ true
 Says v Neither = Unit {0}
 
 says-one : (v : ℕ → Bool) (t : Truth) (l : Lit) → literal_true v l ≡ true → Says v (status_of_one t l)
@@ -128,7 +127,7 @@ Refused o = o ≡ Accepted → ⊥
 
 refused-clause_status : (v : ℕ → Bool) (h : ℕ) (s : Status) (vs : List Truth) (go : List Truth → Outcome) → Says v s → ((l : Lit) → literal_true v l ≡ true → Refused (go (put_true vs l))) → Refused (after_status h s vs go)
 refused-clause_status v h Falsified vs go says next = absurd says
-refused-clause_status v h (UnitLit l) vs go says next = next l says
+refused-clause_status v h (UnitLiteral l) vs go says next = next l says
 refused-clause_status v h Neither vs go says next = λ e. cc
 
 clause_true-number : (v : ℕ → Bool) (held : List (List Lit)) → formula_true v held ≡ true → (i : ℕ) (c : List Lit) → clause_at held i ≡ Some c → clause_true v c ≡ true
@@ -157,7 +156,7 @@ by_bool : (b : Bool) → (b ≡ false → ⊥) → b ≡ true
 by_bool true h = refl
 by_bool false h = absurd (h refl)
 
--- Law 6, for a step
+-- an accepted step
 pub clause_true-accepted : (variables : ℕ) (held : List (List Lit)) (c : List Lit) (hs : List ℕ) → outcome variables held c hs ≡ Accepted → (v : ℕ → Bool) → formula_true v held ≡ true → clause_true v c ≡ true
 clause_true-accepted variables held c hs e v f =
     by_bool (clause_true v c) (λ no. follow_hints-refuses v held f hs (assume_false (replicate (variables + 1) Open) c) (Agrees-assume_false v c (replicate (variables + 1) Open) (Agrees-unassigned v (variables + 1)) no) e)

@@ -1,9 +1,9 @@
 -- When a clause is fresh over what is held: unit propagation alone does not give it.
-use Rattle.std.specs.Prelude.{◌≡◌, ◌≢◌, ℕ, Bool, true, IsTrue, ◌||◌, nat_le, List, All, Contains}
+use Rattle.std.specs.Prelude.{◌≡◌, ◌≢◌, Bool, IsTrue, ◌||◌, nat_le, List, All, Contains}
 use Rattle.std.specs.List.{list_any}
 use Rattle.clause_core.specs.declared.literal.Lit.{Lit}
-use Rattle.clause_core.specs.declared.literal.Truth.{Truth}
-use Rattle.clause_core.specs.declared.literal.Truth.TheVariants.{Open, True, False}
+use Rattle.clause_core.specs.declared.truth.Truth.{Truth}
+use Rattle.clause_core.specs.declared.truth.Truth.TheVariants.{True, False}
 use Rattle.clause_core.specs.Values.{how_many, value, is_true, is_open}
 
 -- a literal is true, or two are open

@@ -7,4 +7,5 @@ pub mod Freshness
 pub mod Logs
 pub mod Decisions
 pub mod Propagation
+pub mod Undoing
 pub mod Inside

@@ -1,7 +1,7 @@
 -- Accepted steps, and logs of them.
-use Rattle.std.specs.Prelude.{◌≡◌, ◌≢◌, ℕ, ◌≤◌, IsTrue, List, [], ◌∷◌, ◌++◌, length}
+use Rattle.std.specs.Prelude.{◌≡◌, ◌≢◌, ℕ, IsTrue, List, [], ◌∷◌, ◌++◌}
 use Rattle.clause_core.specs.declared.literal.Lit.{Lit}
-use Rattle.clause_core.specs.declared.step.Outcome.TheVariants.{Accepted, NoConflict}
+use Rattle.clause_core.specs.declared.check.Outcome.TheVariants.{Accepted, NoConflict}
 use Rattle.clause_core.specs.declared.step.Step.{Step}
 use Rattle.clause_core.specs.declared.log.Entry.{Entry}
 use Rattle.clause_core.specs.declared.log.Entry.TheVariants.{Derived}

@@ -1,9 +1,9 @@
 -- A partial assignment that goes further than another, and what unit propagation reaches.
-use Rattle.std.specs.Prelude.{◌≡◌, ℕ, ◌<◌, Bool, true, false, List, [], ◌∷◌, All, slice_index_or}
+use Rattle.std.specs.Prelude.{◌≡◌, ℕ, List, All, slice_index_or}
 use Rattle.clause_core.specs.declared.literal.Lit.{Lit}
-use Rattle.clause_core.specs.declared.literal.Truth.{Truth}
-use Rattle.clause_core.specs.declared.literal.Truth.TheVariants.{Open, True, False}
-use Rattle.clause_core.specs.declared.step.Status.TheVariants.{Neither}
+use Rattle.clause_core.specs.declared.truth.Truth.{Truth}
+use Rattle.clause_core.specs.declared.truth.Truth.TheVariants.{Open, True, False}
+use Rattle.clause_core.specs.declared.status.Status.TheVariants.{Neither}
 use Rattle.clause_core.specs.Values.{is_open, how_many}
 use Rattle.clause_core.specs.Steps.{clause_status}
 

@@ -1,20 +1,19 @@
 -- When a step is accepted over held clauses, and when it is fresh.
-use Rattle.std.specs.Prelude.{◌≡◌, ℕ, zero, suc, ◌<◌, ◌≤◌, ◌+◌, ◌-◌, Bool, true, false, not, List, [], ◌∷◌, ◌++◌, length, All, filter, replicate, slice_get, slice_index_or, Option, Some, None, nat_eq, if◌then◌else◌}
-use Rattle.std.specs.List.{list_any, list_all}
+use Rattle.std.specs.Prelude.{ℕ, zero, suc, ◌<◌, ◌+◌, Bool, not, List, [], ◌∷◌, All, filter, replicate, slice_get, Option, Some, None}
 use Rattle.clause_core.specs.declared.literal.Lit.{Lit}
-use Rattle.clause_core.specs.declared.literal.Truth.{Truth}
-use Rattle.clause_core.specs.declared.literal.Truth.TheVariants.{Open, True, False}
-use Rattle.clause_core.specs.declared.step.Status.{Status}
-use Rattle.clause_core.specs.declared.step.Status.TheVariants.{Falsified, Unit as UnitLit, Neither}
-use Rattle.clause_core.specs.declared.step.Outcome.{Outcome}
-use Rattle.clause_core.specs.declared.step.Outcome.TheVariants.{Accepted, UnknownHint, NotUnit, NoConflict}
-use Rattle.clause_core.specs.Values.{value, put_true, put_false, is_false, is_true, is_open, signed_truth, opposite}
+use Rattle.clause_core.specs.declared.truth.Truth.{Truth}
+use Rattle.clause_core.specs.declared.truth.Truth.TheVariants.{Open, True, False}
+use Rattle.clause_core.specs.declared.status.Status.{Status}
+use Rattle.clause_core.specs.declared.status.Status.TheVariants.{Falsified, Unit as UnitLiteral, Neither}
+use Rattle.clause_core.specs.declared.check.Outcome.{Outcome}
+use Rattle.clause_core.specs.declared.check.Outcome.TheVariants.{Accepted, UnknownHint, NotUnit, NoConflict}
+use Rattle.clause_core.specs.Values.{value, put_true, put_false, is_false}
 
-abbrev pub VarsBelow : ℕ → List Lit → Type 0
-VarsBelow n c = All (λ l. l.variable < n) c
+abbrev pub VariablesBelow : ℕ → List Lit → Type 0
+VariablesBelow n c = All (λ l. l.variable < n) c
 
-abbrev pub AllVarsBelow : ℕ → List (List Lit) → Type 0
-AllVarsBelow n held = All (VarsBelow n) held
+abbrev pub AllVariablesBelow : ℕ → List (List Lit) → Type 0
+AllVariablesBelow n held = All (VariablesBelow n) held
 
 -- the literals of a clause that are not false
 abbrev pub not_false : List Truth → Lit → Bool
@@ -25,7 +24,7 @@ left_of vs c = filter (not_false vs) c
 
 -- false where none is left; unit where one is left, and that one open
 abbrev pub status_of_one : Truth → Lit → Status
-status_of_one Open l = UnitLit l
+status_of_one Open l = UnitLiteral l
 status_of_one True l = Neither
 status_of_one False l = Neither
 
@@ -38,7 +37,7 @@ abbrev pub clause_status : List Truth → List Lit → Status
 clause_status vs c = status_of_left vs (left_of vs c)
 
 abbrev pub UnitBelow : ℕ → Status → Type 0
-UnitBelow n (UnitLit l) = l.variable < n
+UnitBelow n (UnitLiteral l) = l.variable < n
 UnitBelow n Falsified = Unit {0}
 UnitBelow n Neither = Unit {0}
 
@@ -52,7 +51,7 @@ clause_at held (suc i) = slice_get held i
 
 abbrev pub after_status : ℕ → Status → List Truth → (List Truth → Outcome) → Outcome
 after_status h Falsified vs go = Accepted
-after_status h (UnitLit l) vs go = go (put_true vs l)
+after_status h (UnitLiteral l) vs go = go (put_true vs l)
 after_status h Neither vs go = NotUnit h
 
 abbrev pub at_hint : ℕ → Option (List Lit) → List Truth → (List Truth → Outcome) → Outcome

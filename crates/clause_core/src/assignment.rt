@@ -2,7 +2,7 @@ ghost use Rattle.std.specs.Prelude.{◌≡◌, map};
 ghost use Rattle.clause_core.specs.Values.{is_true};
 ghost use Rattle.clause_core.specs.Satisfaction.{assigned};
 
-use crate::literal::Truth;
+use crate::truth::Truth;
 use std::marker::Model;
 
 /// A truth value for each variable: contracts see a list, in which the value of variable `n` stands

@@ -1,6 +1,6 @@
-use Rattle.std.proofs.Common.{◌≡◌, sym, ◌∙◌, ap, arith}
+use Rattle.std.proofs.Common.{◌≡◌, arith}
 use Rattle.clause_core.specs.Steps.{clause_status}
-use Rattle.clause_core.specs.declared.step.Status.TheVariants.{Neither}
+use Rattle.clause_core.specs.declared.status.Status.TheVariants.{Neither}
 use Rattle.clause_core.proofs.ClosedLists.{IsClosed-more, IsClosed-all}
 use Rattle.clause_core.proofs.propagation.all_closed.Goals as goal
 

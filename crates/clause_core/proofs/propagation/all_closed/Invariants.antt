@@ -1,4 +1,4 @@
-use Rattle.std.proofs.Common.{◌≡◌, take}
+use Rattle.std.proofs.Common.{take}
 use Rattle.clause_core.specs.Propagation.{IsClosed}
 use Rattle.clause_core.proofs.propagation.all_closed.Given as goal
 

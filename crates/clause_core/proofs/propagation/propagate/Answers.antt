@@ -1,4 +1,4 @@
-use Rattle.clause_core.proofs.Freshness.{Extends-trans}
+use Rattle.clause_core.proofs.Extensions.{Extends-trans}
 use Rattle.clause_core.proofs.propagation.propagate.Goals as goal
 
 pub loop-preserved : goal.loop-preserved

@@ -1,7 +1,7 @@
-use Rattle.std.proofs.Common.{◌≡◌, List}
+use Rattle.std.proofs.Common.{List}
 use Rattle.clause_core.specs.Propagation.{Extends, open_count}
 use Rattle.clause_core.specs.Freshness.{Unforced}
-use Rattle.clause_core.specs.declared.literal.Truth.{Truth}
+use Rattle.clause_core.specs.declared.truth.Truth.{Truth}
 use Rattle.clause_core.proofs.propagation.propagate.Given as goal
 
 abbrev pub invariant-loop : goal.invariant-loop

@@ -1,11 +1,11 @@
-use Rattle.std.proofs.Common.{◌≡◌, sym, ◌∙◌, ap, arith, true, false, subst, take, ◌+◌, ◌<◌, ◌≤◌}
+use Rattle.std.proofs.Common.{◌≡◌, sym, ◌∙◌, ap, arith, subst, take, ◌+◌, ◌<◌, ◌≤◌}
 use Rattle.std.proofs.lemmas.Bool.{false≢true}
 use Rattle.clause_core.specs.Steps.{clause_status}
 use Rattle.clause_core.specs.Propagation.{IsClosed, Extends, open_count}
 use Rattle.clause_core.specs.Values.{put_true}
-use Rattle.clause_core.specs.declared.step.Status.TheVariants.{Falsified, Unit as UnitLit, Neither}
+use Rattle.clause_core.specs.declared.status.Status.TheVariants.{Falsified, Unit as UnitLiteral, Neither}
 use Rattle.clause_core.proofs.ClosedLists.{IsClosed-more, IsClosed-all, unforced-at, Extends-by_status, no_conflict}
-use Rattle.clause_core.proofs.Freshness.{open_count-unit, Extends-by_unit, Extends-trans, value-unit}
+use Rattle.clause_core.proofs.Extensions.{open_count-unit, Extends-by_unit, Extends-trans, value-unit}
 use Rattle.clause_core.proofs.propagation.propagate_once.Goals as goal
 use Rattle.clause_core.proofs.propagation.propagate_once.Goals.{in-Unit, in-Neither}
 
@@ -23,7 +23,7 @@ loop-clause-preserved c =
     elim c.match-clause_status.branch [
       | in-Unit w ↦
           let l = w.in-Unit.literal in
-          let status : clause_status i.values item ≡ UnitLit l = cc w.in-Unit.ensures.status in
+          let status : clause_status i.values item ≡ UnitLiteral l = cc w.in-Unit.ensures.status in
           let wrote : c.match-clause_status.values ≡ put_true i.values l = cc w.put_true.ensures in
           let fell : open_count (put_true i.values l) + 1 ≡ open_count i.values = open_count-unit i.values l w.in-Unit.ensures.unit (value-unit i.values item l status) in
           record {

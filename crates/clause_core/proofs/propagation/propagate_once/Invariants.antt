@@ -1,7 +1,7 @@
 use Rattle.std.proofs.Common.{◌≡◌, ◌<◌, ◌≤◌, take, List, true, false}
 use Rattle.clause_core.specs.Propagation.{IsClosed, Extends, open_count}
 use Rattle.clause_core.specs.Freshness.{Unforced}
-use Rattle.clause_core.specs.declared.literal.Truth.{Truth}
+use Rattle.clause_core.specs.declared.truth.Truth.{Truth}
 use Rattle.clause_core.proofs.propagation.propagate_once.Given as goal
 
 abbrev pub invariant-loop-clause : goal.invariant-loop-clause

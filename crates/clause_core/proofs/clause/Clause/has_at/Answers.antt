@@ -1,7 +1,6 @@
-use Rattle.std.proofs.Common.{rules, ◌≡◌, ◌≢◌, ℕ, true, false, ◌<◌, ◌≤◌, ◌+◌, ◌==◌, nat_lt, length, get_or, sym, ◌∙◌, ap, arith, List}
+use Rattle.std.proofs.Common.{◌≡◌, ◌≢◌, ℕ, true, false, ◌==◌, nat_lt, length, get_or, sym, ◌∙◌, ap, arith, List}
 use Rattle.std.proofs.lemmas.Bool.Decides.{nat_tests}
 use Rattle.clause_core.specs.declared.literal.Lit.{Lit}
-use Rattle.clause_core.specs.Clauses.{rank}
 use Rattle.clause_core.proofs.Sets.{inserted-past, inserted-there, inserted-other}
 use Rattle.clause_core.proofs.clause.Clause.has_at.Goals as goal
 

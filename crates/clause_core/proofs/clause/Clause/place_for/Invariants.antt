@@ -1,4 +1,4 @@
-use Rattle.std.proofs.Common.{◌≡◌, ◌≤◌, ◌+◌, drop}
+use Rattle.std.proofs.Common.{◌≡◌, ◌+◌, drop}
 use Rattle.clause_core.specs.Clauses.{place_in}
 use Rattle.clause_core.proofs.clause.Clause.place_for.Given as goal
 

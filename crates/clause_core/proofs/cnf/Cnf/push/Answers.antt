@@ -1,6 +1,5 @@
-use Rattle.std.proofs.Common.{rules, ◌≡◌, ◌++◌, ◌∷◌, [], true, refl, sym, subst, List}
+use Rattle.std.proofs.Common.{◌≡◌, ◌++◌, ◌∷◌, [], true, refl, sym, subst}
 use Rattle.std.specs.List.{list_all}
-use Rattle.clause_core.specs.declared.literal.Lit.{Lit}
 use Rattle.clause_core.specs.Clauses.{is_within, is_set, is_inside, set_of}
 use Rattle.clause_core.proofs.Ranges.{list_all-push}
 use Rattle.clause_core.proofs.Sets.{list_all-with_all, is_set-with_all}

@@ -1,6 +1,6 @@
-use Rattle.std.proofs.Common.{◌≡◌, ◌+◌, ◌++◌, ◌∷◌, length, sym, ◌∙◌, ap, arith, rules}
-use Rattle.clause_core.proofs.OneOpen.{PartsBelow, parts-below}
-use Rattle.clause_core.proofs.propagation.is_fresh.Goals as goal
+use Rattle.std.proofs.Common.{◌≡◌, ◌+◌, ◌∷◌, length, arith, rules}
+use Rattle.clause_core.proofs.OneOpen.{parts-below}
+use Rattle.clause_core.proofs.freshness.is_fresh.Goals as goal
 
 pub shows_between-requires-clause-front : goal.shows_between-requires-clause-front
 shows_between-requires-clause-front c =

@@ -1,12 +1,11 @@
-use Rattle.std.proofs.Common.{◌≡◌, ◌≢◌, ℕ, length, true, false, sym, ◌∙◌, ap, subst, arith, refl, List}
+use Rattle.std.proofs.Common.{◌≡◌, length, sym, ◌∙◌, ap, subst, arith, refl}
 use Rattle.std.proofs.lemmas.Bool.{false≢true}
-use Rattle.clause_core.specs.declared.literal.Truth.{Truth}
-use Rattle.clause_core.specs.declared.literal.Truth.TheVariants.{Open, True}
+use Rattle.clause_core.specs.declared.truth.Truth.TheVariants.{True}
 use Rattle.clause_core.specs.Values.{value}
 use Rattle.clause_core.specs.Steps.{assume_false}
 use Rattle.clause_core.specs.Propagation.{Extends}
 use Rattle.clause_core.proofs.OneOpen.{base, ShowsFresh-closed, Extends-shown, not_true-below}
-use Rattle.clause_core.proofs.propagation.shows_between.Goals as goal
+use Rattle.clause_core.proofs.freshness.shows_between.Goals as goal
 
 pub returns-in-True-clause-no : goal.returns-in-True-clause-no
 returns-in-True-clause-no c = λ rho s.

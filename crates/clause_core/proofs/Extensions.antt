@@ -1,18 +1,17 @@
 -- Unit propagation stays below every partial assignment that leaves no held clause false or unit.
-use Rattle.std.proofs.Common.{◌≡◌, ◌≢◌, ℕ, zero, suc, ◌<◌, ◌≤◌, ◌+◌, ◌-◌, Bool, true, false, not, ◌&&◌, ◌||◌, List, [], ◌∷◌, ◌++◌, length, get_or, set, filter, ◌⊎◌, inl, inr, refl, sym, ◌∙◌, ap, subst, arith, cond, nat_le, IsTrue}
-use Rattle.std.specs.List.{list_any, list_all, All, Contains}
+use Rattle.std.proofs.Common.{◌≡◌, ℕ, zero, suc, ◌<◌, ◌+◌, Bool, true, false, not, ◌&&◌, ◌||◌, List, [], ◌∷◌, length, get_or, set, filter, refl, sym, ◌∙◌, ap, subst, arith, cond, nat_le}
+use Rattle.std.specs.List.{list_any, list_all, All}
 use Rattle.std.proofs.lemmas.Bool.{false≢true}
 use Rattle.std.proofs.lemmas.Bool.Decides.{nat_tests}
-use Rattle.std.proofs.lemmas.List.Elements.{All-nil, All-cons}
 use Rattle.clause_core.specs.declared.literal.Lit.{Lit}
-use Rattle.clause_core.specs.declared.literal.Truth.{Truth}
-use Rattle.clause_core.specs.declared.literal.Truth.TheVariants.{Open, True, False}
-use Rattle.clause_core.specs.declared.step.Status.{Status}
-use Rattle.clause_core.specs.declared.step.Status.TheVariants.{Falsified, Unit as UnitLit, Neither}
+use Rattle.clause_core.specs.declared.truth.Truth.{Truth}
+use Rattle.clause_core.specs.declared.truth.Truth.TheVariants.{Open, True, False}
+use Rattle.clause_core.specs.declared.status.Status.{Status}
+use Rattle.clause_core.specs.declared.status.Status.TheVariants.{Falsified, Unit as UnitLiteral, Neither}
 use Rattle.clause_core.specs.Values.{how_many, value, put_true, put_false, is_false, is_true, is_open, signed_truth, opposite}
-use Rattle.clause_core.specs.Steps.{not_false, left_of, status_of_one, status_of_left, clause_status, assume_false}
+use Rattle.clause_core.specs.Steps.{not_false, left_of, status_of_one, status_of_left, clause_status}
 use Rattle.clause_core.specs.Propagation.{Below, Extends}
-use Rattle.clause_core.specs.Freshness.{unforced, Unforced, ShowsFresh}
+use Rattle.clause_core.specs.Freshness.{unforced, Unforced}
 use Rattle.clause_core.proofs.Sound.{get_or-set_cases}
 use Rattle.clause_core.proofs.Ranges.{and_both}
 
@@ -80,7 +79,7 @@ unforced-left rho vs c e =
 -- what a clause_status says where a further assignment forces nothing
 abbrev pub Forces : List Truth → Status → Type 0
 Forces rho Falsified = ⊥
-Forces rho (UnitLit l) = value rho l ≡ True
+Forces rho (UnitLiteral l) = value rho l ≡ True
 Forces rho Neither = Unit {0}
 
 unforced-one : (u : Truth) → ((is_true u || false) || nat_le 2 (cond (is_open u) 1 0 + 0)) ≡ true → u ≡ True
@@ -141,24 +140,24 @@ pub unforced-closed : (vs : List Truth) (c : List Lit) → clause_status vs c �
 unforced-closed vs c h = unforced-left vs vs c (Extends-refl vs) ∙ closed-left vs (left_of vs c) h (kept_all (not_false vs) c)
 
 -- a unit literal is open
-open-one : (vs : List Truth) (t : Truth) (l m : Lit) → value vs l ≡ t → status_of_one t l ≡ UnitLit m → value vs m ≡ Open
+open-one : (vs : List Truth) (t : Truth) (l m : Lit) → value vs l ≡ t → status_of_one t l ≡ UnitLiteral m → value vs m ≡ Open
 open-one vs Open l m e h = let same : l ≡ m = cc in subst (λ z. value vs z ≡ Open) same e
 open-one vs True l m e h = cc
 open-one vs False l m e h = cc
 
-open-left : (vs : List Truth) (ls : List Lit) (m : Lit) → status_of_left vs ls ≡ UnitLit m → value vs m ≡ Open
+open-left : (vs : List Truth) (ls : List Lit) (m : Lit) → status_of_left vs ls ≡ UnitLiteral m → value vs m ≡ Open
 open-left vs [] m h = cc
 open-left vs (l ∷ []) m h = open-one vs (value vs l) l m refl h
 open-left vs (l ∷ (k ∷ ks)) m h = cc
 
-pub value-unit : (vs : List Truth) (c : List Lit) (m : Lit) → clause_status vs c ≡ UnitLit m → value vs m ≡ Open
+pub value-unit : (vs : List Truth) (c : List Lit) (m : Lit) → clause_status vs c ≡ UnitLiteral m → value vs m ≡ Open
 value-unit vs c m h = open-left vs (left_of vs c) m h
 
-open-var : (n : Bool) (t : Truth) → signed_truth n t ≡ Open → t ≡ Open
-open-var false t h = h
-open-var true Open h = refl
-open-var true True h = cc
-open-var true False h = cc
+open-variable : (n : Bool) (t : Truth) → signed_truth n t ≡ Open → t ≡ Open
+open-variable false t h = h
+open-variable true Open h = refl
+open-variable true True h = cc
+open-variable true False h = cc
 
 abbrev weight : Bool → ℕ
 weight b = cond b 1 0
@@ -174,7 +173,7 @@ not_open true = refl
 not_open false = refl
 
 pub open_count-unit : (vs : List Truth) (l : Lit) → l.variable < length vs → value vs l ≡ Open → how_many is_open (put_true vs l) + 1 ≡ how_many is_open vs
-open_count-unit vs l lt e = fewer vs l.variable (signed_truth l.negative True) lt (open-var l.negative (get_or vs l.variable Open) e) (not_open l.negative)
+open_count-unit vs l lt e = fewer vs l.variable (signed_truth l.negative True) lt (open-variable l.negative (get_or vs l.variable Open) e) (not_open l.negative)
 
 -- a write that a further assignment makes too
 signed-back : (n : Bool) (t u : Truth) → signed_truth n u ≡ t → Below (signed_truth n t) u
@@ -206,7 +205,7 @@ Extends-by_put vs i t o x =
     (λ same. subst (λ z. Below z t) (sym (ap (λ y. get_or vs y Open) same ∙ o)) tt) (Below-refl (get_or vs x Open))
 
 pub Extends-by_unit : (vs : List Truth) (l : Lit) → value vs l ≡ Open → Extends (put_true vs l) vs
-Extends-by_unit vs l e = Extends-by_put vs l.variable (signed_truth l.negative True) (open-var l.negative (get_or vs l.variable Open) e)
+Extends-by_unit vs l e = Extends-by_put vs l.variable (signed_truth l.negative True) (open-variable l.negative (get_or vs l.variable Open) e)
 
 pub Unforced-closed : (held : List (List Lit)) (vs : List Truth) → All (λ c. clause_status vs c ≡ Neither) held → Unforced held vs
 Unforced-closed held vs h k d lt = unforced-closed vs (get_or held k d) (h k d lt)

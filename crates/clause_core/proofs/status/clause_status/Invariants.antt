@@ -1,7 +1,7 @@
 use Rattle.std.proofs.Common.{◌≡◌, ◌<◌, ◌++◌, length, drop}
 use Rattle.std.specs.Option.{option_to_list, IfSome}
 use Rattle.clause_core.specs.Steps.{left_of, clause_status, status_of_left}
-use Rattle.clause_core.proofs.step.clause_status.Given as goal
+use Rattle.clause_core.proofs.status.clause_status.Given as goal
 
 abbrev pub invariant-loop-literal : goal.invariant-loop-literal
 invariant-loop-literal l = record {
