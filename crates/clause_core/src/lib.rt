@@ -14,6 +14,8 @@ mod log;
 mod propagation;
 mod status;
 mod step;
+#[cfg(test)]
+mod tests;
 mod truth;
 
 pub use assignment::Assignment;

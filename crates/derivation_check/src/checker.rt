@@ -56,6 +56,12 @@ impl Checker {
         })
     }
 
+    pub fn variables(&self) -> u32
+        ensures { result ≡ self.now.formula.variables }
+    {
+        self.variables
+    }
+
     /// Takes a step that is accepted. Hints behind the one that decides are not looked at.
     pub fn step(&mut self, step: &Step) -> Result<Ack, StepFault>
         requires { IsTrue (rises self.old.formula.variables step.now.clause) }

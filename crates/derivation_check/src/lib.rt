@@ -3,6 +3,8 @@
 
 mod checker;
 mod fault;
+#[cfg(test)]
+mod tests;
 
 pub use checker::{Ack, Checker};
 pub use fault::StepFault;
