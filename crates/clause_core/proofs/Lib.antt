@@ -1,0 +1,9 @@
+pub mod Sound
+pub mod Ranges
+pub mod Extensions
+pub mod ClosedLists
+pub mod Assumed
+pub mod OneOpen
+pub mod Sets
+pub mod Refuting
+pub mod Undone

@@ -1,0 +1,11 @@
+pub mod Clauses
+pub mod Formula
+pub mod Satisfaction
+pub mod Values
+pub mod Steps
+pub mod Freshness
+pub mod Logs
+pub mod Decisions
+pub mod Propagation
+pub mod Undoing
+pub mod Inside

@@ -1,0 +1,55 @@
+ghost use Rattle.std.specs.Prelude.{◌≡◌, ◌++◌, ◌∷◌, [], length, OnErr, OnOk};
+ghost use Rattle.clause_core.specs.declared.log.Entry.TheVariants.{Derived};
+
+use crate::step::Step;
+use std::alloc::{AllocError, Global};
+use std::marker::Model;
+
+/// What stands in a log.
+#[derive(Drop)]
+pub enum Entry {
+    /// A clause that is held from here on.
+    Derived(Step),
+}
+
+/// A derivation: entries, each over what the formula and those before it hold.
+#[derive(Drop)]
+pub struct Log {
+    entries: Vec<Entry>,
+}
+
+impl Model for Log {
+    ghost use Rattle.std.specs.Prelude.{List};
+    ghost use Rattle.clause_core.specs.declared.log.Entry.{Entry};
+
+    ghost Value = { List Entry };
+
+    ghost view = { λ l. l.entries.items };
+}
+
+impl Log {
+    pub fn new(alloc: Global) -> Self
+        ensures { result ≡ [] }
+    {
+        Log {
+            entries: Vec::new(alloc),
+        }
+    }
+
+    #[inline]
+    pub fn entries(&self) -> &[Entry]
+        ensures { result.now ≡ self.now }
+    {
+        self.entries.as_slice()
+    }
+
+    pub fn push(&mut self, step: Step) -> Result<(), AllocError>
+        ensures ok { OnOk result (self.new ≡ self.old ++ Derived step ∷ []) }
+        ensures err { OnErr result (self.new ≡ self.old) }
+    {
+        match self.entries.push(Entry::Derived(step)) {
+            Ok(()) => Ok(()),
+            Err(_) => Err(AllocError),
+        }
+    }
+}

@@ -1,0 +1,123 @@
+ghost use Rattle.std.specs.Prelude.{◌≡◌, ℕ, Bool, true, [], ◌↔◌, Contains, IsTrue, IfOk, IfErr, OnOk, OnErr};
+ghost use Rattle.clause_core.specs.Clauses.{rises};
+ghost use Rattle.clause_core.specs.Satisfaction.{Satisfies, HasNoSolution, clause_true};
+ghost use Rattle.clause_core.specs.Logs.{Accepts};
+ghost use Rattle.clause_core.specs.Freshness.{IsFresh};
+ghost use Rattle.derivation_check.specs.Checks.{held_of, Holds, FaultFits};
+
+use crate::fault::StepFault;
+use clause_core::{
+    Clause, Cnf, Outcome, Step, Truth, check_step, clear, copy_clauses, is_fresh, unassigned,
+};
+use std::alloc::{AllocError, Global};
+use std::marker::Model;
+
+/// A step was accepted.
+#[derive(Clone, Copy, PartialEq, Eq, Debug)]
+pub struct Ack;
+
+/// Holds the clauses of a formula and those derived from it, in this order and numbered from 1.
+#[derive(Drop)]
+pub struct Checker {
+    alloc: Global,
+    variables: u32,
+    given: usize,
+    held: Vec<Clause>,
+    values: Vec<Truth>,
+    is_refuted: bool,
+}
+
+impl Model for Checker {
+    ghost use Rattle.derivation_check.specs.Checks.{Derivation};
+
+    ghost Value = { Derivation };
+
+    ghost use Rattle.derivation_check.specs.Inside.{derivation_of, IsSound};
+
+    ghost view = { derivation_of };
+
+    ghost invariant = { IsSound };
+}
+
+impl Checker {
+    /// Holds the formula's clauses, copied.
+    pub fn new(alloc: Global, cnf: &Cnf) -> Result<Checker, AllocError>
+        ensures { IfOk result (λ checker. checker ≡ record { formula = cnf.now; derived = [] }) }
+    {
+        let held = copy_clauses(alloc, cnf.clauses())?;
+        let values = unassigned(alloc, cnf.variables())?;
+        Ok(Checker {
+            alloc,
+            variables: cnf.variables(),
+            given: held.len(),
+            held,
+            values,
+            is_refuted: false,
+        })
+    }
+
+    pub fn variables(&self) -> u32
+        ensures { result ≡ self.now.formula.variables }
+    {
+        self.variables
+    }
+
+    /// Takes a step that is accepted. Hints behind the one that decides are not looked at.
+    pub fn step(&mut self, step: &Step) -> Result<Ack, StepFault>
+        requires { IsTrue (rises self.old.formula.variables step.now.clause) }
+        ensures accepted { OnOk result (Accepts self.old.formula.variables (held_of self.old) step.now) }
+        ensures held { OnOk result (Holds self.old self.new step.now.clause) }
+        ensures follows { OnOk result ((v : ℕ → Bool) → Satisfies v (held_of self.old)
+            → clause_true v step.now.clause ≡ true) }
+
+        // `Memory` comes only where the step is accepted.
+        ensures fault { IfErr result (FaultFits self.old step.now) }
+        ensures unchanged { OnErr result (self.new ≡ self.old) }
+    {
+        let outcome = check_step(
+            self.held.as_slice(),
+            self.values.as_mut_slice(),
+            step.clause.literals(),
+            step.hints.numbers(),
+        );
+        match outcome {
+            Outcome::Accepted => {
+                let Ok(clause) = Clause::from_slice(self.alloc, step.clause.literals()) else {
+                    return Err(StepFault::Memory);
+                };
+                let Ok(()) = self.held.push(clause) else {
+                    return Err(StepFault::Memory);
+                };
+                self.is_refuted = self.is_refuted | step.clause.literals().is_empty();
+                Ok(Ack)
+            }
+            Outcome::UnknownHint(number) => Err(StepFault::UnknownHint(number)),
+            Outcome::NotUnit(number) => Err(StepFault::NotUnit(number)),
+            Outcome::NoConflict => Err(StepFault::NoConflict),
+        }
+    }
+
+    /// Whether the step's clause is fresh over what is held. Takes no memory.
+    pub fn fresh(&mut self, step: &Step) -> bool
+        requires { IsTrue (rises self.old.formula.variables step.now.clause) }
+        ensures exact { IsTrue result ↔ IsFresh (held_of self.old) step.now.clause }
+        ensures unchanged { self.new ≡ self.old }
+    {
+        let answer = is_fresh(
+            self.variables,
+            self.held.as_slice(),
+            self.values.as_mut_slice(),
+            step.clause.literals(),
+        );
+        clear(self.values.as_mut_slice());
+        answer
+    }
+
+    /// Whether an accepted step's clause was empty.
+    pub fn refuted(&self) -> bool
+        ensures exact { IsTrue result ↔ Contains self.now.derived [] }
+        ensures unsatisfiable { IsTrue result → HasNoSolution self.now.formula.clauses }
+    {
+        self.is_refuted
+    }
+}

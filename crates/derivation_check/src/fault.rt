@@ -1,0 +1,14 @@
+use thiserror::Error;
+
+/// Why a step is not taken.
+#[derive(Debug, Drop, PartialEq, Eq, Error)]
+pub enum StepFault {
+    #[error("no clause {0} is held")]
+    UnknownHint(u32),
+    #[error("clause {0} is neither false nor unit")]
+    NotUnit(u32),
+    #[error("the hints end without a conflict")]
+    NoConflict,
+    #[error("out of memory")]
+    Memory,
+}

@@ -1,0 +1,10 @@
+// A checker of derivations: it takes a step exactly where it is accepted over what is held.
+#![tactic(auto)]
+
+mod checker;
+mod fault;
+#[cfg(test)]
+mod tests;
+
+pub use checker::{Ack, Checker};
+pub use fault::StepFault;
