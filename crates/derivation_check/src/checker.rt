@@ -65,7 +65,8 @@ impl Checker {
     /// Takes a step that is accepted. Hints behind the one that decides are not looked at.
     pub fn step(&mut self, step: &Step) -> Result<Ack, StepFault>
         requires { IsTrue (rises self.old.formula.variables step.now.clause) }
-        ensures accepted { OnOk result (Accepts self.old.formula.variables (held_of self.old) step.now) }
+        ensures accepted { OnOk result
+            (Accepts self.old.formula.variables (held_of self.old) step.now) }
         ensures held { OnOk result (Holds self.old self.new step.now.clause) }
         ensures follows { OnOk result ((v : ℕ → Bool) → Satisfies v (held_of self.old)
             → clause_true v step.now.clause ≡ true) }
