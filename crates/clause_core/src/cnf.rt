@@ -44,6 +44,7 @@ impl Cnf {
         }
     }
 
+    /// How many variables there are.
     pub fn variables(&self) -> u32
         ensures same { result ≡ self.now.variables }
         ensures few { result < 2 ^ 32 - 1 }
@@ -51,6 +52,7 @@ impl Cnf {
         self.variables
     }
 
+    /// The clauses in the order of their numbers.
     pub fn clauses(&self) -> &[Clause]
         ensures same { result.now ≡ self.now.clauses }
         ensures within { IsTrue (list_all (is_within self.now.variables) result.now) }
