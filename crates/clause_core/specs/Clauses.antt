@@ -7,6 +7,7 @@ use Rattle.clause_core.specs.declared.literal.Lit.{Lit}
 abbrev pub is_inside : ℕ → Lit → Bool
 is_inside variables l = nat_lt 0 l.variable && nat_le l.variable variables
 
+-- so does each literal of the clause
 abbrev pub is_within : ℕ → List Lit → Bool
 is_within variables c = list_all (is_inside variables) c
 
@@ -15,6 +16,7 @@ abbrev pub fits_in : ℕ → ℕ → List Lit → Bool
 fits_in variables low [] = true
 fits_in variables low (l ∷ ls) = nat_lt low l.variable && (nat_le l.variable variables && fits_in variables l.variable ls)
 
+-- the variables rise and lie in 1 to `variables`
 abbrev pub rises : ℕ → List Lit → Bool
 rises variables c = fits_in variables 0 c
 
@@ -22,6 +24,7 @@ rises variables c = fits_in variables 0 c
 abbrev pub rank : Lit → ℕ
 rank l = 2 * l.variable + (if l.negative then 1 else 0)
 
+-- the ranks rise, from `low` on
 abbrev pub ascends : ℕ → List Lit → Bool
 ascends low [] = true
 ascends low (l ∷ ls) = nat_le low (rank l) && ascends (rank l + 1) ls
@@ -35,6 +38,7 @@ abbrev pub inserted : Lit → List Lit → List Lit
 inserted l [] = l ∷ []
 inserted l (m ∷ ms) = if nat_lt (rank m) (rank l) then m ∷ inserted l ms else (if nat_lt (rank l) (rank m) then l ∷ m ∷ ms else m ∷ ms)
 
+-- the set with these literals put in too
 abbrev pub with_all : List Lit → List Lit → List Lit
 with_all c [] = c
 with_all c (l ∷ ls) = with_all (inserted l c) ls

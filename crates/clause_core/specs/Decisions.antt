@@ -21,6 +21,7 @@ pub record IsSpent (f : Formula) (limit : ℕ) (log : List Entry) : Type 0 where
   pub good : IsGoodLog f.variables f.clauses log
   pub fresh : IsFreshLog f.clauses log
 
+-- the answer to a formula with this limit is right
 abbrev pub IsDecided : Formula → ℕ → Decided → Type 0
 IsDecided f limit (Found values) = Satisfies (assigned values) f.clauses
 IsDecided f limit (Refuted log) = IsRefutation f limit log

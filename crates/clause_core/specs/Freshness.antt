@@ -10,6 +10,7 @@ use Rattle.clause_core.specs.Values.{how_many, value, is_true, is_open}
 abbrev pub unforced : List Truth → List Lit → Bool
 unforced vs c = list_any (λ l. is_true (value vs l)) c || nat_le 2 (how_many (λ l. is_open (value vs l)) c)
 
+-- no held clause is unit or false
 abbrev pub Unforced : List (List Lit) → List Truth → Type 0
 Unforced held vs = All (λ c. IsTrue (unforced vs c)) held
 
@@ -20,5 +21,6 @@ pub record ShowsFresh (held : List (List Lit)) (clause : List Lit) (p : Lit) (vs
   pub itself : value vs p ≢ True
   pub unforced : Unforced held vs
 
+-- for some literal, a partial assignment shows it
 abbrev pub IsFresh : List (List Lit) → List Lit → Type 0
 IsFresh held clause = (p : Lit) × (vs : List Truth) × ShowsFresh held clause p vs

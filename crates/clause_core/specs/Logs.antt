@@ -18,10 +18,11 @@ abbrev pub AcceptsLog : ℕ → List (List Lit) → List Entry → Type 0
 AcceptsLog variables held [] = Unit {0}
 AcceptsLog variables held (Derived s ∷ es) = Accepts variables held s × AcceptsLog variables (held ++ s.clause ∷ []) es
 
--- the last clause of the log is empty
+-- the log ends with the empty clause
 abbrev pub EndsEmpty : List Entry → Type 0
 EndsEmpty log = (front : List Entry) × (last : Step) × (log ≡ front ++ Derived last ∷ []) × (last.clause ≡ [])
 
+-- an accepted log whose last clause is empty
 pub record Refutes (variables : ℕ) (formula : List (List Lit)) (log : List Entry) : Type 0 where
   pub accepted : AcceptsLog variables formula log
   pub empty : EndsEmpty log
@@ -36,6 +37,7 @@ pub record IsGoodStep (variables : ℕ) (held : List (List Lit)) (s : Step) : Ty
   pub accepted : Accepts variables held s
   pub last : LastDecides variables held s
 
+-- each step is as a decider gives it, over what is held before it
 abbrev pub IsGoodLog : ℕ → List (List Lit) → List Entry → Type 0
 IsGoodLog variables held [] = Unit {0}
 IsGoodLog variables held (Derived s ∷ es) = IsGoodStep variables held s × IsGoodLog variables (held ++ s.clause ∷ []) es

@@ -13,6 +13,7 @@ use Rattle.clause_core.specs.Values.{value, put_true, put_false, is_false}
 abbrev pub VariablesBelow : ℕ → List Lit → Type 0
 VariablesBelow n c = All (λ l. l.variable < n) c
 
+-- the variables of each clause do
 abbrev pub AllVariablesBelow : ℕ → List (List Lit) → Type 0
 AllVariablesBelow n held = All (VariablesBelow n) held
 
@@ -23,17 +24,19 @@ not_false vs l = not (is_false (value vs l))
 abbrev pub left_of : List Truth → List Lit → List Lit
 left_of vs c = filter (not_false vs) c
 
--- false where none is left; unit where one is left, and that one open
+-- unit where the one literal that is left is open
 abbrev pub status_of_one : Truth → Lit → Status
 status_of_one Open l = UnitLiteral l
 status_of_one True l = Neither
 status_of_one False l = Neither
 
+-- the status of a clause by its literals that are not false
 abbrev pub status_of_left : List Truth → List Lit → Status
 status_of_left vs [] = Falsified
 status_of_left vs (l ∷ []) = status_of_one (value vs l) l
 status_of_left vs (l ∷ (m ∷ ms)) = Neither
 
+-- false where no literal is left, unit where one is left and that one is open
 abbrev pub clause_status : List Truth → List Lit → Status
 clause_status vs c = status_of_left vs (left_of vs c)
 
@@ -64,6 +67,7 @@ after_status h Falsified vs go = Accepted
 after_status h (UnitLiteral l) vs go = go (put_true vs l)
 after_status h Neither vs go = NotUnit h
 
+-- what a hint comes to: its clause, if there is one of that number
 abbrev pub at_hint : ℕ → Option (List Lit) → List Truth → (List Truth → Outcome) → Outcome
 at_hint h None vs go = UnknownHint h
 at_hint h (Some c) vs go = after_status h (clause_status vs c) vs go

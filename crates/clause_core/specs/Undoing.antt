@@ -8,6 +8,7 @@ use Rattle.clause_core.specs.declared.status.Status.TheVariants.{Falsified, Unit
 use Rattle.clause_core.specs.Values.{put_true}
 use Rattle.clause_core.specs.Steps.{clause_status, clause_at}
 
+-- only a unit clause goes on, its literal true
 abbrev pub values_after_status : Status → List Truth → (List Truth → List Truth) → List Truth
 values_after_status Falsified vs go = vs
 values_after_status (UnitLiteral l) vs go = go (put_true vs l)

@@ -8,22 +8,25 @@ use Rattle.clause_core.specs.declared.truth.Truth.TheVariants.{Open, True, False
 abbrev pub negation : Lit → Lit
 negation l = record { variable = l.variable; negative = not l.negative }
 
--- a partial assignment lists a value for each variable, and gives the others none
 abbrev pub opposite : Truth → Truth
 opposite Open = Open
 opposite True = False
 opposite False = True
 
+-- the value of a literal of this sign, from its variable's
 abbrev pub signed_truth : Bool → Truth → Truth
 signed_truth true t = opposite t
 signed_truth false t = t
 
+-- a partial assignment lists a value for each variable, and gives the others none
 abbrev pub value : List Truth → Lit → Truth
 value vs l = signed_truth l.negative (slice_index_or vs l.variable Open)
 
+-- the values with this literal true
 abbrev pub put_true : List Truth → Lit → List Truth
 put_true vs l = slice_set vs l.variable (signed_truth l.negative True)
 
+-- the values with this literal false
 abbrev pub put_false : List Truth → Lit → List Truth
 put_false vs l = slice_set vs l.variable (signed_truth l.negative False)
 

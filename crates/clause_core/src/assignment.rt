@@ -29,6 +29,7 @@ impl Assignment {
         Assignment { values }
     }
 
+    /// The value of a variable.
     pub fn value(&self, variable: u32) -> bool
         ensures { result ≡ assigned self.now variable }
     {

@@ -79,7 +79,8 @@ pub fn check_step(held: &[Clause], values: &mut [Truth], clause: &[Lit], hints: 
     requires held { AllVariablesBelow (length values.old) held.now }
     requires clause { VariablesBelow (length values.old) clause.now }
     requires open { values.old ≡ replicate (length values.old) Truth.Open }
-    ensures outcome { result ≡ follow_hints held.now (assume_false values.old clause.now) hints.now }
+    ensures outcome { result
+        ≡ follow_hints held.now (assume_false values.old clause.now) hints.now }
     ensures same { values.new ≡ values.old }
 {
     assume_false(values, clause);

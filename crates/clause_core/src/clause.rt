@@ -8,7 +8,7 @@ use smallvec::SmallVec;
 use std::alloc::{AllocError, Global};
 use std::marker::Model;
 
-/// A clause, the disjunction of its literals, as contracts see it a list of them.
+/// A clause, the disjunction of its literals: contracts see the list of them.
 #[derive(Drop)]
 pub struct Clause {
     literals: SmallVec<Lit, 3>,
@@ -33,6 +33,7 @@ impl Clause {
         }
     }
 
+    /// The literals, in the order in which they are kept.
     #[inline]
     pub fn literals(&self) -> &[Lit]
         ensures { result.now ≡ self.now }

@@ -1,6 +1,7 @@
 ghost use Rattle.std.specs.Prelude.{◌≡◌, ℕ, ◌<◌, ◌+◌, ◌-◌, ◌^◌, ◌++◌, ◌∷◌, [], IsTrue, OnErr, OnOk, length};
 ghost use Rattle.std.specs.List.{list_all};
 ghost use Rattle.clause_core.specs.Clauses.{is_within, is_set, set_of};
+ghost use Rattle.clause_core.specs.Formula.{with_clause};
 
 use crate::clause::Clause;
 use crate::literal::Lit;
@@ -43,6 +44,7 @@ impl Cnf {
         }
     }
 
+    /// How many variables there are.
     pub fn variables(&self) -> u32
         ensures same { result ≡ self.now.variables }
         ensures few { result < 2 ^ 32 - 1 }
@@ -50,6 +52,7 @@ impl Cnf {
         self.variables
     }
 
+    /// The clauses in the order of their numbers.
     pub fn clauses(&self) -> &[Clause]
         ensures same { result.now ≡ self.now.clauses }
         ensures within { IsTrue (list_all (is_within self.now.variables) result.now) }
@@ -61,7 +64,7 @@ impl Cnf {
     /// Adds a clause. The literals may stand in any order, and equal ones count once.
     pub fn push(&mut self, literals: &[Lit]) -> Result<(), AllocError>
         requires { IsTrue (is_within self.old.variables literals.now) }
-        ensures ok { OnOk result (self.new ≡ record { variables = self.old.variables; clauses = self.old.clauses ++ set_of literals.now ∷ [] }) }
+        ensures ok { OnOk result (self.new ≡ with_clause self.old (set_of literals.now)) }
         ensures err { OnErr result (self.new ≡ self.old) }
     {
         let clause = Clause::from_set(self.alloc, literals)?;

@@ -12,12 +12,13 @@ use crate::propagation::{all_closed, propagate};
 use crate::status::{Status, clause_status};
 use crate::truth::{Truth, assume_false, clear, value};
 
-/// Whether the values themselves show that the clause is fresh: it is unit, and nothing held is unit
-/// or false.
+/// Whether the values themselves show that the clause is fresh: it is unit, and nothing held is
+/// unit or false.
 pub fn shows_fresh(held: &[Clause], values: &[Truth], literals: &[Lit]) -> bool
     requires held { AllVariablesBelow (length values.now) held.now }
     requires literals { VariablesBelow (length values.now) literals.now }
-    ensures exact { IsTrue result ↔ (IsUnit (clause_status values.now literals.now) × IsClosed held.now values.now) }
+    ensures exact { IsTrue result
+        ↔ (IsUnit (clause_status values.now literals.now) × IsClosed held.now values.now) }
     ensures fresh { IsTrue result → IsFresh held.now literals.now }
 {
     match clause_status(values, literals) {
@@ -41,8 +42,10 @@ fn shows_between(
     requires back { VariablesBelow (length values.old) back.now }
     requires clause { IsTrue (rises variables (front.now ++ literal ∷ back.now)) }
     requires size { length values.old ≡ variables + 1 }
-    ensures yes { IsTrue result → ShowsFresh held.now (front.now ++ literal ∷ back.now) literal values.new }
-    ensures no { (rho : List Truth) → ShowsFresh held.now (front.now ++ literal ∷ back.now) literal rho → IsTrue result }
+    ensures yes { IsTrue result
+        → ShowsFresh held.now (front.now ++ literal ∷ back.now) literal values.new }
+    ensures no { (rho : List Truth)
+        → ShowsFresh held.now (front.now ++ literal ∷ back.now) literal rho → IsTrue result }
 {
     clear(values);
     assume_false(values, front);

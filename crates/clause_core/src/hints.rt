@@ -19,6 +19,7 @@ impl Model for Hints {
 }
 
 impl Hints {
+    /// No hint.
     pub fn new(alloc: Global) -> Self
         ensures { result ≡ [] }
     {
@@ -27,6 +28,7 @@ impl Hints {
         }
     }
 
+    /// The numbers in their order.
     #[inline]
     pub fn numbers(&self) -> &[u32]
         ensures { result.now ≡ self.now }
@@ -34,6 +36,7 @@ impl Hints {
         self.numbers.as_slice()
     }
 
+    /// Adds a number behind the others.
     pub fn push(&mut self, number: u32) -> Result<(), AllocError>
         ensures ok { OnOk result (self.new ≡ self.old ++ number ∷ []) }
         ensures err { OnErr result (self.new ≡ self.old) }

@@ -11,6 +11,7 @@ pub struct Lit {
 }
 
 impl Lit {
+    /// The literal with the other sign.
     #[inline]
     pub fn negated(self) -> Lit
         ensures { result ≡ negation self }

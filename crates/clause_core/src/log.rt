@@ -28,6 +28,7 @@ impl Model for Log {
 }
 
 impl Log {
+    /// The log of no entry.
     pub fn new(alloc: Global) -> Self
         ensures { result ≡ [] }
     {
@@ -36,6 +37,7 @@ impl Log {
         }
     }
 
+    /// The entries in their order.
     #[inline]
     pub fn entries(&self) -> &[Entry]
         ensures { result.now ≡ self.now }
@@ -43,6 +45,7 @@ impl Log {
         self.entries.as_slice()
     }
 
+    /// Adds a derived clause behind the others.
     pub fn push(&mut self, step: Step) -> Result<(), AllocError>
         ensures ok { OnOk result (self.new ≡ self.old ++ Derived step ∷ []) }
         ensures err { OnErr result (self.new ≡ self.old) }

@@ -1,6 +1,6 @@
 ghost use Rattle.std.specs.Prelude.{◌≡◌, ◌≢◌, ℕ, ◌<◌, List, length, IsTrue, ◌↔◌, slice_index_or};
 ghost use Rattle.clause_core.specs.Steps.{AllVariablesBelow};
-ghost use Rattle.clause_core.specs.Propagation.{Extends, IsClosed, open_count};
+ghost use Rattle.clause_core.specs.Propagation.{Extends, IsClosed, IsImplied, open_count};
 ghost use Rattle.clause_core.specs.Freshness.{Unforced};
 ghost use Rattle.clause_core.specs.declared.truth.Truth.{Truth};
 
@@ -38,8 +38,9 @@ pub fn propagate_once(held: &[Clause], values: &mut [Truth]) -> Pass
     ensures closed { result ≡ Pass.Closed → IsClosed held.now values.new }
     ensures fewer { result ≡ Pass.Changed → open_count values.new < open_count values.old }
     ensures grows { Extends values.new values.old }
-    ensures below { (rho : List Truth) → Extends rho values.old → Unforced held.now rho → Extends rho values.new }
-    ensures conflict { (rho : List Truth) → Extends rho values.old → Unforced held.now rho → result ≢ Pass.Conflict }
+    ensures below { IsImplied held.now values.old values.new }
+    ensures conflict { (rho : List Truth) → Extends rho values.old → Unforced held.now rho
+        → result ≢ Pass.Conflict }
 {
     let mut changed = false;
     for clause in held {
@@ -62,8 +63,9 @@ pub fn propagate(held: &[Clause], values: &mut [Truth]) -> bool
     requires { AllVariablesBelow (length values.old) held.now }
     ensures closed { IsTrue result → IsClosed held.now values.new }
     ensures grows { Extends values.new values.old }
-    ensures below { (rho : List Truth) → Extends rho values.old → Unforced held.now rho → Extends rho values.new }
-    ensures conflict { (rho : List Truth) → Extends rho values.old → Unforced held.now rho → IsTrue result }
+    ensures below { IsImplied held.now values.old values.new }
+    ensures conflict { (rho : List Truth) → Extends rho values.old → Unforced held.now rho
+        → IsTrue result }
 {
     loop {
         match propagate_once(held, values) {

@@ -1,5 +1,5 @@
 ghost use Rattle.std.specs.Prelude.{◌≡◌, ℕ, Bool, true, List};
-ghost use Rattle.clause_core.specs.Satisfaction.{formula_true, clause_true, HasNoSolution};
+ghost use Rattle.clause_core.specs.Satisfaction.{Satisfies, clause_true, HasNoSolution};
 ghost use Rattle.clause_core.specs.Logs.{Accepts, Refutes};
 ghost use Rattle.clause_core.specs.declared.literal.Lit.{Lit};
 ghost use Rattle.clause_core.specs.declared.step.Step.{Step};
@@ -18,7 +18,7 @@ pub struct Step {
 /// The clause of an accepted step is true wherever the held clauses are.
 pub fn law_accepted()
     ensures { (variables : ℕ) (held : List (List Lit)) (s : Step) → Accepts variables held s
-        → (v : ℕ → Bool) → formula_true v held ≡ true → clause_true v s.clause ≡ true }
+        → (v : ℕ → Bool) → Satisfies v held → clause_true v s.clause ≡ true }
 {}
 
 /// A formula that a log refutes has no satisfying assignment.

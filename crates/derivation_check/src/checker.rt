@@ -56,16 +56,19 @@ impl Checker {
         })
     }
 
+    /// How many variables the formula has.
     pub fn variables(&self) -> u32
         ensures { result ≡ self.now.formula.variables }
     {
         self.variables
     }
 
-    /// Takes a step that is accepted. Hints behind the one that decides are not looked at.
+    /// Takes a step that is accepted, in time proportional to the literals of its clause and of the
+    /// clauses that its hints name. Hints behind the one that decides are not looked at.
     pub fn step(&mut self, step: &Step) -> Result<Ack, StepFault>
         requires { IsTrue (rises self.old.formula.variables step.now.clause) }
-        ensures accepted { OnOk result (Accepts self.old.formula.variables (held_of self.old) step.now) }
+        ensures accepted { OnOk result
+            (Accepts self.old.formula.variables (held_of self.old) step.now) }
         ensures held { OnOk result (Holds self.old self.new step.now.clause) }
         ensures follows { OnOk result ((v : ℕ → Bool) → Satisfies v (held_of self.old)
             → clause_true v step.now.clause ≡ true) }
@@ -97,7 +100,8 @@ impl Checker {
         }
     }
 
-    /// Whether the step's clause is fresh over what is held. Takes no memory.
+    /// Whether the step's clause is fresh over what is held. Takes no memory, and for each literal that
+    /// it tries as many passes over the held clauses as unit propagation needs.
     pub fn fresh(&mut self, step: &Step) -> bool
         requires { IsTrue (rises self.old.formula.variables step.now.clause) }
         ensures exact { IsTrue result ↔ IsFresh (held_of self.old) step.now.clause }
