@@ -1,4 +1,4 @@
--- When a step is accepted over held clauses, and when it is fresh.
+-- When a step is accepted over held clauses: the check of a clause by reverse unit propagation.
 use Rattle.std.specs.Prelude.{ℕ, zero, suc, ◌<◌, ◌+◌, Bool, not, List, [], ◌∷◌, All, filter, replicate, slice_get, Option, Some, None}
 use Rattle.clause_core.specs.declared.literal.Lit.{Lit}
 use Rattle.clause_core.specs.declared.truth.Truth.{Truth}
@@ -9,16 +9,17 @@ use Rattle.clause_core.specs.declared.check.Outcome.{Outcome}
 use Rattle.clause_core.specs.declared.check.Outcome.TheVariants.{Accepted, UnknownHint, NotUnit, NoConflict}
 use Rattle.clause_core.specs.Values.{value, put_true, put_false, is_false}
 
+-- each variable has a place in a list of `n` values
 abbrev pub VariablesBelow : ℕ → List Lit → Type 0
 VariablesBelow n c = All (λ l. l.variable < n) c
 
 abbrev pub AllVariablesBelow : ℕ → List (List Lit) → Type 0
 AllVariablesBelow n held = All (VariablesBelow n) held
 
--- the literals of a clause that are not false
 abbrev pub not_false : List Truth → Lit → Bool
 not_false vs l = not (is_false (value vs l))
 
+-- the literals of a clause that are not false
 abbrev pub left_of : List Truth → List Lit → List Lit
 left_of vs c = filter (not_false vs) c
 
@@ -36,19 +37,28 @@ status_of_left vs (l ∷ (m ∷ ms)) = Neither
 abbrev pub clause_status : List Truth → List Lit → Status
 clause_status vs c = status_of_left vs (left_of vs c)
 
+-- one literal is not false, and it is open
+abbrev pub IsUnit : Status → Type 0
+IsUnit (UnitLiteral l) = Unit {0}
+IsUnit Falsified = ⊥
+IsUnit Neither = ⊥
+
 abbrev pub UnitBelow : ℕ → Status → Type 0
 UnitBelow n (UnitLiteral l) = l.variable < n
 UnitBelow n Falsified = Unit {0}
 UnitBelow n Neither = Unit {0}
 
+-- each literal is made false
 abbrev pub assume_false : List Truth → List Lit → List Truth
 assume_false vs [] = vs
 assume_false vs (l ∷ ls) = assume_false (put_false vs l) ls
 
+-- the clause of that number, from 1
 abbrev pub clause_at : List (List Lit) → ℕ → Option (List Lit)
 clause_at held zero = None
 clause_at held (suc i) = slice_get held i
 
+-- a false clause accepts, the literal of a unit clause is made true, and any other clause refuses
 abbrev pub after_status : ℕ → Status → List Truth → (List Truth → Outcome) → Outcome
 after_status h Falsified vs go = Accepted
 after_status h (UnitLiteral l) vs go = go (put_true vs l)

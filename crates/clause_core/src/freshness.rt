@@ -1,6 +1,7 @@
-ghost use Rattle.std.specs.Prelude.{◌≡◌, ℕ, ◌<◌, ◌+◌, List, length, IsTrue, ◌++◌, ◌∷◌};
+ghost use Rattle.std.specs.Prelude.{◌≡◌, ℕ, ◌<◌, ◌+◌, List, length, IsTrue, ◌↔◌, ◌++◌, ◌∷◌};
 ghost use Rattle.clause_core.specs.Clauses.{rises};
-ghost use Rattle.clause_core.specs.Steps.{VariablesBelow, AllVariablesBelow};
+ghost use Rattle.clause_core.specs.Steps.{clause_status, IsUnit, VariablesBelow, AllVariablesBelow};
+ghost use Rattle.clause_core.specs.Propagation.{IsClosed};
 ghost use Rattle.clause_core.specs.Freshness.{IsFresh, ShowsFresh};
 ghost use Rattle.clause_core.specs.declared.truth.Truth.{Truth};
 ghost use Rattle.clause_core.specs.declared.literal.Lit.{Lit};
@@ -11,11 +12,13 @@ use crate::propagation::{all_closed, propagate};
 use crate::status::{Status, clause_status};
 use crate::truth::{Truth, assume_false, clear, value};
 
-/// Whether the values show that the clause is fresh.
+/// Whether the values themselves show that the clause is fresh: it is unit, and nothing held is unit
+/// or false.
 pub fn shows_fresh(held: &[Clause], values: &[Truth], literals: &[Lit]) -> bool
     requires held { AllVariablesBelow (length values.now) held.now }
     requires literals { VariablesBelow (length values.now) literals.now }
-    ensures { IsTrue result → IsFresh held.now literals.now }
+    ensures exact { IsTrue result ↔ (IsUnit (clause_status values.now literals.now) × IsClosed held.now values.now) }
+    ensures fresh { IsTrue result → IsFresh held.now literals.now }
 {
     match clause_status(values, literals) {
         Status::Unit(_) => all_closed(held, values),
@@ -24,7 +27,7 @@ pub fn shows_fresh(held: &[Clause], values: &[Truth], literals: &[Lit]) -> bool
 }
 
 /// Whether the literal between `front` and `back` shows that the clause is fresh.
-pub fn shows_between(
+fn shows_between(
     variables: u32,
     held: &[Clause],
     values: &mut [Truth],
@@ -59,8 +62,7 @@ pub fn is_fresh(variables: u32, held: &[Clause], values: &mut [Truth], literals:
     requires held { AllVariablesBelow (length values.old) held.now }
     requires literals { IsTrue (rises variables literals.now) }
     requires size { length values.old ≡ variables + 1 }
-    ensures yes { IsTrue result → IsFresh held.now literals.now }
-    ensures no { IsFresh held.now literals.now → IsTrue result }
+    ensures exact { IsTrue result ↔ IsFresh held.now literals.now }
     ensures size { length values.new ≡ length values.old }
 {
     for i in 0..literals.len() {

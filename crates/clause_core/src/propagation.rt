@@ -1,4 +1,4 @@
-ghost use Rattle.std.specs.Prelude.{◌≡◌, ◌≢◌, ℕ, ◌<◌, List, length, IsTrue, slice_index_or};
+ghost use Rattle.std.specs.Prelude.{◌≡◌, ◌≢◌, ℕ, ◌<◌, List, length, IsTrue, ◌↔◌, slice_index_or};
 ghost use Rattle.clause_core.specs.Steps.{AllVariablesBelow};
 ghost use Rattle.clause_core.specs.Propagation.{Extends, IsClosed, open_count};
 ghost use Rattle.clause_core.specs.Freshness.{Unforced};
@@ -19,7 +19,7 @@ pub enum Pass {
 /// Whether no held clause is false or unit.
 pub fn all_closed(held: &[Clause], values: &[Truth]) -> bool
     requires { AllVariablesBelow (length values.now) held.now }
-    ensures { IsTrue result → IsClosed held.now values.now }
+    ensures { IsTrue result ↔ IsClosed held.now values.now }
 {
     for clause in held {
         match clause_status(values, clause.literals()) {

@@ -103,12 +103,9 @@ impl Checker {
         ensures exact { IsTrue result ↔ IsFresh (held_of self.old) step.now.clause }
         ensures unchanged { self.new ≡ self.old }
     {
-        let answer = is_fresh(
-            self.variables,
-            self.held.as_slice(),
-            self.values.as_mut_slice(),
-            step.clause.literals(),
-        );
+        let held = self.held.as_slice();
+        let values = self.values.as_mut_slice();
+        let answer = is_fresh(self.variables, held, values, step.clause.literals());
         clear(self.values.as_mut_slice());
         answer
     }

@@ -1,4 +1,4 @@
-use Rattle.std.proofs.Common.{◌≡◌, arith}
+use Rattle.std.proofs.Common.{◌≡◌, arith, refl}
 use Rattle.clause_core.specs.Steps.{clause_status}
 use Rattle.clause_core.specs.declared.status.Status.TheVariants.{Neither}
 use Rattle.clause_core.proofs.ClosedLists.{IsClosed-more, IsClosed-all}
@@ -10,4 +10,4 @@ loop-clause-preserved c =
     IsClosed-more c.args.held.now c.args.values.now c.loop-clause.clause-index c.clause-item.result (omega arith) c.clause-item.is c.loop-clause.invariant status
 
 pub returns : goal.returns
-returns c = λ _. IsClosed-all c.args.held.now c.args.values.now c.loop-clause.clause-index (omega arith) c.loop-clause.invariant
+returns c = (λ _. IsClosed-all c.args.held.now c.args.values.now c.loop-clause.clause-index (omega arith) c.loop-clause.invariant, λ _. refl)

@@ -1,0 +1,78 @@
+ghost use Rattle.std.specs.Prelude.{◌<◌, ◌-◌, ◌^◌};
+
+use clause_core::{Clause, Cnf, Hints, Lit, Step, is_within};
+use std::alloc::{AllocError, Global};
+
+/// A formula, and the steps of a derivation over it.
+#[derive(Drop)]
+pub struct Input {
+    pub cnf: Cnf,
+    pub steps: Vec<Step>,
+}
+
+/// Reads the line 'p cnf VARIABLES CLAUSES' of DIMACS, a line of literals and 0 for each clause, and
+/// a line of literals, 0, hints and 0 for each step. What is no number is read as 0, and a clause
+/// that is not one of the formula's variables is left out.
+pub fn read(alloc: Global, text: &str) -> Result<Input, AllocError> {
+    let mut cnf = Cnf::new(alloc, 0);
+    let mut steps = Vec::new(alloc);
+    let mut clauses = 0;
+    for (i, line) in text.lines().enumerate() {
+        if i == 0 {
+            cnf = Cnf::new(alloc, variables(line));
+            clauses = word_at(line, 3);
+        } else if i as u64 <= clauses as u64 {
+            add(alloc, &mut cnf, line)?;
+        } else {
+            steps.push(step(alloc, line)?)?;
+        }
+    }
+    Ok(Input { cnf, steps })
+}
+
+/// The number that stands at that place of the line, from 0.
+fn word_at(line: &str, place: usize) -> u32 {
+    match line.split_whitespace().nth(place) {
+        None => 0,
+        Some(word) => word.parse::<u32>().unwrap_or(0),
+    }
+}
+
+fn variables(line: &str) -> u32
+    ensures { result < 2 ^ 32 - 1 }
+{
+    word_at(line, 2).min(u32::MAX - 1)
+}
+
+fn add(alloc: Global, cnf: &mut Cnf, line: &str) -> Result<(), AllocError> {
+    let step = step(alloc, line)?;
+    let literals = step.clause.literals();
+    if is_within(cnf.variables(), literals) {
+        cnf.push(literals)?;
+    }
+    Ok(())
+}
+
+fn literal(number: i32) -> Lit {
+    Lit {
+        variable: number.unsigned_abs(),
+        negative: number < 0,
+    }
+}
+
+fn step(alloc: Global, line: &str) -> Result<Step, AllocError> {
+    let mut clause = Clause::new(alloc);
+    let mut hints = Hints::new(alloc);
+    let mut is_clause = true;
+    for word in line.split_whitespace() {
+        let number = word.parse::<i32>().unwrap_or(0);
+        if number == 0 {
+            is_clause = false;
+        } else if is_clause {
+            clause.push(literal(number))?;
+        } else {
+            hints.push(number.unsigned_abs())?;
+        }
+    }
+    Ok(Step { clause, hints })
+}
