@@ -1,5 +1,5 @@
 -- Decisions in order, each under values that are closed.
-use Rattle.std.proofs.Common.{◌≡◌, ◌≢◌, ℕ, zero, suc, ◌<◌, ◌≤◌, ◌+◌, Bool, true, false, not, ◌&&◌, ◌||◌, List, [], ◌∷◌, ◌++◌, length, get_or, replicate, refl, sym, ◌∙◌, ap, subst, arith, cond, nat_lt, nat_le, below_more}
+use Rattle.std.proofs.Common.{◌≡◌, ◌≢◌, ℕ, zero, suc, ◌<◌, ◌≤◌, ◌+◌, Bool, true, false, ◌&&◌, ◌||◌, List, [], ◌∷◌, ◌++◌, length, get_or, replicate, refl, sym, ◌∙◌, ap, subst, arith, cond, nat_lt, nat_le, below_more}
 use Rattle.std.specs.List.{All, Contains, list_any, list_all}
 use Rattle.std.proofs.lemmas.Bool.{false≢true}
 use Rattle.std.proofs.lemmas.Bool.Decides.{nat_tests}
@@ -11,12 +11,12 @@ use Rattle.clause_core.specs.declared.truth.Truth.TheVariants.{Open, True, False
 use Rattle.clause_core.specs.Values.{how_many, value, is_true, is_open, signed_truth}
 use Rattle.clause_core.specs.Satisfaction.{literal_true, clause_true, formula_true, signed}
 use Rattle.clause_core.specs.Clauses.{rises, fits_in, is_inside, is_within}
-use Rattle.clause_core.specs.Steps.{assume_false, clause_status}
+use Rattle.clause_core.specs.Steps.{assume_false}
 use Rattle.clause_core.specs.Propagation.{Below, Extends, IsClosed}
-use Rattle.clause_core.specs.Freshness.{Unforced, unforced, ShowsFresh, IsFresh}
+use Rattle.clause_core.specs.Freshness.{Unforced, unforced, IsFresh}
 use Rattle.clause_core.proofs.Ranges.{and_both}
 use Rattle.clause_core.proofs.Extensions.{Unforced-closed, unforced-closed}
-use Rattle.clause_core.proofs.Assumed.{FitsParts, fits-parts, value-assume_false, False-extends, Extends-assume_false}
+use Rattle.clause_core.proofs.Assumed.{value-assume_false, False-extends, Extends-assume_false}
 use Rattle.clause_core.specs.declared.step.Step.{Step}
 use Rattle.clause_core.specs.Logs.{IsGoodStep}
 use Rattle.cdcl_core.specs.Noting.{Derives}

@@ -1,13 +1,10 @@
 -- Noted hints lead where the values went.
-use Rattle.std.proofs.Common.{◌≡◌, ℕ, zero, suc, ◌<◌, ◌+◌, List, [], ◌∷◌, ◌++◌, length, get_or, Option, Some, None, refl, sym, ◌∙◌, ap, subst, append_assoc, add-one, append-nil}
-use Rattle.std.specs.List.{slice_get}
+use Rattle.std.proofs.Common.{◌≡◌, ℕ, ◌<◌, ◌+◌, List, [], ◌∷◌, ◌++◌, length, get_or, Some, refl, sym, ◌∙◌, ap, append_assoc, add-one, append-nil}
 use Rattle.std.proofs.lemmas.Option.{slice_get_read}
 use Rattle.clause_core.specs.declared.literal.Lit.{Lit}
 use Rattle.clause_core.specs.declared.truth.Truth.{Truth}
 use Rattle.clause_core.specs.declared.status.Status.{Status}
-use Rattle.clause_core.specs.declared.status.Status.TheVariants.{Falsified, Unit as UnitLiteral, Neither}
-use Rattle.clause_core.specs.declared.check.Outcome.{Outcome}
-use Rattle.clause_core.specs.declared.check.Outcome.TheVariants.{Accepted, NoConflict}
+use Rattle.clause_core.specs.declared.status.Status.TheVariants.{Falsified, Unit as UnitLiteral}
 use Rattle.clause_core.specs.Values.{put_true}
 use Rattle.clause_core.specs.Steps.{clause_status, follow_hints, clause_at, at_hint, after_status}
 use Rattle.cdcl_core.specs.Noting.{Leads, Derives}

@@ -1,6 +1,6 @@
-use Rattle.std.proofs.Common.{◌≡◌, ℕ, ◌+◌, Bool, true, false, not, length, sym, ◌∙◌, ap, subst, arith, refl}
+use Rattle.std.proofs.Common.{◌≡◌, ◌+◌, true, length, sym, ◌∙◌, subst, arith}
 use Rattle.clause_core.specs.Steps.{AllVariablesBelow, VariablesBelow}
-use Rattle.clause_core.specs.Clauses.{rises, fits_in}
+use Rattle.clause_core.specs.Clauses.{rises}
 use Rattle.clause_core.proofs.Ranges.{AllVariablesBelow-within, VariablesBelow-fits}
 use Rattle.cdcl_core.proofs.acceptance.derives.Goals as goal
 

@@ -1,4 +1,4 @@
-use Rattle.std.proofs.Common.{◌≡◌, sym, ◌∙◌, subst}
+use Rattle.std.proofs.Common.{sym, subst}
 use Rattle.clause_core.specs.Steps.{AllVariablesBelow}
 use Rattle.clause_core.proofs.Ranges.{AllVariablesBelow-within}
 use Rattle.cdcl_core.proofs.Decisions.{formula_true-closed}

@@ -1,4 +1,4 @@
-use Rattle.std.proofs.Common.{◌≡◌, ◌+◌, sym, ◌∙◌, subst}
+use Rattle.std.proofs.Common.{◌+◌, sym, subst}
 use Rattle.clause_core.specs.Steps.{AllVariablesBelow, VariablesBelow}
 use Rattle.clause_core.proofs.Ranges.{AllVariablesBelow-within, VariablesBelow-fits}
 use Rattle.cdcl_core.proofs.acceptance.shows.Goals as goal

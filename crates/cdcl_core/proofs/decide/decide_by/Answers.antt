@@ -1,16 +1,13 @@
-use Rattle.std.proofs.Common.{◌≡◌, ◌≢◌, ℕ, ◌<◌, ◌+◌, ◌++◌, ◌∷◌, [], List, Bool, ◌==◌, true, false, length, take, drop, sym, ◌∙◌, ap, subst, arith, refl, length-append, map}
+use Rattle.std.proofs.Common.{◌≡◌, ◌≢◌, ◌++◌, ◌∷◌, [], List, ◌==◌, true, false, length, take, drop, sym, ◌∙◌, ap, subst, arith, refl, length-append, map}
 use Rattle.std.proofs.lemmas.Bool.{false≢true}
 use Rattle.std.proofs.lemmas.Grind.{common_steps}
 use Rattle.clause_core.specs.declared.literal.Lit.{Lit}
-use Rattle.clause_core.specs.declared.truth.Truth.{Truth}
 use Rattle.clause_core.specs.declared.log.Entry.TheVariants.{Derived as Entered}
 use Rattle.clause_core.specs.Values.{is_true}
-use Rattle.clause_core.specs.Satisfaction.{formula_true, assigned, Satisfies}
-use Rattle.clause_core.specs.Logs.{IsGoodStep}
-use Rattle.clause_core.specs.Freshness.{IsFresh}
+use Rattle.clause_core.specs.Satisfaction.{assigned, Satisfies}
 use Rattle.cdcl_core.specs.declared.next.Next.TheVariants.{Found, Derived}
 use Rattle.cdcl_core.specs.Next.{IsNext, assignment}
-use Rattle.cdcl_core.proofs.Grown.{Grown, Grown-push, IsRefutation-push, formula_true-grown}
+use Rattle.cdcl_core.proofs.Grown.{Grown-push, IsRefutation-push, formula_true-grown}
 use Rattle.cdcl_core.proofs.decide.decide_by.Goals as goal
 
 nil-test : (c : List Lit) → (length c == 0) ≡ true → c ≡ []

@@ -1,5 +1,4 @@
 use Rattle.std.proofs.Common.{◌≡◌, ◌+◌, length}
-use Rattle.clause_core.specs.Formula.{Formula}
 use Rattle.cdcl_core.proofs.Grown.{Grown}
 use Rattle.cdcl_core.proofs.decide.decide_by.Given as goal
 

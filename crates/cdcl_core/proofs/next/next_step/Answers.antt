@@ -1,4 +1,4 @@
-use Rattle.std.proofs.Common.{◌≡◌, ◌≢◌, ℕ, ◌<◌, ◌≤◌, ◌+◌, ◌++◌, ◌∷◌, [], length, get_or, true, sym, ◌∙◌, ap, subst, arith, refl, Ok, None}
+use Rattle.std.proofs.Common.{◌≡◌, ◌≢◌, ◌<◌, ◌+◌, ◌++◌, ◌∷◌, [], length, get_or, true, sym, ◌∙◌, ap, subst, arith, refl, Ok, None}
 use Rattle.clause_core.specs.Steps.{AllVariablesBelow, VariablesBelow}
 use Rattle.clause_core.proofs.Ranges.{AllVariablesBelow-within, VariablesBelow-fits}
 use Rattle.clause_core.specs.Clauses.{rises}
@@ -9,10 +9,9 @@ use Rattle.clause_core.specs.Freshness.{IsFresh}
 use Rattle.std.specs.List.{All}
 use Rattle.clause_core.specs.Propagation.{Extends}
 use Rattle.clause_core.proofs.Extensions.{Extends-refl}
-use Rattle.clause_core.specs.declared.literal.Lit.{Lit}
 use Rattle.clause_core.specs.declared.truth.Truth.TheVariants.{Open}
 use Rattle.cdcl_core.specs.Noting.{Derives}
-use Rattle.cdcl_core.proofs.Decisions.{Settled, Settled-propagate_from, IsGoodStep-propagate_from, rises-push, IsFresh-next, SetNext-settled, set-further, formula_true-closed, before-push, before-more, set-push}
+use Rattle.cdcl_core.proofs.Decisions.{Settled, Settled-propagate_from, IsGoodStep-propagate_from, rises-push, IsFresh-next, SetNext-settled, formula_true-closed, before-push, before-more, set-push}
 use Rattle.cdcl_core.proofs.next.next_step.Goals as goal
 use Rattle.cdcl_core.proofs.next.next_step.Goals.{in-Open+in_ok-push-in-Open+in_ok-propagate_from-in-Open+in-None-2, in_default}
 

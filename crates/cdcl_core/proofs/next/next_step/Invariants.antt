@@ -1,4 +1,4 @@
-use Rattle.std.proofs.Common.{◌≡◌, ◌≢◌, ℕ, ◌<◌, ◌≤◌, ◌+◌, true, get_or}
+use Rattle.std.proofs.Common.{◌≢◌, ℕ, ◌<◌, get_or}
 use Rattle.clause_core.specs.declared.truth.Truth.TheVariants.{Open}
 use Rattle.std.specs.List.{All}
 use Rattle.cdcl_core.proofs.Decisions.{Settled}

@@ -1,4 +1,4 @@
-use Rattle.std.proofs.Common.{◌≡◌, sym, ◌∙◌, ap, arith, refl}
+use Rattle.std.proofs.Common.{refl}
 use Rattle.clause_core.proofs.Extensions.{Extends-trans}
 use Rattle.cdcl_core.proofs.noting.propagate_noting.Goals as goal
 

@@ -1,4 +1,4 @@
-use Rattle.std.proofs.Common.{◌≡◌, List}
+use Rattle.std.proofs.Common.{List}
 use Rattle.clause_core.specs.Propagation.{Extends, open_count}
 use Rattle.clause_core.specs.Freshness.{Unforced}
 use Rattle.clause_core.specs.declared.truth.Truth.{Truth}

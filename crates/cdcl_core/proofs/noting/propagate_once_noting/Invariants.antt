@@ -1,4 +1,4 @@
-use Rattle.std.proofs.Common.{◌≡◌, ◌<◌, ◌≤◌, take, length, List, true, false}
+use Rattle.std.proofs.Common.{◌≡◌, ◌<◌, ◌≤◌, take, List, true, false}
 use Rattle.clause_core.specs.Propagation.{IsClosed, Extends, open_count}
 use Rattle.clause_core.specs.Freshness.{Unforced}
 use Rattle.clause_core.specs.declared.truth.Truth.{Truth}
