@@ -1,0 +1,21 @@
+// A decider that learns clauses: it solves, refutes by a derivation, or derives as many clauses as allowed.
+#![tactic(auto)]
+
+mod acceptance;
+mod analysis;
+mod decide;
+mod list_search;
+mod next;
+mod noting;
+mod order;
+mod plain;
+mod search;
+mod table;
+#[cfg(test)]
+mod tests;
+mod trail;
+
+pub use decide::decide_by;
+pub use list_search::ListSearch;
+pub use plain::Plain;
+pub use search::{Proposal, Search};
