@@ -1,13 +1,12 @@
 -- A text is cut into parts in one way; which rules they break, from a place on.
-use Rattle.std.proofs.Common.{◌≡◌, ℕ, zero, suc, ◌+◌, ◌<◌, ◌≤◌, List, [], ◌∷◌, ◌++◌, length, length-append, take, drop, Bool, true, false, ◌⊎◌, inl, inr, Option, Some, None, refl, sym, ap, ◌∙◌, subst, arith}
-use Rattle.std.specs.Prelude.{All, slice_index, IfSome}
+use Rattle.std.proofs.Common.{◌≡◌, ℕ, zero, suc, ◌+◌, ◌<◌, ◌≤◌, List, [], ◌∷◌, ◌++◌, length, length-append, take, drop, true, false, ◌⊎◌, inl, inr, Option, Some, None, refl, sym, ap, ◌∙◌, subst, arith}
+use Rattle.std.specs.Prelude.{All}
 use Rattle.std.proofs.lemmas.List.Elements.{All-same, All-push}
 use Rattle.std.proofs.lemmas.List.{length-take-le}
 use Rattle.st_tree.specs.declared.token.Kind.{Kind}
 use Rattle.st_tree.specs.declared.token.Kind.TheVariants.{Word, Number, Sign}
-use Rattle.st_tree.specs.Tokens.{Lexeme, Piece, gap, token, slice_of, is_formed, Begins, mark_len}
+use Rattle.st_tree.specs.Tokens.{Lexeme, Piece, gap, token, slice_of, is_formed, mark_len}
 use Rattle.st_lexer.specs.declared.fault.LexRule.{LexRule}
-use Rattle.st_lexer.specs.declared.fault.LexRule.TheVariants.{StrayByte, OpenComment}
 use Rattle.st_lexer.specs.declared.fault.LexFault.{LexFault}
 use Rattle.st_lexer.specs.declared.fault.LexFault.TheVariants.{Refused}
 use Rattle.st_lexer.specs.Lexing.{IsRightFault}

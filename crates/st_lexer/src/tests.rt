@@ -52,8 +52,10 @@ fn tokens_in_order(rt: HostRuntime) -> Result<(), Fail> {
         (Kind::Number, "2", 32),
     ];
     assert_eq!(rt; tokens.len(), rows.len());
-    for (token, row) in tokens.iter().zip(rows) {
-        assert_eq!(rt; (token.kind, token.slice, token.at), row);
+    for (token, (kind, slice, at)) in tokens.iter().zip(rows) {
+        assert_eq!(rt; token.kind, kind);
+        assert_eq!(rt; token.slice, slice);
+        assert_eq!(rt; token.at, at);
     }
     one_spelling(text);
     one_cut(text);

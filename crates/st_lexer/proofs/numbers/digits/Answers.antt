@@ -1,8 +1,7 @@
-use Rattle.std.proofs.Common.{◌^◌, ◌*◌, ◌+◌, drop, false, ap, rules, arith}
+use Rattle.std.proofs.Common.{◌^◌, ◌*◌, ◌+◌, drop, false, ap, arith}
 use Rattle.std.proofs.lemmas.Grind.{common_steps}
 use Rattle.std.proofs.lemmas.Bool.Decides.{nat_tests}
-use Rattle.st_lexer.specs.Numbers.{digit}
-use Rattle.st_lexer.proofs.Digits.{cut, digits, cut_digits, digits_step, digits_end, based_is}
+use Rattle.st_lexer.proofs.Digits.{cut, cut_digits, digits_step, digits_end, based_is}
 use Rattle.st_lexer.proofs.numbers.digits.Goals as goal
 use Rattle.st_lexer.proofs.numbers.digits.Goals.{then-b-eq95+else-needed, else-b-eq95+else-digit-base}
 
