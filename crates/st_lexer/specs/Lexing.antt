@@ -1,0 +1,18 @@
+-- What the tokens in memory and a fault stand for.
+use Rattle.std.specs.Prelude.{ℕ, List, map}
+use Rattle.st_tree.specs.declared.token.Tok.{Tok}
+use Rattle.st_tree.specs.Tokens.{Lexeme}
+use Rattle.st_lexer.specs.declared.fault.LexFault.{LexFault}
+use Rattle.st_lexer.specs.declared.fault.LexFault.TheVariants.{Refused, Memory}
+use Rattle.st_lexer.specs.Parts.{IsFirst}
+
+abbrev pub lexeme_of : Tok → Lexeme
+lexeme_of t = record { kind = t.kind; slice = t.slice.now; at = t.at }
+
+abbrev pub lexemes_of : List Tok → List Lexeme
+lexemes_of ts = map lexeme_of ts
+
+-- a refusal names the first rule that a text breaks, and its place
+abbrev pub IsRightFault : List ℕ → LexFault → Type 0
+IsRightFault text (Refused refusal) = IsFirst text refusal.rule refusal.at
+IsRightFault text Memory = Unit {0}

@@ -1,0 +1,76 @@
+// From the bytes of a text to its tokens.
+ghost use Rattle.std.specs.Prelude.{◌≡◌, List, true, All, IfOk, IfErr};
+ghost use Rattle.st_tree.specs.Tokens.{Lexeme, Spells, token, is_formed};
+ghost use Rattle.st_lexer.specs.Parts.{Part, IsCut, IsKept, IsSound};
+ghost use Rattle.st_lexer.specs.Lexing.{lexemes_of, IsRightFault};
+ghost use Rattle.st_lexer.specs.declared.fault.LexFault.TheVariants.{Refused};
+
+use crate::classes::mark_len;
+use crate::fault::{LexFault, LexRule, Refusal};
+use crate::front::{Front, front_of};
+use crate::rules::{stuck_rule, token_rule};
+use st_tree::{Kind, Tok};
+use std::alloc::Global;
+use std::str;
+
+// The slice of a token as text: tokens are ASCII.
+fn token_text<'a>(kind: Kind, slice: &'a [u8]) -> &'a str
+    requires { is_formed (token kind slice.now) ≡ true }
+    ensures { result.now ≡ slice.now }
+{
+    match str::from_utf8(slice) {
+        Ok(text) => text,
+        Err(_) => unreachable!(),
+    }
+}
+
+fn refused(rule: LexRule, at: usize) -> LexFault
+    ensures { result ≡ Refused (record { rule = rule; at = at }) }
+{
+    LexFault::Refused(Refusal { rule, at })
+}
+
+/// The tokens that a text spells, in the order of the text; or the first rule that it breaks. A text is
+/// bytes and need not be UTF-8; a UTF-8 mark may stand before it (IEC 61131-3, 2.1).
+pub fn lex<'a>(alloc: Global, text: &'a [u8]) -> Result<Vec<Tok<'a>>, LexFault>
+    ensures spelled { IfOk result (λ v. Spells text.now (lexemes_of v.items)) }
+    ensures kept { IfOk result (λ v. All IsKept (lexemes_of v.items)) }
+    ensures sound { IfOk result (λ v. IsSound text.now) }
+    ensures refused { IfErr result (λ e. IsRightFault text.now e) }
+{
+    let mut at = mark_len(text);
+    let (_, mut rest) = text.split_at(at);
+    let mut tokens = Vec::new(alloc);
+    while !rest.is_empty() {
+        match front_of(rest) {
+            None => return Err(refused(stuck_rule(rest), at)),
+            Some(Front::Gap(size)) => {
+                let (_, behind) = rest.split_at(size);
+                at += size;
+                rest = behind;
+            }
+            Some(Front::Token(kind, size)) => {
+                let (slice, behind) = rest.split_at(size);
+                if let Some(rule) = token_rule(kind, slice) {
+                    return Err(refused(rule, at));
+                }
+                let slice = token_text(kind, slice);
+                tokens.push(Tok { kind, slice, at })?;
+                at += size;
+                rest = behind;
+            }
+        }
+    }
+    Ok(tokens)
+}
+
+/// One reading of a text: it spells at most one list of tokens.
+pub fn one_spelling(text: &[u8])
+    ensures { (ts us : List Lexeme) → Spells text.now ts → Spells text.now us → ts ≡ us }
+{}
+
+/// One cut of a text: it is parts in exactly one way, so that each text has a say of every rule.
+pub fn one_cut(text: &[u8])
+    ensures some { (parts : List Part) × IsCut text.now parts }
+    ensures once { (ps qs : List Part) → IsCut text.now ps → IsCut text.now qs → ps ≡ qs }
+{}

@@ -1,0 +1,15 @@
+// From the bytes of a text to exactly the tokens that it spells, or to the first rule of its words, numbers and comments that it breaks.
+#![tactic(auto)]
+
+mod classes;
+mod fault;
+mod front;
+mod lexer;
+mod numbers;
+mod rules;
+#[cfg(test)]
+mod tests;
+
+pub use fault::{LexFault, LexRule, Refusal};
+pub use lexer::{lex, one_cut, one_spelling};
+pub use numbers::number_value;

@@ -1,0 +1,80 @@
+// Texts of which the tokens, or the first broken rule, were worked by hand.
+use crate::{LexFault, LexRule, Refusal, lex, number_value, one_cut, one_spelling};
+use st_tree::Kind;
+use std::alloc::Global;
+use std::test::Fail;
+
+fn refusal(alloc: Global, text: &str) -> Option<Refusal> {
+    match lex(alloc, text.as_bytes()) {
+        Err(LexFault::Refused(refusal)) => Some(refusal),
+        _ => None,
+    }
+}
+
+#[test]
+fn first_broken_rules(rt: HostRuntime) {
+    let rows = [
+        ("(*)", LexRule::OpenComment, 0),
+        ("\u{feff}\u{feff}", LexRule::StrayByte, 3),
+        ("PROGRAM M // é\nqé := 1;", LexRule::StrayByte, 17),
+        (
+            "PROGRAM M x := 16#1_0000_0000_0000_0000;",
+            LexRule::NumberSize,
+            15,
+        ),
+        ("PROGRAM M x := 1__0;", LexRule::NumberForm, 15),
+        ("PROGRAM M x := 2#12;", LexRule::NumberForm, 15),
+        ("a := 1x; $", LexRule::NumberForm, 5),
+        (
+            "q ABCDEFGHIJKLMNOPQRSTUVWXYZabcdefghijklmnopqrstuvwxyz0123456789___",
+            LexRule::WordLength,
+            2,
+        ),
+    ];
+    for (text, rule, at) in rows {
+        assert_eq!(rt; refusal(rt.alloc(), text), Some(Refusal { rule, at }));
+    }
+}
+
+#[test]
+fn tokens_in_order(rt: HostRuntime) -> Result<(), Fail> {
+    let text = "x1 := 0007 + 16#ff; (* é *) 1..2 // end".as_bytes();
+    let tokens = lex(rt.alloc(), text).ok().ok_or("tokens")?;
+    let rows = [
+        (Kind::Word, "x1", 0),
+        (Kind::Sign, ":=", 3),
+        (Kind::Number, "0007", 6),
+        (Kind::Sign, "+", 11),
+        (Kind::Number, "16#ff", 13),
+        (Kind::Sign, ";", 18),
+        (Kind::Number, "1", 29),
+        (Kind::Sign, "..", 30),
+        (Kind::Number, "2", 32),
+    ];
+    assert_eq!(rt; tokens.len(), rows.len());
+    for (token, (kind, slice, at)) in tokens.iter().zip(rows) {
+        assert_eq!(rt; token.kind, kind);
+        assert_eq!(rt; token.slice, slice);
+        assert_eq!(rt; token.at, at);
+    }
+    one_spelling(text);
+    one_cut(text);
+    Ok(())
+}
+
+#[test]
+fn values_of_numbers(rt: HostRuntime) {
+    let rows = [
+        ("0007", Some(7)),
+        ("16#fF", Some(255)),
+        ("2#1_0", Some(2)),
+        ("8#17", Some(15)),
+        ("18446744073709551615", Some(u64::MAX)),
+        ("18446744073709551616", None),
+        ("16#_F", None),
+        ("1_", None),
+    ];
+    for (slice, value) in rows {
+        assert_eq!(rt; number_value(slice), value);
+    }
+}
