@@ -1,0 +1,36 @@
+#!/bin/bash
+# Decides generated formulas by the plain decider, and by minisat and cadical where they are installed.
+# For each formula: the answer, derived clauses and milliseconds of the plain decider, check of its
+# answer included; then milliseconds and conflicts of the others. `bench/decide.sh [SECONDS]`, the
+# most that one run may take (60).
+set -u
+cd "$(dirname "$0")/.."
+seconds=${1:-60}
+(cd crates/decider_run && rt run >/dev/null 2>&1) || exit 1
+program=$PWD/crates/decider_run/out/decider_run
+formulas=$(mktemp -d)
+trap 'rm -rf "$formulas"' EXIT
+python3 bench/decide/make_formulas.py "$formulas"
+
+plain() {
+    timeout "$seconds" "$program" "$1" time | awk '
+        /^s /{answer = $2} /^c steps/{steps = $3} /^c refused/{refused = $4} / ms$/{ms = $2}
+        END{if (answer == "") print "-"; else print answer, steps + 0, "steps", ms, "ms, refused", refused}'
+}
+
+minisat_of() {
+    command -v minisat >/dev/null || { echo absent; return; }
+    timeout "$seconds" minisat "$1" 2>/dev/null | awk '
+        /^conflicts/{conflicts = $3} /^CPU time/{ms = $4 * 1000} END{print ms, "ms", conflicts}'
+}
+
+cadical_of() {
+    command -v cadical >/dev/null || { echo absent; return; }
+    timeout "$seconds" cadical -n "$1" 2>/dev/null | awk '
+        /^c conflicts:/{conflicts = $3} /^c total process time/{ms = $7 * 1000} END{print ms, "ms", conflicts}'
+}
+
+echo "formula | plain | minisat | cadical"
+for file in "$formulas"/*.cnf; do
+    echo "$(basename "$file" .cnf) | $(plain "$file") | $(minisat_of "$file") | $(cadical_of "$file")"
+done
