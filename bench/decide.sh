@@ -1,32 +1,36 @@
 #!/bin/bash
-# Decides generated formulas by the plain decider, its answers checked, beside minisat and cadical where they are
-# installed (Debian packages of these names): answer, conflicts and time of each, in one run. Needs python3 and rt.
-# Use: bench/decide.sh [SECONDS]   SECONDS: how long each may take at one formula, 60 if not given
-set -e
-here=$(cd "$(dirname "$0")" && pwd)
+# Decides generated formulas by the plain decider, and by minisat and cadical where they are installed.
+# For each formula: the answer, derived clauses and milliseconds of the plain decider, check of its
+# answer included; then milliseconds and conflicts of the others. `bench/decide.sh [SECONDS]`, the
+# most that one run may take (60).
+set -u
+cd "$(dirname "$0")/.."
 seconds=${1:-60}
-work=$(mktemp -d)
-trap 'rm -rf "$work"' EXIT
-python3 "$here/decide/formulas.py" "$work"
-(cd "$here/../crates/decider_run" && rt run > "$work/build.log" 2>&1)
-decider="$here/../crates/decider_run/out/decider_run"
+(cd crates/decider_run && rt run >/dev/null 2>&1) || exit 1
+program=$PWD/crates/decider_run/out/decider_run
+formulas=$(mktemp -d)
+trap 'rm -rf "$formulas"' EXIT
+python3 bench/decide/make_formulas.py "$formulas"
 
-# Prints what a program answers, its conflicts and its seconds; 'more' where it takes longer than it may.
-row() {
-  local name=$1 conflicts=$2 from to answer count
-  shift 2
-  from=$(date +%s.%N)
-  timeout "$seconds" "$@" > "$work/said" 2>/dev/null || true
-  to=$(date +%s.%N)
-  answer=$(grep -oE '(UN)?SATISFIABLE|wrong answer' "$work/said" | head -1)
-  count=$(grep -E "$conflicts" "$work/said" | grep -oE '[0-9]+' | head -1)
-  echo "  $name: ${answer:-more} conflicts ${count:--} seconds $(awk "BEGIN { printf \"%.3f\", $to - $from }")"
+plain() {
+    timeout "$seconds" "$program" "$1" time | awk '
+        /^s /{answer = $2} /^c steps/{steps = $3} /^c refused/{refused = $4} / ms$/{ms = $2}
+        END{if (answer == "") print "-"; else print answer, steps + 0, "steps", ms, "ms, refused", refused}'
 }
 
-for formula in $(ls -v "$work"/*.cnf); do
-  basename "$formula" .cnf
-  row plain '^c steps' "$decider" "$formula" time
-  grep -hE '^c (refused|.* ms)' "$work/said" | sed 's/^c/    /' || true
-  if command -v minisat > /dev/null; then row minisat '^conflicts' minisat "$formula"; fi
-  if command -v cadical > /dev/null; then row cadical '^c conflicts' cadical --no-witness "$formula"; fi
+minisat_of() {
+    command -v minisat >/dev/null || { echo absent; return; }
+    timeout "$seconds" minisat "$1" 2>/dev/null | awk '
+        /^conflicts/{conflicts = $3} /^CPU time/{ms = $4 * 1000} END{print ms, "ms", conflicts}'
+}
+
+cadical_of() {
+    command -v cadical >/dev/null || { echo absent; return; }
+    timeout "$seconds" cadical -n "$1" 2>/dev/null | awk '
+        /^c conflicts:/{conflicts = $3} /^c total process time/{ms = $7 * 1000} END{print ms, "ms", conflicts}'
+}
+
+echo "formula | plain | minisat | cadical"
+for file in "$formulas"/*.cnf; do
+    echo "$(basename "$file" .cnf) | $(plain "$file") | $(minisat_of "$file") | $(cadical_of "$file")"
 done

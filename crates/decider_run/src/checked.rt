@@ -1,8 +1,6 @@
 // A decider's answer, held against the formula and the checker of derivations.
 
-ghost use Rattle.std.specs.Prelude.{◌≤◌, ◌<◌, ◌+◌, ◌^◌, length};
-
-use clause_core::{Assignment, Cnf, Decided, Decider, Entry, Log, is_rising};
+use clause_core::{Assignment, Cnf, Decided, Entry, Log, is_rising};
 use derivation_check::{Ack, Checker};
 use std::alloc::{AllocError, Global};
 
@@ -19,24 +17,21 @@ pub enum Answer {
     Wrong,
 }
 
-/// Decides the formula, and checks what is answered.
-pub fn decide_checked<D: Decider>(
+/// Checks what a decider answered within the limit.
+pub fn check_answer(
     alloc: Global,
-    decider: &mut D,
     cnf: &Cnf,
+    answer: &Decided,
     limit: u32,
-) -> Result<Answer, AllocError>
-    requires limit { 1 ≤ limit }
-    requires few { length cnf.now.clauses + limit < 2 ^ 32 }
-{
-    match decider.decide(alloc, cnf, limit)? {
-        Decided::Found(values) => Ok(if satisfies(cnf, &values) {
+) -> Result<Answer, AllocError> {
+    match answer {
+        Decided::Found(values) => Ok(if satisfies(cnf, values) {
             Answer::Found
         } else {
             Answer::Wrong
         }),
-        Decided::Refuted(log) => refuted(alloc, cnf, &log),
-        Decided::Spent(log) => spent(alloc, cnf, &log, limit),
+        Decided::Refuted(log) => refuted(alloc, cnf, log),
+        Decided::Spent(log) => spent(alloc, cnf, log, limit),
     }
 }
 

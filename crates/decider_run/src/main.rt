@@ -1,4 +1,4 @@
-// Decides a formula of a DIMACS file, checks the derivation, and prints the answer.
+// Decides a formula of a DIMACS file, prints the answer, and checks it or prints the time.
 #![tactic(auto)]
 
 mod checked;
@@ -7,8 +7,8 @@ mod dimacs;
 mod tests;
 
 use cdcl_core::Plain;
-use checked::{Answer, decide_checked};
-use clause_core::Cnf;
+use checked::{Answer, check_answer};
+use clause_core::{Cnf, Decided, Decider};
 use dimacs::formula;
 use std::alloc::{AllocError, Global};
 use std::time::Instant;
@@ -18,20 +18,18 @@ use std::{env, fs, io};
 const LIMIT: u32 = 1_000_000;
 
 /// What the plain decider answers, or None where the formula is too large.
-fn answer(alloc: Global, plain: &mut Plain, cnf: &Cnf) -> Result<Option<Answer>, AllocError> {
+fn decide(alloc: Global, plain: &mut Plain, cnf: &Cnf) -> Result<Option<Decided>, AllocError> {
     if cnf.clauses().len() > 1_000_000_000 {
         return Ok(None);
     }
-    Ok(Some(decide_checked(alloc, plain, cnf, LIMIT)?))
+    Ok(Some(plain.decide(alloc, cnf, LIMIT)?))
 }
 
-fn print_answer(rt: &impl Print, answer: Option<Answer>) -> io::Result<()> {
+fn print_decided(rt: &impl Print, answer: &Decided) -> io::Result<()> {
     match answer {
-        None => println!(rt; "c too large"),
-        Some(Answer::Found) => println!(rt; "s SATISFIABLE"),
-        Some(Answer::Refuted(steps)) => println!(rt; "s UNSATISFIABLE\nc steps {steps}"),
-        Some(Answer::Spent(steps)) => println!(rt; "s UNKNOWN\nc steps {steps}"),
-        Some(Answer::Wrong) => println!(rt; "c wrong answer"),
+        Decided::Found(_) => println!(rt; "s SATISFIABLE"),
+        Decided::Refuted(log) => println!(rt; "s UNSATISFIABLE\nc steps {}", log.entries().len()),
+        Decided::Spent(log) => println!(rt; "s UNKNOWN\nc steps {}", log.entries().len()),
     }
 }
 
@@ -46,13 +44,18 @@ fn main(rt: HostRuntime) -> io::Result<()> {
     let cnf = formula(alloc, text.as_str())?;
     let mut plain = Plain::new();
     let start = Instant::now(&rt)?;
-    let answer = answer(alloc, &mut plain, &cnf)?;
+    let Some(answer) = decide(alloc, &mut plain, &cnf)? else {
+        return println!(rt; "c too large");
+    };
     let milliseconds = start.elapsed(&rt)?.as_millis();
-    print_answer(&rt, answer)?;
+    print_decided(&rt, &answer)?;
     let refused = plain.refused_proposals();
     println!(rt; "c refused proposals {refused}")?;
     if words.next().is_some() {
-        println!(rt; "c {milliseconds} ms")?;
+        return println!(rt; "c {milliseconds} ms");
     }
-    Ok(())
+    match check_answer(alloc, &cnf, &answer, LIMIT)? {
+        Answer::Wrong => println!(rt; "c the answer is wrong"),
+        _ => println!(rt; "c the answer is checked"),
+    }
 }

@@ -1,11 +1,11 @@
 mod circuits;
 mod formulas;
 
-use crate::checked::{Answer, decide_checked};
+use crate::checked::{Answer, check_answer};
 use crate::dimacs::{formula, literal};
 use cdcl_core::Plain;
 use circuits::commutes;
-use clause_core::Cnf;
+use clause_core::{Cnf, Decider};
 use formulas::{count_solutions, pigeons, planted, random};
 use std::alloc::{AllocError, Global};
 use std::process::Abort;
@@ -17,7 +17,8 @@ fn decide(rt: &impl Abort, alloc: Global, cnf: &Cnf, limit: u32) -> Result<Answe
     assert!(rt; 1 <= limit);
     assert!(rt; limit <= 1_000_000);
     let mut plain = Plain::new();
-    let answer = decide_checked(alloc, &mut plain, cnf, limit)?;
+    let decided = plain.decide(alloc, cnf, limit)?;
+    let answer = check_answer(alloc, cnf, &decided, limit)?;
     assert_eq!(rt; plain.refused_proposals(), 0);
     Ok(answer)
 }
