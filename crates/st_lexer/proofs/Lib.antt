@@ -1,8 +1,9 @@
 pub mod Fits
+pub mod Sizes
 pub mod FrontLemmas
 pub mod Beginnings
+pub mod Spellings
 pub mod Cuts
-pub mod Sizes
 pub mod Breaks
 pub mod Letters
 pub mod Digits

@@ -48,8 +48,8 @@ piece_rule (token Number slice) = number_rule (value_of slice)
 piece_rule (token Sign slice) = None
 
 -- a token that breaks no rule
-abbrev pub IsKept : Lexeme → Type 0
-IsKept l = piece_rule (token l.kind l.slice) ≡ None
+abbrev pub KeepsRules : Lexeme → Type 0
+KeepsRules l = piece_rule (token l.kind l.slice) ≡ None
 
 -- the rule that a part breaks
 abbrev pub broken_rule : Part → Option LexRule

@@ -1,7 +1,7 @@
 // From the bytes of a text to its tokens.
 ghost use Rattle.std.specs.Prelude.{◌≡◌, List, true, All, IfOk, IfErr};
 ghost use Rattle.st_tree.specs.Tokens.{Lexeme, Spells, token, is_formed};
-ghost use Rattle.st_lexer.specs.Parts.{Part, IsCut, IsKept, IsSound};
+ghost use Rattle.st_lexer.specs.Parts.{Part, IsCut, KeepsRules, IsSound};
 ghost use Rattle.st_lexer.specs.Lexing.{lexemes_of, IsRightFault};
 ghost use Rattle.st_lexer.specs.declared.fault.LexFault.TheVariants.{Refused};
 
@@ -32,9 +32,9 @@ fn refused(rule: LexRule, at: usize) -> LexFault
 
 /// The tokens that a text spells, in the order of the text; or the first rule that it breaks. A text is
 /// bytes and need not be UTF-8; a UTF-8 mark may stand before it (IEC 61131-3, 2.1).
-pub fn lex<'a>(alloc: Global, text: &'a [u8]) -> Result<Vec<Tok<'a>>, LexFault>
+pub fn lex(alloc: Global, text: &[u8]) -> Result<Vec<Tok<'_>>, LexFault>
     ensures spelled { IfOk result (λ v. Spells text.now (lexemes_of v.items)) }
-    ensures kept { IfOk result (λ v. All IsKept (lexemes_of v.items)) }
+    ensures kept { IfOk result (λ v. All KeepsRules (lexemes_of v.items)) }
     ensures sound { IfOk result (λ v. IsSound text.now) }
     ensures refused { IfErr result (λ e. IsRightFault text.now e) }
 {
@@ -69,7 +69,7 @@ pub fn one_spelling(text: &[u8])
     ensures { (ts us : List Lexeme) → Spells text.now ts → Spells text.now us → ts ≡ us }
 {}
 
-/// One cut of a text: it is parts in exactly one way, so that each text has a say of every rule.
+/// One cut of a text: it is parts in exactly one way, and so each rule is broken at definite places.
 pub fn one_cut(text: &[u8])
     ensures some { (parts : List Part) × IsCut text.now parts }
     ensures once { (ps qs : List Part) → IsCut text.now ps → IsCut text.now qs → ps ≡ qs }

@@ -1,13 +1,13 @@
 use Rattle.std.proofs.Common.{◌≡◌, ◌<◌, length, refl, ap, ◌∙◌, sym, None, arith}
 use Rattle.std.proofs.lemmas.List.Elements.{All-nil}
 use Rattle.std.proofs.lemmas.Grind.{common_steps}
-use Rattle.st_lexer.specs.Parts.{IsKept}
+use Rattle.st_lexer.specs.Parts.{KeepsRules}
 use Rattle.std.proofs.lemmas.Bool.Decides.{nat_tests}
 use Rattle.std.proofs.lemmas.List.{map-append}
 use Rattle.st_lexer.specs.declared.front.Front.TheVariants.{Gap, Token}
 use Rattle.st_lexer.specs.Lexing.{lexeme_of, lexemes_of}
 use Rattle.st_lexer.proofs.Beginnings.{IsFront, front_formed}
-use Rattle.st_lexer.proofs.Cuts.{lexed_start, lexed_gap_at, lexed_token_at, lexed_end}
+use Rattle.st_lexer.proofs.Spellings.{lexed_start, lexed_gap_at, lexed_token_at, lexed_end}
 use Rattle.st_lexer.proofs.Breaks.{read_start, read_front, read_broken, read_stuck, read_end, token_says, slice_says, kept_push, right_fault}
 use Rattle.st_lexer.proofs.lexer.lex.Goals as goal
 
@@ -19,7 +19,7 @@ loop-rest-init c =
     record {
       place = omega arith;
       read = rw (s, m) (read_start c.args.text.now);
-      kept = rw e (All-nil IsKept);
+      kept = rw e (All-nil KeepsRules);
       lexed = rw (s, e, m) (lexed_start c.args.text.now);
     }
 

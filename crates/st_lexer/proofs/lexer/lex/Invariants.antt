@@ -1,7 +1,7 @@
 use Rattle.std.proofs.Common.{◌≡◌, ◌+◌, length, All}
-use Rattle.st_lexer.specs.Parts.{IsKept}
+use Rattle.st_lexer.specs.Parts.{KeepsRules}
 use Rattle.st_lexer.specs.Lexing.{lexemes_of}
-use Rattle.st_lexer.proofs.Cuts.{IsLexed}
+use Rattle.st_lexer.proofs.Spellings.{IsLexed}
 use Rattle.st_lexer.proofs.Breaks.{IsRead}
 use Rattle.st_lexer.proofs.lexer.lex.Given as goal
 
@@ -9,7 +9,7 @@ abbrev pub invariant-loop-rest : goal.invariant-loop-rest
 invariant-loop-rest l = record {
   place : l.at + length l.rest ≡ length l.text;
   read : IsRead l.text l.at l.rest;
-  kept : All IsKept (lexemes_of l.tokens.items);
+  kept : All KeepsRules (lexemes_of l.tokens.items);
   lexed : IsLexed l.text l.at l.rest (lexemes_of l.tokens.items);
 }
 

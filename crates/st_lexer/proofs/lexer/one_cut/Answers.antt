@@ -1,4 +1,4 @@
-use Rattle.st_lexer.proofs.Breaks.{cut_of, cut_once}
+use Rattle.st_lexer.proofs.Cuts.{cut_of, cut_once}
 use Rattle.st_lexer.proofs.lexer.one_cut.Goals as goal
 
 pub returns : goal.returns

@@ -1,4 +1,4 @@
-use Rattle.st_lexer.proofs.Cuts.{spells_once}
+use Rattle.st_lexer.proofs.Spellings.{spells_once}
 use Rattle.st_lexer.proofs.lexer.one_spelling.Goals as goal
 
 pub returns : goal.returns
