@@ -16,6 +16,5 @@ mod tests;
 mod trail;
 
 pub use decide::decide_by;
-pub use list_search::ListSearch;
 pub use plain::Plain;
 pub use search::{Proposal, Search};

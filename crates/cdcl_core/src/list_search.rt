@@ -10,7 +10,7 @@ use std::alloc::{AllocError, Global};
 /// Decides, propagates, and at a conflict learns the clause of the first unique implication point, as
 /// Marques-Silva and Sakallah's GRASP and later solvers; no watched literals, no restarts.
 #[derive(Drop)]
-pub struct ListSearch {
+pub(crate) struct ListSearch {
     trail: Trail,
     order: Order,
     analysis: Analysis,

@@ -25,12 +25,14 @@ impl Model for Plain {
 }
 
 impl Plain {
+    /// A decider that has decided nothing yet.
     pub fn new() -> Self
         ensures { result ≡ 0 }
     {
         Plain { refused: 0 }
     }
 
+    /// How many proposals the last decision refused.
     pub fn refused_proposals(&self) -> u64
         ensures { result ≡ self.now }
     {

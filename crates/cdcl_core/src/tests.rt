@@ -1,4 +1,5 @@
-use crate::{ListSearch, Plain, Proposal, Search, decide_by};
+use crate::list_search::ListSearch;
+use crate::{Plain, Proposal, Search, decide_by};
 use clause_core::{Assignment, Clause, Cnf, Decided, Decider, Entry, Lit, Log, Truth, is_within};
 use std::alloc::{AllocError, Global};
 use std::process::Abort;
