@@ -102,6 +102,9 @@ fn judges_the_steps_of_a_query(rt: HostRuntime) -> Result<(), Fail> {
         assert_eq!(&rt; answer.err().as_ref(), Some(fault));
         assert!(&rt; !checker.refuted());
     }
+    let (_fresh, answer) = take(&rt, alloc, &mut checker, &[], &[1, 21])?;
+    assert!(&rt; matches!(answer, Ok(Ack)));
+    assert!(&rt; checker.refuted());
     Ok(())
 }
 
