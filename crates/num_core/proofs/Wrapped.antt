@@ -57,7 +57,7 @@ moved : (v lo r s : ℤ) → v -ℤ lo ≡ r +ℤ s → v ≡ (lo +ℤ r) +ℤ s
 moved v lo r s e = omega (arith, ints)
 
 -- the defined number wraps
-wraps_defined : (w : ℕ) (signed : Bool) (v : ℤ) → 0 < w → Wraps w signed v (wrap w signed v)
+pub wraps_defined : (w : ℕ) (signed : Bool) (v : ℤ) → 0 < w → Wraps w signed v (wrap w signed v)
 wraps_defined w signed v some =
     let least = lowest w signed in
     let rest = v -ℤ least in

@@ -1,8 +1,8 @@
 -- How the pieces of a text go on, in both directions.
 use Rattle.std.proofs.Common.{◌≡◌, ℕ, ◌+◌, ◌<◌, List, [], ◌∷◌, ◌++◌, length, take, drop, None, refl, sym, ap, ◌∙◌, subst, append_assoc, append-nil, arith}
 use Rattle.std.proofs.lemmas.List.{length-take-le}
-use Rattle.st_tree.specs.declared.token.Kind.{Kind}
-use Rattle.st_tree.specs.Tokens.{Piece, gap, token, Lexeme, Begins, AreJoined, lexemes, Spells, mark_len}
+use Rattle.interim_tree.specs.declared.token.Kind.{Kind}
+use Rattle.interim_tree.specs.Tokens.{Piece, gap, token, Lexeme, Begins, AreJoined, lexemes, Spells, mark_len}
 use Rattle.regver_top.specs.declared.front.Front.{Front}
 use Rattle.regver_top.specs.declared.front.Front.TheVariants.{Gap, Token}
 use Rattle.regver_top.specs.Fronts.{front_of}

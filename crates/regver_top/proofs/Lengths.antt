@@ -1,6 +1,6 @@
 -- Lists of another length than the form has free places.
 use Rattle.std.proofs.Common.{◌≡◌, ◌≢◌, ℕ, List, [], ◌∷◌, None, length, refl}
-use Rattle.st_tree.specs.Tree.{ProgramData}
+use Rattle.interim_tree.specs.Tree.{ProgramData}
 use Rattle.regver_top.specs.Programs.{program_of}
 use Rattle.regver_top.specs.Relations.{relation_of}
 

@@ -5,10 +5,10 @@ use Rattle.std.specs.List.{list_all}
 use Rattle.std.proofs.lemmas.Str.{IsUtf8-from_ascii}
 use Rattle.std.proofs.lemmas.Str.Ascii.{IsAscii-nil, IsAscii-cons}
 use Rattle.std.proofs.lemmas.Bool.Decides.{nat_tests}
-use Rattle.st_tree.specs.declared.token.Kind.{Kind}
-use Rattle.st_tree.specs.declared.token.Kind.TheVariants.{Word, Number, Sign}
-use Rattle.st_tree.specs.Bytes.{is_word_byte, is_number_byte, is_letter, is_digit, is_sign, is_sign_pair}
-use Rattle.st_tree.specs.Tokens.{token, is_formed}
+use Rattle.interim_tree.specs.declared.token.Kind.{Kind}
+use Rattle.interim_tree.specs.declared.token.Kind.TheVariants.{Word, Number, Sign}
+use Rattle.interim_tree.specs.Bytes.{is_word_byte, is_number_byte, is_letter, is_digit, is_sign, is_sign_pair}
+use Rattle.interim_tree.specs.Tokens.{token, is_formed}
 use Rattle.regver_top.proofs.Fits.{both_true}
 
 all_ascii : (p : ℕ → Bool) (bs : List ℕ) → ((b : ℕ) → p b ≡ true → b < 128) → list_all p bs ≡ true → IsAscii bs

@@ -1,9 +1,9 @@
 -- There is one report on four texts.
 use Rattle.std.proofs.Common.{◌≡◌, ℕ, List, length, sym, ap, ◌∙◌, subst, arith, inl, inr}
-use Rattle.st_tree.specs.Tree.{ProgramData}
-use Rattle.scan_model.specs.declared.relation.Ending.{Ending}
-use Rattle.scan_model.specs.Pairs.{RelationData, Row, start}
-use Rattle.scan_model.specs.Runs.{IsRun}
+use Rattle.interim_tree.specs.Tree.{ProgramData}
+use Rattle.interim_model.specs.declared.relation.Ending.{Ending}
+use Rattle.interim_model.specs.Pairs.{RelationData, Row, start}
+use Rattle.interim_model.specs.Runs.{IsRun}
 use Rattle.regver_top.specs.declared.refusal.Source.{Source}
 use Rattle.regver_top.specs.declared.refusal.Rule.{Rule}
 use Rattle.regver_top.specs.declared.refusal.Rule.TheVariants.{NoForm, NoTrace}

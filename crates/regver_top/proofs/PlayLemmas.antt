@@ -4,10 +4,10 @@ use Rattle.std.proofs.lemmas.List.{take-append-drop}
 use Rattle.std.specs.declared.alloc.Global.{Global}
 use Rattle.outside.specs.declared.OutErr.{OutErr}
 use Rattle.outside.specs.Contents.{extended, Adds}
-use Rattle.st_tree.specs.Tree.{ProgramData}
-use Rattle.scan_model.specs.declared.relation.Ending.{Ending}
-use Rattle.scan_model.specs.declared.relation.Ending.TheVariants.{Unrelated}
-use Rattle.scan_model.specs.Pairs.{RelationData, Row, Pair, is_allowed, is_related, after_row}
+use Rattle.interim_tree.specs.Tree.{ProgramData}
+use Rattle.interim_model.specs.declared.relation.Ending.{Ending}
+use Rattle.interim_model.specs.declared.relation.Ending.TheVariants.{Unrelated}
+use Rattle.interim_model.specs.Pairs.{RelationData, Row, Pair, is_allowed, is_related, after_row}
 use Rattle.regver_top.specs.Held.{rows_of}
 use Rattle.regver_top.specs.Lines.{scan_line}
 use Rattle.regver_top.specs.Outcomes.{Outcome, ended, with_line, outcome_from}

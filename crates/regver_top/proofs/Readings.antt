@@ -1,7 +1,7 @@
 -- A text is read in one way.
 use Rattle.std.proofs.Common.{◌≡◌, ℕ, List, Some, sym, ap, ◌∙◌}
-use Rattle.st_tree.specs.Tree.{ProgramData}
-use Rattle.scan_model.specs.Pairs.{RelationData, Row}
+use Rattle.interim_tree.specs.Tree.{ProgramData}
+use Rattle.interim_model.specs.Pairs.{RelationData, Row}
 use Rattle.regver_top.specs.Programs.{IsProgram, program_reading}
 use Rattle.regver_top.proofs.Cuts.{spells_once}
 use Rattle.regver_top.specs.Relations.{IsRelation, relation_reading}

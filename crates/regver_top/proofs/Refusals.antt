@@ -1,7 +1,7 @@
 -- Which file is refused first.
 use Rattle.std.proofs.Common.{length}
-use Rattle.st_tree.specs.Tree.{ProgramData}
-use Rattle.scan_model.specs.Pairs.{RelationData}
+use Rattle.interim_tree.specs.Tree.{ProgramData}
+use Rattle.interim_model.specs.Pairs.{RelationData}
 use Rattle.regver_top.specs.declared.refusal.AcceptError.{AcceptError}
 use Rattle.regver_top.specs.declared.refusal.AcceptError.TheVariants.{Refused, Memory}
 use Rattle.regver_top.specs.declared.refusal.Source.TheVariants.{New, Relation as RelationFile, Trace}

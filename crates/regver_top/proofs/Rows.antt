@@ -1,8 +1,8 @@
 -- Rows of another length than there are INPUT lines.
 use Rattle.std.proofs.Common.{◌≡◌, ◌≢◌, ℕ, List, [], ◌∷◌, length, false, Bool, true, ◌&&◌, refl, ap, ◌∙◌, suc, drop, ◌≤◌}
 use Rattle.std.proofs.lemmas.List.{drop_all}
-use Rattle.scan_model.specs.declared.relation.InputLine.{InputLine}
-use Rattle.scan_model.specs.Pairs.{Row, Pair, is_allowed, fits_input, loaded}
+use Rattle.interim_model.specs.declared.relation.InputLine.{InputLine}
+use Rattle.interim_model.specs.Pairs.{Row, Pair, is_allowed, fits_input, loaded}
 
 and_false : (b : Bool) → (b && false) ≡ false
 and_false true = refl

@@ -1,10 +1,10 @@
 -- A replay row by row is the run of the rows.
 use Rattle.std.proofs.Common.{◌≡◌, ℕ, suc, ◌+◌, List, [], ◌∷◌, ◌++◌, length, Bool, true, false, refl, sym, ap, ◌∙◌, arith, append_assoc, append-nil, add-zero, zero-add}
-use Rattle.st_tree.specs.Tree.{ProgramData}
-use Rattle.scan_model.specs.declared.relation.Ending.{Ending}
-use Rattle.scan_model.specs.declared.relation.Ending.TheVariants.{Related, Unrelated, NotAllowed}
-use Rattle.scan_model.specs.Pairs.{RelationData, Row, Pair, start, is_allowed, is_related, after_row}
-use Rattle.scan_model.specs.Runs.{after_rows, AllRelated, IsRun, all_related, first_unrelated, first_not_allowed}
+use Rattle.interim_tree.specs.Tree.{ProgramData}
+use Rattle.interim_model.specs.declared.relation.Ending.{Ending}
+use Rattle.interim_model.specs.declared.relation.Ending.TheVariants.{Related, Unrelated, NotAllowed}
+use Rattle.interim_model.specs.Pairs.{RelationData, Row, Pair, start, is_allowed, is_related, after_row}
+use Rattle.interim_model.specs.Runs.{after_rows, AllRelated, IsRun, all_related, first_unrelated, first_not_allowed}
 use Rattle.regver_top.specs.Lines.{scan_line, scan_lines}
 use Rattle.regver_top.specs.Outcomes.{Outcome, ended, with_line, outcome_from, outcome_of}
 

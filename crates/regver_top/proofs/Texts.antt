@@ -1,8 +1,8 @@
 -- A text that is read as nothing is no program, and no relation.
 use Rattle.std.proofs.Common.{◌≡◌, ℕ, List, Some, None, ap, ◌∙◌, sym}
-use Rattle.st_tree.specs.Tokens.{Lexeme, Spells}
-use Rattle.st_tree.specs.Tree.{ProgramData}
-use Rattle.scan_model.specs.Pairs.{RelationData}
+use Rattle.interim_tree.specs.Tokens.{Lexeme, Spells}
+use Rattle.interim_tree.specs.Tree.{ProgramData}
+use Rattle.interim_model.specs.Pairs.{RelationData}
 use Rattle.regver_top.specs.Programs.{IsProgram, program_reading}
 use Rattle.regver_top.specs.Relations.{IsRelation, relation_reading}
 use Rattle.regver_top.proofs.Cuts.{spells_once}

@@ -1,7 +1,7 @@
 -- What texts and what is accepted of them stand for in memory.
 use Rattle.std.specs.Prelude.{◌≡◌}
-use Rattle.st_tree.specs.View.{program_view}
-use Rattle.scan_model.specs.Pairs.{relation_view}
+use Rattle.interim_tree.specs.View.{program_view}
+use Rattle.interim_model.specs.Pairs.{relation_view}
 use Rattle.regver_top.specs.declared.accept.KeptTexts.{KeptTexts}
 use Rattle.regver_top.specs.declared.accept.Replay.{Replay}
 use Rattle.regver_top.specs.declared.refusal.AcceptError.{AcceptError}

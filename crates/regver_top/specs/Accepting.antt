@@ -1,7 +1,7 @@
 -- The four texts of a replay: which are accepted, and which rule is broken first.
 use Rattle.std.specs.Prelude.{◌≡◌, ◌<◌, ◌≤◌, ◌⊎◌, ℕ, List, length}
-use Rattle.st_tree.specs.Tree.{ProgramData}
-use Rattle.scan_model.specs.Pairs.{RelationData, Row}
+use Rattle.interim_tree.specs.Tree.{ProgramData}
+use Rattle.interim_model.specs.Pairs.{RelationData, Row}
 use Rattle.regver_top.specs.declared.refusal.Source.{Source}
 use Rattle.regver_top.specs.declared.refusal.Source.TheVariants.{Old, New, Relation as RelationFile, Trace}
 use Rattle.regver_top.specs.declared.refusal.Rule.{Rule}

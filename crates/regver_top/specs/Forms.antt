@@ -1,9 +1,9 @@
 -- Texts of one form: their tokens are, one by one, fixed words and signs and free places.
 use Rattle.std.specs.Prelude.{ℕ, List, [], ◌∷◌, map, Bool, true, false, ◌&&◌, Option, Some, None, option_map, if◌then◌else◌}
 use Rattle.std.specs.Str.{bytes_eq, str_eq_ignore_ascii_case, str_to_ascii_uppercase}
-use Rattle.st_tree.specs.Tokens.{Lexeme}
-use Rattle.st_tree.specs.declared.token.Kind.{Kind}
-use Rattle.st_tree.specs.declared.token.Kind.TheVariants.{Word as WordKind, Number as NumberKind, Sign as SignKind}
+use Rattle.interim_tree.specs.Tokens.{Lexeme}
+use Rattle.interim_tree.specs.declared.token.Kind.{Kind}
+use Rattle.interim_tree.specs.declared.token.Kind.TheVariants.{Word as WordKind, Number as NumberKind, Sign as SignKind}
 use Rattle.regver_top.specs.declared.form.Want.{Want}
 use Rattle.regver_top.specs.declared.form.Want.TheVariants.{Fixed, Sign, Word, Number}
 

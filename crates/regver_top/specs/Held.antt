@@ -1,7 +1,7 @@
 -- What rows, pairs and texts in memory stand for.
 use Rattle.std.specs.Prelude.{ℕ, List, map, ℤ, Vec, String, string_bytes}
 use Rattle.std.specs.declared.alloc.Global.{Global}
-use Rattle.scan_model.specs.Pairs.{Row, Pair}
+use Rattle.interim_model.specs.Pairs.{Row, Pair}
 use Rattle.regver_top.specs.declared.pair.States.{States}
 
 abbrev pub rows_of : List (Vec ℤ Global) → List Row

@@ -1,13 +1,13 @@
 -- The lines of a replay.
 use Rattle.std.specs.Prelude.{ℕ, ◌+◌, List, [], ◌∷◌, ◌++◌, codes, decimal, ℤ}
 use Rattle.std.specs.Fmt.{signed_decimal}
-use Rattle.st_tree.specs.declared.tree.Part.{Part}
-use Rattle.st_tree.specs.declared.tree.Part.TheVariants.{Fault, Input, Output}
-use Rattle.st_tree.specs.Tree.{CellData, ProgramData}
-use Rattle.scan_model.specs.declared.relation.Ending.{Ending}
-use Rattle.scan_model.specs.declared.relation.Ending.TheVariants.{Related, Unrelated, NotAllowed}
-use Rattle.scan_model.specs.Values.{State}
-use Rattle.scan_model.specs.Pairs.{RelationData, Row, Pair, after_row}
+use Rattle.interim_tree.specs.declared.tree.Part.{Part}
+use Rattle.interim_tree.specs.declared.tree.Part.TheVariants.{Fault, Input, Output}
+use Rattle.interim_tree.specs.Tree.{CellData, ProgramData}
+use Rattle.interim_model.specs.declared.relation.Ending.{Ending}
+use Rattle.interim_model.specs.declared.relation.Ending.TheVariants.{Related, Unrelated, NotAllowed}
+use Rattle.interim_model.specs.Values.{State}
+use Rattle.interim_model.specs.Pairs.{RelationData, Row, Pair, after_row}
 
 abbrev pub shown_cell : Part → ℤ → List ℕ
 shown_cell Fault v = codes " " ++ signed_decimal v

@@ -1,9 +1,9 @@
 -- A replay row by row: the lines that it puts and how it ends.
 use Rattle.std.specs.Prelude.{ℕ, ◌+◌, List, [], ◌∷◌, ◌++◌, if◌then◌else◌}
-use Rattle.st_tree.specs.Tree.{ProgramData}
-use Rattle.scan_model.specs.declared.relation.Ending.{Ending}
-use Rattle.scan_model.specs.declared.relation.Ending.TheVariants.{Related, Unrelated, NotAllowed}
-use Rattle.scan_model.specs.Pairs.{RelationData, Row, Pair, start, is_allowed, is_related, after_row}
+use Rattle.interim_tree.specs.Tree.{ProgramData}
+use Rattle.interim_model.specs.declared.relation.Ending.{Ending}
+use Rattle.interim_model.specs.declared.relation.Ending.TheVariants.{Related, Unrelated, NotAllowed}
+use Rattle.interim_model.specs.Pairs.{RelationData, Row, Pair, start, is_allowed, is_related, after_row}
 use Rattle.regver_top.specs.Lines.{scan_line}
 
 pub record Outcome : Type 0 where

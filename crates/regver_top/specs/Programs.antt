@@ -1,11 +1,11 @@
 -- Programs of the one form that is read so far.
 use Rattle.std.specs.Prelude.{◌≡◌, ℕ, List, [], ◌∷◌, codes, Bool, true, false, not, ◌&&◌, ◌||◌, Option, Some, None, option_and_then, if◌then◌else◌, pos}
 use Rattle.std.specs.Str.{bytes_eq}
-use Rattle.st_tree.specs.declared.tree.Part.{Part}
-use Rattle.st_tree.specs.declared.tree.Part.TheVariants.{Fault, Input, Output}
-use Rattle.st_tree.specs.declared.tree.Elementary.TheVariants.{Bool as BoolType}
-use Rattle.st_tree.specs.Tokens.{Lexeme, Spells}
-use Rattle.st_tree.specs.Tree.{Expression, truth, cell, assign, no_statements, statement, CellData, ProgramData}
+use Rattle.interim_tree.specs.declared.tree.Part.{Part}
+use Rattle.interim_tree.specs.declared.tree.Part.TheVariants.{Fault, Input, Output}
+use Rattle.interim_tree.specs.declared.tree.Elementary.TheVariants.{Bool as BoolType}
+use Rattle.interim_tree.specs.Tokens.{Lexeme, Spells}
+use Rattle.interim_tree.specs.Tree.{Expression, truth, cell, assign, no_statements, statement, CellData, ProgramData}
 use Rattle.regver_top.specs.Names.{is_name, is_program_name}
 use Rattle.regver_top.specs.Forms.{Place, fixed_word, fixed_sign, any_word, read_form}
 

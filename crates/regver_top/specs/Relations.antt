@@ -1,15 +1,15 @@
 -- Relations of the one form that is read so far.
 use Rattle.std.specs.Prelude.{◌≡◌, ℕ, ◌+◌, ◌-◌, ◌*◌, List, [], ◌∷◌, length, codes, Bool, true, false, ◌&&◌, nat_le, Option, Some, None, option_map, option_and_then, if◌then◌else◌}
 use Rattle.std.specs.Str.{bytes_eq}
-use Rattle.st_tree.specs.declared.tree.Part.{Part}
-use Rattle.st_tree.specs.declared.tree.Part.TheVariants.{Fault, Input, Output}
-use Rattle.st_tree.specs.declared.tree.Elementary.TheVariants.{Bool as BoolType}
-use Rattle.st_tree.specs.declared.tree.Operator.TheVariants.{Equal}
-use Rattle.st_tree.specs.Bytes.{is_digit}
-use Rattle.st_tree.specs.Tokens.{Lexeme, Spells}
-use Rattle.st_tree.specs.Tree.{Expression, cell, chain, no_operands, operand, CellData, ProgramData}
-use Rattle.scan_model.specs.declared.relation.InputLine.TheVariants.{Both}
-use Rattle.scan_model.specs.Pairs.{RelationData}
+use Rattle.interim_tree.specs.declared.tree.Part.{Part}
+use Rattle.interim_tree.specs.declared.tree.Part.TheVariants.{Fault, Input, Output}
+use Rattle.interim_tree.specs.declared.tree.Elementary.TheVariants.{Bool as BoolType}
+use Rattle.interim_tree.specs.declared.tree.Operator.TheVariants.{Equal}
+use Rattle.interim_tree.specs.Bytes.{is_digit}
+use Rattle.interim_tree.specs.Tokens.{Lexeme, Spells}
+use Rattle.interim_tree.specs.Tree.{Expression, cell, chain, no_operands, operand, CellData, ProgramData}
+use Rattle.interim_model.specs.declared.relation.InputLine.TheVariants.{Both}
+use Rattle.interim_model.specs.Pairs.{RelationData}
 use Rattle.regver_top.specs.Forms.{Place, fixed_word, fixed_sign, any_word, any_number, read_form}
 
 -- what stands in the free places, in upper case

@@ -2,11 +2,11 @@
 use Rattle.std.specs.Prelude.{◌≡◌, ◌⊎◌, ℕ, List, ◌++◌, length, codes, decimal, Bool, ◌&&◌, ◌==◌, slice_index_or, [], Option, Some}
 use Rattle.std.specs.Str.{bytes_eq}
 use Rattle.std.specs.Bool.{MatchBool}
-use Rattle.st_tree.specs.Tree.{ProgramData}
-use Rattle.scan_model.specs.declared.relation.Ending.{Ending}
-use Rattle.scan_model.specs.declared.relation.Ending.TheVariants.{Related, Unrelated as UnrelatedAt, NotAllowed as NotAllowedAt}
-use Rattle.scan_model.specs.Pairs.{RelationData, Row, start}
-use Rattle.scan_model.specs.Runs.{IsRun}
+use Rattle.interim_tree.specs.Tree.{ProgramData}
+use Rattle.interim_model.specs.declared.relation.Ending.{Ending}
+use Rattle.interim_model.specs.declared.relation.Ending.TheVariants.{Related, Unrelated as UnrelatedAt, NotAllowed as NotAllowedAt}
+use Rattle.interim_model.specs.Pairs.{RelationData, Row, start}
+use Rattle.interim_model.specs.Runs.{IsRun}
 use Rattle.outside.specs.Causes.{Rose}
 use Rattle.regver_top.specs.declared.status.Status.{Status}
 use Rattle.regver_top.specs.declared.status.Status.TheVariants.{Replayed, Unrelated, NotAllowed, Usage, Refused}

@@ -1,7 +1,7 @@
 // From the four texts of a replay to its programs, relation and rows.
 ghost use Rattle.std.specs.Prelude.{◌≡◌, IfOk, IfErr, List, ℕ};
-ghost use Rattle.st_tree.specs.View.{program_view};
-ghost use Rattle.scan_model.specs.Pairs.{relation_view};
+ghost use Rattle.interim_tree.specs.View.{program_view};
+ghost use Rattle.interim_model.specs.Pairs.{relation_view};
 ghost use Rattle.regver_top.specs.Held.{rows_of};
 ghost use Rattle.regver_top.specs.Kept.{IsKept};
 ghost use Rattle.regver_top.specs.Programs.{IsProgram};
@@ -15,8 +15,8 @@ use crate::read::read_program;
 use crate::refusal::{AcceptError, Refusal, Rule, Source};
 use crate::relate::read_relation;
 use crate::trace::read_trace;
-use scan_model::Relation;
-use st_tree::Program;
+use interim_model::Relation;
+use interim_tree::Program;
 use std::alloc::Global;
 
 /// The texts of the four files; one that is too long is not there.

@@ -2,8 +2,8 @@
 ghost use Rattle.std.specs.Prelude.{◌≡◌, ◌≢◌, ◌≤◌, ◌++◌, List, ℕ, Option, IfOk, string_bytes};
 ghost use Rattle.outside.specs.Causes.{Rose};
 ghost use Rattle.outside.specs.Contents.{extended};
-ghost use Rattle.st_tree.specs.View.{program_view};
-ghost use Rattle.scan_model.specs.Pairs.{relation_view};
+ghost use Rattle.interim_tree.specs.View.{program_view};
+ghost use Rattle.interim_model.specs.Pairs.{relation_view};
 ghost use Rattle.regver_top.specs.Held.{rows_of};
 ghost use Rattle.regver_top.specs.Lines.{ending_line};
 ghost use Rattle.regver_top.specs.Outcomes.{Outcome, outcome_of};
@@ -19,9 +19,9 @@ use crate::put::put_text;
 use crate::refusal::{AcceptError, Refusal, Rule, Source};
 use crate::show::show_ending;
 use crate::status::Status;
+use interim_model::Ending;
 use itoa::Buffer;
 use outside::{OutErr, Sink};
-use scan_model::Ending;
 use std::alloc::{AllocError, Global};
 
 /// Puts the last text of a run, and says with which status the run ends.

@@ -1,8 +1,8 @@
 // Classes of bytes, and how far they go on.
 ghost use Rattle.std.specs.Prelude.{◌≡◌, ◌<◌, ◌≤◌, ◌+◌, length, slice_index, IfSome};
 ghost use Rattle.std.specs.List.{prefix_len};
-ghost use Rattle.st_tree.specs.Bytes.{is_letter, is_word_byte, is_number_byte, is_blank, is_sign, is_sign_pair};
-ghost use Rattle.st_tree.specs.Tokens.{is_in_line, mark_len};
+ghost use Rattle.interim_tree.specs.Bytes.{is_letter, is_word_byte, is_number_byte, is_blank, is_sign, is_sign_pair};
+ghost use Rattle.interim_tree.specs.Tokens.{is_in_line, mark_len};
 ghost use Rattle.regver_top.specs.Fronts.{closed_len};
 
 pub fn is_letter(b: u8) -> bool

@@ -5,7 +5,7 @@ ghost use Rattle.regver_top.specs.Lexing.{lexeme_of, lexemes_of};
 ghost use Rattle.regver_top.specs.Forms.{place_of, places_of, fits, with_free, read_form};
 ghost use Rattle.regver_top.specs.Held.{texts_of};
 
-use st_tree::{Kind, Tok};
+use interim_tree::{Kind, Tok};
 use std::alloc::{AllocError, Global};
 
 /// A place of a form.

@@ -5,7 +5,7 @@ ghost use Rattle.regver_top.specs.Fronts.{front_of, plain_front, size_of};
 use crate::classes::{
     byte_at, closed_len, is_blank, is_letter, is_sign, is_sign_pair, line_len, number_len, word_len,
 };
-use st_tree::Kind;
+use interim_tree::Kind;
 
 /// A gap or a token, with its size in bytes.
 #[derive(Clone, Copy)]

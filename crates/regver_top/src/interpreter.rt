@@ -1,11 +1,11 @@
 // The interpreter: values, faults and effects of statements. A clause reads two states as one, OLD's
 // cells and then NEW's; a program reads its own alone.
 ghost use Rattle.std.specs.Prelude.{◌≡◌, ◌++◌, IfOk, pos, slice_set, slice_index_or};
-ghost use Rattle.st_tree.specs.View.{expr_view, operands_view, stmt_view, stmts_view, cells_view, program_view};
-ghost use Rattle.scan_model.specs.Values.{number_of, applied, value_of, value_on, faults, any_faults};
-ghost use Rattle.scan_model.specs.Scans.{with_fault, effect_of, effect_of_all, initial, scanned};
+ghost use Rattle.interim_tree.specs.View.{expr_view, operands_view, stmt_view, stmts_view, cells_view, program_view};
+ghost use Rattle.interim_model.specs.Values.{number_of, applied, value_of, value_on, faults, any_faults};
+ghost use Rattle.interim_model.specs.Scans.{with_fault, effect_of, effect_of_all, initial, scanned};
 
-use st_tree::{Cell, Expr, Operand, Operator, Program, Stmt};
+use interim_tree::{Cell, Expr, Operand, Operator, Program, Stmt};
 use std::alloc::{AllocError, Global};
 
 fn number_of(truth: bool) -> i64

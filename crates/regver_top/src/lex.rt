@@ -1,11 +1,11 @@
 // From the bytes of a text to its tokens.
 ghost use Rattle.std.specs.Prelude.{◌≡◌, List, true, Some, None, IfOk, MatchOption};
-ghost use Rattle.st_tree.specs.Tokens.{Lexeme, Spells, token, is_formed};
+ghost use Rattle.interim_tree.specs.Tokens.{Lexeme, Spells, token, is_formed};
 ghost use Rattle.regver_top.specs.Lexing.{lexemes_of};
 
 use crate::classes::mark_len;
 use crate::front::{Front, front_of};
-use st_tree::{Kind, Tok};
+use interim_tree::{Kind, Tok};
 use std::alloc::{AllocError, Global};
 use std::str;
 

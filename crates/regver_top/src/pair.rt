@@ -1,12 +1,12 @@
 // A pair of states under a relation: rows of inputs, and what must hold after a scan.
 ghost use Rattle.std.specs.Prelude.{◌≡◌, IfOk};
-ghost use Rattle.st_tree.specs.View.{expr_view, program_view};
-ghost use Rattle.scan_model.specs.Pairs.{start, is_value, fits_input, is_allowed, loaded_one, loaded, after_row, holds, is_related, relation_view};
+ghost use Rattle.interim_tree.specs.View.{expr_view, program_view};
+ghost use Rattle.interim_model.specs.Pairs.{start, is_value, fits_input, is_allowed, loaded_one, loaded, after_row, holds, is_related, relation_view};
 ghost use Rattle.regver_top.specs.Held.{pair_of};
 
 use crate::interpreter::{evaluate, initial, meets_fault, put, scan};
-use scan_model::{InputLine, Relation};
-use st_tree::{Elementary, Expr, Program};
+use interim_model::{InputLine, Relation};
+use interim_tree::{Elementary, Expr, Program};
 use std::alloc::{AllocError, Global};
 
 fn is_value(kind: Elementary, number: i64) -> bool

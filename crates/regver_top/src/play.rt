@@ -3,8 +3,8 @@ ghost use Rattle.std.specs.Prelude.{◌≡◌, ◌≤◌, ◌+◌, IfOk, OnOk, O
 ghost use Rattle.outside.specs.Causes.{Rose};
 ghost use Rattle.outside.specs.Contents.{extended};
 ghost use Rattle.outside.specs.declared.OutErr.TheVariants.{Fault};
-ghost use Rattle.st_tree.specs.View.{program_view};
-ghost use Rattle.scan_model.specs.Pairs.{relation_view, after_row};
+ghost use Rattle.interim_tree.specs.View.{program_view};
+ghost use Rattle.interim_model.specs.Pairs.{relation_view, after_row};
 ghost use Rattle.regver_top.specs.Lines.{scan_line};
 ghost use Rattle.regver_top.specs.Outcomes.{outcome_of};
 ghost use Rattle.regver_top.specs.Puts.{PutsPart};
@@ -13,9 +13,9 @@ ghost use Rattle.regver_top.specs.Held.{rows_of, pair_of};
 use crate::pair::{States, is_allowed, is_related, start, step};
 use crate::put::put_text;
 use crate::show::show_scan;
+use interim_model::{Ending, Relation};
+use interim_tree::Program;
 use outside::{OutErr, Sink};
-use scan_model::{Ending, Relation};
-use st_tree::Program;
 use std::alloc::{AllocError, Global};
 use thiserror::Error;
 

@@ -1,7 +1,7 @@
 // From tokens to programs of the one form that is read so far.
 ghost use Rattle.std.specs.Prelude.{◌≡◌, IfOk, MatchOption, option_map};
-ghost use Rattle.st_tree.specs.Tree.{ProgramData};
-ghost use Rattle.st_tree.specs.View.{cell_view, expr_view, program_view};
+ghost use Rattle.interim_tree.specs.Tree.{ProgramData};
+ghost use Rattle.interim_tree.specs.View.{cell_view, expr_view, program_view};
 ghost use Rattle.regver_top.specs.Lexing.{lexemes_of};
 ghost use Rattle.regver_top.specs.Held.{texts_of};
 ghost use Rattle.regver_top.specs.Programs.{is_variable_name, is_value_word, expression_of, are_sound, the_program, program_from, program_of, program_reading, variable, IsProgram};
@@ -10,7 +10,7 @@ ghost use Rattle.regver_top.specs.Worded.{words_of};
 use crate::form::{Want, read_form};
 use crate::lex::lex;
 use crate::names::{is_name, is_program_name};
-use st_tree::{Cell, Elementary, Expr, Part, Program, Stmt, Tok};
+use interim_tree::{Cell, Elementary, Expr, Part, Program, Stmt, Tok};
 use std::alloc::{AllocError, Global};
 
 /// `PROGRAM name VAR_INPUT name : BOOL; END_VAR VAR_OUTPUT name : BOOL; END_VAR name := value; END_PROGRAM`

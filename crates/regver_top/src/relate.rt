@@ -1,7 +1,7 @@
 // From tokens to relations of the one form that is read so far.
 ghost use Rattle.std.specs.Prelude.{◌≡◌, ◌+◌, ◌^◌, ◌<◌, IfOk, IfSome, MatchOption, option_map, length};
-ghost use Rattle.st_tree.specs.View.{cells_view, expr_view, program_view};
-ghost use Rattle.scan_model.specs.Pairs.{RelationData, relation_view};
+ghost use Rattle.interim_tree.specs.View.{cells_view, expr_view, program_view};
+ghost use Rattle.interim_model.specs.Pairs.{RelationData, relation_view};
 ghost use Rattle.regver_top.specs.Held.{texts_of};
 ghost use Rattle.regver_top.specs.Lexing.{lexemes_of};
 ghost use Rattle.regver_top.specs.Relations.{number_in, cell_of, sides_in, equal_cells, the_relation, relation_from, relation_of, relation_reading, IsRelation};
@@ -9,8 +9,8 @@ ghost use Rattle.regver_top.specs.Related.{words_of, sides_of};
 
 use crate::form::{Want, read_form};
 use crate::lex::lex;
-use scan_model::{InputLine, Relation};
-use st_tree::{Cell, Elementary, Expr, Operand, Operator, Part, Program, Tok};
+use interim_model::{InputLine, Relation};
+use interim_tree::{Cell, Elementary, Expr, Operand, Operator, Part, Program, Tok};
 use std::alloc::{AllocError, Global};
 
 /// `RELATION 1; FAULTS EQUAL; DEPTH n; CONFLICTS m; INPUT a = b; RELATE old.p = new.q;`

@@ -1,28 +1,32 @@
 -- A pair of programs under a relation: rows of inputs, and what must hold after a scan.
-use Rattle.std.specs.Prelude.{ℕ, List, [], ◌∷◌, ◌++◌, Bool, true, false, not, ◌&&◌, slice_set, ℤ, pos, int_le}
-use Rattle.st_tree.specs.declared.tree.Elementary.{Elementary}
-use Rattle.st_tree.specs.declared.tree.Elementary.TheVariants.{Bool as BoolType}
+use Rattle.std.specs.Prelude.{◌≡◌, ◌<◌, ℕ, List, [], ◌∷◌, ◌++◌, length, All, Bool, true, false, not, ◌&&◌, slice_set, ℤ}
+use Rattle.st_tree.specs.declared.typed.Range.{Range}
+use Rattle.st_tree.specs.Types.{in_range}
 use Rattle.st_tree.specs.Tree.{Expression, ProgramData}
 use Rattle.st_tree.specs.View.{exprs_view}
 use Rattle.scan_model.specs.declared.relation.Relation.{Relation}
 use Rattle.scan_model.specs.declared.relation.InputLine.{InputLine}
-use Rattle.scan_model.specs.declared.relation.InputLine.TheVariants.{Both}
+use Rattle.scan_model.specs.declared.relation.InputLine.TheVariants.{Both, Old, New}
 use Rattle.scan_model.specs.Values.{State, value_of, faults, is_truth}
-use Rattle.scan_model.specs.Scans.{initial, scanned}
+use Rattle.scan_model.specs.Scans.{ranges_of, range_at, initial, scanned}
+use Rattle.scan_model.specs.InRange.{Row, IsInRange}
 
--- a relation: its numbers, its INPUT lines, and its RELATE clauses over OLD's cells and then NEW's
+-- a relation: its numbers, its INPUT lines, and its ENV and RELATE clauses over OLD's cells and then NEW's
 pub record RelationData : Type 0 where
   pub depth : ℕ
   pub conflicts : ℕ
   pub inputs : List InputLine
+  pub environment : List Expression
   pub relates : List Expression
 
 abbrev pub relation_view : Relation → RelationData
-relation_view r = record { depth = r.depth; conflicts = r.conflicts; inputs = r.inputs.items; relates = exprs_view r.relates.items }
-
--- one scan's numbers, in the order of the INPUT lines
-abbrev pub Row : Type 0
-Row = List ℤ
+relation_view r = record {
+  depth = r.depth;
+  conflicts = r.conflicts;
+  inputs = r.inputs.items;
+  environment = exprs_view r.environment.items;
+  relates = exprs_view r.relates.items;
+}
 
 -- the two states
 pub record Pair : Type 0 where
@@ -32,35 +36,33 @@ pub record Pair : Type 0 where
 abbrev pub start : ProgramData → ProgramData → Pair
 start old new = record { old = initial old.cells; new = initial new.cells }
 
--- whether a number is a value of a type
-abbrev pub is_value : Elementary → ℤ → Bool
-is_value BoolType v = int_le (pos 0) v && int_le v (pos 1)
+-- both states are in range
+abbrev pub IsPairInRange : ProgramData → ProgramData → Pair → Type 0
+IsPairInRange old new pair = IsInRange (ranges_of old.cells) pair.old × IsInRange (ranges_of new.cells) pair.new
 
-abbrev pub fits_input : InputLine → ℤ → Bool
-fits_input (Both kind old new) v = is_value kind v
+-- the range of an INPUT line's number
+abbrev pub range_of_line : InputLine → Range
+range_of_line (Both range old new) = range
+range_of_line (Old range place) = range
+range_of_line (New range place) = range
 
--- a row is allowed where it has one number for each INPUT line, and each is in its input's range
-abbrev pub is_allowed : List InputLine → Row → Bool
-is_allowed [] [] = true
-is_allowed [] (v ∷ vs) = false
-is_allowed (l ∷ ls) [] = false
-is_allowed (l ∷ ls) (v ∷ vs) = fits_input l v && is_allowed ls vs
+-- a row has one number for each INPUT line, in its line's range
+abbrev pub fits_lines : List InputLine → Row → Bool
+fits_lines [] [] = true
+fits_lines [] (v ∷ vs) = false
+fits_lines (l ∷ ls) [] = false
+fits_lines (l ∷ ls) (v ∷ vs) = in_range v (range_of_line l) && fits_lines ls vs
 
 -- a number put into the cells that its line names
 abbrev pub loaded_one : InputLine → ℤ → Pair → Pair
-loaded_one (Both kind old new) v pair = record { old = slice_set pair.old old v; new = slice_set pair.new new v }
+loaded_one (Both range old new) v pair = record { old = slice_set pair.old old v; new = slice_set pair.new new v }
+loaded_one (Old range place) v pair = record { old = slice_set pair.old place v; new = pair.new }
+loaded_one (New range place) v pair = record { old = pair.old; new = slice_set pair.new place v }
 
 abbrev pub loaded : List InputLine → Row → Pair → Pair
 loaded [] vs pair = pair
 loaded (l ∷ ls) [] pair = pair
 loaded (l ∷ ls) (v ∷ vs) pair = loaded ls vs (loaded_one l v pair)
-
-abbrev pub scanned_both : ProgramData → ProgramData → Pair → Pair
-scanned_both old new pair = record { old = scanned old pair.old; new = scanned new pair.new }
-
--- the pair after a row: its numbers are loaded, then both programs run one scan
-abbrev pub after_row : ProgramData → ProgramData → RelationData → Row → Pair → Pair
-after_row old new rel row pair = scanned_both old new (loaded rel.inputs row pair)
 
 -- a clause holds where its value is TRUE and its evaluation meets no fault
 abbrev pub holds : Expression → Pair → Bool
@@ -70,6 +72,31 @@ abbrev pub all_hold : List Expression → Pair → Bool
 all_hold [] pair = true
 all_hold (e ∷ es) pair = holds e pair && all_hold es pair
 
+-- a row is allowed on a pair where its numbers fit, and every ENV clause holds once they are loaded
+abbrev pub is_allowed : RelationData → Row → Pair → Bool
+is_allowed rel row pair = fits_lines rel.inputs row && all_hold rel.environment (loaded rel.inputs row pair)
+
+abbrev pub scanned_both : ProgramData → ProgramData → Pair → Pair
+scanned_both old new pair = record { old = scanned old pair.old; new = scanned new pair.new }
+
+-- the pair after a row: its numbers are loaded, then both programs run one scan
+abbrev pub after_row : ProgramData → ProgramData → RelationData → Row → Pair → Pair
+after_row old new rel row pair = scanned_both old new (loaded rel.inputs row pair)
+
 -- a pair is related where every RELATE clause holds
 abbrev pub is_related : RelationData → Pair → Bool
 is_related rel pair = all_hold rel.relates pair
+
+-- a place is a cell of a program, of that range
+abbrev pub IsCellOf : ProgramData → ℕ → Range → Type 0
+IsCellOf p place range = (place < length p.cells) × (range_at (ranges_of p.cells) place ≡ range)
+
+-- an INPUT line names cells of the programs that have its range
+abbrev pub NamesCells : ProgramData → ProgramData → InputLine → Type 0
+NamesCells old new (Both range p q) = IsCellOf old p range × IsCellOf new q range
+NamesCells old new (Old range p) = IsCellOf old p range
+NamesCells old new (New range q) = IsCellOf new q range
+
+-- what scans of a pair ask of a relation
+abbrev pub BelongsTo : ProgramData → ProgramData → RelationData → Type 0
+BelongsTo old new rel = All (NamesCells old new) rel.inputs

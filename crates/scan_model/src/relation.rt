@@ -1,5 +1,5 @@
 // A relation between two programs, and how a replay under it ends.
-use st_tree::{Elementary, Expr};
+use st_tree::{Range, TypedExpr};
 
 /// What a relation file says of two programs. A clause is an expression over OLD's cells and then NEW's.
 #[derive(Drop)]
@@ -9,17 +9,28 @@ pub struct Relation {
     /// Derivations for each query.
     pub conflicts: u64,
     pub inputs: Vec<InputLine>,
+    /// The ENV clauses: what inputs may come.
+    pub environment: Vec<TypedExpr>,
     /// The RELATE clauses, and last the one on FAULT where faults have to agree.
-    pub relates: Vec<Expr>,
+    pub relates: Vec<TypedExpr>,
 }
 
-/// One number of a row of inputs: its type, and the cells that it is put into, by their places.
+/// One number of a row of inputs: its range, and the cells that it is put into, by their places: one of each
+/// program, one of OLD, or one of NEW.
 #[derive(Clone, Copy, Debug, PartialEq, Eq)]
 pub enum InputLine {
     Both {
-        kind: Elementary,
+        range: Range,
         old: usize,
         new: usize,
+    },
+    Old {
+        range: Range,
+        place: usize,
+    },
+    New {
+        range: Range,
+        place: usize,
     },
 }
 

@@ -5,7 +5,7 @@ use Rattle.std.proofs.lemmas.List.Elements.{All-same, All-push}
 use Rattle.std.proofs.lemmas.List.{length-take-le}
 use Rattle.st_tree.specs.declared.token.Kind.{Kind}
 use Rattle.st_tree.specs.Tokens.{Lexeme, token, slice_of, mark_len}
-use Rattle.st_lexer.specs.declared.fault.LexRule.{LexRule}
+use Rattle.st_tree.specs.declared.rule.Rule.{Rule}
 use Rattle.st_lexer.specs.declared.fault.LexFault.{LexFault}
 use Rattle.st_lexer.specs.declared.fault.LexFault.TheVariants.{Refused}
 use Rattle.st_lexer.specs.Lexing.{IsRightFault}
@@ -17,22 +17,22 @@ use Rattle.st_lexer.proofs.FrontLemmas.{piece_at}
 use Rattle.st_lexer.proofs.Beginnings.{IsFront, slice_at, begins, no_front}
 use Rattle.st_lexer.proofs.Cuts.{starts_once, part_some, no_part, cut_of}
 
-breaks_behind : (from : ℕ) (ps : List Part) (rule : LexRule) (at : ℕ) → BreaksFrom from ps rule at → from ≤ at
+breaks_behind : (from : ℕ) (ps : List Part) (rule : Rule) (at : ℕ) → BreaksFrom from ps rule at → from ≤ at
 breaks_behind from [] rule at h = absurd h
 breaks_behind from (p ∷ ps) rule at (inl h) = omega (arith, h.0)
 breaks_behind from (p ∷ ps) rule at (inr h) = let k = breaks_behind (from + length (bytes_of p)) ps rule at h in omega (arith, k)
 
 -- a text from a place on breaks a rule
-abbrev pub BrokenFrom : ℕ → List ℕ → LexRule → ℕ → Type 0
+abbrev pub BrokenFrom : ℕ → List ℕ → Rule → ℕ → Type 0
 BrokenFrom from text rule at = (parts : List Part) × IsCut text parts × BreaksFrom from parts rule at
 
-broken_here : (from : ℕ) (text : List ℕ) (p : Part) (r : List ℕ) (rule : LexRule) → Starts text p r → broken_rule p ≡ Some rule → BrokenFrom from text rule from
+broken_here : (from : ℕ) (text : List ℕ) (p : Part) (r : List ℕ) (rule : Rule) → Starts text p r → broken_rule p ≡ Some rule → BrokenFrom from text rule from
 broken_here from text p r rule s h = let more = cut_of r in (p ∷ more.0, (r, s, more.1), inl (refl, h))
 
-broken_on : (from n : ℕ) (text : List ℕ) (p : Part) (r : List ℕ) (rule : LexRule) (at : ℕ) → Starts text p r → length (bytes_of p) ≡ n → BrokenFrom (from + n) r rule at → BrokenFrom from text rule at
+broken_on : (from n : ℕ) (text : List ℕ) (p : Part) (r : List ℕ) (rule : Rule) (at : ℕ) → Starts text p r → length (bytes_of p) ≡ n → BrokenFrom (from + n) r rule at → BrokenFrom from text rule at
 broken_on from n text p r rule at s size (ps, c, b) = (p ∷ ps, (r, s, c), inr (subst (λ k. BreaksFrom (from + k) ps rule at) (sym size) b))
 
-broken_back : (from : ℕ) (text : List ℕ) (p : Part) (r : List ℕ) (rule : LexRule) (at : ℕ) → Starts text p r → BrokenFrom from text rule at
+broken_back : (from : ℕ) (text : List ℕ) (p : Part) (r : List ℕ) (rule : Rule) (at : ℕ) → Starts text p r → BrokenFrom from text rule at
     → ((from ≡ at) × (broken_rule p ≡ Some rule)) ⊎ BrokenFrom (from + length (bytes_of p)) r rule at
 broken_back from text p r rule at s ([], c, b) = absurd b
 broken_back from text p r rule at s (q ∷ qs, (t, k, c), inl h) = inl (h.0, subst (λ x. broken_rule x ≡ Some rule) (starts_once text q p t r k s).0 h.1)
@@ -42,8 +42,8 @@ broken_back from text p r rule at s (q ∷ qs, (t, k, c), inr h) =
 
 -- What is broken in a text is broken in what is left of it.
 pub record IsRead (text : List ℕ) (at : ℕ) (rest : List ℕ) : Type 0 where
-  pub on : (rule : LexRule) (place : ℕ) → BrokenFrom at rest rule place → IsBroken text rule place
-  pub back : (rule : LexRule) (place : ℕ) → IsBroken text rule place → BrokenFrom at rest rule place
+  pub on : (rule : Rule) (place : ℕ) → BrokenFrom at rest rule place → IsBroken text rule place
+  pub back : (rule : Rule) (place : ℕ) → IsBroken text rule place → BrokenFrom at rest rule place
 
 pub read_start : (text : List ℕ) → IsRead text (mark_len text) (drop (mark_len text) text)
 read_start text = record { on = λ rule place b. b; back = λ rule place b. b }
@@ -57,11 +57,11 @@ read_on text at n rest p r s size whole h = record {
   ];
 }
 
-behind : (at : ℕ) (p : Part) (r : List ℕ) (rule : LexRule) (place : ℕ) → 0 < length (bytes_of p) → BrokenFrom (at + length (bytes_of p)) r rule place → at < place
+behind : (at : ℕ) (p : Part) (r : List ℕ) (rule : Rule) (place : ℕ) → 0 < length (bytes_of p) → BrokenFrom (at + length (bytes_of p)) r rule place → at < place
 behind at p r rule place some (ps, c, b) = omega (arith, breaks_behind (at + length (bytes_of p)) ps rule place b)
 
 -- the part that stands next, where it breaks a rule, is the first that does
-pub read_first : (text : List ℕ) (at : ℕ) (rest : List ℕ) (p : Part) (r : List ℕ) (rule : LexRule) → Starts rest p r → broken_rule p ≡ Some rule → IsRead text at rest → IsFirst text rule at
+pub read_first : (text : List ℕ) (at : ℕ) (rest : List ℕ) (p : Part) (r : List ℕ) (rule : Rule) → Starts rest p r → broken_rule p ≡ Some rule → IsRead text at rest → IsFirst text rule at
 read_first text at rest p r rule s broken h = record {
   broken = h.on rule at (broken_here at rest p r rule s broken);
   others = λ other place b. elim (broken_back at rest p r other place s (h.back other place b)) [
@@ -71,7 +71,7 @@ read_first text at rest p r rule s broken h = record {
 }
 
 -- where nothing is left, no rule is broken
-nothing : (at : ℕ) (rest : List ℕ) (rule : LexRule) (place : ℕ) → length rest ≡ 0 → BrokenFrom at rest rule place → ⊥
+nothing : (at : ℕ) (rest : List ℕ) (rule : Rule) (place : ℕ) → length rest ≡ 0 → BrokenFrom at rest rule place → ⊥
 nothing at rest rule place z ([], c, b) = b
 nothing at rest rule place z (p ∷ ps, (r, s, c), b) = no_part rest p r s z
 
@@ -95,19 +95,19 @@ pub read_front : (text : List ℕ) (at : ℕ) (rest : List ℕ) (f : Front) (res
 read_front text at rest f rest' h e whole k =
     subst (IsRead text (at + size_of f)) (sym e) (read_on text at (size_of f) rest (proper (piece_at f rest)) (drop (size_of f) rest) (begins rest f h) (front_size rest f h) whole k)
 
-pub read_broken : (text : List ℕ) (at : ℕ) (rest : List ℕ) (f : Front) (rule : LexRule) → IsFront rest f → broken_rule (proper (piece_at f rest)) ≡ Some rule → IsRead text at rest → IsFirst text rule at
+pub read_broken : (text : List ℕ) (at : ℕ) (rest : List ℕ) (f : Front) (rule : Rule) → IsFront rest f → broken_rule (proper (piece_at f rest)) ≡ Some rule → IsRead text at rest → IsFirst text rule at
 read_broken text at rest f rule h broken k = read_first text at rest (proper (piece_at f rest)) (drop (size_of f) rest) rule (begins rest f h) broken k
 
 -- the rule of a token, by its slice
-pub token_says : (kind : Kind) (n : ℕ) (rest slice : List ℕ) (o p : Option LexRule) → slice ≡ take n rest → o ≡ piece_rule (token kind slice) → o ≡ p → broken_rule (proper (piece_at (Token kind n) rest)) ≡ p
+pub token_says : (kind : Kind) (n : ℕ) (rest slice : List ℕ) (o p : Option Rule) → slice ≡ take n rest → o ≡ piece_rule (token kind slice) → o ≡ p → broken_rule (proper (piece_at (Token kind n) rest)) ≡ p
 token_says kind n rest slice o p e h k = ap (λ s. piece_rule (token kind s)) (sym e) ∙ sym h ∙ k
 
-pub slice_says : (kind : Kind) (s slice : List ℕ) (o p : Option LexRule) → s ≡ slice → o ≡ piece_rule (token kind slice) → o ≡ p → piece_rule (token kind s) ≡ p
+pub slice_says : (kind : Kind) (s slice : List ℕ) (o p : Option Rule) → s ≡ slice → o ≡ piece_rule (token kind slice) → o ≡ p → piece_rule (token kind s) ≡ p
 slice_says kind s slice o p e h k = ap (λ s. piece_rule (token kind s)) e ∙ sym h ∙ k
 
 pub kept_push : (tokens tokens' : List Lexeme) (l : Lexeme) → tokens' ≡ tokens ++ l ∷ [] → piece_rule (token l.kind l.slice) ≡ None → All KeepsRules tokens → All KeepsRules tokens'
 kept_push tokens tokens' l e k h = All-same KeepsRules tokens' (tokens ++ l ∷ []) e (All-push KeepsRules tokens l h k)
 
 -- a refusal of the first rule is right
-pub right_fault : (text : List ℕ) (rule told : LexRule) (at : ℕ) (fault : LexFault) → fault ≡ Refused (record { rule = told; at = at }) → told ≡ rule → IsFirst text rule at → IsRightFault text fault
+pub right_fault : (text : List ℕ) (rule told : Rule) (at : ℕ) (fault : LexFault) → fault ≡ Refused (record { rule = told; at = at }) → told ≡ rule → IsFirst text rule at → IsRightFault text fault
 right_fault text rule told at fault e f h = subst (IsRightFault text) (sym e) (subst (λ r. IsFirst text r at) (sym f) h)

@@ -7,3 +7,6 @@ pub mod Cuts
 pub mod Breaks
 pub mod Letters
 pub mod Digits
+pub mod Cases
+pub mod TableLemmas
+pub mod Pushes

@@ -4,8 +4,8 @@ use Rattle.std.specs.List.{prefix_len}
 use Rattle.st_tree.specs.declared.token.Kind.TheVariants.{Word, Number, Sign}
 use Rattle.st_tree.specs.Bytes.{is_blank, is_letter, is_digit, is_word_byte, is_number_byte, is_sign, is_sign_pair}
 use Rattle.st_tree.specs.Tokens.{is_block_opening, is_line_opening, is_closing, is_in_line}
-use Rattle.st_lexer.specs.declared.fault.LexRule.{LexRule}
-use Rattle.st_lexer.specs.declared.fault.LexRule.TheVariants.{StrayByte, OpenComment}
+use Rattle.st_tree.specs.declared.rule.Rule.{Rule}
+use Rattle.st_tree.specs.declared.rule.Rule.TheVariants.{StrayByte, OpenComment}
 use Rattle.st_lexer.specs.Parts.{opens_block}
 use Rattle.st_lexer.specs.declared.front.Front.{Front}
 use Rattle.st_lexer.specs.declared.front.Front.TheVariants.{Gap, Token}
@@ -35,5 +35,5 @@ front_of (b ∷ bs) =
     else (if is_line_opening b (slice_index bs 0) then Some (Gap (prefix_len is_in_line bs + 1)) else plain_front b bs)
 
 -- the rule that is broken where nothing stands at the front
-abbrev pub stuck_rule : List ℕ → LexRule
+abbrev pub stuck_rule : List ℕ → Rule
 stuck_rule text = if opens_block text then OpenComment else StrayByte

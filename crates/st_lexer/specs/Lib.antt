@@ -1,4 +1,4 @@
-pub mod Numbers
 pub mod Parts
 pub mod Lexing
 pub mod Fronts
+pub mod Tables

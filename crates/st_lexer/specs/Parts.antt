@@ -2,9 +2,9 @@
 use Rattle.std.specs.Prelude.{◌≡◌, ◌<◌, ℕ, ◌+◌, ◌^◌, ◌⊎◌, nat_le, nat_lt, List, [], ◌∷◌, drop, length, slice_index, Bool, true, false, Option, Some, None, if◌then◌else◌}
 use Rattle.st_tree.specs.declared.token.Kind.TheVariants.{Word, Number, Sign}
 use Rattle.st_tree.specs.Tokens.{Lexeme, Piece, gap, token, slice_of, Begins, is_block_opening, mark_len}
-use Rattle.st_lexer.specs.declared.fault.LexRule.{LexRule}
-use Rattle.st_lexer.specs.declared.fault.LexRule.TheVariants.{StrayByte, OpenComment, NumberForm, NumberSize, WordLength}
-use Rattle.st_lexer.specs.Numbers.{value_of}
+use Rattle.st_tree.specs.declared.rule.Rule.{Rule}
+use Rattle.st_tree.specs.declared.rule.Rule.TheVariants.{StrayByte, OpenComment, NumberForm, NumberSize, WordLength}
+use Rattle.st_tree.specs.Numbers.{value_of}
 
 -- a part of a text: a gap or a token; a byte that begins neither; or a comment that is not closed
 pub data Part : Type 0 where
@@ -36,12 +36,12 @@ IsCut text [] = text ≡ []
 IsCut text (part ∷ parts) = (rest : List ℕ) × Starts text part rest × IsCut rest parts
 
 -- a number needs one of the forms, and a value below 2^64
-abbrev pub number_rule : Option ℕ → Option LexRule
+abbrev pub number_rule : Option ℕ → Option Rule
 number_rule None = Some NumberForm
 number_rule (Some value) = if nat_lt value (2 ^ 64) then None else Some NumberSize
 
 -- the rule that a gap or a token breaks; a word has at most 64 characters
-abbrev pub piece_rule : Piece → Option LexRule
+abbrev pub piece_rule : Piece → Option Rule
 piece_rule (gap slice) = None
 piece_rule (token Word slice) = if nat_le (length slice) 64 then None else Some WordLength
 piece_rule (token Number slice) = number_rule (value_of slice)
@@ -52,25 +52,25 @@ abbrev pub KeepsRules : Lexeme → Type 0
 KeepsRules l = piece_rule (token l.kind l.slice) ≡ None
 
 -- the rule that a part breaks
-abbrev pub broken_rule : Part → Option LexRule
+abbrev pub broken_rule : Part → Option Rule
 broken_rule (proper piece) = piece_rule piece
 broken_rule (stray b) = Some StrayByte
 broken_rule (unclosed slice) = Some OpenComment
 
 -- among parts, of which the first stands at a place, one at another place breaks a rule
-abbrev pub BreaksFrom : ℕ → List Part → LexRule → ℕ → Type 0
+abbrev pub BreaksFrom : ℕ → List Part → Rule → ℕ → Type 0
 BreaksFrom from [] rule at = ⊥
 BreaksFrom from (part ∷ parts) rule at = ((from ≡ at) × (broken_rule part ≡ Some rule)) ⊎ BreaksFrom (from + length (bytes_of part)) parts rule at
 
 -- behind a mark, a part of a text at a place breaks a rule
-abbrev pub IsBroken : List ℕ → LexRule → ℕ → Type 0
+abbrev pub IsBroken : List ℕ → Rule → ℕ → Type 0
 IsBroken text rule at = (parts : List Part) × IsCut (drop (mark_len text) text) parts × BreaksFrom (mark_len text) parts rule at
 
 -- no part of a text breaks a rule
 abbrev pub IsSound : List ℕ → Type 0
-IsSound text = (rule : LexRule) (at : ℕ) → IsBroken text rule at → ⊥
+IsSound text = (rule : Rule) (at : ℕ) → IsBroken text rule at → ⊥
 
 -- the first rule that a text breaks: each other one is broken behind it
-pub record IsFirst (text : List ℕ) (rule : LexRule) (at : ℕ) : Type 0 where
+pub record IsFirst (text : List ℕ) (rule : Rule) (at : ℕ) : Type 0 where
   pub broken : IsBroken text rule at
-  pub others : (other : LexRule) (place : ℕ) → IsBroken text other place → (at < place) ⊎ ((at ≡ place) × (rule ≡ other))
+  pub others : (other : Rule) (place : ℕ) → IsBroken text other place → (at < place) ⊎ ((at ≡ place) × (rule ≡ other))

@@ -1,15 +1,18 @@
 // From the bytes of a text to its tokens.
-ghost use Rattle.std.specs.Prelude.{◌≡◌, List, true, All, IfOk, IfErr};
+ghost use Rattle.std.specs.Prelude.{◌≡◌, List, length, true, All, IfOk, IfErr};
 ghost use Rattle.st_tree.specs.Tokens.{Lexeme, Spells, token, is_formed};
+ghost use Rattle.st_tree.specs.Terminals.{IsClassified};
+ghost use Rattle.st_tree.specs.Places.{ArePlaced};
 ghost use Rattle.st_lexer.specs.Parts.{Part, IsCut, KeepsRules, IsSound};
 ghost use Rattle.st_lexer.specs.Lexing.{lexemes_of, IsRightFault};
 ghost use Rattle.st_lexer.specs.declared.fault.LexFault.TheVariants.{Refused};
 
 use crate::classes::mark_len;
-use crate::fault::{LexFault, LexRule, Refusal};
+use crate::fault::LexFault;
 use crate::front::{Front, front_of};
 use crate::rules::{stuck_rule, token_rule};
-use st_tree::{Kind, Tok};
+use crate::terminals::terminal;
+use st_tree::{Kind, Refusal, Rule, Tok};
 use std::alloc::Global;
 use std::str;
 
@@ -24,18 +27,20 @@ fn token_text<'a>(kind: Kind, slice: &'a [u8]) -> &'a str
     }
 }
 
-fn refused(rule: LexRule, at: usize) -> LexFault
+fn refused(rule: Rule, at: usize) -> LexFault
     ensures { result ≡ Refused (record { rule = rule; at = at }) }
 {
     LexFault::Refused(Refusal { rule, at })
 }
 
-/// The tokens that a text spells, in the order of the text; or the first rule that it breaks. A text is
+/// The tokens that a text spells, in the order of the text, each with what it is for the grammar; or the first rule that it breaks. A text is
 /// bytes and need not be UTF-8; a UTF-8 mark may stand before it (IEC 61131-3, 2.1).
 pub fn lex(alloc: Global, text: &[u8]) -> Result<Vec<Tok<'_>>, LexFault>
     ensures spelled { IfOk result (λ v. Spells text.now (lexemes_of v.items)) }
     ensures kept { IfOk result (λ v. All KeepsRules (lexemes_of v.items)) }
     ensures sound { IfOk result (λ v. IsSound text.now) }
+    ensures classified { IfOk result (λ v. All IsClassified v.items) }
+    ensures placed { IfOk result (λ v. ArePlaced 0 (length text.now) v.items) }
     ensures refused { IfErr result (λ e. IsRightFault text.now e) }
 {
     let mut at = mark_len(text);
@@ -55,7 +60,13 @@ pub fn lex(alloc: Global, text: &[u8]) -> Result<Vec<Tok<'_>>, LexFault>
                     return Err(refused(rule, at));
                 }
                 let slice = token_text(kind, slice);
-                tokens.push(Tok { kind, slice, at })?;
+                let terminal = terminal(kind, slice);
+                tokens.push(Tok {
+                    kind,
+                    slice,
+                    terminal,
+                    at,
+                })?;
                 at += size;
                 rest = behind;
             }

@@ -7,9 +7,11 @@ mod front;
 mod lexer;
 mod numbers;
 mod rules;
+mod terminals;
 #[cfg(test)]
 mod tests;
+mod words;
 
-pub use fault::{LexFault, LexRule, Refusal};
+pub use fault::LexFault;
 pub use lexer::{lex, one_cut, one_spelling};
 pub use numbers::number_value;

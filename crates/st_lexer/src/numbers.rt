@@ -1,6 +1,6 @@
 // The values of numbers.
 ghost use Rattle.std.specs.Prelude.{◌≡◌, ◌≤◌, ◌^◌, min, option_map};
-ghost use Rattle.st_lexer.specs.Numbers.{digit, based, value_of, in_64_bits};
+ghost use Rattle.st_tree.specs.Numbers.{digit, based, value_of, in_64_bits};
 
 const LIMIT: u128 = 1 << 64;
 
@@ -42,7 +42,7 @@ fn digits(base: u8, text: &[u8]) -> Option<u128>
 }
 
 /// The value of a number, cut at 2^64.
-#[tactic(auto, unfolding(crate::specs::Numbers::value_of))]
+#[tactic(auto, unfolding(st_tree::specs::Numbers::value_of))]
 pub fn cut_value(text: &[u8]) -> Option<u128>
     ensures { result ≡ option_map (λ v. min v (2 ^ 64)) (value_of text.now) }
 {

@@ -1,6 +1,6 @@
 // Texts of which the tokens, or the first broken rule, were worked by hand.
-use crate::{LexFault, LexRule, Refusal, lex, number_value, one_cut, one_spelling};
-use st_tree::Kind;
+use crate::{LexFault, lex, number_value, one_cut, one_spelling};
+use st_tree::{Elementary, Kind, Mark, Operator, Refusal, Rule, Terminal};
 use std::alloc::Global;
 use std::test::Fail;
 
@@ -14,20 +14,20 @@ fn refusal(alloc: Global, text: &str) -> Option<Refusal> {
 #[test]
 fn first_broken_rules(rt: HostRuntime) {
     let rows = [
-        ("(*)", LexRule::OpenComment, 0),
-        ("\u{feff}\u{feff}", LexRule::StrayByte, 3),
-        ("PROGRAM M // é\nqé := 1;", LexRule::StrayByte, 17),
+        ("(*)", Rule::OpenComment, 0),
+        ("\u{feff}\u{feff}", Rule::StrayByte, 3),
+        ("PROGRAM M // é\nqé := 1;", Rule::StrayByte, 17),
         (
             "PROGRAM M x := 16#1_0000_0000_0000_0000;",
-            LexRule::NumberSize,
+            Rule::NumberSize,
             15,
         ),
-        ("PROGRAM M x := 1__0;", LexRule::NumberForm, 15),
-        ("PROGRAM M x := 2#12;", LexRule::NumberForm, 15),
-        ("a := 1x; $", LexRule::NumberForm, 5),
+        ("PROGRAM M x := 1__0;", Rule::NumberForm, 15),
+        ("PROGRAM M x := 2#12;", Rule::NumberForm, 15),
+        ("a := 1x; $", Rule::NumberForm, 5),
         (
             "q ABCDEFGHIJKLMNOPQRSTUVWXYZabcdefghijklmnopqrstuvwxyz0123456789___",
-            LexRule::WordLength,
+            Rule::WordLength,
             2,
         ),
     ];
@@ -59,6 +59,37 @@ fn tokens_in_order(rt: HostRuntime) -> Result<(), Fail> {
     }
     one_spelling(text);
     one_cut(text);
+    Ok(())
+}
+
+#[test]
+fn terminals_in_any_case(rt: HostRuntime) -> Result<(), Fail> {
+    let text = "If end_Program ifs AND & xor Not tRUE Usint wstring For :=<>..(#-16#1F".as_bytes();
+    let tokens = lex(rt.alloc(), text).ok().ok_or("tokens")?;
+    let rows = [
+        Terminal::Mark(Mark::If),
+        Terminal::Mark(Mark::EndProgram),
+        Terminal::Name,
+        Terminal::Operator(Operator::And),
+        Terminal::Operator(Operator::And),
+        Terminal::Operator(Operator::Xor),
+        Terminal::Not,
+        Terminal::Truth(true),
+        Terminal::Type(Elementary::Usint),
+        Terminal::LeftOut,
+        Terminal::LeftOut,
+        Terminal::Mark(Mark::Assign),
+        Terminal::Operator(Operator::NotEqual),
+        Terminal::Mark(Mark::Range),
+        Terminal::Open,
+        Terminal::Mark(Mark::Hash),
+        Terminal::Operator(Operator::Minus),
+        Terminal::Number(31),
+    ];
+    assert_eq!(rt; tokens.len(), rows.len());
+    for (token, terminal) in tokens.iter().zip(rows) {
+        assert_eq!(rt; token.terminal, terminal);
+    }
     Ok(())
 }
 

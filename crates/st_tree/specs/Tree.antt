@@ -1,34 +1,43 @@
 -- Programs as plain data. Paths and names are in upper case, and a variable is the place of its cell.
-use Rattle.std.specs.Prelude.{ℕ, ℤ, List, Bool}
-use Rattle.st_tree.specs.declared.tree.Elementary.{Elementary}
-use Rattle.st_tree.specs.declared.tree.Operator.{Operator}
-use Rattle.st_tree.specs.declared.tree.Part.{Part}
+use Rattle.std.specs.Prelude.{ℕ, ℤ, List}
+use Rattle.st_tree.specs.declared.elementary.Elementary.{Elementary}
+use Rattle.st_tree.specs.declared.token.Operator.{Operator}
+use Rattle.st_tree.specs.declared.syntax.UnaryOperator.{UnaryOperator}
+use Rattle.st_tree.specs.declared.typed.Part.{Part}
+use Rattle.st_tree.specs.declared.typed.Range.{Range}
 
 -- expressions, and operands of one level that are joined from left to right
 mutual
   pub data Expression : Type 0 where
-    truth : Bool → Expression
+    number : ℤ → Expression
     cell : ℕ → Expression
+    unary : UnaryOperator → Elementary → Expression → Expression
     chain : Expression → Operands → Expression
 
   pub data Operands : Type 0 where
     no_operands : Operands
-    operand : Operator → Expression → Operands → Operands
+    operand : Operator → Elementary → Expression → Operands → Operands
 
--- statements, and lists of them
+-- statements: an assignment, and an IF with its conditions and what runs where none is TRUE
 mutual
   pub data Statement : Type 0 where
     assign : ℕ → Expression → Statement
+    choice : Choices → Statements → Statement
 
   pub data Statements : Type 0 where
     no_statements : Statements
     statement : Statement → Statements → Statements
 
--- a cell: its path, its part, its type and the value that it begins with
+  pub data Choices : Type 0 where
+    no_choices : Choices
+    choose : Expression → Statements → Choices → Choices
+
+-- a cell: its path, its part, its type, its range, and the value that it begins with
 pub record CellData : Type 0 where
   pub path : List ℕ
   pub part : Part
   pub kind : Elementary
+  pub range : Range
   pub initial : ℤ
 
 -- a PROGRAM: its name, its cells, FAULT first, and its body

@@ -1,8 +1,24 @@
-// Tokens and trees: what a text spells, and programs as data that definitions speak of.
+// Tokens and trees: what a text spells, what a tree prints, and programs as data that definitions speak of.
 #![tactic(auto)]
 
+mod cells;
+mod chart_reader;
+mod elementary;
+mod parse_fault;
+mod rule;
+mod syntax;
+mod syntax_copies;
 mod token;
-mod tree;
+mod typed;
+mod typed_copies;
 
-pub use token::{Kind, Tok};
-pub use tree::{Cell, Elementary, Expr, Operand, Operator, Part, Program, Stmt};
+pub use chart_reader::{ChartReader, NoCharts};
+pub use elementary::Elementary;
+pub use parse_fault::ParseFault;
+pub use rule::{Refusal, Rule};
+pub use syntax::{
+    Arm, Body, Chart, Declaration, Expr, Link, Literal, Name, Path, Pou, Section, SourceFile, Stmt,
+    TypeName, UnaryOperator, Variables,
+};
+pub use token::{Kind, Mark, Operator, Terminal, Tok};
+pub use typed::{Cell, Operand, Part, Program, Range, TypedArm, TypedExpr, TypedStmt};

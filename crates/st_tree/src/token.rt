@@ -1,4 +1,54 @@
 // Tokens of a text.
+use crate::elementary::Elementary;
+
+/// A binary operator (IEC 61131-3, 3.3.1). `&` is `And`.
+#[derive(Clone, Copy, Debug, PartialEq, Eq)]
+pub enum Operator {
+    Or,
+    Xor,
+    And,
+    Equal,
+    NotEqual,
+    Less,
+    Greater,
+    LessEqual,
+    GreaterEqual,
+    Plus,
+    Minus,
+    Times,
+    Divide,
+    Mod,
+}
+
+/// A reserved word or a sign of which trees keep neither the spelling nor the place.
+#[derive(Clone, Copy, Debug, PartialEq, Eq)]
+pub enum Mark {
+    Close,
+    Comma,
+    Semicolon,
+    Colon,
+    Assign,
+    Arrow,
+    Point,
+    Range,
+    Hash,
+    Program,
+    EndProgram,
+    Var,
+    VarInput,
+    VarOutput,
+    EndVar,
+    If,
+    Then,
+    Elsif,
+    Else,
+    EndIf,
+    Of,
+    To,
+    By,
+    Do,
+    From,
+}
 
 /// What a token is: a word, a number or a sign (IEC 61131-3, 2.1).
 #[derive(Clone, Copy, Debug, PartialEq, Eq)]
@@ -8,10 +58,27 @@ pub enum Kind {
     Sign,
 }
 
-/// A token: its kind, its slice of the text, and the slice's place there, in bytes.
+/// What a token is for the grammar (IEC 61131-3, annexes B and C): a name; a number, by its value; a truth
+/// value; an elementary type; NOT; a binary operator, `-` among them; `(`; another word or sign that is let
+/// in; or a word that is left out.
+#[derive(Clone, Copy, Debug, PartialEq, Eq)]
+pub enum Terminal {
+    Name,
+    Number(u64),
+    Truth(bool),
+    Type(Elementary),
+    Not,
+    Operator(Operator),
+    Open,
+    Mark(Mark),
+    LeftOut,
+}
+
+/// A token: its kind, its slice of the text, what it is for the grammar, and its place in bytes from 0.
 #[derive(Clone, Copy)]
 pub struct Tok<'a> {
     pub kind: Kind,
     pub slice: &'a str,
+    pub terminal: Terminal,
     pub at: usize,
 }

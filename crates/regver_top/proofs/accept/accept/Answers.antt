@@ -1,7 +1,7 @@
 use Rattle.std.proofs.Common.{◌≡◌, ◌∙◌, subst, length}
 use Rattle.std.proofs.lemmas.Result.{err_from_is_err_and}
-use Rattle.st_tree.specs.View.{program_view}
-use Rattle.scan_model.specs.Pairs.{relation_view}
+use Rattle.interim_tree.specs.View.{program_view}
+use Rattle.interim_model.specs.Pairs.{relation_view}
 use Rattle.regver_top.specs.declared.refusal.Source.TheVariants.{Trace}
 use Rattle.regver_top.specs.declared.refusal.Rule.TheVariants.{NoTrace}
 use Rattle.regver_top.specs.Traces.{IsTrace}

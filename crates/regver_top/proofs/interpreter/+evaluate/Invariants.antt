@@ -1,6 +1,6 @@
 use Rattle.std.proofs.Common.{◌≡◌, ◌++◌, drop}
-use Rattle.st_tree.specs.View.{operands_view}
-use Rattle.scan_model.specs.Values.{value_on}
+use Rattle.interim_tree.specs.View.{operands_view}
+use Rattle.interim_model.specs.Values.{value_on}
 use Rattle.regver_top.proofs.interpreter.+evaluate.Given as goal
 
 abbrev pub invariant-evaluate_on-loop-operand : goal.invariant-evaluate_on-loop-operand

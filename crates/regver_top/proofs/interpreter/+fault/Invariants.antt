@@ -1,6 +1,6 @@
 use Rattle.std.proofs.Common.{◌≡◌, ◌++◌, drop}
-use Rattle.st_tree.specs.View.{operands_view}
-use Rattle.scan_model.specs.Values.{any_faults}
+use Rattle.interim_tree.specs.View.{operands_view}
+use Rattle.interim_model.specs.Values.{any_faults}
 use Rattle.regver_top.proofs.interpreter.+fault.Given as goal
 
 abbrev pub invariant-one_meets_fault-loop-operand : goal.invariant-one_meets_fault-loop-operand

@@ -1,6 +1,6 @@
 use Rattle.std.proofs.Common.{◌≡◌, take}
-use Rattle.st_tree.specs.View.{cells_view}
-use Rattle.scan_model.specs.Scans.{initial}
+use Rattle.interim_tree.specs.View.{cells_view}
+use Rattle.interim_model.specs.Scans.{initial}
 use Rattle.regver_top.proofs.interpreter.initial.Given as goal
 
 abbrev pub invariant-loop-cell : goal.invariant-loop-cell

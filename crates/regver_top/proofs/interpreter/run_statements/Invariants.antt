@@ -1,6 +1,6 @@
 use Rattle.std.proofs.Common.{◌≡◌, drop}
-use Rattle.st_tree.specs.View.{stmts_view}
-use Rattle.scan_model.specs.Scans.{effect_of_all}
+use Rattle.interim_tree.specs.View.{stmts_view}
+use Rattle.interim_model.specs.Scans.{effect_of_all}
 use Rattle.regver_top.proofs.interpreter.run_statements.Given as goal
 
 abbrev pub invariant-loop-stmt : goal.invariant-loop-stmt

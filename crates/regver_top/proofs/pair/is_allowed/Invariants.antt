@@ -1,5 +1,5 @@
 use Rattle.std.proofs.Common.{◌≡◌, drop}
-use Rattle.scan_model.specs.Pairs.{is_allowed}
+use Rattle.interim_model.specs.Pairs.{is_allowed}
 use Rattle.regver_top.proofs.pair.is_allowed.Given as goal
 
 abbrev pub invariant-loop-place : goal.invariant-loop-place

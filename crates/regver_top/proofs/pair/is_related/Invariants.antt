@@ -1,6 +1,6 @@
 use Rattle.std.proofs.Common.{◌≡◌, drop}
-use Rattle.st_tree.specs.View.{exprs_view}
-use Rattle.scan_model.specs.Pairs.{all_hold}
+use Rattle.interim_tree.specs.View.{exprs_view}
+use Rattle.interim_model.specs.Pairs.{all_hold}
 use Rattle.regver_top.specs.Held.{pair_of}
 use Rattle.regver_top.proofs.pair.is_related.Given as goal
 

@@ -1,6 +1,6 @@
 use Rattle.std.proofs.Common.{◌≡◌, true, sym, ◌∙◌, arith}
-use Rattle.st_tree.specs.View.{program_view}
-use Rattle.scan_model.specs.Pairs.{relation_view, is_allowed}
+use Rattle.interim_tree.specs.View.{program_view}
+use Rattle.interim_model.specs.Pairs.{relation_view, is_allowed}
 use Rattle.regver_top.specs.Held.{pair_of}
 use Rattle.regver_top.proofs.PlayLemmas.{row_run, row_related, row_unrelated, row_part, on_err}
 use Rattle.regver_top.proofs.play.play.Goals as goal

@@ -1,5 +1,5 @@
 use Rattle.std.proofs.Common.{◌≡◌, ◌+◌, drop, option_map}
-use Rattle.st_tree.specs.View.{cells_view}
+use Rattle.interim_tree.specs.View.{cells_view}
 use Rattle.regver_top.specs.Relations.{cell_of}
 use Rattle.regver_top.proofs.relate.cell_of.Given as goal
 

@@ -1,6 +1,6 @@
 use Rattle.std.proofs.Common.{ap, sym, ◌∙◌, option_map}
-use Rattle.st_tree.specs.View.{program_view}
-use Rattle.scan_model.specs.Pairs.{relation_view}
+use Rattle.interim_tree.specs.View.{program_view}
+use Rattle.interim_model.specs.Pairs.{relation_view}
 use Rattle.regver_top.specs.Lexing.{lexemes_of}
 use Rattle.regver_top.specs.Relations.{IsRelation, relation_reading}
 use Rattle.regver_top.proofs.Texts.{no_relation_tokens, no_relation}

@@ -1,6 +1,6 @@
 use Rattle.std.proofs.Common.{sym, ◌∙◌, string_bytes}
 use Rattle.std.proofs.lemmas.List.{length-map}
-use Rattle.st_tree.specs.View.{program_view}
+use Rattle.interim_tree.specs.View.{program_view}
 use Rattle.regver_top.specs.Held.{texts_of}
 use Rattle.regver_top.proofs.Lengths.{not_seven}
 use Rattle.regver_top.proofs.relate.relation_of.Goals as goal

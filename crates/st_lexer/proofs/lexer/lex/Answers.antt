@@ -1,6 +1,7 @@
 use Rattle.std.proofs.Common.{◌≡◌, ◌<◌, length, refl, ap, ◌∙◌, sym, None, arith}
 use Rattle.std.proofs.lemmas.List.Elements.{All-nil}
 use Rattle.std.proofs.lemmas.Grind.{common_steps}
+use Rattle.st_tree.specs.Terminals.{IsClassified}
 use Rattle.st_lexer.specs.Parts.{KeepsRules}
 use Rattle.std.proofs.lemmas.Bool.Decides.{nat_tests}
 use Rattle.std.proofs.lemmas.List.{map-append}
@@ -9,6 +10,7 @@ use Rattle.st_lexer.specs.Lexing.{lexeme_of, lexemes_of}
 use Rattle.st_lexer.proofs.Beginnings.{IsFront, front_formed}
 use Rattle.st_lexer.proofs.Spellings.{lexed_start, lexed_gap_at, lexed_token_at, lexed_end}
 use Rattle.st_lexer.proofs.Breaks.{read_start, read_front, read_broken, read_stuck, read_end, token_says, slice_says, kept_push, right_fault}
+use Rattle.st_lexer.proofs.Pushes.{classified_push, placed_on, placed_push}
 use Rattle.st_lexer.proofs.lexer.lex.Goals as goal
 
 pub loop-rest-init : goal.loop-rest-init
@@ -20,6 +22,8 @@ loop-rest-init c =
       place = omega arith;
       read = rw (s, m) (read_start c.args.text.now);
       kept = rw e (All-nil KeepsRules);
+      classified = rw e (All-nil IsClassified);
+      placed = rw e tt;
       lexed = rw (s, e, m) (lexed_start c.args.text.now);
     }
 
@@ -37,6 +41,8 @@ loop-rest-preserved-in-Some-Gap c =
       place = omega arith;
       read = read_front _ _ _ (Gap c.in-Some-Gap.size) _ f c.split_at-in-Some-Gap.ensures.back refl c.loop-rest.invariant.read;
       kept = c.loop-rest.invariant.kept;
+      classified = c.loop-rest.invariant.classified;
+      placed = placed_on 0 _ _ _ (omega arith) c.loop-rest.invariant.placed;
       lexed = lexed_gap_at _ _ c.in-Some-Gap.size _ _ _ f c.split_at-in-Some-Gap.ensures.back c.loop-rest.invariant.lexed;
     }
 
@@ -61,6 +67,8 @@ loop-rest-preserved c =
       place = omega arith;
       read = read_front _ _ _ (Token c.in-Some-Token.kind c.in-Some-Token.size) _ f c.split_at-in-Some-Token.ensures.back says c.loop-rest.invariant.read;
       kept = kept_push _ _ _ items kept c.loop-rest.invariant.kept;
+      classified = classified_push _ _ _ c.in_ok-push-in-Some-Token.ensures.items c.terminal-terminal.ensures c.loop-rest.invariant.classified;
+      placed = placed_push _ _ _ _ c.in_ok-push-in-Some-Token.ensures.items (omega (arith, f.some)) c.loop-rest.invariant.placed;
       lexed = lexed_token_at _ _ c.in-Some-Token.size c.in-Some-Token.kind _ _ _ _ _ f c.split_at-in-Some-Token.ensures.back slice items c.loop-rest.invariant.lexed;
     }
 
@@ -73,6 +81,11 @@ pub returns-clause-sound : goal.returns-clause-sound
 returns-clause-sound c =
     let none : length c.loop-rest.rest.now ≡ 0 = grind (arith, nat_tests) in
     read_end c.args.text.now _ _ none c.loop-rest.invariant.read
+
+pub returns-clause-placed : goal.returns-clause-placed
+returns-clause-placed c =
+    let none : length c.loop-rest.rest.now ≡ 0 = grind (arith, nat_tests) in
+    placed_on 0 _ _ _ (omega arith) c.loop-rest.invariant.placed
 
 pub token_text-slice-requires : goal.token_text-slice-requires
 token_text-slice-requires c =

@@ -1,4 +1,6 @@
 use Rattle.std.proofs.Common.{◌≡◌, ◌+◌, length, All}
+use Rattle.st_tree.specs.Terminals.{IsClassified}
+use Rattle.st_tree.specs.Places.{ArePlaced}
 use Rattle.st_lexer.specs.Parts.{KeepsRules}
 use Rattle.st_lexer.specs.Lexing.{lexemes_of}
 use Rattle.st_lexer.proofs.Spellings.{IsLexed}
@@ -10,6 +12,8 @@ invariant-loop-rest l = record {
   place : l.at + length l.rest ≡ length l.text;
   read : IsRead l.text l.at l.rest;
   kept : All KeepsRules (lexemes_of l.tokens.items);
+  classified : All IsClassified l.tokens.items;
+  placed : ArePlaced 0 l.at l.tokens.items;
   lexed : IsLexed l.text l.at l.rest (lexemes_of l.tokens.items);
 }
 

@@ -1,5 +1,5 @@
 use Rattle.std.proofs.Common.{◌≡◌, ◌≤◌, ◌^◌, drop}
-use Rattle.st_lexer.specs.Numbers.{based}
+use Rattle.st_tree.specs.Numbers.{based}
 use Rattle.st_lexer.proofs.Digits.{cut, digits}
 use Rattle.st_lexer.proofs.numbers.digits.Given as goal
 

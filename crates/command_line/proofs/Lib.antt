@@ -1,0 +1,6 @@
+pub mod Plainly
+pub mod Readings
+pub mod Rows
+pub mod Steps
+pub mod Tops
+pub mod Walks

@@ -1,0 +1,76 @@
+// The words, read by clap.
+ghost use Rattle.std.specs.Prelude.{◌≡◌, ◌↔◌, IfOk, IsErr, None, is_some, map, string_bytes};
+ghost use Rattle.std.specs.Option.{option_map_or};
+ghost use Rattle.clap.specs.Words.{found_of, kind_of, rows_of, subcommand_rows_of, takes};
+ghost use Rattle.command_line.specs.Asked.{asked, read_as, replay_of_rows, subcommand_asked, usage};
+ghost use Rattle.command_line.specs.Grammar.{grammar};
+ghost use Rattle.command_line.specs.Plain.{plainly_asked};
+
+use crate::Command;
+use crate::grammar::program_command;
+use clap::ArgMatches;
+use clap::error::ErrorKind;
+use std::alloc::{AllocError, Global};
+
+// The words of a replay, by their places.
+fn replay_of(alloc: Global, matches: &ArgMatches<'_>) -> Result<Option<Command>, AllocError>
+    ensures { IfOk result (λ command. read_as command ≡ replay_of_rows (rows_of (found_of matches.now))) }
+{
+    let Some(old) = matches.get_str("OLD") else {
+        return Ok(None);
+    };
+    let Some(new) = matches.get_str("NEW") else {
+        return Ok(None);
+    };
+    let Some(relation) = matches.get_str("REL") else {
+        return Ok(None);
+    };
+    let Some(trace) = matches.get_str("TRACE") else {
+        return Ok(None);
+    };
+    Ok(Some(Command::Replay {
+        old: String::from_str(alloc, old)?,
+        new: String::from_str(alloc, new)?,
+        relation: String::from_str(alloc, relation)?,
+        trace: String::from_str(alloc, trace)?,
+    }))
+}
+
+// The command that the subcommand stands for.
+fn command_of(alloc: Global, matches: &ArgMatches<'_>) -> Result<Option<Command>, AllocError>
+    ensures { IfOk result (λ command. read_as command ≡ option_map_or subcommand_asked (subcommand_rows_of matches.now) usage) }
+{
+    match matches.subcommand() {
+        Some(("replay", given)) => replay_of(alloc, given),
+        _ => Ok(None),
+    }
+}
+
+// Words that clap refuses ask for no command.
+fn refused(error: &clap::Error) -> Result<Option<Command>, AllocError>
+    ensures none { IfOk result (λ command. command ≡ None) }
+    ensures memory { IsErr result ↔ (kind_of error.now ≡ ErrorKind.OutOfMemory) }
+{
+    match error.kind() {
+        ErrorKind::OutOfMemory => Err(AllocError),
+        _ => Ok(None),
+    }
+}
+
+/// Reads the words of the command line, of which the first is the program's name. There is no
+/// command where they ask for none of those that there are; the one error is that memory is wanting.
+pub fn read_words(alloc: Global, words: Vec<String>) -> Result<Option<Command>, AllocError>
+    // There is a command exactly where clap takes the words.
+    ensures taken { IfOk result (λ command. is_some command ≡ takes grammar (map string_bytes words.items)) }
+
+    // It is the one that the words ask for, and its texts are their very bytes.
+    ensures asked { IfOk result (λ command. read_as command ≡ asked (map string_bytes words.items)) }
+
+    // The plain rules ask for the same.
+    ensures plain { IfOk result (λ command. read_as command ≡ plainly_asked (map string_bytes words.items)) }
+{
+    match program_command(alloc)?.try_get_matches_from(words.as_slice()) {
+        Ok(matches) => command_of(alloc, &matches),
+        Err(error) => refused(&error),
+    }
+}

@@ -1,0 +1,39 @@
+-- What each pass says of a text.
+use Rattle.std.proofs.Common.{◌≡◌, [], ◌∷◌, List, ℕ, inl, inr, subst}
+use Rattle.st_tree.specs.declared.token.Tok.{Tok}
+use Rattle.st_tree.specs.declared.parse_fault.ParseFault.{ParseFault}
+use Rattle.st_tree.specs.declared.parse_fault.ParseFault.TheVariants as parser
+use Rattle.st_tree.specs.Syntax.{PouData, FileData}
+use Rattle.st_parser.specs.WholeFile.{IsFile, IsFileFault}
+use Rattle.st_names.specs.declared.fault.NameFault.{NameFault}
+use Rattle.st_names.specs.declared.fault.NameFault.TheVariants as names
+use Rattle.st_names.specs.Broken.{broken_names}
+use Rattle.st_names.specs.Bound as naming
+use Rattle.st_types.specs.declared.fault.TypeFault.{TypeFault}
+use Rattle.st_types.specs.declared.fault.TypeFault.TheVariants as types
+use Rattle.st_types.specs.Faults as typing
+use Rattle.front_end.specs.declared.fault.AcceptFault.{AcceptFault}
+use Rattle.front_end.specs.declared.fault.AcceptFault.TheVariants as faults
+use Rattle.front_end.specs.Texts.{HasTokens, HasTree, HasNoTree, by_nesting, by_grammar, IsNoProgram, by_tree, by_names, by_types, by_room}
+use Rattle.front_end.specs.Faults.{of_parser, of_names, of_types, IfRefused}
+
+pub tree_found : (text : List ℕ) (toks : List Tok) (f : FileData) → HasTokens text toks → IsFile toks f → HasTree text f
+tree_found text toks f h k = record { toks = toks; tokens = h; sound = k.sound; printed = k.printed; levelled = k.levelled }
+
+pub tree_refused : (text : List ℕ) (toks : List Tok) (e : ParseFault) → HasTokens text toks → IsFileFault toks e → IfRefused (HasNoTree text) (of_parser e)
+tree_refused text toks (parser.Refused r) h (inl k) = by_nesting toks h k
+tree_refused text toks (parser.Refused r) h (inr k) = by_grammar toks h k.sound (λ f printed levelled. k.none f levelled printed) k.rule
+tree_refused text toks parser.Memory h k = tt
+
+pub tree_first : (text : List ℕ) (e : AcceptFault) → IfRefused (HasNoTree text) e → IfRefused (IsNoProgram text) e
+tree_first text (faults.Refused r) h = by_tree h
+tree_first text faults.Memory h = tt
+
+pub names_refused : (text : List ℕ) (f : FileData) (e : NameFault) → HasTree text f → naming.IsFaultOf f e → IfRefused (IsNoProgram text) (of_names e)
+names_refused text f (names.Refused r) h k = by_names f h k
+names_refused text f names.Memory h k = tt
+
+pub types_refused : (text : List ℕ) (p : PouData) (e : TypeFault) → HasTree text (p ∷ []) → broken_names (p ∷ []) ≡ [] → typing.IsFaultOf p e → IfRefused (IsNoProgram text) (of_types e)
+types_refused text p (types.Refused r) h n (inl k) = by_types p h n k
+types_refused text p (types.Refused r) h n (inr k) = by_room p h n k.0 k.1 k.2
+types_refused text p types.Memory h n k = tt

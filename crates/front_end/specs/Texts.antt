@@ -1,0 +1,71 @@
+-- The texts of programs: which program a text states, and which rule each other text breaks first. The passes
+-- come one after the other: size, tokens, left-out words and nesting, grammar, names, types, and the count of cells.
+use Rattle.std.specs.Prelude.{◌≡◌, ◌<◌, ◌≤◌, ℕ, List, [], ◌∷◌, length, All, true, false}
+use Rattle.st_tree.specs.declared.token.Tok.{Tok}
+use Rattle.st_tree.specs.declared.rule.Rule.TheVariants.{TooLong, NoTree, TooManyCells}
+use Rattle.st_tree.specs.declared.rule.Refusal.{Refusal}
+use Rattle.st_tree.specs.Rules.{IsAmong, IsFirst}
+use Rattle.st_tree.specs.Tokens.{Spells}
+use Rattle.st_tree.specs.Terminals.{IsClassified}
+use Rattle.st_tree.specs.Syntax.{PouData, FileData}
+use Rattle.st_tree.specs.SyntaxView.{symbols}
+use Rattle.st_tree.specs.Prints.{print_file}
+use Rattle.st_tree.specs.Levels.{IsFileLevelled}
+use Rattle.st_tree.specs.Tree.{ProgramData}
+use Rattle.st_lexer.specs.Parts as lexer
+use Rattle.st_lexer.specs.Lexing.{lexemes_of}
+use Rattle.st_parser.specs.FirstFault as nesting
+use Rattle.st_names.specs.Broken.{broken_names}
+use Rattle.st_types.specs.Programs.{broken_types, has_room}
+use Rattle.st_types.specs.Typed.{typed_program}
+
+-- how many bytes a text may have
+abbrev pub limit : ℕ
+limit = 1048576
+
+-- A text has these tokens: it is short enough, breaks no rule on tokens, and spells them, each with what it is for the grammar.
+pub record HasTokens (text : List ℕ) (toks : List Tok) : Type 0 where
+  pub short : length text ≤ limit
+  pub sound : lexer.IsSound text
+  pub spelled : Spells text (lexemes_of toks)
+  pub classified : All IsClassified toks
+
+-- A text has no tokens: it is too long (M1), or breaks a rule on tokens, this one first.
+pub data HasNoTokens (text : List ℕ) (r : Refusal) : Type 0 where
+  too_long : limit < length text → r ≡ record { rule = TooLong; at = 0 } → HasNoTokens text r
+  by_token : length text ≤ limit → lexer.IsFirst text r.rule r.at → HasNoTokens text r
+
+-- no levelled tree prints tokens
+abbrev pub IsUnprinted : List Tok → Type 0
+IsUnprinted toks = (f : FileData) → symbols toks ≡ print_file f → IsFileLevelled f → ⊥
+
+-- A text states a file: a levelled tree that prints its tokens.
+pub record HasTree (text : List ℕ) (f : FileData) : Type 0 where
+  pub toks : List Tok
+  pub tokens : HasTokens text toks
+  pub sound : nesting.IsSound toks
+  pub printed : symbols toks ≡ print_file f
+  pub levelled : IsFileLevelled f
+
+-- A text states no file: it has no tokens, a token breaks X1 or G2, this one first, or no tree prints the tokens (G1).
+pub data HasNoTree (text : List ℕ) (r : Refusal) : Type 0 where
+  by_tokens : HasNoTokens text r → HasNoTree text r
+  by_nesting : (toks : List Tok) → HasTokens text toks → nesting.IsFirstFault toks r → HasNoTree text r
+  by_grammar : (toks : List Tok) → HasTokens text toks → nesting.IsSound toks → IsUnprinted toks → r.rule ≡ NoTree → HasNoTree text r
+
+-- A text states a program: its file breaks no rule on names, is one PROGRAM, breaks no rule on types, and has room for its cells.
+pub record IsProgram (text : List ℕ) (p : ProgramData) : Type 0 where
+  pub pou : PouData
+  pub tree : HasTree text (pou ∷ [])
+  pub names : broken_names (pou ∷ []) ≡ []
+  pub typing : broken_types pou ≡ []
+  pub room : has_room pou ≡ true
+  pub program : p ≡ typed_program pou
+
+-- a text states no program, and this is the first rule that it breaks
+pub data IsNoProgram (text : List ℕ) (r : Refusal) : Type 0 where
+  by_tree : HasNoTree text r → IsNoProgram text r
+  by_names : (f : FileData) → HasTree text f → IsFirst (λ x. IsAmong x (broken_names f)) r → IsNoProgram text r
+  by_types : (pou : PouData) → HasTree text (pou ∷ []) → broken_names (pou ∷ []) ≡ [] → IsFirst (λ x. IsAmong x (broken_types pou)) r → IsNoProgram text r
+  by_room : (pou : PouData) → HasTree text (pou ∷ []) → broken_names (pou ∷ []) ≡ [] → broken_types pou ≡ [] → has_room pou ≡ false
+      → r ≡ record { rule = TooManyCells; at = 0 } → IsNoProgram text r

@@ -1,0 +1,8 @@
+// From the bytes of a program's text to the typed program that it states, or to the first rule that it breaks.
+#![tactic(auto)]
+
+mod accept;
+mod fault;
+
+pub use accept::{accept_text, tokens_of};
+pub use fault::AcceptFault;

@@ -1,0 +1,4 @@
+pub mod Values
+pub mod Scans
+pub mod Pairs
+pub mod Runs

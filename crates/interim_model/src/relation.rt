@@ -1,0 +1,32 @@
+// A relation between two programs, and how a replay under it ends.
+use interim_tree::{Elementary, Expr};
+
+/// What a relation file says of two programs. A clause is an expression over OLD's cells and then NEW's.
+#[derive(Drop)]
+pub struct Relation {
+    /// Scans to be searched from the start.
+    pub depth: u64,
+    /// Derivations for each query.
+    pub conflicts: u64,
+    pub inputs: Vec<InputLine>,
+    /// The RELATE clauses, and last the one on FAULT where faults have to agree.
+    pub relates: Vec<Expr>,
+}
+
+/// One number of a row of inputs: its type, and the cells that it is put into, by their places.
+#[derive(Clone, Copy, Debug, PartialEq, Eq)]
+pub enum InputLine {
+    Both {
+        kind: Elementary,
+        old: usize,
+        new: usize,
+    },
+}
+
+/// How a replay ends: after all of so many rows, or at a row, counted from 1.
+#[derive(Clone, Copy, Debug, PartialEq, Eq)]
+pub enum Ending {
+    Related(usize),
+    Unrelated(usize),
+    NotAllowed(usize),
+}

@@ -1,0 +1,122 @@
+-- Loading and scans keep every value in its cell's range.
+use Rattle.std.proofs.Common.{◌≡◌, ℕ, zero, suc, Bool, true, false, ◌&&◌, List, [], ◌∷◌, ℤ, pos, ◌≤ℤ◌, refl, ap, subst, sym, length, rules, arith, tests}
+use Rattle.std.specs.Prelude.{◌<◌, int_le, slice_set, if◌then◌else◌, All}
+use Rattle.std.proofs.lemmas.Int.{ints}
+use Rattle.st_tree.specs.declared.typed.Range.{Range}
+use Rattle.st_tree.specs.Types.{in_range}
+use Rattle.st_tree.specs.Tree.{Statement, assign, choice, Statements, no_statements, statement, Choices, no_choices, choose, CellData, ProgramData}
+use Rattle.scan_model.specs.declared.relation.InputLine.{InputLine}
+use Rattle.scan_model.specs.declared.relation.InputLine.TheVariants.{Both, Old, New}
+use Rattle.scan_model.specs.Values.{State, value_of, faults, is_truth}
+use Rattle.scan_model.specs.Scans.{ranges_of, range_at, with_fault, stored, effect_of, effect_of_all, effect_of_choices, scanned}
+use Rattle.scan_model.specs.InRange.{Row, IsInRange, BeginsWithFault, IsProgram, fits_places, put_at}
+use Rattle.scan_model.specs.Pairs.{RelationData, BelongsTo, is_allowed, after_row, Pair, IsPairInRange, IsCellOf, NamesCells, fits_lines, range_of_line, loaded_one, loaded}
+
+-- a test that holds, as two orders
+within : (v : ℤ) (r : Range) → in_range v r ≡ true → (r.low ≤ℤ v) × (v ≤ℤ r.high)
+within v r h = search (rules, tests, ints)
+
+both : (a b : Bool) → (a && b) ≡ true → (a ≡ true) × (b ≡ true)
+both true b h = (refl, h)
+both false b h = cc
+
+pub IsInRange-length : (rs : List Range) (s : State) → IsInRange rs s → length rs ≡ length s
+IsInRange-length [] [] f = refl
+IsInRange-length [] (x ∷ s) f = absurd f
+IsInRange-length (r ∷ rs) [] f = absurd f
+IsInRange-length (r ∷ rs) (x ∷ s) f = ap suc (IsInRange-length rs s f.2)
+
+pub IsInRange-set : (rs : List Range) (s : State) (c : ℕ) (v : ℤ) → IsInRange rs s → in_range v (range_at rs c) ≡ true → IsInRange rs (slice_set s c v)
+IsInRange-set [] [] c v f h = tt
+IsInRange-set [] (x ∷ s) c v f h = absurd f
+IsInRange-set (r ∷ rs) [] c v f h = absurd f
+IsInRange-set (r ∷ rs) (x ∷ s) zero v f h = let w = within v r h in (w.0, w.1, f.2)
+IsInRange-set (r ∷ rs) (x ∷ s) (suc c) v f h = (f.0, f.1, IsInRange-set rs s c v f.2 h)
+
+-- one of two states, where each is in range under its test
+either : (rs : List Range) (b : Bool) (x y : State) → (b ≡ true → IsInRange rs x) → (b ≡ false → IsInRange rs y) → IsInRange rs (if b then x else y)
+either rs true x y p q = p refl
+either rs false x y p q = q refl
+
+-- the first range is that of a BOOL
+HoldsFault : List Range → Type 0
+HoldsFault [] = ⊥
+HoldsFault (r ∷ rs) = (r.low ≡ pos 0) × (r.high ≡ pos 1)
+
+holds_fault : (cells : List CellData) → BeginsWithFault cells → HoldsFault (ranges_of cells)
+unfolding HoldsFault
+holds_fault [] begins = absurd begins
+holds_fault (c ∷ cells) begins = (ap (λ (r : Range). r.low) begins.2, ap (λ (r : Range). r.high) begins.2)
+
+with_first : (rs : List Range) → HoldsFault rs → (v : ℤ) → pos 0 ≤ℤ v → v ≤ℤ pos 1 → (s : State) → IsInRange rs s → IsInRange rs (slice_set s 0 v)
+unfolding HoldsFault
+with_first [] first v p q s f = absurd first
+with_first (r ∷ rs) first v p q [] f = absurd f
+with_first (r ∷ rs) first v p q (x ∷ s) f = (omega (arith, ints), omega (arith, ints), f.2)
+
+module _ (rs : List Range) (first : HoldsFault rs) where
+  cleared : (s : State) → IsInRange rs s → IsInRange rs (slice_set s 0 (pos 0))
+  cleared s f = with_first rs first (pos 0) (omega (arith, ints)) (omega (arith, ints)) s f
+
+  faulted : (s : State) → IsInRange rs s → IsInRange rs (slice_set s 0 (pos 1))
+  faulted s f = with_first rs first (pos 1) (omega (arith, ints)) (omega (arith, ints)) s f
+
+  fault_added : (b : Bool) (s : State) → IsInRange rs s → IsInRange rs (with_fault b s)
+  fault_added b s f = either rs b _ _ (λ _. faulted s f) (λ _. f)
+
+  kept_by_store : (c : ℕ) (v : ℤ) (s : State) → IsInRange rs s → IsInRange rs (stored rs c v s)
+  kept_by_store c v s f = either rs (in_range v (range_at rs c)) _ _ (λ h. IsInRange-set rs s c v f h) (λ _. faulted s f)
+
+  mutual
+    kept_by_statement : (a : Statement) (s : State) → IsInRange rs s → IsInRange rs (effect_of rs a s)
+    kept_by_statement (assign c e) s f = kept_by_store c _ _ (fault_added (faults e s) s f)
+    kept_by_statement (choice arms other) s f = kept_by_choices arms (effect_of_all rs other) (λ x g. kept_by_all other x g) s f
+
+    kept_by_all : (b : Statements) (s : State) → IsInRange rs s → IsInRange rs (effect_of_all rs b s)
+    kept_by_all no_statements s f = f
+    kept_by_all (statement a rest) s f = kept_by_all rest _ (kept_by_statement a s f)
+
+    kept_by_choices : (arms : Choices) (other : State → State) → ((s : State) → IsInRange rs s → IsInRange rs (other s)) → (s : State) → IsInRange rs s → IsInRange rs (effect_of_choices rs arms other s)
+    kept_by_choices no_choices other keeps s f = keeps s f
+    kept_by_choices (choose e b arms) other keeps s f =
+        let g = fault_added (faults e s) s f in
+        either rs (is_truth (value_of e s)) _ _ (λ _. kept_by_all b _ g) (λ _. kept_by_choices arms other keeps _ g)
+
+-- a scan keeps the ranges
+pub IsInRange-scanned : (p : ProgramData) → IsProgram p → (s : State) → IsInRange (ranges_of p.cells) s → IsInRange (ranges_of p.cells) (scanned p s)
+IsInRange-scanned p is s f =
+    let first = holds_fault p.cells is.begins_with_fault in
+    kept_by_all (ranges_of p.cells) first p.body _ (cleared (ranges_of p.cells) first s f)
+
+-- and so does loading numbers that fit their places
+pub IsInRange-put_at : (rs : List Range) (ps : List ℕ) (vs : Row) (s : State) → fits_places rs ps vs ≡ true → IsInRange rs s → IsInRange rs (put_at ps vs s)
+IsInRange-put_at rs [] [] s h f = f
+IsInRange-put_at rs [] (v ∷ vs) s h f = f
+IsInRange-put_at rs (p ∷ ps) [] s h f = f
+IsInRange-put_at rs (p ∷ ps) (v ∷ vs) s h f =
+    let fits = both (in_range v (range_at rs p)) (fits_places rs ps vs) h in
+    IsInRange-put_at rs ps vs _ fits.1 (IsInRange-set rs s p v f fits.0)
+
+put_in_cell : (p : ProgramData) (place : ℕ) (r : Range) (v : ℤ) (s : State) → IsCellOf p place r → in_range v r ≡ true → IsInRange (ranges_of p.cells) s → IsInRange (ranges_of p.cells) (slice_set s place v)
+put_in_cell p place r v s is h f =
+    IsInRange-set (ranges_of p.cells) s place v f (subst (λ (x : Range). in_range v x ≡ true) (sym is.1) h)
+
+kept_by_line : (old new : ProgramData) (l : InputLine) (v : ℤ) (pair : Pair) → NamesCells old new l → in_range v (range_of_line l) ≡ true → IsPairInRange old new pair → IsPairInRange old new (loaded_one l v pair)
+kept_by_line old new (Both r p q) v pair names h f = (put_in_cell old p r v pair.old names.0 h f.0, put_in_cell new q r v pair.new names.1 h f.1)
+kept_by_line old new (Old r p) v pair names h f = (put_in_cell old p r v pair.old names h f.0, f.1)
+kept_by_line old new (New r p) v pair names h f = (f.0, put_in_cell new p r v pair.new names h f.1)
+
+-- a row that fits its lines keeps both states in range
+pub IsPairInRange-loaded : (old new : ProgramData) (ls : List InputLine) (vs : Row) (pair : Pair) → All (NamesCells old new) ls → fits_lines ls vs ≡ true → IsPairInRange old new pair → IsPairInRange old new (loaded ls vs pair)
+IsPairInRange-loaded old new [] vs pair names h f = f
+IsPairInRange-loaded old new (l ∷ ls) [] pair names h f = f
+IsPairInRange-loaded old new (l ∷ ls) (v ∷ vs) pair names h f =
+    let fits = both (in_range v (range_of_line l)) (fits_lines ls vs) h in
+    IsPairInRange-loaded old new ls vs _ (λ k d below. names (suc k) d (omega arith)) fits.1 (kept_by_line old new l v pair (names 0 l (omega arith)) fits.0 f)
+
+-- so an allowed row leads from a pair in range to a pair in range
+pub IsPairInRange-after_row : (old new : ProgramData) (rel : RelationData) → IsProgram old → IsProgram new → BelongsTo old new rel → (row : Row) (pair : Pair) → is_allowed rel row pair ≡ true → IsPairInRange old new pair → IsPairInRange old new (after_row old new rel row pair)
+IsPairInRange-after_row old new rel is_old is_new belongs row pair h f =
+    let fits = both (fits_lines rel.inputs row) _ h in
+    let kept = IsPairInRange-loaded old new rel.inputs row pair belongs fits.0 f in
+    (IsInRange-scanned old is_old _ kept.0, IsInRange-scanned new is_new _ kept.1)

@@ -1,0 +1,18 @@
+// Machines that run programs scan by scan: their states are those of the model.
+#![tactic(auto)]
+
+mod duo;
+mod evaluate;
+mod machine;
+mod pair;
+mod run;
+mod side;
+mod states;
+mod two_states;
+
+pub use duo::Duo;
+pub use machine::Machine;
+pub use side::Side;
+
+#[cfg(test)]
+mod tests;

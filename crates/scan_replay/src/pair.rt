@@ -1,0 +1,121 @@
+// A pair of states under a relation: rows of inputs, and clauses.
+ghost use Rattle.std.specs.Prelude.{◌≡◌, ◌++◌, IfOk, length};
+ghost use Rattle.st_tree.specs.View.{expr_view, exprs_view, program_view};
+ghost use Rattle.scan_model.specs.Pairs.{Pair, start, scanned_both, range_of_line, fits_lines, loaded_one, loaded, holds, all_hold};
+ghost use Rattle.scan_replay.specs.States.{pair_of};
+
+use crate::evaluate::evaluate;
+use crate::run::{is_in_range, put, scan};
+use crate::states::{copy_over, reset, start};
+use crate::two_states::States;
+use scan_model::InputLine;
+use st_tree::{Program, Range, TypedExpr};
+use std::alloc::{AllocError, Global};
+
+/// Both programs as they begin.
+pub fn start_both(alloc: Global, old: &Program, new: &Program) -> Result<States, AllocError>
+    ensures { IfOk result (λ s. pair_of s ≡ start (program_view old.now) (program_view new.now)) }
+{
+    Ok(States {
+        of_old: start(alloc, &old.cells)?,
+        of_new: start(alloc, &new.cells)?,
+    })
+}
+
+/// Both programs as they begin, again.
+pub fn reset_both(old: &Program, new: &Program, states: &mut States)
+    requires old { length states.old.of_old.items ≡ length old.now.cells.items }
+    requires new { length states.old.of_new.items ≡ length new.now.cells.items }
+    ensures { pair_of states.new ≡ start (program_view old.now) (program_view new.now) }
+{
+    reset(&old.cells, &mut states.of_old);
+    reset(&new.cells, &mut states.of_new);
+}
+
+/// Other states.
+pub fn copy_both(states: &mut States, old: &[i64], new: &[i64])
+    requires old { length states.old.of_old.items ≡ length old.now }
+    requires new { length states.old.of_new.items ≡ length new.now }
+    ensures old { states.new.of_old.items ≡ old.now }
+    ensures new { states.new.of_new.items ≡ new.now }
+{
+    copy_over(&mut states.of_old, old);
+    copy_over(&mut states.of_new, new);
+}
+
+/// Runs both programs one scan.
+pub fn scan_both(old: &Program, new: &Program, states: &mut States)
+    ensures { pair_of states.new ≡ scanned_both (program_view old.now) (program_view new.now) (pair_of states.old) }
+{
+    scan(old, &mut states.of_old);
+    scan(new, &mut states.of_new);
+}
+
+/// Whether a row has one number for each INPUT line, in its range.
+pub fn fits_lines(lines: &[InputLine], row: &[i64]) -> bool
+    ensures { result ≡ fits_lines lines.now row.now }
+{
+    if lines.len() != row.len() {
+        return false;
+    }
+    for i in 0..lines.len() {
+        if !is_in_range(row[i], range_of_line(lines[i])) {
+            return false;
+        }
+    }
+    true
+}
+
+fn range_of_line(line: InputLine) -> Range
+    ensures { result ≡ range_of_line line }
+{
+    match line {
+        InputLine::Both { range, .. } => range,
+        InputLine::Old { range, .. } => range,
+        InputLine::New { range, .. } => range,
+    }
+}
+
+/// Puts each number of a row into the cells that its line names.
+pub fn load(lines: &[InputLine], row: &[i64], states: &mut States)
+    ensures { pair_of states.new ≡ loaded lines.now row.now (pair_of states.old) }
+{
+    for (i, line) in lines.iter().enumerate() {
+        if i >= row.len() {
+            return;
+        }
+        load_one(*line, row[i], states);
+    }
+}
+
+fn load_one(line: InputLine, number: i64, states: &mut States)
+    ensures { pair_of states.new ≡ loaded_one line number (pair_of states.old) }
+{
+    match line {
+        InputLine::Both { old, new, .. } => {
+            put(&mut states.of_old, old, number);
+            put(&mut states.of_new, new, number);
+        }
+        InputLine::Old { place, .. } => put(&mut states.of_old, place, number),
+        InputLine::New { place, .. } => put(&mut states.of_new, place, number),
+    }
+}
+
+/// Whether every clause holds.
+pub fn all_hold(clauses: &[TypedExpr], states: &States) -> bool
+    ensures { result ≡ all_hold (exprs_view clauses.now) (pair_of states.now) }
+{
+    for clause in clauses {
+        if !holds(clause, states) {
+            return false;
+        }
+    }
+    true
+}
+
+fn holds(clause: &TypedExpr, states: &States) -> bool
+    ensures { result ≡ holds (expr_view clause.now) (pair_of states.now) }
+{
+    let given = evaluate(clause, &states.of_old, &states.of_new);
+    given.value == 1 && !given.fault
+}

@@ -1,0 +1,88 @@
+// States and rows: their ranges, and how they are written.
+ghost use Rattle.std.specs.Prelude.{◌≡◌, ◌<◌, ◌↔◌, pos, length, slice_index_or, IsTrue, IfOk};
+ghost use Rattle.st_tree.specs.View.{cells_view};
+ghost use Rattle.scan_model.specs.Scans.{ranges_of, initial};
+ghost use Rattle.scan_model.specs.InRange.{IsInRange, fits_places, put_at};
+
+use crate::run::{is_in_range, put, range_at};
+use st_tree::Cell;
+use std::alloc::{AllocError, Global};
+
+/// The values that the cells begin with.
+pub fn start(alloc: Global, cells: &[Cell]) -> Result<Vec<i64>, AllocError>
+    ensures { IfOk result (λ state. state.items ≡ initial (cells_view cells.now)) }
+{
+    let mut state = Vec::new(alloc);
+    for cell in cells {
+        state.push(cell.initial)?;
+    }
+    Ok(state)
+}
+
+/// Whether each cell has one value, in its range.
+pub fn state_fits(cells: &[Cell], values: &[i64]) -> bool
+    ensures { IsTrue result ↔ IsInRange (ranges_of (cells_view cells.now)) values.now }
+{
+    if cells.len() != values.len() {
+        return false;
+    }
+    for (place, cell) in cells.iter().enumerate() {
+        if !is_in_range(values[place], cell.range) {
+            return false;
+        }
+    }
+    true
+}
+
+/// Whether a row has one number for each of the places, in its cell's range.
+pub fn row_fits(cells: &[Cell], places: &[usize], row: &[i64]) -> bool
+    ensures { result ≡ fits_places (ranges_of (cells_view cells.now)) places.now row.now }
+{
+    if places.len() != row.len() {
+        return false;
+    }
+    for i in 0..places.len() {
+        if !is_in_range(row[i], range_at(cells, places[i])) {
+            return false;
+        }
+    }
+    true
+}
+
+/// Puts the numbers of a row into the cells at the places.
+pub fn put_all(places: &[usize], row: &[i64], state: &mut [i64])
+    ensures { state.new ≡ put_at places.now row.now state.old }
+{
+    for (i, place) in places.iter().enumerate() {
+        if i >= row.len() {
+            return;
+        }
+        put(state, *place, row[i]);
+    }
+}
+
+/// Writes each value.
+pub fn copy_over(state: &mut [i64], values: &[i64])
+    requires { length state.old ≡ length values.now }
+    ensures { state.new ≡ values.now }
+{
+    state.copy_from_slice(values);
+}
+
+/// The values that the cells begin with, again.
+pub fn reset(cells: &[Cell], state: &mut [i64])
+    requires { length state.old ≡ length cells.now }
+    ensures { state.new ≡ initial (cells_view cells.now) }
+{
+    for (place, cell) in cells.iter().enumerate() {
+        state[place] = cell.initial;
+    }
+}
+
+/// The value of a cell.
+pub fn value_at(state: &[i64], cell: usize) -> i64
+    requires { cell < length state.now }
+    ensures { result ≡ slice_index_or state.now cell (pos 0) }
+{
+    state[cell]
+}

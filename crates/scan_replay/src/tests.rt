@@ -1,0 +1,4 @@
+mod asked;
+mod duos;
+mod machines;
+mod trees;

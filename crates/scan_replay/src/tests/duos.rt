@@ -1,0 +1,187 @@
+// Pairs of programs: values that were worked out by hand.
+use super::asked::are_comparable;
+use super::trees::{A, B, Q, assigns, at, binary, number};
+use crate::states::state_fits;
+use crate::{Duo, Side};
+use scan_model::{InputLine, Relation};
+use st_tree::{Elementary, Operator, Program, Range, TypedExpr};
+use std::alloc::{AllocError, Global};
+
+const BOOL: Range = Range { low: 0, high: 1 };
+// NEW's cells stand behind OLD's five.
+const NEW: usize = 5;
+
+// Q := A; R := 0;
+fn copies_input(alloc: Global) -> Result<Program, AllocError> {
+    assigns(alloc, Elementary::Bool, BOOL, at(A), number(0))
+}
+
+// One number for the A of both, one for OLD's B and one for NEW's B; RELATE old.Q = new.Q.
+fn relation(alloc: Global, environment: Vec<TypedExpr>) -> Result<Relation, AllocError> {
+    let inputs = vec![in alloc;
+        InputLine::Both {
+            range: BOOL,
+            old: A,
+            new: A
+        },
+        InputLine::Old {
+            range: BOOL,
+            place: B
+        },
+        InputLine::New {
+            range: BOOL,
+            place: B
+        },
+    ]?;
+    let same = binary(alloc, at(Q), Operator::Equal, Elementary::Bool, at(NEW + Q))?;
+    Ok(Relation {
+        depth: 1,
+        conflicts: 1,
+        inputs,
+        environment,
+        relates: vec![in alloc; same]?,
+    })
+}
+
+// Whether a row is allowed and then leaves a related pair, and NEW's Q; none where it is not allowed, or memory
+// is used up.
+fn stepped(
+    alloc: Global,
+    old: &Program,
+    new: &Program,
+    relation: &Relation,
+    row: [i64; 3],
+) -> Option<(bool, i64)> {
+    match try_step(alloc, old, new, relation, row) {
+        Ok(answer) => answer,
+        Err(_) => None,
+    }
+}
+
+fn try_step(
+    alloc: Global,
+    old: &Program,
+    new: &Program,
+    relation: &Relation,
+    row: [i64; 3],
+) -> Result<Option<(bool, i64)>, AllocError> {
+    if !are_comparable(alloc, old, new, relation)? {
+        return Ok(None);
+    }
+    if new.cells.len() != 5 {
+        return Ok(None);
+    }
+    let mut duo = Duo::new(alloc, old, new, relation)?;
+    if !duo.allowed(&row) {
+        return Ok(None);
+    }
+    duo.step(&row);
+    Ok(Some((duo.related(), duo.value(Side::New, Q))))
+}
+
+#[test]
+fn equal_programs_stay_related(rt: HostRuntime) -> Result<(), AllocError> {
+    let alloc = rt.alloc();
+    let old = copies_input(alloc)?;
+    let new = copies_input(alloc)?;
+    let relation = relation(alloc, Vec::new(alloc))?;
+    assert_eq!(rt;
+        stepped(alloc, &old, &new, &relation, [1, 0, 1]),
+        Some((true, 1))
+    );
+    assert_eq!(rt;
+        stepped(alloc, &old, &new, &relation, [0, 1, 0]),
+        Some((true, 0))
+    );
+    assert_eq!(rt; stepped(alloc, &old, &new, &relation, [2, 0, 0]), None);
+    Ok(())
+}
+
+// NEW has Q := B.
+#[test]
+fn a_number_goes_to_its_side(rt: HostRuntime) -> Result<(), AllocError> {
+    let alloc = rt.alloc();
+    let old = copies_input(alloc)?;
+    let new = assigns(alloc, Elementary::Bool, BOOL, at(B), number(0))?;
+    let relation = relation(alloc, Vec::new(alloc))?;
+    assert_eq!(rt;
+        stepped(alloc, &old, &new, &relation, [1, 0, 1]),
+        Some((true, 1))
+    );
+    assert_eq!(rt;
+        stepped(alloc, &old, &new, &relation, [1, 1, 0]),
+        Some((false, 0))
+    );
+    Ok(())
+}
+
+// ENV old.B = new.B
+fn inputs_agree(alloc: Global) -> Result<Vec<TypedExpr>, AllocError> {
+    let same = binary(alloc, at(B), Operator::Equal, Elementary::Bool, at(NEW + B))?;
+    Ok(vec![in alloc; same]?)
+}
+
+#[test]
+fn the_environment_is_tested_on_loaded_inputs(rt: HostRuntime) -> Result<(), AllocError> {
+    let alloc = rt.alloc();
+    let old = copies_input(alloc)?;
+    let new = copies_input(alloc)?;
+    let relation = relation(alloc, inputs_agree(alloc)?)?;
+    assert_eq!(rt;
+        stepped(alloc, &old, &new, &relation, [1, 1, 1]),
+        Some((true, 1))
+    );
+    assert_eq!(rt; stepped(alloc, &old, &new, &relation, [1, 1, 0]), None);
+    Ok(())
+}
+
+// ENV 1 / old.Q = 0: TRUE where Q is 0, yet the evaluation meets a fault.
+fn divides_by_output(alloc: Global) -> Result<Vec<TypedExpr>, AllocError> {
+    let kind = Elementary::Usint;
+    let quotient = binary(alloc, number(1), Operator::Divide, kind, at(Q))?;
+    let clause = binary(alloc, quotient, Operator::Equal, kind, number(0))?;
+    Ok(vec![in alloc; clause]?)
+}
+
+#[test]
+fn a_clause_with_a_fault_does_not_hold(rt: HostRuntime) -> Result<(), AllocError> {
+    let alloc = rt.alloc();
+    let old = copies_input(alloc)?;
+    let new = copies_input(alloc)?;
+    let relation = relation(alloc, divides_by_output(alloc)?)?;
+    assert_eq!(rt; stepped(alloc, &old, &new, &relation, [1, 1, 1]), None);
+    Ok(())
+}
+
+// OLD's Q of a pair that is set, whether it is related, and the same of the pair at the start again.
+fn set_and_reset(
+    alloc: Global,
+    old: &Program,
+    new: &Program,
+    relation: &Relation,
+    old_state: &[i64],
+    new_state: &[i64],
+) -> Result<Option<[(i64, bool); 2]>, AllocError> {
+    if !are_comparable(alloc, old, new, relation)? || old.cells.len() != 5 {
+        return Ok(None);
+    }
+    if !state_fits(&old.cells, old_state) || !state_fits(&new.cells, new_state) {
+        return Ok(None);
+    }
+    let mut duo = Duo::new(alloc, old, new, relation)?;
+    duo.set_pair(old_state, new_state);
+    let set = (duo.value(Side::Old, Q), duo.related());
+    duo.reset();
+    Ok(Some([set, (duo.value(Side::Old, Q), duo.related())]))
+}
+
+#[test]
+fn pairs_are_set_and_reset(rt: HostRuntime) -> Result<(), AllocError> {
+    let alloc = rt.alloc();
+    let old = copies_input(alloc)?;
+    let new = copies_input(alloc)?;
+    let relation = relation(alloc, Vec::new(alloc))?;
+    let seen = set_and_reset(alloc, &old, &new, &relation, &[0, 0, 0, 1, 0], &[0; 5])?;
+    assert_eq!(rt; seen, Some([(1, false), (0, true)]));
+    Ok(())
+}

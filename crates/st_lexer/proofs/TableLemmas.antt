@@ -1,0 +1,43 @@
+-- What a table says of a text is what its entries of the text's length say.
+use Rattle.std.proofs.Common.{◌≡◌, ℕ, ◌<◌, ◌≤◌, List, [], ◌∷◌, length, true, false, cond, ◌==◌, refl, ap, arith}
+use Rattle.std.specs.Prelude.{bytes_eq, nat_le}
+use Rattle.std.specs.List.{list_all}
+use Rattle.std.proofs.lemmas.Bool.Decides.{nat_tests}
+use Rattle.std.proofs.lemmas.Slice.Eq.{bytes_eq-Decides}
+use Rattle.st_tree.specs.declared.token.Terminal.{Terminal}
+use Rattle.st_tree.specs.declared.token.Terminal.TheVariants.{LeftOut}
+use Rattle.st_tree.specs.Terminals.{Entry, entry_or, signs}
+use Rattle.st_lexer.specs.Tables.{of_length}
+use Rattle.st_lexer.proofs.Fits.{both_true}
+
+unlike : (s t : List ℕ) → (length t == length s) ≡ false → bytes_eq s t ≡ false
+unlike s t h =
+    elim (bytes_eq s t) as (λ x. bytes_eq s t ≡ x → x ≡ false) [
+      | true ↦ λ e. (let same : s ≡ t = (bytes_eq-Decides s t).0 e in let long : length s ≡ length t = ap length same in grind (arith, nat_tests))
+      | false ↦ λ e. refl
+    ] refl
+
+pub entry_or-of_length : (other : Terminal) (es : List Entry) (text : List ℕ) → entry_or other (of_length (length text) es) text ≡ entry_or other es text
+entry_or-of_length other [] text = refl
+entry_or-of_length other (e ∷ es) text =
+    elim (length e.0 == length text) as (λ x. (length e.0 == length text) ≡ x → entry_or other (cond x (e ∷ of_length (length text) es) (of_length (length text) es)) text ≡ cond (bytes_eq text e.0) e.1 (entry_or other es text)) [
+      | true ↦ λ h. ap (λ r. cond (bytes_eq text e.0) e.1 r) (entry_or-of_length other es text)
+      | false ↦ λ h. rw (unlike text e.0 h) (entry_or-of_length other es text)
+    ] refl
+
+-- no sign is empty, and none has more than two characters
+pub no_sign : (text : List ℕ) → length text ≡ 0 → entry_or LeftOut signs text ≡ LeftOut
+unfolding signs
+no_sign [] h = refl
+no_sign (b ∷ bs) h = absurd (omega arith)
+
+past_all : (n : ℕ) (other : Terminal) (es : List Entry) (text : List ℕ) → list_all (λ e. nat_le (length e.0) n) es ≡ true → n < length text → entry_or other es text ≡ other
+past_all n other [] text short h = refl
+past_all n other (e ∷ es) text short h =
+    let k = both_true (nat_le (length e.0) n) (list_all (λ e. nat_le (length e.0) n) es) short in
+    let apart : (length e.0 == length text) ≡ false = grind (arith, nat_tests) in
+    rw (unlike text e.0 apart) (past_all n other es text k.1 h)
+
+pub long_sign : (text : List ℕ) → 3 ≤ length text → entry_or LeftOut signs text ≡ LeftOut
+unfolding signs
+long_sign text h = past_all 2 LeftOut signs text refl (omega arith)

@@ -1,0 +1,16 @@
+use Rattle.std.proofs.Common.{◌≡◌, drop}
+use Rattle.st_tree.specs.Rules.{earlier, first_in}
+use Rattle.st_tree.specs.SyntaxView.{stmts_view, arms_view}
+use Rattle.st_names.specs.Broken.{in_stmts, in_arms}
+use Rattle.st_names.specs.NamesView.{file_in, variables_in}
+use Rattle.st_names.proofs.walk.+walk_stmts.Given as goal
+
+abbrev pub invariant-walk_arms-loop-arm : goal.invariant-walk_arms-loop-arm
+invariant-walk_arms-loop-arm l =
+    earlier l.first (first_in (in_arms (file_in l.names) (variables_in l.names) (arms_view (drop l.arm-index l.arms))))
+    ≡ earlier l.fn.first (first_in (in_arms (file_in l.names) (variables_in l.names) (arms_view l.arms)))
+
+abbrev pub invariant-walk_stmts-loop-stmt : goal.invariant-walk_stmts-loop-stmt
+invariant-walk_stmts-loop-stmt l =
+    earlier l.first (first_in (in_stmts (file_in l.names) (variables_in l.names) (stmts_view (drop l.stmt-index l.stmts))))
+    ≡ earlier l.fn.first (first_in (in_stmts (file_in l.names) (variables_in l.names) (stmts_view l.stmts)))

@@ -1,0 +1,9 @@
+pub mod Library
+pub mod Scopes
+pub mod Broken
+pub mod ScopeView
+pub mod Slots
+pub mod Counts
+pub mod Uses
+pub mod NamesView
+pub mod Bound

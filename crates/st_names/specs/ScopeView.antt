@@ -1,0 +1,11 @@
+-- The data that variables stand for.
+use Rattle.std.specs.Prelude.{List, map}
+use Rattle.st_tree.specs.SyntaxView.{name_view, type_view, initial_view}
+use Rattle.st_names.specs.declared.declared.Declared.{Declared}
+use Rattle.st_names.specs.Scopes.{Variable}
+
+abbrev pub variable_view : Declared → Variable
+variable_view d = record { name = name_view d.name.now; section = d.section; kind = type_view d.declaration.now.kind; initial = initial_view d.declaration.now.initial }
+
+abbrev pub variables_view : List Declared → List Variable
+variables_view ds = map variable_view ds

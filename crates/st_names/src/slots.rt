@@ -1,0 +1,107 @@
+// The names of a PROGRAM, each with the first variable of that name.
+ghost use Rattle.std.specs.Prelude.{◌≡◌, [], OnOk, IfOk, is_some, if◌then◌else◌};
+ghost use Rattle.std.specs.HashMap.{get_by_text};
+ghost use Rattle.st_tree.specs.Rules.{earlier, first_in};
+ghost use Rattle.st_tree.specs.SyntaxView.{type_view, initial_view, name_view};
+ghost use Rattle.st_names.specs.Broken.{twice, variables_twice};
+ghost use Rattle.st_names.specs.Scopes.{is_fault, is_without_names};
+ghost use Rattle.st_names.specs.ScopeView.{variable_view, variables_view};
+ghost use Rattle.st_names.specs.Slots.{elementary_of, slot_named, entered, Holds};
+
+use crate::declared::Declared;
+use indexmap::IndexMap;
+use st_tree::{Elementary, Expr, Name, Refusal, Rule, Section, TypeName};
+use std::alloc::{AllocError, Global};
+
+/// What is known of a name: the cell, the section and the type of the first variable of that name, whether its
+/// initial value names nothing, and whether the name is declared twice. A type by name is none.
+#[derive(Clone, Copy, Debug, PartialEq, Eq)]
+pub struct Slot {
+    pub cell: usize,
+    pub section: Section,
+    pub kind: Option<Elementary>,
+    pub is_plain: bool,
+    pub is_doubled: bool,
+}
+
+/// The slots of a PROGRAM, by name.
+pub type Slots = IndexMap<String, Slot>;
+
+// The elementary type that a type is.
+fn elementary_of(kind: &TypeName) -> Option<Elementary>
+    ensures { result ≡ elementary_of (type_view kind.now) }
+{
+    match kind {
+        TypeName::Elementary(kind, _) => Some(*kind),
+        TypeName::Named(_) => None,
+    }
+}
+
+// Whether an initial value names nothing.
+fn is_without_names(initial: &Option<Expr>) -> bool
+    ensures { result ≡ is_without_names (initial_view initial.now) }
+{
+    matches!(
+        initial,
+        None | Some(Expr::Literal(_)) | Some(Expr::Unary(_, _, _))
+    )
+}
+
+// The slot of a name once a variable is declared by it.
+fn entered(variable: &Declared<'_>, cell: usize, known: Option<Slot>) -> Slot
+    ensures { result ≡ entered cell (variable_view variable.now) known }
+{
+    if let Some(slot) = known {
+        return Slot {
+            is_doubled: true,
+            ..slot
+        };
+    }
+    Slot {
+        cell,
+        section: variable.section,
+        kind: elementary_of(&variable.declaration.kind),
+        is_plain: is_without_names(&variable.declaration.initial),
+        is_doubled: variable.name.text.as_str() == "FAULT",
+    }
+}
+
+// N1 at a name that is known, or FAULT.
+fn declared_twice(known: Option<Slot>, name: &Name) -> Option<Refusal>
+    ensures { result ≡ first_in (if is_fault (name_view name.now).text then twice name.now.at else (if is_some known then twice name.now.at else [])) }
+{
+    if name.text.as_str() == "FAULT" || known.is_some() {
+        return Some(Refusal {
+            rule: Rule::DeclaredTwice,
+            at: name.at,
+        });
+    }
+    None
+}
+
+/// The slot of a name.
+pub fn slot_at(slots: &Slots, text: &str) -> Option<Slot>
+    ensures { result ≡ get_by_text slots.now text.now }
+{
+    slots.get(text).copied()
+}
+
+/// The slots of a PROGRAM's variables. Keeps the first name that is declared twice.
+pub fn slots(
+    alloc: Global,
+    variables: &[Declared<'_>],
+    first: &mut Option<Refusal>,
+) -> Result<Slots, AllocError>
+    ensures held { IfOk result (λ slots. Holds slots (slot_named (variables_view variables.now))) }
+    ensures twice { OnOk result (first.new ≡ earlier first.old (first_in (variables_twice [] (variables_view variables.now)))) }
+{
+    let mut slots = IndexMap::new(alloc);
+    for (place, variable) in variables.iter().enumerate() {
+        let name = variable.name;
+        let known = slot_at(&slots, name.text.as_str());
+        *first = Refusal::earlier(*first, declared_twice(known, name));
+        let slot = entered(variable, place + 1, known);
+        slots.insert(name.text.clone()?, slot)?;
+    }
+    Ok(slots)
+}

@@ -1,0 +1,214 @@
+-- What is read of declarations prints the symbols that were taken.
+use Rattle.std.proofs.Common.{◌≡◌, ℕ, zero, suc, Bool, true, false, cond, List, [], ◌∷◌, ◌++◌, Option, Some, None, refl, sym, ap, subst, ◌∙◌, append_assoc}
+use Rattle.std.proofs.lemmas.List.{append-nil}
+use Rattle.st_tree.specs.declared.token.Mark.{Mark}
+use Rattle.st_tree.specs.declared.token.Mark.TheVariants.{Comma, Colon, Semicolon, Assign, Hash, Var, VarInput, VarOutput, EndVar}
+use Rattle.st_tree.specs.declared.token.Operator.TheVariants as ops
+use Rattle.st_tree.specs.declared.syntax.UnaryOperator.TheVariants as signs
+use Rattle.st_tree.specs.declared.syntax.Literal.{Literal}
+use Rattle.st_tree.specs.declared.syntax.Section.{Section}
+use Rattle.st_tree.specs.declared.syntax.Section.TheVariants.{Input, Output, Local}
+use Rattle.st_tree.specs.Syntax.{Symbol, name, elementary, operator, mark, Named, Tree, literal, path, enumerator, unary, TypeData, of_elementary, of_name, DeclarationData, VariablesData}
+use Rattle.st_tree.specs.Prints.{name_symbol, print, print_others, type_symbol, print_initial, print_declaration, print_declarations, section_mark, print_variables}
+use Rattle.st_tree.specs.Levels.{IsConstant, IsInitialFormed, AreDeclarationsFormed, AreVariablesFormed}
+use Rattle.st_parser.specs.Marks.{same_mark}
+use Rattle.st_parser.specs.Reading.{after, named, minus}
+use Rattle.st_parser.specs.Expressions.{constant}
+use Rattle.st_parser.specs.Declarations.{named_or, named_value, literal_or, literal_value, initial_value, initial_or, initial, type_of, others_step, others, section_of, declared, declaration, declarations_step, declarations, variables_step, variables}
+use Rattle.st_parser.proofs.Steps.{bind_some, some_is, same_mark-is, after_is, named_is, minus_is}
+use Rattle.st_parser.proofs.Sound.{constant_is}
+
+-- ---- initial values
+
+abbrev ConstantIs : List Symbol → Tree × List Symbol → Type 0
+ConstantIs ts y = (ts ≡ print y.0 ++ y.1) × IsConstant y.0
+
+named_go : (n : Named) (ts : List Symbol) (y : Tree × List Symbol) (o : Option (List Symbol)) → after Hash ts ≡ o → named_or n ts o ≡ Some y → ConstantIs (name_symbol n ∷ ts) y
+named_go n ts y None is e =
+    let whole : ConstantIs (name_symbol n ∷ ts) (path (record { first = n; members = [] }), ts) = (refl, refl) in
+    subst (ConstantIs (name_symbol n ∷ ts)) (some_is (path (record { first = n; members = [] }), ts) y e) whole
+named_go n ts y (Some r) is e =
+    let a = bind_some (named r) (λ (v : Named × List Symbol). Some (enumerator n v.0, v.1)) y e in
+    let printed = after_is Hash ts r is ∙ ap (λ (x : List Symbol). mark Hash ∷ x) (named_is r a.0.0 a.0.1 a.1) in
+    let whole : ConstantIs (name_symbol n ∷ ts) (enumerator n a.0.0, a.0.1) = (ap (λ (x : List Symbol). name_symbol n ∷ x) printed, tt) in
+    subst (ConstantIs (name_symbol n ∷ ts)) (some_is (enumerator n a.0.0, a.0.1) y a.2) whole
+
+named_value_is : (n : Named) (ts : List Symbol) (y : Tree × List Symbol) → named_value n ts ≡ Some y → ConstantIs (name_symbol n ∷ ts) y
+unfolding named_value
+named_value_is n ts y e = named_go n ts y (after Hash ts) refl e
+
+literal_go : (ts : List Symbol) (y : Tree × List Symbol) (o : Option (ℕ × List Symbol)) → minus ts ≡ o → literal_or ts o ≡ Some y → ConstantIs ts y
+literal_go ts y (Some m) is e =
+    let a = bind_some (constant m.1) (λ (l : Literal × List Symbol). Some (unary signs.Minus m.0 (literal l.0), l.1)) y e in
+    let printed = minus_is ts m.0 m.1 is ∙ ap (λ (x : List Symbol). operator ops.Minus m.0 ∷ x) (constant_is m.1 a.0 a.1) in
+    let whole : ConstantIs ts (unary signs.Minus m.0 (literal a.0.0), a.0.1) = (printed, tt) in
+    subst (ConstantIs ts) (some_is (unary signs.Minus m.0 (literal a.0.0), a.0.1) y a.2) whole
+literal_go ts y None is e =
+    let a = bind_some (constant ts) (λ (l : Literal × List Symbol). Some (literal l.0, l.1)) y e in
+    let whole : ConstantIs ts (literal a.0.0, a.0.1) = (constant_is ts a.0 a.1, tt) in
+    subst (ConstantIs ts) (some_is (literal a.0.0, a.0.1) y a.2) whole
+
+literal_value_is : (ts : List Symbol) (y : Tree × List Symbol) → literal_value ts ≡ Some y → ConstantIs ts y
+unfolding literal_value
+literal_value_is ts y e = literal_go ts y (minus ts) refl e
+
+initial_value_is : (ts : List Symbol) (y : Tree × List Symbol) → initial_value ts ≡ Some y → ConstantIs ts y
+unfolding initial_value
+initial_value_is (name t at ∷ ts) y e = named_value_is (record { text = t; at = at }) ts y e
+initial_value_is ts y e = literal_value_is ts y e
+
+abbrev InitialIs : List Symbol → Option Tree × List Symbol → Type 0
+InitialIs ts y = (ts ≡ print_initial y.0 ++ y.1) × IsInitialFormed y.0
+
+initial_go : (ts : List Symbol) (y : Option Tree × List Symbol) (o : Option (List Symbol)) → after Assign ts ≡ o → initial_or ts o ≡ Some y → InitialIs ts y
+initial_go ts y None is e =
+    let whole : InitialIs ts (None, ts) = (refl, tt) in
+    subst (InitialIs ts) (some_is (None, ts) y e) whole
+initial_go ts y (Some r) is e =
+    let a = bind_some (initial_value r) (λ (v : Tree × List Symbol). Some (Some v.0, v.1)) y e in
+    let c = initial_value_is r a.0 a.1 in
+    let whole : InitialIs ts (Some a.0.0, a.0.1) = (after_is Assign ts r is ∙ ap (λ (x : List Symbol). mark Assign ∷ x) c.0, c.1) in
+    subst (InitialIs ts) (some_is (Some a.0.0, a.0.1) y a.2) whole
+
+initial_is : (ts : List Symbol) (y : Option Tree × List Symbol) → initial ts ≡ Some y → InitialIs ts y
+unfolding initial
+initial_is ts y e = initial_go ts y (after Assign ts) refl e
+
+-- ---- a declaration
+
+type_is : (ts : List Symbol) (y : TypeData × List Symbol) → type_of ts ≡ Some y → ts ≡ type_symbol y.0 ∷ y.1
+unfolding type_of
+type_is (elementary kind at ∷ ts) y e = ap (λ (x : TypeData × List Symbol). type_symbol x.0 ∷ x.1) (some_is (of_elementary kind at, ts) y e)
+type_is (name t at ∷ ts) y e = ap (λ (x : TypeData × List Symbol). type_symbol x.0 ∷ x.1) (some_is (of_name (record { text = t; at = at }), ts) y e)
+type_is ts y e = absurd cc
+
+abbrev OthersAre : List Named → List Symbol → List Named × List Symbol → Type 0
+OthersAre before ts y = (extra : List Named) × (y.0 ≡ before ++ extra) × (ts ≡ print_others extra ++ y.1)
+
+others_stop : (before : List Named) (ts : List Symbol) (y : List Named × List Symbol) → (let o : Option (List Named × List Symbol) = Some (before, ts) in o) ≡ Some y → OthersAre before ts y
+others_stop before ts y e =
+    let whole : OthersAre before ts (before, ts) = ([], sym (append-nil before), refl) in
+    subst (OthersAre before ts) (some_is (before, ts) y e) whole
+
+others_go : (n : ℕ) (before : List Named) (ts : List Symbol) (y : List Named × List Symbol) (o : Option (List Symbol)) → after Comma ts ≡ o → others_step (others n) before ts o ≡ Some y
+    → ((before : List Named) (ts : List Symbol) → others n before ts ≡ Some y → OthersAre before ts y) → OthersAre before ts y
+others_go n before ts y None is e below = others_stop before ts y e
+others_go n before ts y (Some r) is e below =
+    let a = bind_some (named r) (λ (m : Named × List Symbol). others n (before ++ m.0 ∷ []) m.1) y e in
+    let b = below (before ++ a.0.0 ∷ []) a.0.1 a.2 in (
+      a.0.0 ∷ b.0,
+      b.1 ∙ append_assoc before (a.0.0 ∷ []) b.0,
+      after_is Comma ts r is ∙ ap (λ (x : List Symbol). mark Comma ∷ x) (named_is r a.0.0 a.0.1 a.1 ∙ ap (λ (x : List Symbol). name_symbol a.0.0 ∷ x) b.2),
+    )
+
+others_are : (n : ℕ) (before : List Named) (ts : List Symbol) (y : List Named × List Symbol) → others n before ts ≡ Some y → OthersAre before ts y
+unfolding others
+others_are zero before ts y e = others_stop before ts y e
+others_are (suc n) before ts y e = others_go n before ts y (after Comma ts) refl e (λ before ts e. others_are n before ts y e)
+
+abbrev DeclarationIs : List Symbol → DeclarationData × List Symbol → Type 0
+DeclarationIs ts y = (ts ≡ print_declaration y.0 ++ y.1) × IsInitialFormed y.0.initial
+
+-- how a declaration's symbols stand before others
+pub declaration_shape : (d : DeclarationData) (rest : List Symbol)
+    → print_declaration d ++ rest ≡ name_symbol d.first ∷ (print_others d.others ++ mark Colon ∷ type_symbol d.kind ∷ (print_initial d.initial ++ mark Semicolon ∷ rest))
+declaration_shape d rest =
+    ap (λ (x : List Symbol). name_symbol d.first ∷ x) (
+    append_assoc (print_others d.others) (mark Colon ∷ type_symbol d.kind ∷ (print_initial d.initial ++ mark Semicolon ∷ [])) rest
+    ∙ ap (λ (x : List Symbol). print_others d.others ++ mark Colon ∷ type_symbol d.kind ∷ x) (append_assoc (print_initial d.initial) (mark Semicolon ∷ []) rest))
+
+module _ (turns : ℕ) where
+  declared_is : (n : Named) (ns : List Named) (ts : List Symbol) (y : DeclarationData × List Symbol) → declared turns n ns ts ≡ Some y → DeclarationIs (name_symbol n ∷ (print_others ns ++ ts)) y
+  unfolding declared
+  declared_is n ns ts y e =
+      let a = bind_some (after Colon ts) _ y e in
+      let b = bind_some (type_of a.0) _ y a.2 in
+      let c = bind_some (initial b.0.1) _ y b.2 in
+      let d = bind_some (after Semicolon c.0.1) _ y c.2 in
+      let i = initial_is b.0.1 c.0 c.1 in
+      let found : DeclarationData = record { first = n; others = ns; kind = b.0.0; initial = c.0.0 } in
+      let printed = after_is Colon ts a.0 a.1 ∙ ap (λ (x : List Symbol). mark Colon ∷ x) (type_is a.0 b.0 b.1 ∙ ap (λ (x : List Symbol). type_symbol b.0.0 ∷ x) (i.0 ∙ ap (λ (x : List Symbol). print_initial c.0.0 ++ x) (after_is Semicolon c.0.1 d.0 d.1))) in
+      let whole : DeclarationIs (name_symbol n ∷ (print_others ns ++ ts)) (found, d.0) =
+      (ap (λ (x : List Symbol). name_symbol n ∷ (print_others ns ++ x)) printed ∙ sym (declaration_shape found d.0), i.1) in
+      subst (DeclarationIs (name_symbol n ∷ (print_others ns ++ ts))) (some_is (found, d.0) y d.2) whole
+
+  declaration_is : (ts : List Symbol) (y : DeclarationData × List Symbol) → declaration turns ts ≡ Some y → DeclarationIs ts y
+  unfolding declaration
+  declaration_is ts y e =
+      let a = bind_some (named ts) _ y e in
+      let b = bind_some (others turns [] a.0.1) _ y a.2 in
+      let o = others_are turns [] a.0.1 b.0 b.1 in
+      let d = declared_is a.0.0 b.0.0 b.0.1 y b.2 in
+      let same : ts ≡ name_symbol a.0.0 ∷ (print_others b.0.0 ++ b.0.1) =
+      named_is ts a.0.0 a.0.1 a.1 ∙ ap (λ (x : List Symbol). name_symbol a.0.0 ∷ x) (o.2 ∙ ap (λ (x : List Named). print_others x ++ b.0.1) (sym o.1)) in
+      (same ∙ d.0, d.1)
+
+  -- ---- the declarations of a section
+
+  abbrev DeclarationsAre : List DeclarationData → List Symbol → List DeclarationData × List Symbol → Type 0
+  DeclarationsAre before ts y = (extra : List DeclarationData) × (y.0 ≡ before ++ extra) × (ts ≡ print_declarations extra ++ mark EndVar ∷ y.1) × AreDeclarationsFormed extra
+
+  declarations_go : (n : ℕ) (before : List DeclarationData) (ts : List Symbol) (y : List DeclarationData × List Symbol) (o : Option (List Symbol)) → after EndVar ts ≡ o → declarations_step turns (declarations turns n) before ts o ≡ Some y
+      → ((before : List DeclarationData) (ts : List Symbol) → declarations turns n before ts ≡ Some y → DeclarationsAre before ts y) → DeclarationsAre before ts y
+  declarations_go n before ts y (Some r) is e below =
+      let whole : DeclarationsAre before ts (before, r) = ([], sym (append-nil before), after_is EndVar ts r is, tt) in
+      subst (DeclarationsAre before ts) (some_is (before, r) y e) whole
+  declarations_go n before ts y None is e below =
+      let a = bind_some (declaration turns ts) (λ (d : DeclarationData × List Symbol). declarations turns n (before ++ d.0 ∷ []) d.1) y e in
+      let d = declaration_is ts a.0 a.1 in
+      let b = below (before ++ a.0.0 ∷ []) a.0.1 a.2 in (
+        a.0.0 ∷ b.0,
+        b.1 ∙ append_assoc before (a.0.0 ∷ []) b.0,
+        d.0 ∙ ap (λ (x : List Symbol). print_declaration a.0.0 ++ x) b.2 ∙ sym (append_assoc (print_declaration a.0.0) (print_declarations b.0) (mark EndVar ∷ y.1)),
+        (d.1, b.3),
+      )
+
+  declarations_are : (n : ℕ) (before : List DeclarationData) (ts : List Symbol) (y : List DeclarationData × List Symbol) → declarations turns n before ts ≡ Some y → DeclarationsAre before ts y
+  unfolding declarations
+  declarations_are zero before ts y e = absurd cc
+  declarations_are (suc n) before ts y e = declarations_go n before ts y (after EndVar ts) refl e (λ before ts e. declarations_are n before ts y e)
+
+  -- ---- sections
+
+  section_go : (m : Mark) (ts : List Symbol) (y : Section × List Symbol) (a b c : Bool) → same_mark m VarInput ≡ a → same_mark m VarOutput ≡ b → same_mark m Var ≡ c
+      → cond a (Some (Input, ts)) (cond b (Some (Output, ts)) (cond c (Some (Local, ts)) None)) ≡ Some y → mark m ∷ ts ≡ mark (section_mark y.0) ∷ y.1
+  section_go m ts y true b c ea eb ec e = ap (λ (x : Mark). mark x ∷ ts) (same_mark-is m VarInput ea) ∙ ap (λ (x : Section × List Symbol). mark (section_mark x.0) ∷ x.1) (some_is (Input, ts) y e)
+  section_go m ts y false true c ea eb ec e = ap (λ (x : Mark). mark x ∷ ts) (same_mark-is m VarOutput eb) ∙ ap (λ (x : Section × List Symbol). mark (section_mark x.0) ∷ x.1) (some_is (Output, ts) y e)
+  section_go m ts y false false true ea eb ec e = ap (λ (x : Mark). mark x ∷ ts) (same_mark-is m Var ec) ∙ ap (λ (x : Section × List Symbol). mark (section_mark x.0) ∷ x.1) (some_is (Local, ts) y e)
+  section_go m ts y false false false ea eb ec e = absurd cc
+
+  section_is : (ts : List Symbol) (y : Section × List Symbol) → section_of ts ≡ Some y → ts ≡ mark (section_mark y.0) ∷ y.1
+  unfolding section_of
+  section_is (mark m ∷ ts) y e = section_go m ts y (same_mark m VarInput) (same_mark m VarOutput) (same_mark m Var) refl refl refl e
+  section_is ts y e = absurd cc
+
+  abbrev pub VariablesAre : List VariablesData → List Symbol → List VariablesData × List Symbol → Type 0
+  VariablesAre before ts y = (extra : List VariablesData) × (y.0 ≡ before ++ extra) × (ts ≡ print_variables extra ++ y.1) × AreVariablesFormed extra
+
+  variables_stop : (before : List VariablesData) (ts : List Symbol) (y : List VariablesData × List Symbol) → (let o : Option (List VariablesData × List Symbol) = Some (before, ts) in o) ≡ Some y → VariablesAre before ts y
+  variables_stop before ts y e =
+      let whole : VariablesAre before ts (before, ts) = ([], sym (append-nil before), refl, tt) in
+      subst (VariablesAre before ts) (some_is (before, ts) y e) whole
+
+  variables_go : (n : ℕ) (before : List VariablesData) (ts : List Symbol) (y : List VariablesData × List Symbol) (o : Option (Section × List Symbol)) → section_of ts ≡ o → variables_step turns (variables turns n) before ts o ≡ Some y
+      → ((before : List VariablesData) (ts : List Symbol) → variables turns n before ts ≡ Some y → VariablesAre before ts y) → VariablesAre before ts y
+  variables_go n before ts y None is e below = variables_stop before ts y e
+  variables_go n before ts y (Some s) is e below =
+      let a = bind_some (declarations turns turns [] s.1) (λ (ds : List DeclarationData × List Symbol). variables turns n (before ++ record { section = s.0; declarations = ds.0 } ∷ []) ds.1) y e in
+      let v : VariablesData = record { section = s.0; declarations = a.0.0 } in
+      let d = declarations_are turns [] s.1 a.0 a.1 in
+      let b = below (before ++ v ∷ []) a.0.1 a.2 in
+      let formed : AreDeclarationsFormed a.0.0 = subst AreDeclarationsFormed (sym d.1) d.3 in
+      let printed : s.1 ≡ print_declarations a.0.0 ++ mark EndVar ∷ a.0.1 = d.2 ∙ ap (λ (x : List DeclarationData). print_declarations x ++ mark EndVar ∷ a.0.1) (sym d.1) in (
+        v ∷ b.0,
+        b.1 ∙ append_assoc before (v ∷ []) b.0,
+        section_is ts s is ∙ ap (λ (x : List Symbol). mark (section_mark s.0) ∷ x) (
+            printed ∙ ap (λ (x : List Symbol). print_declarations a.0.0 ++ mark EndVar ∷ x) b.2
+            ∙ sym (append_assoc (print_declarations a.0.0) (mark EndVar ∷ print_variables b.0) y.1)),
+        (formed, b.3),
+      )
+
+  pub variables_are : (n : ℕ) (before : List VariablesData) (ts : List Symbol) (y : List VariablesData × List Symbol) → variables turns n before ts ≡ Some y → VariablesAre before ts y
+  unfolding variables
+  variables_are zero before ts y e = variables_stop before ts y e
+  variables_are (suc n) before ts y e = variables_go n before ts y (section_of ts) refl e (λ before ts e. variables_are n before ts y e)

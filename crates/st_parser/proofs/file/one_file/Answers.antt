@@ -1,0 +1,5 @@
+use Rattle.st_parser.proofs.FileWhole as whole
+use Rattle.st_parser.proofs.file.one_file.Goals as goal
+
+pub returns : goal.returns
+returns c = whole.one_file

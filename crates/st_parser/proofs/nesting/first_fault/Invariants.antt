@@ -1,0 +1,10 @@
+use Rattle.std.proofs.Common.{◌≡◌, ◌≤◌, drop}
+use Rattle.st_parser.specs.FirstFault.{nothing_open, total}
+use Rattle.st_parser.proofs.FirstFaults.{fault_from}
+use Rattle.st_parser.proofs.nesting.first_fault.Given as goal
+
+abbrev pub invariant-loop-at : goal.invariant-loop-at
+invariant-loop-at l = record {
+  few : total l.held ≤ 64;
+  same : fault_from nothing_open l.toks ≡ fault_from l.held (drop l.at l.toks);
+}

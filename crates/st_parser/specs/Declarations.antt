@@ -1,0 +1,90 @@
+-- Reading declarations of variables, and sections of them.
+use Rattle.std.specs.Prelude.{ℕ, zero, suc, List, [], ◌∷◌, ◌++◌, Option, Some, None, if◌then◌else◌}
+use Rattle.st_tree.specs.declared.token.Mark.TheVariants.{Comma, Colon, Semicolon, Assign, Hash, Var, VarInput, VarOutput, EndVar}
+use Rattle.st_tree.specs.declared.syntax.UnaryOperator.TheVariants as signs
+use Rattle.st_tree.specs.declared.syntax.Section.{Section}
+use Rattle.st_tree.specs.declared.syntax.Section.TheVariants.{Input, Output, Local}
+use Rattle.st_tree.specs.Syntax.{Symbol, name, elementary, mark, Named, Tree, literal, path, enumerator, unary, TypeData, of_elementary, of_name, DeclarationData, VariablesData}
+use Rattle.st_parser.specs.Marks.{same_mark}
+use Rattle.st_parser.specs.Reading.{Read, ◌>>=◌, after, named, minus}
+use Rattle.st_parser.specs.Expressions.{constant}
+
+-- an initial value that is a name, or `type#value`
+abbrev pub named_or : Named → List Symbol → Option (List Symbol) → Option (Tree × List Symbol)
+named_or n ts (Some rest) = named rest >>= λ v. Some (enumerator n v.0, v.1)
+named_or n ts None = Some (path (record { first = n; members = [] }), ts)
+
+unfoldable pub named_value : Named → Read Tree
+named_value n ts = named_or n ts (after Hash ts)
+
+abbrev pub literal_or : List Symbol → Option (ℕ × List Symbol) → Option (Tree × List Symbol)
+literal_or ts (Some m) = constant m.1 >>= λ l. Some (unary signs.Minus m.0 (literal l.0), l.1)
+literal_or ts None = constant ts >>= λ l. Some (literal l.0, l.1)
+
+-- an initial value that is a literal, or `-` and a literal
+unfoldable pub literal_value : Read Tree
+literal_value ts = literal_or ts (minus ts)
+
+-- an initial value
+unfoldable pub initial_value : Read Tree
+initial_value (name t at ∷ ts) = named_value (record { text = t; at = at }) ts
+initial_value ts = literal_value ts
+
+abbrev pub initial_or : List Symbol → Option (List Symbol) → Option (Option Tree × List Symbol)
+initial_or ts (Some rest) = initial_value rest >>= λ e. Some (Some e.0, e.1)
+initial_or ts None = Some (None, ts)
+
+-- `:=` and an initial value, or nothing
+unfoldable pub initial : Read (Option Tree)
+initial ts = initial_or ts (after Assign ts)
+
+-- a type: an elementary one, or one by name
+unfoldable pub type_of : Read TypeData
+type_of (elementary kind at ∷ ts) = Some (of_elementary kind at, ts)
+type_of (name t at ∷ ts) = Some (of_name (record { text = t; at = at }), ts)
+type_of ts = None
+
+abbrev pub others_step : (List Named → Read (List Named)) → List Named → List Symbol → Option (List Symbol) → Option (List Named × List Symbol)
+others_step more_of ns ts None = Some (ns, ts)
+others_step more_of ns ts (Some rest) = named rest >>= λ n. more_of (ns ++ n.0 ∷ []) n.1
+
+-- the names behind commas, after those that were read. The number bounds the turns.
+unfoldable pub others : ℕ → List Named → Read (List Named)
+others zero ns ts = Some (ns, ts)
+others (suc turns) ns ts = others_step (others turns) ns ts (after Comma ts)
+
+-- the section that a word begins
+unfoldable pub section_of : Read Section
+section_of (mark m ∷ ts) =
+    if same_mark m VarInput then Some (Input, ts) else (if same_mark m VarOutput then Some (Output, ts) else (if same_mark m Var then Some (Local, ts) else None))
+section_of ts = None
+
+-- The first number bounds the turns of each loop: that of the tokens is always enough.
+module _ (turns : ℕ) where
+  -- what stands behind the names of a declaration
+  unfoldable pub declared : Named → List Named → Read DeclarationData
+  declared n ns ts =
+      after Colon ts >>= λ ts. type_of ts >>= λ k. initial k.1 >>= λ i. after Semicolon i.1 >>= λ rest.
+      Some (record { first = n; others = ns; kind = k.0; initial = i.0 }, rest)
+
+  -- a declaration
+  unfoldable pub declaration : Read DeclarationData
+  declaration ts = named ts >>= λ n. others turns [] n.1 >>= λ ns. declared n.0 ns.0 ns.1
+
+  abbrev pub declarations_step : (List DeclarationData → Read (List DeclarationData)) → List DeclarationData → List Symbol → Option (List Symbol) → Option (List DeclarationData × List Symbol)
+  declarations_step more_of ds ts (Some rest) = Some (ds, rest)
+  declarations_step more_of ds ts None = declaration ts >>= λ d. more_of (ds ++ d.0 ∷ []) d.1
+
+  -- the declarations up to END_VAR, after those that were read
+  unfoldable pub declarations : ℕ → List DeclarationData → Read (List DeclarationData)
+  declarations zero ds ts = None
+  declarations (suc n) ds ts = declarations_step (declarations n) ds ts (after EndVar ts)
+
+  abbrev pub variables_step : (List VariablesData → Read (List VariablesData)) → List VariablesData → List Symbol → Option (Section × List Symbol) → Option (List VariablesData × List Symbol)
+  variables_step more_of vs ts None = Some (vs, ts)
+  variables_step more_of vs ts (Some s) = declarations turns [] s.1 >>= λ ds. more_of (vs ++ record { section = s.0; declarations = ds.0 } ∷ []) ds.1
+
+  -- the sections, after those that were read
+  unfoldable pub variables : ℕ → List VariablesData → Read (List VariablesData)
+  variables zero vs ts = Some (vs, ts)
+  variables (suc n) vs ts = variables_step (variables n) vs ts (section_of ts)

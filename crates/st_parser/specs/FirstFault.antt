@@ -1,0 +1,60 @@
+-- What is tested before any tree is read: words that are left out, and how deep parentheses and IFs nest.
+use Rattle.std.specs.Prelude.{◌≡◌, ◌≤◌, ℕ, ◌+◌, nat_lt, if◌then◌else◌, List, [], ◌∷◌, ◌++◌, Option, Some, None}
+use Rattle.st_tree.specs.declared.token.Mark.TheVariants.{If}
+use Rattle.st_tree.specs.declared.token.Tok.{Tok}
+use Rattle.st_tree.specs.declared.rule.Rule.{Rule}
+use Rattle.st_tree.specs.declared.rule.Rule.TheVariants.{LeftOutWord, TooDeep}
+use Rattle.st_tree.specs.declared.rule.Refusal.{Refusal}
+use Rattle.st_tree.specs.Syntax.{Symbol, opening, mark, left_out}
+use Rattle.st_tree.specs.SyntaxView.{symbol, symbols}
+use Rattle.st_parser.specs.Marks.{same_mark}
+use Rattle.st_parser.specs.Nesting.{open_parentheses, open_ifs}
+use Rattle.st_parser.specs.declared.nesting.Open.{Open}
+
+abbrev pub nothing_open : Open
+nothing_open = record { parentheses = 0; ifs = 0 }
+
+abbrev pub total : Open → ℕ
+total o = o.parentheses + o.ifs
+
+-- what is open behind a symbol
+abbrev pub behind : Open → Symbol → Open
+behind o s = record { parentheses = open_parentheses o.parentheses s; ifs = open_ifs o.ifs s }
+
+abbrev pub behind_all : Open → List Symbol → Open
+behind_all o [] = o
+behind_all o (s ∷ ss) = behind_all (behind o s) ss
+
+abbrev pub too_deep : Open → Option Rule
+too_deep o = if nat_lt 64 (total o) then Some TooDeep else None
+
+-- The rule that a symbol breaks behind what is open: X1 by a word that is left out, G2 by a parenthesis or an IF
+-- with which more than 64 are open.
+abbrev pub fault_at : Open → Symbol → Option Rule
+fault_at o (left_out at) = Some LeftOutWord
+fault_at o (opening at) = too_deep (behind o (opening at))
+fault_at o (mark m) = if same_mark m If then too_deep (behind o (mark m)) else None
+fault_at o s = None
+
+-- among tokens, behind what is open, one breaks a rule at its place
+pub record IsBroken (o : Open) (toks : List Tok) (r : Refusal) : Type 0 where
+  pub before : List Tok
+  pub token : Tok
+  pub rest : List Tok
+  pub split : toks ≡ before ++ token ∷ rest
+  pub rule : fault_at (behind_all o (symbols before)) (symbol token) ≡ Some r.rule
+  pub place : r.at ≡ token.at
+
+-- no token breaks a rule
+abbrev pub IsSound : List Tok → Type 0
+IsSound toks = (r : Refusal) → IsBroken nothing_open toks r → ⊥
+
+-- a token breaks a rule, and none before it does
+pub record IsFirstFault (toks : List Tok) (r : Refusal) : Type 0 where
+  pub broken : IsBroken nothing_open toks r
+  pub first : IsSound broken.before
+
+-- tokens stand one behind the other, from a place on
+abbrev pub AreFrom : ℕ → List Tok → Type 0
+AreFrom place [] = Unit {0}
+AreFrom place (t ∷ ts) = (place ≤ t.at) × AreFrom (t.at + 1) ts

@@ -1,0 +1,13 @@
+pub mod Faults
+pub mod Marks
+pub mod Reading
+pub mod Nesting
+pub mod Ends
+pub mod Fits
+pub mod Expressions
+pub mod Statements
+pub mod Whole
+pub mod FirstFault
+pub mod Declarations
+pub mod Files
+pub mod WholeFile

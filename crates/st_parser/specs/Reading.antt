@@ -1,0 +1,70 @@
+-- Reading symbols: what stands at their front and the symbols behind it, or nothing where it does not stand there.
+use Rattle.std.specs.Prelude.{◌≡◌, ◌≢◌, ℕ, List, ◌∷◌, drop, Option, Some, None, option_and_then, option_map, if◌then◌else◌, ◌==◌, Result, Ok, Err}
+use Rattle.st_tree.specs.declared.token.Tok.{Tok}
+use Rattle.st_tree.specs.declared.token.Operator.{Operator}
+use Rattle.st_tree.specs.declared.token.Operator.TheVariants.{Minus}
+use Rattle.st_tree.specs.declared.token.Mark.{Mark}
+use Rattle.st_tree.specs.declared.syntax.UnaryOperator.{UnaryOperator}
+use Rattle.st_tree.specs.declared.syntax.UnaryOperator.TheVariants as signs
+use Rattle.st_tree.specs.Syntax.{Symbol, name, number, negation, operator, mark, Named}
+use Rattle.st_tree.specs.SyntaxView.{symbols}
+use Rattle.st_tree.specs.Levels.{level_of}
+use Rattle.st_parser.specs.Marks.{same_mark}
+use Rattle.st_parser.specs.declared.fault.Stop.{Stop}
+use Rattle.st_parser.specs.declared.fault.Stop.TheVariants.{Memory}
+
+abbrev pub Read : Type 0 → Type 0
+Read A = List Symbol → Option (A × List Symbol)
+
+-- the symbols from a place on
+unfoldable pub ahead : List Tok → ℕ → List Symbol
+ahead toks at = symbols (drop at toks)
+
+infixl 10 ◌>>=◌
+abbrev pub ◌>>=◌ : {A B : Type 0} → Option A → (A → Option B) → Option B
+o >>= f = option_and_then f o
+
+-- the symbols behind this mark, where it stands in front
+unfoldable pub after : Mark → List Symbol → Option (List Symbol)
+after m (mark k ∷ ts) = if same_mark k m then Some ts else None
+after m ts = None
+
+-- a name
+unfoldable pub named : Read Named
+named (name t at ∷ ts) = Some (record { text = t; at = at }, ts)
+named ts = None
+
+-- a number, by its value and its place
+unfoldable pub numbered : Read (ℕ × ℕ)
+numbered (number value at ∷ ts) = Some ((value, at), ts)
+numbered ts = None
+
+-- a minus sign, by its place
+unfoldable pub minus : Read ℕ
+minus (operator Minus at ∷ ts) = Some (at, ts)
+minus ts = None
+
+-- an operator of this level, and its place
+unfoldable pub operator_of : ℕ → Read (Operator × ℕ)
+operator_of k (operator o at ∷ ts) = if level_of o == k then Some ((o, at), ts) else None
+operator_of k ts = None
+
+-- a unary operator, and its place
+unfoldable pub sign : Read (UnaryOperator × ℕ)
+sign (negation at ∷ ts) = Some ((signs.Not, at), ts)
+sign (operator Minus at ∷ ts) = Some ((signs.Minus, at), ts)
+sign ts = None
+
+-- What a function that reads tokens answers, a value and the place behind it: what reading gives, the value seen by view, unless memory ran out.
+abbrev pub Gives : {X Y : Type 0} → (X → Y) → List Tok → Result (X × ℕ) Stop → Option (Y × List Symbol) → Type 0
+Gives view toks (Ok x) read = read ≡ Some (view x.0, ahead toks x.1)
+Gives view toks (Err e) read = e ≢ Memory → read ≡ None
+
+-- the same for a place alone
+abbrev pub GivesPlace : List Tok → Result ℕ Stop → Option (List Symbol) → Type 0
+GivesPlace toks (Ok at) read = read ≡ Some (ahead toks at)
+GivesPlace toks (Err e) read = e ≢ Memory → read ≡ None
+
+-- the same where memory cannot run out
+abbrev pub given : {X Y : Type 0} → (X → Y) → List Tok → Option (X × ℕ) → Option (Y × List Symbol)
+given view toks o = option_map (λ x. (view x.0, ahead toks x.1)) o

@@ -1,0 +1,154 @@
+// Declarations of variables (IEC 61131-3, 2.4.3).
+ghost use Rattle.std.specs.Prelude.{◌≡◌, [], length};
+ghost use Rattle.st_tree.specs.SyntaxView as view;
+ghost use Rattle.st_parser.specs.Declarations as spec;
+ghost use Rattle.st_parser.specs.Reading.{Gives, ahead, given};
+
+use crate::cursor::{after, expect, named, refuse, token, upper};
+use crate::fault::Stop;
+use crate::initial::initial;
+use st_tree::{Declaration, Mark, Name, Section, Terminal, Tok, TypeName, Variables};
+use std::alloc::Global;
+
+/// A type: an elementary one, or one by name.
+#[tactic(auto, unfolding(crate::specs::Declarations::type_of))]
+fn type_name(
+    alloc: Global,
+    toks: &[Tok<'_>],
+    end: usize,
+    at: usize,
+) -> Result<(TypeName, usize), Stop>
+    ensures { Gives view.type_view toks.now result (spec.type_of (ahead toks.now at)) }
+{
+    let Some(first) = token(toks, at) else {
+        return Err(refuse(toks, end, at));
+    };
+    match first.terminal {
+        Terminal::Type(kind) => Ok((TypeName::Elementary(kind, first.at), at + 1)),
+        Terminal::Name => {
+            let name = upper(alloc, first.slice, first.at)?;
+            Ok((TypeName::Named(name), at + 1))
+        }
+        _ => Err(refuse(toks, end, at)),
+    }
+}
+
+/// The names behind commas.
+fn others(
+    alloc: Global,
+    toks: &[Tok<'_>],
+    end: usize,
+    mut at: usize,
+) -> Result<(Vec<Name>, usize), Stop>
+    ensures { Gives (λ v. view.names_view v.items) toks.now result (spec.others (length toks.now) [] (ahead toks.now at)) }
+{
+    let mut names = Vec::new(alloc);
+    for _turn in 0..toks.len() {
+        let Some(next) = after(Mark::Comma, toks, at) else {
+            return Ok((names, at));
+        };
+        let (name, next) = named(alloc, toks, end, next)?;
+        names.push(name)?;
+        at = next;
+    }
+    Ok((names, at))
+}
+
+/// A declaration, from the place behind its names.
+#[tactic(auto, unfolding(crate::specs::Declarations::declared))]
+fn declared(
+    alloc: Global,
+    first: Name,
+    others: Vec<Name>,
+    toks: &[Tok<'_>],
+    end: usize,
+    at: usize,
+) -> Result<(Declaration, usize), Stop>
+    ensures { Gives view.declaration_view toks.now result (spec.declared (length toks.now) (view.name_view first) (view.names_view others.items) (ahead toks.now at)) }
+{
+    let at = expect(Mark::Colon, toks, end, at)?;
+    let (kind, at) = type_name(alloc, toks, end, at)?;
+    let (initial, at) = initial(alloc, toks, end, at)?;
+    let at = expect(Mark::Semicolon, toks, end, at)?;
+    let found = Declaration {
+        first,
+        others,
+        kind,
+        initial,
+    };
+    Ok((found, at))
+}
+
+/// A declaration.
+#[tactic(auto, unfolding(crate::specs::Declarations::declaration))]
+fn declaration(
+    alloc: Global,
+    toks: &[Tok<'_>],
+    end: usize,
+    at: usize,
+) -> Result<(Declaration, usize), Stop>
+    ensures { Gives view.declaration_view toks.now result (spec.declaration (length toks.now) (ahead toks.now at)) }
+{
+    let (first, at) = named(alloc, toks, end, at)?;
+    let (others, at) = others(alloc, toks, end, at)?;
+    declared(alloc, first, others, toks, end, at)
+}
+
+/// Declarations, up to END_VAR.
+fn declarations(
+    alloc: Global,
+    toks: &[Tok<'_>],
+    end: usize,
+    mut at: usize,
+) -> Result<(Vec<Declaration>, usize), Stop>
+    ensures { Gives (λ v. view.declarations_view v.items) toks.now result (spec.declarations (length toks.now) (length toks.now) [] (ahead toks.now at)) }
+{
+    let mut found = Vec::new(alloc);
+    for _turn in 0..toks.len() {
+        if let Some(next) = after(Mark::EndVar, toks, at) {
+            return Ok((found, next));
+        }
+        let (next, behind) = declaration(alloc, toks, end, at)?;
+        found.push(next)?;
+        at = behind;
+    }
+    Err(refuse(toks, end, at))
+}
+
+/// The section that a word begins, and the place behind the word.
+#[tactic(auto, unfolding(crate::specs::Declarations::section_of, crate::specs::Marks::same_mark))]
+fn section_of(toks: &[Tok<'_>], at: usize) -> Option<(Section, usize)>
+    ensures { given (λ s. s) toks.now result ≡ spec.section_of (ahead toks.now at) }
+{
+    let section = match token(toks, at)?.terminal {
+        Terminal::Mark(Mark::VarInput) => Section::Input,
+        Terminal::Mark(Mark::VarOutput) => Section::Output,
+        Terminal::Mark(Mark::Var) => Section::Local,
+        _ => return None,
+    };
+    Some((section, at + 1))
+}
+
+/// The sections of variables that follow.
+pub fn variables(
+    alloc: Global,
+    toks: &[Tok<'_>],
+    end: usize,
+    mut at: usize,
+) -> Result<(Vec<Variables>, usize), Stop>
+    ensures { Gives (λ v. view.all_variables_view v.items) toks.now result (spec.variables (length toks.now) (length toks.now) [] (ahead toks.now at)) }
+{
+    let mut found = Vec::new(alloc);
+    for _turn in 0..toks.len() {
+        let Some((section, next)) = section_of(toks, at) else {
+            return Ok((found, at));
+        };
+        let (declarations, next) = declarations(alloc, toks, end, next)?;
+        found.push(Variables {
+            section,
+            declarations,
+        })?;
+        at = next;
+    }
+    Ok((found, at))
+}

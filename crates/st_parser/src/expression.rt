@@ -1,0 +1,186 @@
+// Expressions, by descent through the levels of operators.
+ghost use Rattle.std.specs.Prelude.{◌≡◌, ◌<◌, ◌≤◌, ◌-◌, length, IfOk};
+ghost use Rattle.st_tree.specs.SyntaxView as view;
+ghost use Rattle.st_tree.specs.SyntaxView.{tree_view};
+ghost use Rattle.st_tree.specs.Syntax as syntax;
+ghost use Rattle.st_parser.specs.Expressions as spec;
+ghost use Rattle.st_parser.specs.Reading.{Gives, ahead};
+
+use crate::cursor::{after, expect, named, operator_of, refuse, sign, token, upper};
+use crate::fault::Stop;
+use crate::literal::constant;
+use crate::path::path_from;
+use st_tree::{Expr, Link, Mark, Name, Terminal, Tok};
+use std::alloc::{AllocError, Global};
+
+/// The level of the loosest operators.
+const LOOSEST: u8 = 7;
+
+/// The rest of an expression that begins with a name: of a path, or of `type#value`.
+#[tactic(auto, unfolding(crate::specs::Expressions::referred))]
+fn referred(
+    alloc: Global,
+    name: Name,
+    toks: &[Tok<'_>],
+    end: usize,
+    at: usize,
+) -> Result<(Expr, usize), Stop>
+    ensures { Gives tree_view toks.now result (spec.referred (length toks.now) (view.name_view name) (ahead toks.now at)) }
+{
+    match after(Mark::Hash, toks, at) {
+        Some(at) => {
+            let (value, at) = named(alloc, toks, end, at)?;
+            Ok((Expr::Enumerator(name, value), at))
+        }
+        None => {
+            let (path, at) = path_from(alloc, name, toks, end, at)?;
+            Ok((Expr::Path(path), at))
+        }
+    }
+}
+
+/// A literal, a variable, `type#value`, or an expression in parentheses.
+#[cycle(expression)]
+#[tactic(auto, unfolding(crate::specs::Expressions::primary, crate::specs::Expressions::constant))]
+fn primary(
+    alloc: Global,
+    toks: &[Tok<'_>],
+    end: usize,
+    at: usize,
+    depth: usize,
+) -> Result<(Expr, usize), Stop>
+    ensures { Gives tree_view toks.now result (spec.primary (length toks.now) (spec.inside (length toks.now) depth) (ahead toks.now at)) }
+{
+    let Some(first) = token(toks, at) else {
+        return Err(refuse(toks, end, at));
+    };
+    match first.terminal {
+        Terminal::Name => {
+            let name = upper(alloc, first.slice, first.at)?;
+            referred(alloc, name, toks, end, at + 1)
+        }
+        Terminal::Open => {
+            let (value, next) = inside(alloc, toks, end, at + 1, depth)?;
+            let next = expect(Mark::Close, toks, end, next)?;
+            Ok((Expr::Paren(first.at, Box::new(alloc, value)?), next))
+        }
+        Terminal::Number(_) | Terminal::Truth(_) | Terminal::Type(_) => {
+            let (found, next) = constant(toks, end, at)?;
+            Ok((Expr::Literal(found), next))
+        }
+        _ => Err(refuse(toks, end, at)),
+    }
+}
+
+/// A primary, or a unary operator and a primary.
+#[cycle(expression)]
+#[tactic(auto, unfolding(crate::specs::Expressions::signed))]
+fn signed(
+    alloc: Global,
+    toks: &[Tok<'_>],
+    end: usize,
+    at: usize,
+    depth: usize,
+) -> Result<(Expr, usize), Stop>
+    ensures { Gives tree_view toks.now result (spec.signed (length toks.now) (spec.inside (length toks.now) depth) (ahead toks.now at)) }
+{
+    match sign(toks, at) {
+        Some(((operator, place), next)) => {
+            let (value, next) = primary(alloc, toks, end, next, depth)?;
+            Ok((Expr::Unary(operator, place, Box::new(alloc, value)?), next))
+        }
+        None => primary(alloc, toks, end, at, depth),
+    }
+}
+
+/// An operand with what is linked to it: itself where that is nothing.
+fn joined(alloc: Global, first: Expr, links: Vec<Link>) -> Result<Expr, AllocError>
+    ensures { IfOk result (λ e. tree_view e ≡ spec.joined (tree_view first) (view.links_view links.items)) }
+{
+    if links.is_empty() {
+        return Ok(first);
+    }
+    Ok(Expr::Chain(Box::new(alloc, first)?, links))
+}
+
+/// The operators of a level and their right operands, which are tighter.
+#[cycle(expression)]
+fn links(
+    alloc: Global,
+    toks: &[Tok<'_>],
+    end: usize,
+    mut at: usize,
+    depth: usize,
+    level: u8,
+) -> Result<(Vec<Link>, usize), Stop>
+    requires some { 0 < level }
+    requires loosest { level ≤ LOOSEST }
+    ensures { Gives (λ v. view.links_view v.items) toks.now result (spec.links (spec.levelled (length toks.now) (spec.inside (length toks.now) depth) (level - 1)) level (length toks.now) syntax.no_links (ahead toks.now at)) }
+{
+    let mut links = Vec::new(alloc);
+    for _turn in 0..toks.len() {
+        let Some(((operator, place), next)) = operator_of(level, toks, at) else {
+            return Ok((links, at));
+        };
+        let (right, next) = levelled(alloc, toks, end, next, depth, level - 1)?;
+        links.push(Link {
+            operator,
+            at: place,
+            right,
+        })?;
+        at = next;
+    }
+    Ok((links, at))
+}
+
+/// An expression whose operators are of a level or tighter.
+#[cycle(expression)]
+fn levelled(
+    alloc: Global,
+    toks: &[Tok<'_>],
+    end: usize,
+    at: usize,
+    depth: usize,
+    level: u8,
+) -> Result<(Expr, usize), Stop>
+    requires { level ≤ LOOSEST }
+    ensures { Gives tree_view toks.now result (spec.levelled (length toks.now) (spec.inside (length toks.now) depth) level (ahead toks.now at)) }
+{
+    if level == 0 {
+        return signed(alloc, toks, end, at, depth);
+    }
+    let (first, at) = levelled(alloc, toks, end, at, depth, level - 1)?;
+    let (links, at) = links(alloc, toks, end, at, depth, level)?;
+    Ok((joined(alloc, first, links)?, at))
+}
+
+/// An expression inside parentheses, which nest no deeper than `depth`.
+#[cycle(expression)]
+fn inside(
+    alloc: Global,
+    toks: &[Tok<'_>],
+    end: usize,
+    at: usize,
+    depth: usize,
+) -> Result<(Expr, usize), Stop>
+    ensures { Gives tree_view toks.now result (spec.inside (length toks.now) depth (ahead toks.now at)) }
+{
+    if depth == 0 {
+        return Err(refuse(toks, end, at));
+    }
+    levelled(alloc, toks, end, at, depth - 1, LOOSEST)
+}
+
+/// An expression in which parentheses nest no deeper than `depth`.
+#[tactic(auto, unfolding(crate::specs::Expressions::expression))]
+pub fn expression(
+    alloc: Global,
+    toks: &[Tok<'_>],
+    end: usize,
+    at: usize,
+    depth: usize,
+) -> Result<(Expr, usize), Stop>
+    ensures { Gives tree_view toks.now result (spec.expression (length toks.now) depth (ahead toks.now at)) }
+{
+    levelled(alloc, toks, end, at, depth, LOOSEST)
+}

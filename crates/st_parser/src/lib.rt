@@ -1,0 +1,21 @@
+// From tokens to exactly the tree that prints them: expressions, statements and whole files, in both directions.
+#![tactic(auto)]
+
+pub mod cursor;
+mod declaration;
+pub mod expression;
+pub mod fault;
+mod file;
+mod initial;
+mod literal;
+mod nesting;
+mod parse;
+mod path;
+mod statement;
+
+pub use file::{one_file, parse_file};
+pub use nesting::{first_by_place, first_fault};
+pub use parse::{DEPTH, one_expression, one_statements, parse_expr, parse_statements};
+
+#[cfg(test)]
+mod tests;

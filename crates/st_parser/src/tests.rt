@@ -1,0 +1,253 @@
+// Tokens of which the tree, or the place of the refusal, was worked by hand.
+use crate::{one_expression, one_statements, parse_expr, parse_statements};
+use st_tree::{
+    Elementary, Expr, Kind, Literal, Mark, Operator, ParseFault, Refusal, Rule, Stmt, Terminal,
+    Tok, UnaryOperator,
+};
+use std::alloc::{AllocError, Global};
+use std::test::Fail;
+
+/// The length of each text.
+const END: usize = 99;
+
+fn terminal(slice: &str) -> Terminal {
+    match slice {
+        "1" => Terminal::Number(1),
+        "TRUE" => Terminal::Truth(true),
+        "SINT" => Terminal::Type(Elementary::Sint),
+        "NOT" => Terminal::Not,
+        "OR" => Terminal::Operator(Operator::Or),
+        "=" => Terminal::Operator(Operator::Equal),
+        "+" => Terminal::Operator(Operator::Plus),
+        "-" => Terminal::Operator(Operator::Minus),
+        "*" => Terminal::Operator(Operator::Times),
+        "(" => Terminal::Open,
+        ")" => Terminal::Mark(Mark::Close),
+        ";" => Terminal::Mark(Mark::Semicolon),
+        ":=" => Terminal::Mark(Mark::Assign),
+        "." => Terminal::Mark(Mark::Point),
+        "#" => Terminal::Mark(Mark::Hash),
+        "IF" => Terminal::Mark(Mark::If),
+        "THEN" => Terminal::Mark(Mark::Then),
+        "ELSIF" => Terminal::Mark(Mark::Elsif),
+        "ELSE" => Terminal::Mark(Mark::Else),
+        "END_IF" => Terminal::Mark(Mark::EndIf),
+        "END_PROGRAM" => Terminal::Mark(Mark::EndProgram),
+        "CASE" => Terminal::LeftOut,
+        _ => Terminal::Name,
+    }
+}
+
+fn tokens<'a>(alloc: Global, words: &[(&'a str, usize)]) -> Result<Vec<Tok<'a>>, AllocError> {
+    let mut found = Vec::new(alloc);
+    for &(slice, at) in words {
+        let kind = match slice {
+            "1" => Kind::Number,
+            _ => Kind::Word,
+        };
+        found.push(Tok {
+            kind,
+            slice,
+            terminal: terminal(slice),
+            at,
+        })?;
+    }
+    Ok(found)
+}
+
+fn no_tree(at: usize) -> Option<Refusal> {
+    Some(Refusal {
+        rule: Rule::NoTree,
+        at,
+    })
+}
+
+fn refused_expression(alloc: Global, words: &[(&str, usize)]) -> Result<Option<Refusal>, Fail> {
+    let toks = tokens(alloc, words)?;
+    match parse_expr(alloc, &toks, END, 0) {
+        Err(ParseFault::Refused(refusal)) => Ok(Some(refusal)),
+        _ => Ok(None),
+    }
+}
+
+fn refused_statements(alloc: Global, words: &[(&str, usize)]) -> Result<Option<Refusal>, Fail> {
+    let toks = tokens(alloc, words)?;
+    match parse_statements(alloc, &toks, END, 0) {
+        Err(ParseFault::Refused(refusal)) => Ok(Some(refusal)),
+        _ => Ok(None),
+    }
+}
+
+// Behind `PROGRAM M `, in bytes from 0.
+#[test]
+fn unary_operators_do_not_repeat(rt: HostRuntime) -> Result<(), Fail> {
+    let twice = [
+        ("b", 10),
+        (":=", 12),
+        ("NOT", 15),
+        ("NOT", 19),
+        ("a", 23),
+        (";", 24),
+    ];
+    assert_eq!(rt; refused_statements(rt.alloc(), &twice)?, no_tree(19));
+    let minus = [
+        ("b", 10),
+        (":=", 12),
+        ("-", 15),
+        ("-", 17),
+        ("1", 19),
+        (";", 20),
+    ];
+    assert_eq!(rt; refused_statements(rt.alloc(), &minus)?, no_tree(17));
+    let nested = [("IF", 10), ("(", 13), ("IF", 14), ("(", 17), ("IF", 18)];
+    assert_eq!(rt; refused_statements(rt.alloc(), &nested)?, no_tree(14));
+    Ok(())
+}
+
+#[test]
+fn expressions_that_go_on_with_no_tree(rt: HostRuntime) -> Result<(), Fail> {
+    let call = [("f", 0), ("(", 1), ("1", 2), (")", 3)];
+    assert_eq!(rt; refused_expression(rt.alloc(), &call)?, no_tree(1));
+    let operand = [("1", 0), ("(", 1)];
+    assert_eq!(rt; refused_expression(rt.alloc(), &operand)?, no_tree(1));
+    let member = [("a", 0), (".", 1), ("b", 2), ("#", 3), ("c", 4)];
+    assert_eq!(rt; refused_expression(rt.alloc(), &member)?, no_tree(3));
+    let ended = [("a", 0), ("+", 1)];
+    assert_eq!(rt; refused_expression(rt.alloc(), &ended)?, no_tree(END));
+    let typed = [("SINT", 0), ("#", 4), ("-", 5), ("TRUE", 6)];
+    assert_eq!(rt; refused_expression(rt.alloc(), &typed)?, no_tree(6));
+    Ok(())
+}
+
+#[test]
+fn statements_that_go_on_with_no_tree(rt: HostRuntime) -> Result<(), Fail> {
+    let then = [("IF", 0), ("a", 3), (";", 4)];
+    assert_eq!(rt; refused_statements(rt.alloc(), &then)?, no_tree(4));
+    let ended = [("IF", 0), ("a", 3), ("THEN", 5), (";", 10), ("ELSE", 12)];
+    assert_eq!(rt; refused_statements(rt.alloc(), &ended)?, no_tree(END));
+    let left_out = [("IF", 0), ("a", 3), ("THEN", 5), ("CASE", 10)];
+    assert_eq!(rt; refused_statements(rt.alloc(), &left_out)?, no_tree(10));
+    Ok(())
+}
+
+// a + 1 - b * 1 OR: the operators of one level in one chain, the tighter one inside.
+#[test]
+fn operators_of_one_level(rt: HostRuntime) -> Result<(), Fail> {
+    let words = [
+        ("a", 0),
+        ("+", 2),
+        ("1", 4),
+        ("-", 6),
+        ("b", 8),
+        ("*", 10),
+        ("1", 12),
+        (")", 14),
+    ];
+    let toks = tokens(rt.alloc(), &words)?;
+    let (found, behind) = parse_expr(rt.alloc(), &toks, END, 0)
+        .ok()
+        .ok_or("an expression")?;
+    assert_eq!(rt; behind, 7);
+    let Expr::Chain(_, links) = found else {
+        return Err("a chain".into());
+    };
+    assert_eq!(rt; links.len(), 2);
+    assert_eq!(rt; links[0].operator, Operator::Plus);
+    assert_eq!(rt; links[1].operator, Operator::Minus);
+    assert_eq!(rt; links[1].at, 6);
+    assert!(rt; matches!(&links[1].right, Expr::Chain(_, tighter) if tighter.len() == 1));
+    one_expression();
+    Ok(())
+}
+
+// NOT b = b: NOT takes the first b alone.
+#[test]
+fn not_is_tighter_than_equal(rt: HostRuntime) -> Result<(), Fail> {
+    let words = [("NOT", 0), ("b", 4), ("=", 6), ("b", 8)];
+    let toks = tokens(rt.alloc(), &words)?;
+    let (found, behind) = parse_expr(rt.alloc(), &toks, END, 0)
+        .ok()
+        .ok_or("an expression")?;
+    assert_eq!(rt; behind, 4);
+    let Expr::Chain(first, links) = found else {
+        return Err("a chain".into());
+    };
+    assert_eq!(rt; links.len(), 1);
+    assert!(rt; matches!(&*first, Expr::Unary(UnaryOperator::Not, 0, _)));
+    Ok(())
+}
+
+#[test]
+fn a_typed_number_has_a_minus(rt: HostRuntime) -> Result<(), Fail> {
+    let toks = tokens(rt.alloc(), &[("SINT", 0), ("#", 4), ("-", 5), ("1", 6)])?;
+    let (found, _) = parse_expr(rt.alloc(), &toks, END, 0)
+        .ok()
+        .ok_or("a literal")?;
+    let expected = Literal::TypedNumber {
+        kind: Elementary::Sint,
+        at: 0,
+        minus: Some(5),
+        value: 1,
+        value_at: 6,
+    };
+    assert!(rt; matches!(&found, Expr::Literal(literal) if *literal == expected));
+    Ok(())
+}
+
+#[test]
+fn names_are_in_upper_case(rt: HostRuntime) -> Result<(), Fail> {
+    let toks = tokens(rt.alloc(), &[("light", 0), ("#", 5), ("red", 6)])?;
+    let (found, _) = parse_expr(rt.alloc(), &toks, END, 0)
+        .ok()
+        .ok_or("an enumerator")?;
+    let Expr::Enumerator(kind, value) = &found else {
+        return Err("an enumerator".into());
+    };
+    assert_eq!(rt; kind.text.as_str(), "LIGHT");
+    assert_eq!(rt; value.text.as_str(), "RED");
+    Ok(())
+}
+
+// The `;` behind END_IF is a statement of its own.
+#[test]
+fn an_if_is_read(rt: HostRuntime) -> Result<(), Fail> {
+    let words = [
+        ("IF", 0),
+        ("a", 3),
+        ("THEN", 5),
+        ("x", 10),
+        (".", 11),
+        ("y", 12),
+        (":=", 14),
+        ("1", 17),
+        (";", 18),
+        ("ELSIF", 20),
+        ("(", 26),
+        ("b", 27),
+        (")", 28),
+        ("THEN", 30),
+        ("ELSE", 35),
+        (";", 40),
+        ("END_IF", 42),
+        (";", 48),
+        ("END_PROGRAM", 50),
+    ];
+    let toks = tokens(rt.alloc(), &words)?;
+    let (found, behind) = parse_statements(rt.alloc(), &toks, END, 0)
+        .ok()
+        .ok_or("statements")?;
+    assert_eq!(rt; behind, 18);
+    assert_eq!(rt; found.len(), 2);
+    assert!(rt; matches!(&found[1], Stmt::Empty));
+    let Stmt::If(arms, Some(other)) = &found[0] else {
+        return Err("an IF".into());
+    };
+    assert_eq!(rt; arms.len(), 2);
+    assert!(rt;
+        matches!(arms[0].body.as_slice(), [Stmt::Assign(path, _)] if path.members.len() == 1)
+    );
+    assert!(rt; matches!(&arms[1].condition, Expr::Paren(26, _)));
+    assert_eq!(rt; other.len(), 1);
+    one_statements();
+    Ok(())
+}

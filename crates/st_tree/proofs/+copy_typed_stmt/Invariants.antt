@@ -1,0 +1,11 @@
+use Rattle.std.proofs.Common.{◌≡◌, take, map}
+use Rattle.st_tree.specs.View.{arm_view, stmt_view}
+use Rattle.st_tree.proofs.+copy_typed_stmt.Given as goal
+
+abbrev pub invariant-typed_copies::copy_arms-loop-arm : goal.invariant-typed_copies::copy_arms-loop-arm
+invariant-typed_copies::copy_arms-loop-arm l =
+    map arm_view l.copies.items ≡ map arm_view (take l.arm-index l.arms)
+
+abbrev pub invariant-typed_copies::copy_statements-loop-stmt : goal.invariant-typed_copies::copy_statements-loop-stmt
+invariant-typed_copies::copy_statements-loop-stmt l =
+    map stmt_view l.copies.items ≡ map stmt_view (take l.stmt-index l.list)

@@ -1,0 +1,111 @@
+-- Which trees are levelled: operators of one level stand in one chain, and tighter ones inside it.
+use Rattle.std.specs.Prelude.{◌≡◌, ◌<◌, ℕ, List, [], ◌∷◌, Option, Some, None}
+use Rattle.st_tree.specs.declared.token.Operator.{Operator}
+use Rattle.st_tree.specs.declared.token.Operator.TheVariants as ops
+use Rattle.st_tree.specs.declared.syntax.UnaryOperator.TheVariants as signs
+use Rattle.st_tree.specs.declared.syntax.Literal.TheVariants as literals
+use Rattle.st_tree.specs.Syntax.{Tree, literal, path, enumerator, paren, unary, chain, Links, no_links, link, Stmt, empty, assign, branch, Stmts, no_stmts, stmt, Arms, no_arms, arm, Otherwise, no_else, else_stmts, DeclarationData, VariablesData, BodyData, statements, chart as chart_body, PouData, FileData}
+
+-- how loosely an operator binds
+abbrev pub level_of : Operator → ℕ
+level_of ops.Or = 7
+level_of ops.Xor = 6
+level_of ops.And = 5
+level_of ops.Equal = 4
+level_of ops.NotEqual = 4
+level_of ops.Less = 3
+level_of ops.Greater = 3
+level_of ops.LessEqual = 3
+level_of ops.GreaterEqual = 3
+level_of ops.Plus = 2
+level_of ops.Minus = 2
+level_of ops.Times = 1
+level_of ops.Divide = 1
+level_of ops.Mod = 1
+
+-- the level of a tree's loosest operator outside parentheses, 0 where it has none
+abbrev pub links_level : Links → ℕ
+links_level no_links = 0
+links_level (link o at e ls) = level_of o
+
+abbrev pub level : Tree → ℕ
+level (literal l) = 0
+level (path p) = 0
+level (enumerator t v) = 0
+level (paren at e) = 0
+level (unary o at e) = 0
+level (chain e ls) = links_level ls
+
+abbrev pub IsPrimary : Tree → Type 0
+IsPrimary (literal l) = Unit {0}
+IsPrimary (path p) = Unit {0}
+IsPrimary (enumerator t v) = Unit {0}
+IsPrimary (paren at e) = Unit {0}
+IsPrimary (unary o at e) = ⊥
+IsPrimary (chain e ls) = ⊥
+
+-- A chain has at least one operator, all of its operators are of one level, and its operands are tighter; the
+-- operand of a unary operator is a primary.
+abbrev mutual
+  pub IsLevelled : Tree → Type 0
+  IsLevelled (literal l) = Unit {0}
+  IsLevelled (path p) = Unit {0}
+  IsLevelled (enumerator t v) = Unit {0}
+  IsLevelled (paren at e) = IsLevelled e
+  IsLevelled (unary o at e) = IsPrimary e × IsLevelled e
+  IsLevelled (chain e no_links) = ⊥
+  IsLevelled (chain e (link o at f ls)) = (level e < level_of o) × IsLevelled e × (level f < level_of o) × IsLevelled f × AreOfLevel (level_of o) ls
+
+  pub AreOfLevel : ℕ → Links → Type 0
+  AreOfLevel k no_links = Unit {0}
+  AreOfLevel k (link o at e ls) = (level_of o ≡ k) × (level e < k) × IsLevelled e × AreOfLevel k ls
+
+-- statements of levelled expressions, each IF with at least one arm
+abbrev mutual
+  pub IsStmtLevelled : Stmt → Type 0
+  IsStmtLevelled empty = Unit {0}
+  IsStmtLevelled (assign p e) = IsLevelled e
+  IsStmtLevelled (branch no_arms other) = ⊥
+  IsStmtLevelled (branch (arm e ss arms) other) = IsLevelled e × AreStmtsLevelled ss × AreArmsLevelled arms × IsElseLevelled other
+
+  pub AreStmtsLevelled : Stmts → Type 0
+  AreStmtsLevelled no_stmts = Unit {0}
+  AreStmtsLevelled (stmt s ss) = IsStmtLevelled s × AreStmtsLevelled ss
+
+  pub AreArmsLevelled : Arms → Type 0
+  AreArmsLevelled no_arms = Unit {0}
+  AreArmsLevelled (arm e ss arms) = IsLevelled e × AreStmtsLevelled ss × AreArmsLevelled arms
+
+  pub IsElseLevelled : Otherwise → Type 0
+  IsElseLevelled no_else = Unit {0}
+  IsElseLevelled (else_stmts ss) = AreStmtsLevelled ss
+
+-- what may be an initial value: a literal, `-` and a literal, a name, or `type#value`
+abbrev pub IsConstant : Tree → Type 0
+IsConstant (literal l) = Unit {0}
+IsConstant (path p) = p.members ≡ []
+IsConstant (enumerator t v) = Unit {0}
+IsConstant (paren at e) = ⊥
+IsConstant (unary signs.Minus at (literal l)) = Unit {0}
+IsConstant (unary o at e) = ⊥
+IsConstant (chain e ls) = ⊥
+
+abbrev pub IsInitialFormed : Option Tree → Type 0
+IsInitialFormed None = Unit {0}
+IsInitialFormed (Some e) = IsConstant e
+
+abbrev pub AreDeclarationsFormed : List DeclarationData → Type 0
+AreDeclarationsFormed [] = Unit {0}
+AreDeclarationsFormed (d ∷ ds) = IsInitialFormed d.initial × AreDeclarationsFormed ds
+
+abbrev pub AreVariablesFormed : List VariablesData → Type 0
+AreVariablesFormed [] = Unit {0}
+AreVariablesFormed (v ∷ vs) = AreDeclarationsFormed v.declarations × AreVariablesFormed vs
+
+abbrev pub IsBodyLevelled : BodyData → Type 0
+IsBodyLevelled (statements ss) = AreStmtsLevelled ss
+IsBodyLevelled (chart_body c) = ⊥
+
+abbrev pub IsFileLevelled : FileData → Type 0
+IsFileLevelled [] = Unit {0}
+IsFileLevelled (p ∷ ps) = AreVariablesFormed p.variables × IsBodyLevelled p.body × IsFileLevelled ps

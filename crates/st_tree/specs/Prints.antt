@@ -1,0 +1,109 @@
+-- What a tree prints (the grammar of the profile, after IEC 61131-3, annex B).
+use Rattle.std.specs.Prelude.{ℕ, List, [], ◌∷◌, ◌++◌, Bool, Option, Some, None}
+use Rattle.st_tree.specs.declared.token.Operator.TheVariants.{Minus}
+use Rattle.st_tree.specs.declared.token.Mark.{Mark}
+use Rattle.st_tree.specs.declared.token.Mark.TheVariants as marks
+use Rattle.st_tree.specs.declared.syntax.Literal.{Literal}
+use Rattle.st_tree.specs.declared.syntax.Literal.TheVariants as literals
+use Rattle.st_tree.specs.declared.syntax.UnaryOperator.{UnaryOperator}
+use Rattle.st_tree.specs.declared.syntax.UnaryOperator.TheVariants as signs
+use Rattle.st_tree.specs.declared.syntax.Section.{Section}
+use Rattle.st_tree.specs.declared.syntax.Section.TheVariants as sections
+use Rattle.st_tree.specs.Syntax.{Symbol, name, number, truth, elementary, negation, operator, opening, mark, Named, PathData, Tree, literal, path, enumerator, paren, unary, chain, Links, no_links, link, Stmt, empty, assign, branch, Stmts, no_stmts, stmt, Arms, no_arms, arm, Otherwise, no_else, else_stmts, TypeData, of_elementary, of_name, DeclarationData, VariablesData, BodyData, statements, chart as chart_body, PouData, FileData}
+
+abbrev pub name_symbol : Named → Symbol
+name_symbol n = name n.text n.at
+
+-- `.name` for each name
+abbrev pub print_members : List Named → List Symbol
+print_members [] = []
+print_members (n ∷ ns) = mark marks.Point ∷ name_symbol n ∷ print_members ns
+
+abbrev pub print_path : PathData → List Symbol
+print_path p = name_symbol p.first ∷ print_members p.members
+
+abbrev pub print_minus : Option ℕ → List Symbol
+print_minus None = []
+print_minus (Some at) = operator Minus at ∷ []
+
+abbrev pub print_literal : Literal → List Symbol
+print_literal (literals.Number value at) = number value at ∷ []
+print_literal (literals.Truth value at) = truth value at ∷ []
+print_literal (literals.TypedNumber kind at minus value value_at) = elementary kind at ∷ mark marks.Hash ∷ (print_minus minus ++ number value value_at ∷ [])
+print_literal (literals.TypedTruth kind at value value_at) = elementary kind at ∷ mark marks.Hash ∷ truth value value_at ∷ []
+
+abbrev pub unary_symbol : UnaryOperator → ℕ → Symbol
+unary_symbol signs.Minus at = operator Minus at
+unary_symbol signs.Not at = negation at
+
+abbrev mutual
+  pub print : Tree → List Symbol
+  print (literal l) = print_literal l
+  print (path p) = print_path p
+  print (enumerator t v) = name_symbol t ∷ mark marks.Hash ∷ name_symbol v ∷ []
+  print (paren at e) = opening at ∷ (print e ++ mark marks.Close ∷ [])
+  print (unary o at e) = unary_symbol o at ∷ print e
+  print (chain e ls) = print e ++ print_links ls
+
+  pub print_links : Links → List Symbol
+  print_links no_links = []
+  print_links (link o at e ls) = operator o at ∷ (print e ++ print_links ls)
+
+abbrev mutual
+  pub print_stmt : Stmt → List Symbol
+  print_stmt empty = mark marks.Semicolon ∷ []
+  print_stmt (assign p e) = print_path p ++ mark marks.Assign ∷ (print e ++ mark marks.Semicolon ∷ [])
+  print_stmt (branch arms other) = print_arms marks.If arms ++ print_otherwise other
+
+  pub print_stmts : Stmts → List Symbol
+  print_stmts no_stmts = []
+  print_stmts (stmt s ss) = print_stmt s ++ print_stmts ss
+
+  -- the word before the first arm is IF, and ELSIF before each other
+  pub print_arms : Mark → Arms → List Symbol
+  print_arms lead no_arms = []
+  print_arms lead (arm e ss arms) = mark lead ∷ (print e ++ mark marks.Then ∷ (print_stmts ss ++ print_arms marks.Elsif arms))
+
+  pub print_otherwise : Otherwise → List Symbol
+  print_otherwise no_else = mark marks.EndIf ∷ []
+  print_otherwise (else_stmts ss) = mark marks.Else ∷ (print_stmts ss ++ mark marks.EndIf ∷ [])
+
+-- `, name` for each name
+abbrev pub print_others : List Named → List Symbol
+print_others [] = []
+print_others (n ∷ ns) = mark marks.Comma ∷ name_symbol n ∷ print_others ns
+
+abbrev pub type_symbol : TypeData → Symbol
+type_symbol (of_elementary kind at) = elementary kind at
+type_symbol (of_name n) = name_symbol n
+
+abbrev pub print_initial : Option Tree → List Symbol
+print_initial None = []
+print_initial (Some e) = mark marks.Assign ∷ print e
+
+abbrev pub print_declaration : DeclarationData → List Symbol
+print_declaration d = name_symbol d.first ∷ (print_others d.others ++ mark marks.Colon ∷ type_symbol d.kind ∷ (print_initial d.initial ++ mark marks.Semicolon ∷ []))
+
+abbrev pub print_declarations : List DeclarationData → List Symbol
+print_declarations [] = []
+print_declarations (d ∷ ds) = print_declaration d ++ print_declarations ds
+
+abbrev pub section_mark : Section → Mark
+section_mark sections.Input = marks.VarInput
+section_mark sections.Output = marks.VarOutput
+section_mark sections.Local = marks.Var
+
+abbrev pub print_variables : List VariablesData → List Symbol
+print_variables [] = []
+print_variables (v ∷ vs) = mark (section_mark v.section) ∷ (print_declarations v.declarations ++ mark marks.EndVar ∷ print_variables vs)
+
+abbrev pub print_body : BodyData → List Symbol
+print_body (statements ss) = print_stmts ss
+print_body (chart_body c) = absurd c
+
+abbrev pub print_pou : PouData → List Symbol
+print_pou p = mark marks.Program ∷ name_symbol p.name ∷ (print_variables p.variables ++ (print_body p.body ++ mark marks.EndProgram ∷ []))
+
+abbrev pub print_file : FileData → List Symbol
+print_file [] = []
+print_file (p ∷ ps) = print_pou p ++ print_file ps

@@ -1,0 +1,94 @@
+-- Trees of a text as plain data. A number beside a part is its place in the text.
+use Rattle.std.specs.Prelude.{ℕ, Bool, List, Option}
+use Rattle.st_tree.specs.declared.elementary.Elementary.{Elementary}
+use Rattle.st_tree.specs.declared.token.Operator.{Operator}
+use Rattle.st_tree.specs.declared.token.Mark.{Mark}
+use Rattle.st_tree.specs.declared.syntax.Literal.{Literal}
+use Rattle.st_tree.specs.declared.syntax.UnaryOperator.{UnaryOperator}
+use Rattle.st_tree.specs.declared.syntax.Section.{Section}
+
+-- A token as the grammar sees it: a name in upper case, a number by its value, and the place where a tree keeps it.
+pub data Symbol : Type 0 where
+  name : List ℕ → ℕ → Symbol
+  number : ℕ → ℕ → Symbol
+  truth : Bool → ℕ → Symbol
+  elementary : Elementary → ℕ → Symbol
+  negation : ℕ → Symbol
+  operator : Operator → ℕ → Symbol
+  opening : ℕ → Symbol
+  mark : Mark → Symbol
+  left_out : ℕ → Symbol
+
+-- a name in upper case
+pub record Named : Type 0 where
+  pub text : List ℕ
+  pub at : ℕ
+
+-- a name, and the names behind points
+pub record PathData : Type 0 where
+  pub first : Named
+  pub members : List Named
+
+-- expressions, and what joins operands of one level from left to right
+mutual
+  pub data Tree : Type 0 where
+    literal : Literal → Tree
+    path : PathData → Tree
+    enumerator : Named → Named → Tree
+    paren : ℕ → Tree → Tree
+    unary : UnaryOperator → ℕ → Tree → Tree
+    chain : Tree → Links → Tree
+
+  pub data Links : Type 0 where
+    no_links : Links
+    link : Operator → ℕ → Tree → Links → Links
+
+-- Statements. An IF has an arm for IF and for each ELSIF, and then what stands behind ELSE.
+mutual
+  pub data Stmt : Type 0 where
+    empty : Stmt
+    assign : PathData → Tree → Stmt
+    branch : Arms → Otherwise → Stmt
+
+  pub data Stmts : Type 0 where
+    no_stmts : Stmts
+    stmt : Stmt → Stmts → Stmts
+
+  pub data Arms : Type 0 where
+    no_arms : Arms
+    arm : Tree → Stmts → Arms → Arms
+
+  pub data Otherwise : Type 0 where
+    no_else : Otherwise
+    else_stmts : Stmts → Otherwise
+
+-- the type of a declared variable
+pub data TypeData : Type 0 where
+  of_elementary : Elementary → ℕ → TypeData
+  of_name : Named → TypeData
+
+-- variables of one type, and the value that they begin with
+pub record DeclarationData : Type 0 where
+  pub first : Named
+  pub others : List Named
+  pub kind : TypeData
+  pub initial : Option Tree
+
+-- from VAR, VAR_INPUT or VAR_OUTPUT to END_VAR
+pub record VariablesData : Type 0 where
+  pub section : Section
+  pub declarations : List DeclarationData
+
+-- what a program does: statements, or a chart, of which there is none so far
+pub data BodyData : Type 0 where
+  statements : Stmts → BodyData
+  chart : ⊥ → BodyData
+
+pub record PouData : Type 0 where
+  pub name : Named
+  pub variables : List VariablesData
+  pub body : BodyData
+
+-- all that a text declares, in its order
+abbrev pub FileData : Type 0
+FileData = List PouData

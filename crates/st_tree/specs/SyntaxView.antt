@@ -1,0 +1,159 @@
+-- The data that trees of a text stand for, and tokens as the grammar sees them.
+use Rattle.std.specs.Prelude.{ℕ, List, [], ◌∷◌, map, Option, Some, None, option_map, Vec, string_bytes}
+use Rattle.std.specs.declared.alloc.Global.{Global}
+use Rattle.std.specs.Str.{str_to_ascii_uppercase}
+use Rattle.st_tree.specs.declared.token.Operator.{Operator}
+use Rattle.st_tree.specs.declared.token.Tok.{Tok}
+use Rattle.st_tree.specs.declared.token.Terminal.{Terminal}
+use Rattle.st_tree.specs.declared.token.Terminal.TheVariants as terminals
+use Rattle.st_tree.specs.declared.syntax.Name.{Name}
+use Rattle.st_tree.specs.declared.syntax.Path.{Path}
+use Rattle.st_tree.specs.declared.syntax.Expr.{Expr}
+use Rattle.st_tree.specs.declared.syntax.Link.{Link}
+use Rattle.st_tree.specs.declared.syntax.Expr.TheOpen.{Expr-F, Link-F}
+use Rattle.st_tree.specs.declared.syntax.Expr.TheFolds.{fold-Expr, fold-Link}
+use Rattle.st_tree.specs.declared.syntax.Stmt.{Stmt as StmtTree}
+use Rattle.st_tree.specs.declared.syntax.Arm.{Arm}
+use Rattle.st_tree.specs.declared.syntax.Stmt.TheOpen.{Stmt-F, Arm-F}
+use Rattle.st_tree.specs.declared.syntax.Stmt.TheFolds.{fold-Stmt, fold-Arm}
+use Rattle.st_tree.specs.declared.syntax.TypeName.{TypeName}
+use Rattle.st_tree.specs.declared.syntax.TypeName.TheVariants as type_names
+use Rattle.st_tree.specs.declared.syntax.Declaration.{Declaration}
+use Rattle.st_tree.specs.declared.syntax.Variables.{Variables}
+use Rattle.st_tree.specs.declared.syntax.Chart.{Chart}
+use Rattle.st_tree.specs.declared.syntax.Body.{Body}
+use Rattle.st_tree.specs.declared.syntax.Body.TheVariants as bodies
+use Rattle.st_tree.specs.declared.syntax.Pou.{Pou}
+use Rattle.st_tree.specs.declared.syntax.SourceFile.{SourceFile}
+use Rattle.st_tree.specs.Syntax.{Symbol, name, number, truth, elementary, negation, operator, opening, mark, left_out, Named, PathData, Tree, literal, path, enumerator, paren, unary, chain, Links, no_links, link, Stmt, empty, assign, branch, Stmts, no_stmts, stmt, Arms, no_arms, arm, Otherwise, no_else, else_stmts, TypeData, of_elementary, of_name, DeclarationData, VariablesData, BodyData, statements, chart as chart_body, PouData, FileData}
+
+-- a text in upper case
+abbrev pub upper : List ℕ → List ℕ
+upper = str_to_ascii_uppercase
+
+abbrev pub symbol_of : Terminal → List ℕ → ℕ → Symbol
+symbol_of terminals.Name text at = name (upper text) at
+symbol_of (terminals.Number value) text at = number value at
+symbol_of (terminals.Truth value) text at = truth value at
+symbol_of (terminals.Type kind) text at = elementary kind at
+symbol_of terminals.Not text at = negation at
+symbol_of (terminals.Operator o) text at = operator o at
+symbol_of terminals.Open text at = opening at
+symbol_of (terminals.Mark m) text at = mark m
+symbol_of terminals.LeftOut text at = left_out at
+
+abbrev pub symbol : Tok → Symbol
+symbol t = symbol_of t.terminal t.slice.now t.at
+
+abbrev pub symbols : List Tok → List Symbol
+symbols ts = map symbol ts
+
+abbrev pub name_view : Name → Named
+name_view n = record { text = string_bytes n.text; at = n.at }
+
+abbrev pub names_view : List Name → List Named
+names_view ns = map name_view ns
+
+abbrev pub path_view : Path → PathData
+path_view p = record { first = name_view p.first; members = names_view p.members.items }
+
+-- an operator, its place and its right operand
+abbrev pub LinkData : Type 0
+LinkData = Operator × ℕ × Tree
+
+abbrev pub links_of : List LinkData → Links
+links_of [] = no_links
+links_of (l ∷ ls) = link l.0 l.1 l.2 (links_of ls)
+
+abbrev pub expr_step : Expr-F Tree LinkData → Tree
+expr_step (Expr-F.Literal l) = literal l
+expr_step (Expr-F.Path p) = path (path_view p)
+expr_step (Expr-F.Enumerator t v) = enumerator (name_view t) (name_view v)
+expr_step (Expr-F.Paren at e) = paren at e.value
+expr_step (Expr-F.Unary o at e) = unary o at e.value
+expr_step (Expr-F.Chain e ls) = chain e.value (links_of ls.items)
+
+abbrev pub link_step : Link-F Tree LinkData → LinkData
+link_step l = (l.operator, l.at, l.right)
+
+abbrev pub tree_view : Expr → Tree
+tree_view = fold-Expr Tree LinkData expr_step link_step
+
+abbrev pub link_view : Link → LinkData
+link_view = fold-Link Tree LinkData expr_step link_step
+
+abbrev pub links_view : List Link → Links
+links_view ls = links_of (map link_view ls)
+
+abbrev pub stmts_of : List Stmt → Stmts
+stmts_of [] = no_stmts
+stmts_of (s ∷ ss) = stmt s (stmts_of ss)
+
+-- a condition and its statements
+abbrev pub ArmData : Type 0
+ArmData = Tree × Stmts
+
+abbrev pub arms_of : List ArmData → Arms
+arms_of [] = no_arms
+arms_of (a ∷ rest) = arm a.0 a.1 (arms_of rest)
+
+abbrev pub otherwise_of : Option (Vec Stmt Global) → Otherwise
+otherwise_of None = no_else
+otherwise_of (Some ss) = else_stmts (stmts_of ss.items)
+
+abbrev pub stmt_step : Stmt-F Stmt ArmData → Stmt
+stmt_step Stmt-F.Empty = empty
+stmt_step (Stmt-F.Assign p e) = assign (path_view p) (tree_view e)
+stmt_step (Stmt-F.If arms other) = branch (arms_of arms.items) (otherwise_of other)
+
+abbrev pub arm_step : Arm-F Stmt ArmData → ArmData
+arm_step a = (tree_view a.condition, stmts_of a.body.items)
+
+abbrev pub stmt_view : StmtTree → Stmt
+stmt_view = fold-Stmt Stmt ArmData stmt_step arm_step
+
+abbrev pub arm_view : Arm → ArmData
+arm_view = fold-Arm Stmt ArmData stmt_step arm_step
+
+abbrev pub stmts_view : List StmtTree → Stmts
+stmts_view ss = stmts_of (map stmt_view ss)
+
+abbrev pub arms_view : List Arm → Arms
+arms_view arms = arms_of (map arm_view arms)
+
+abbrev pub else_view : Option (Vec StmtTree Global) → Otherwise
+else_view None = no_else
+else_view (Some ss) = else_stmts (stmts_view ss.items)
+
+abbrev pub type_view : TypeName → TypeData
+type_view (type_names.Elementary kind at) = of_elementary kind at
+type_view (type_names.Named n) = of_name (name_view n)
+
+abbrev pub initial_view : Option Expr → Option Tree
+initial_view None = None
+initial_view (Some e) = Some (tree_view e)
+
+abbrev pub declaration_view : Declaration → DeclarationData
+declaration_view d = record { first = name_view d.first; others = names_view d.others.items; kind = type_view d.kind; initial = initial_view d.initial }
+
+abbrev pub declarations_view : List Declaration → List DeclarationData
+declarations_view ds = map declaration_view ds
+
+abbrev pub variables_view : Variables → VariablesData
+variables_view v = record { section = v.section; declarations = declarations_view v.declarations.items }
+
+abbrev pub all_variables_view : List Variables → List VariablesData
+all_variables_view vs = map variables_view vs
+
+abbrev pub body_view : Body → BodyData
+body_view (bodies.Statements ss) = statements (stmts_view ss.items)
+body_view (bodies.Chart c) = elim c [ ]
+
+abbrev pub pou_view : Pou → PouData
+pou_view p = record { name = name_view p.name; variables = all_variables_view p.variables.items; body = body_view p.body }
+
+abbrev pub pous_view : List Pou → FileData
+pous_view ps = map pou_view ps
+
+abbrev pub file_view : SourceFile → FileData
+file_view f = pous_view f.pous.items

@@ -1,0 +1,148 @@
+// Trees of a text, as they print its tokens. A number beside a part is the place of the part's first token, or
+// of its operator, in bytes from 0. Operators of one level, the arms of an IF and statements are lists, so that
+// a long text is no deep tree.
+use crate::elementary::Elementary;
+use crate::token::Operator;
+
+/// A name, in upper case, and its place.
+#[derive(Drop)]
+pub struct Name {
+    pub text: String,
+    pub at: usize,
+}
+
+/// A name, and the names behind points.
+#[derive(Drop)]
+pub struct Path {
+    pub first: Name,
+    pub members: Vec<Name>,
+}
+
+/// A literal (IEC 61131-3, 2.2.1): a number or a truth value, with its type before it or without. A number
+/// behind a type may have a minus sign, whose place is `minus`.
+#[derive(Clone, Copy, Debug, PartialEq, Eq)]
+pub enum Literal {
+    Number {
+        value: u64,
+        at: usize,
+    },
+    Truth {
+        value: bool,
+        at: usize,
+    },
+    TypedNumber {
+        kind: Elementary,
+        at: usize,
+        minus: Option<usize>,
+        value: u64,
+        value_at: usize,
+    },
+    TypedTruth {
+        kind: Elementary,
+        at: usize,
+        value: bool,
+        value_at: usize,
+    },
+}
+
+/// A unary operator (IEC 61131-3, table 52).
+#[derive(Clone, Copy, Debug, PartialEq, Eq)]
+pub enum UnaryOperator {
+    Minus,
+    Not,
+}
+
+/// An expression (IEC 61131-3, 3.3.1): a literal; a variable; `type#value`; an expression in parentheses; a
+/// unary operator and its operand; or operators of one level, joined from left to right.
+#[derive(Drop)]
+#[cycle(expr)]
+pub enum Expr {
+    Literal(Literal),
+    Path(Path),
+    Enumerator(Name, Name),
+    Paren(usize, Box<Expr>),
+    Unary(UnaryOperator, usize, Box<Expr>),
+    Chain(Box<Expr>, Vec<Link>),
+}
+
+/// An operator, its place, and what stands to its right.
+#[derive(Drop)]
+#[cycle(expr)]
+pub struct Link {
+    pub operator: Operator,
+    pub at: usize,
+    pub right: Expr,
+}
+
+/// A statement (IEC 61131-3, 3.3.2). An IF has an arm for IF and for each ELSIF, and what stands behind ELSE.
+#[derive(Drop)]
+#[cycle(stmt)]
+pub enum Stmt {
+    Empty,
+    Assign(Path, Expr),
+    If(Vec<Arm>, Option<Vec<Stmt>>),
+}
+
+/// A condition, and the statements behind its THEN.
+#[derive(Drop)]
+#[cycle(stmt)]
+pub struct Arm {
+    pub condition: Expr,
+    pub body: Vec<Stmt>,
+}
+
+/// A type where a variable is declared: an elementary one, or one by name.
+#[derive(Drop)]
+pub enum TypeName {
+    Elementary(Elementary, usize),
+    Named(Name),
+}
+
+/// Variables of one type, and the value that they begin with (IEC 61131-3, 2.4.3).
+#[derive(Drop)]
+pub struct Declaration {
+    pub first: Name,
+    pub others: Vec<Name>,
+    pub kind: TypeName,
+    pub initial: Option<Expr>,
+}
+
+/// What variables are for: VAR_INPUT, VAR_OUTPUT or VAR.
+#[derive(Clone, Copy, Debug, PartialEq, Eq)]
+pub enum Section {
+    Input,
+    Output,
+    Local,
+}
+
+/// A list of declarations, from VAR, VAR_INPUT or VAR_OUTPUT to END_VAR.
+#[derive(Drop)]
+pub struct Variables {
+    pub section: Section,
+    pub declarations: Vec<Declaration>,
+}
+
+/// A sequential function chart (IEC 61131-3, 2.6). So far there is none.
+#[derive(Drop)]
+pub enum Chart {}
+
+/// What a program does: statements, or a chart.
+#[derive(Drop)]
+pub enum Body {
+    Statements(Vec<Stmt>),
+    Chart(Chart),
+}
+
+/// A program organization unit (IEC 61131-3, 2.5): so far a PROGRAM.
+#[derive(Drop)]
+pub struct Pou {
+    pub name: Name,
+    pub variables: Vec<Variables>,
+    pub body: Body,
+}
+
+/// All that a text declares, in its order.
+#[derive(Drop)]
+pub struct SourceFile {
+    pub pous: Vec<Pou>,
+}

@@ -1,0 +1,239 @@
+// Copies of trees of a text: each stands for the same data.
+ghost use Rattle.std.specs.Prelude.{◌≡◌, map, IfOk};
+ghost use Rattle.st_tree.specs.SyntaxView.{name_view, names_view, path_view, tree_view, link_view, links_view, stmt_view, stmts_view, arm_view, arms_view, else_view, type_view, initial_view, declaration_view, declarations_view, variables_view, all_variables_view, body_view, pou_view, pous_view, file_view};
+
+use crate::syntax::{
+    Arm, Body, Declaration, Expr, Link, Name, Path, Pou, SourceFile, Stmt, TypeName, Variables,
+};
+use std::alloc::{AllocError, Global};
+
+#[cfg(test)]
+mod tests;
+
+impl Name {
+    /// The same name.
+    pub fn copy(&self, alloc: Global) -> Result<Name, AllocError>
+        ensures { IfOk result (λ n. name_view n ≡ name_view self.now) }
+    {
+        let text = String::from_str(alloc, self.text.as_str())?;
+        Ok(Name { text, at: self.at })
+    }
+}
+
+fn copy_names(alloc: Global, names: &[Name]) -> Result<Vec<Name>, AllocError>
+    ensures { IfOk result (λ v. names_view v.items ≡ names_view names.now) }
+{
+    let mut copies = Vec::new(alloc);
+    for name in names {
+        copies.push(name.copy(alloc)?)?;
+    }
+    Ok(copies)
+}
+
+impl Path {
+    /// The same path.
+    pub fn copy(&self, alloc: Global) -> Result<Path, AllocError>
+        ensures { IfOk result (λ p. path_view p ≡ path_view self.now) }
+    {
+        let first = self.first.copy(alloc)?;
+        let members = copy_names(alloc, &self.members)?;
+        Ok(Path { first, members })
+    }
+}
+
+impl Expr {
+    /// The same expression.
+    #[cycle(copy_expr)]
+    pub fn copy(&self, alloc: Global) -> Result<Expr, AllocError>
+        ensures { IfOk result (λ e. tree_view e ≡ tree_view self.now) }
+    {
+        match self {
+            Expr::Literal(literal) => Ok(Expr::Literal(*literal)),
+            Expr::Path(path) => Ok(Expr::Path(path.copy(alloc)?)),
+            Expr::Enumerator(kind, value) => {
+                let kind = kind.copy(alloc)?;
+                let value = value.copy(alloc)?;
+                Ok(Expr::Enumerator(kind, value))
+            }
+            Expr::Paren(at, inner) => {
+                let inner = inner.copy(alloc)?;
+                Ok(Expr::Paren(*at, Box::new(alloc, inner)?))
+            }
+            Expr::Unary(operator, at, operand) => {
+                let operand = operand.copy(alloc)?;
+                Ok(Expr::Unary(*operator, *at, Box::new(alloc, operand)?))
+            }
+            Expr::Chain(first, links) => {
+                let first = first.copy(alloc)?;
+                let links = copy_links(alloc, links)?;
+                Ok(Expr::Chain(Box::new(alloc, first)?, links))
+            }
+        }
+    }
+}
+
+#[cycle(copy_expr)]
+fn copy_links(alloc: Global, links: &[Link]) -> Result<Vec<Link>, AllocError>
+    ensures { IfOk result (λ v. map link_view v.items ≡ map link_view links.now) }
+{
+    let mut copies = Vec::new(alloc);
+    for link in links {
+        let right = link.right.copy(alloc)?;
+        copies.push(Link {
+            operator: link.operator,
+            at: link.at,
+            right,
+        })?;
+    }
+    Ok(copies)
+}
+
+impl Stmt {
+    /// The same statement.
+    #[cycle(copy_stmt)]
+    pub fn copy(&self, alloc: Global) -> Result<Stmt, AllocError>
+        ensures { IfOk result (λ s. stmt_view s ≡ stmt_view self.now) }
+    {
+        match self {
+            Stmt::Empty => Ok(Stmt::Empty),
+            Stmt::Assign(target, value) => {
+                let target = target.copy(alloc)?;
+                let value = value.copy(alloc)?;
+                Ok(Stmt::Assign(target, value))
+            }
+            Stmt::If(arms, otherwise) => {
+                let arms = copy_arms(alloc, arms)?;
+                match otherwise {
+                    None => Ok(Stmt::If(arms, None)),
+                    Some(stmts) => {
+                        let stmts = copy_stmts(alloc, stmts)?;
+                        Ok(Stmt::If(arms, Some(stmts)))
+                    }
+                }
+            }
+        }
+    }
+}
+
+#[cycle(copy_stmt)]
+fn copy_stmts(alloc: Global, stmts: &[Stmt]) -> Result<Vec<Stmt>, AllocError>
+    ensures { IfOk result (λ v. map stmt_view v.items ≡ map stmt_view stmts.now) }
+{
+    let mut copies = Vec::new(alloc);
+    for stmt in stmts {
+        copies.push(stmt.copy(alloc)?)?;
+    }
+    Ok(copies)
+}
+
+#[cycle(copy_stmt)]
+fn copy_arms(alloc: Global, arms: &[Arm]) -> Result<Vec<Arm>, AllocError>
+    ensures { IfOk result (λ v. map arm_view v.items ≡ map arm_view arms.now) }
+{
+    let mut copies = Vec::new(alloc);
+    for arm in arms {
+        let condition = arm.condition.copy(alloc)?;
+        let body = copy_stmts(alloc, &arm.body)?;
+        copies.push(Arm { condition, body })?;
+    }
+    Ok(copies)
+}
+
+impl TypeName {
+    /// The same type.
+    pub fn copy(&self, alloc: Global) -> Result<TypeName, AllocError>
+        ensures { IfOk result (λ t. type_view t ≡ type_view self.now) }
+    {
+        match self {
+            TypeName::Elementary(kind, at) => Ok(TypeName::Elementary(*kind, *at)),
+            TypeName::Named(name) => Ok(TypeName::Named(name.copy(alloc)?)),
+        }
+    }
+}
+
+fn copy_initial(alloc: Global, initial: &Option<Expr>) -> Result<Option<Expr>, AllocError>
+    ensures { IfOk result (λ i. initial_view i ≡ initial_view initial.now) }
+{
+    match initial {
+        None => Ok(None),
+        Some(value) => Ok(Some(value.copy(alloc)?)),
+    }
+}
+
+impl Declaration {
+    /// The same declaration.
+    pub fn copy(&self, alloc: Global) -> Result<Declaration, AllocError>
+        ensures { IfOk result (λ d. declaration_view d ≡ declaration_view self.now) }
+    {
+        let first = self.first.copy(alloc)?;
+        let others = copy_names(alloc, &self.others)?;
+        let kind = self.kind.copy(alloc)?;
+        let initial = copy_initial(alloc, &self.initial)?;
+        Ok(Declaration {
+            first,
+            others,
+            kind,
+            initial,
+        })
+    }
+}
+
+impl Variables {
+    /// The same declarations.
+    pub fn copy(&self, alloc: Global) -> Result<Variables, AllocError>
+        ensures { IfOk result (λ v. variables_view v ≡ variables_view self.now) }
+    {
+        let mut declarations = Vec::new(alloc);
+        for declaration in &self.declarations {
+            declarations.push(declaration.copy(alloc)?)?;
+        }
+        Ok(Variables {
+            section: self.section,
+            declarations,
+        })
+    }
+}
+
+impl Body {
+    /// The same body.
+    pub fn copy(&self, alloc: Global) -> Result<Body, AllocError>
+        ensures { IfOk result (λ b. body_view b ≡ body_view self.now) }
+    {
+        match self {
+            Body::Statements(stmts) => Ok(Body::Statements(copy_stmts(alloc, stmts)?)),
+            Body::Chart(chart) => match *chart {},
+        }
+    }
+}
+
+impl Pou {
+    /// The same program organization unit.
+    pub fn copy(&self, alloc: Global) -> Result<Pou, AllocError>
+        ensures { IfOk result (λ p. pou_view p ≡ pou_view self.now) }
+    {
+        let name = self.name.copy(alloc)?;
+        let mut variables = Vec::new(alloc);
+        for section in &self.variables {
+            variables.push(section.copy(alloc)?)?;
+        }
+        let body = self.body.copy(alloc)?;
+        Ok(Pou {
+            name,
+            variables,
+            body,
+        })
+    }
+}
+
+impl SourceFile {
+    /// The same file.
+    pub fn copy(&self, alloc: Global) -> Result<SourceFile, AllocError>
+        ensures { IfOk result (λ f. file_view f ≡ file_view self.now) }
+    {
+        let mut pous = Vec::new(alloc);
+        for pou in &self.pous {
+            pous.push(pou.copy(alloc)?)?;
+        }
+        Ok(SourceFile { pous })
+    }
+}

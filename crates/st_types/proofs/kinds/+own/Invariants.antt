@@ -1,0 +1,8 @@
+use Rattle.std.proofs.Common.{◌≡◌, drop}
+use Rattle.st_tree.specs.SyntaxView.{links_view}
+use Rattle.st_types.specs.Typing.{own_of_links}
+use Rattle.st_types.proofs.kinds.+own.Given as goal
+
+abbrev pub invariant-own_of_links-loop-link : goal.invariant-own_of_links-loop-link
+invariant-own_of_links-loop-link g l =
+    own_of_links (g.S.Scope.means l.scope) (links_view (drop l.link-index l.links)) ≡ own_of_links (g.S.Scope.means l.scope) (links_view l.links)

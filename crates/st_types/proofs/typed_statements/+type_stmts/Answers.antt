@@ -1,0 +1,17 @@
+use Rattle.std.proofs.Common.{◌≡◌, ◌∙◌, ap, map, arith}
+use Rattle.std.proofs.lemmas.Grind.{common_steps}
+use Rattle.st_tree.specs.SyntaxView.{stmts_view, arms_view}
+use Rattle.st_tree.specs.View.{statements_of, choices_of, stmt_view as typed_view, arm_view as typed_arm_view}
+use Rattle.st_types.specs.TypedLists.{statement_list, choice_list}
+use Rattle.st_types.proofs.TypedLemmas.{statements_of-list, choices_of-list}
+use Rattle.st_types.proofs.typed_statements.+type_stmts.Goals as goal
+
+pub type_stmts-returns : goal.type_stmts-returns
+type_stmts-returns g t c =
+    let all : map typed_view c.loop-stmt.list.items ≡ statement_list (g.S.Scope.means c.args.scope.now) (stmts_view c.args.stmts.now) = grind (arith, common_steps) in
+    ap statements_of all ∙ statements_of-list (g.S.Scope.means c.args.scope.now) (stmts_view c.args.stmts.now)
+
+pub type_arms-returns : goal.type_arms-returns
+type_arms-returns g t c =
+    let all : map typed_arm_view c.loop-arm.list.items ≡ choice_list (g.S.Scope.means c.args.scope.now) (arms_view c.args.arms.now) = grind (arith, common_steps) in
+    ap choices_of all ∙ choices_of-list (g.S.Scope.means c.args.scope.now) (arms_view c.args.arms.now)

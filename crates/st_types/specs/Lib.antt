@@ -1,0 +1,12 @@
+pub mod Typing
+pub mod Judged
+pub mod Programs
+pub mod Typed
+pub mod Outcomes
+pub mod Wholes
+pub mod TypedLists
+pub mod Sides
+pub mod Pairs
+pub mod Bodies
+pub mod Faults
+pub mod Ready

@@ -1,0 +1,109 @@
+// Judging expressions.
+ghost use Rattle.std.specs.Prelude.{◌≡◌};
+ghost use Rattle.st_tree.specs.SyntaxView.{tree_view, links_view};
+ghost use Rattle.st_types.specs.Judged.{judged_literal, judged_meaning, takes_sign, negative_literal, judged, judged_condition};
+ghost use Rattle.st_types.specs.Outcomes.{outcome_of, links_outcome};
+
+use crate::kinds::{is_integer, next_type, operand_type, place_of, takes, type_of};
+use crate::literals::{is_literal_of, is_number, place_of_literal};
+use crate::outcome::Outcome;
+use crate::scope::{Meaning, Scope};
+use st_tree::{Elementary, Expr, Link, Literal, Rule, UnaryOperator};
+
+/// A literal is a value of its type.
+fn judge_literal(kind: Elementary, minus: bool, at: usize, literal: Literal) -> Outcome
+    ensures { result ≡ outcome_of (judged_literal kind minus at literal) }
+{
+    if is_literal_of(kind, minus, literal) {
+        Outcome::sound()
+    } else {
+        Outcome::breaks(Rule::OutsideType, at)
+    }
+}
+
+/// A name is whole where its declaration is.
+pub(crate) fn judge_meaning(meaning: Option<Meaning>) -> Outcome
+    ensures { result ≡ outcome_of (judged_meaning meaning) }
+{
+    match meaning {
+        Some(meaning) if meaning.whole => Outcome::sound(),
+        _ => Outcome::silent(),
+    }
+}
+
+fn takes_sign(operator: UnaryOperator, kind: Elementary) -> bool
+    ensures { result ≡ takes_sign operator kind }
+{
+    match operator {
+        UnaryOperator::Minus => is_integer(kind),
+        UnaryOperator::Not => !is_integer(kind),
+    }
+}
+
+/// The number that is one literal with the minus sign before it, where there is one.
+pub(crate) fn negative_literal(operator: UnaryOperator, operand: &Expr) -> Option<Literal>
+    ensures { result ≡ negative_literal operator (tree_view operand.now) }
+{
+    match (operator, operand) {
+        (UnaryOperator::Minus, Expr::Literal(literal)) if is_number(*literal) => Some(*literal),
+        _ => None,
+    }
+}
+
+/// Whether an expression is whole where a type is wanted, or none, and what it breaks first.
+#[cycle(judge_expr)]
+#[tactic(auto, using(crate::proofs::Judging::judging))]
+pub(crate) fn judge_expr<S: Scope>(scope: &S, wanted: Option<Elementary>, expr: &Expr) -> Outcome
+    ensures { result ≡ outcome_of (judged (S.means scope.now) wanted (tree_view expr.now)) }
+{
+    match expr {
+        Expr::Literal(literal) => {
+            let kind = type_of(scope, wanted, expr);
+            judge_literal(kind, false, place_of_literal(*literal), *literal)
+        }
+        Expr::Path(path) => judge_meaning(scope.meaning(path)),
+        Expr::Enumerator(_, _) => Outcome::silent(),
+        Expr::Paren(_, inner) => judge_expr(scope, wanted, inner),
+        Expr::Unary(operator, at, operand) => {
+            let kind = type_of(scope, wanted, operand);
+            match negative_literal(*operator, operand) {
+                Some(literal) => judge_literal(kind, true, *at, literal),
+                None => judge_expr(scope, Some(kind), operand).tested(
+                    takes_sign(*operator, kind),
+                    Rule::OperandType,
+                    *at,
+                ),
+            }
+        }
+        Expr::Chain(first, links) => {
+            let kind = operand_type(scope, wanted, first, links);
+            let left = judge_expr(scope, Some(kind), first);
+            judge_links(scope, kind, left, links)
+        }
+    }
+}
+
+// Operators behind a left operand that was judged.
+#[cycle(judge_expr)]
+fn judge_links<S: Scope>(scope: &S, kind: Elementary, left: Outcome, links: &[Link]) -> Outcome
+    ensures { result ≡ links_outcome (S.means scope.now) kind left (links_view links.now) }
+{
+    let mut kind = kind;
+    let mut left = left;
+    for link in links {
+        let right = judge_expr(scope, Some(kind), &link.right);
+        let fits = takes(link.operator, kind) && type_of(scope, Some(kind), &link.right) == kind;
+        left = left.also(right).tested(fits, Rule::OperandType, link.at);
+        kind = next_type(link.operator, kind);
+    }
+    left
+}
+
+/// A condition is BOOL.
+#[tactic(auto, using(crate::proofs::Judging::judging))]
+pub(crate) fn judge_condition<S: Scope>(scope: &S, rule: Rule, expr: &Expr) -> Outcome
+    ensures { result ≡ outcome_of (judged_condition (S.means scope.now) rule (tree_view expr.now)) }
+{
+    let is_bool = type_of(scope, None, expr) == Elementary::Bool;
+    judge_expr(scope, None, expr).tested(is_bool, rule, place_of(expr))
+}

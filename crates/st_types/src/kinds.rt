@@ -1,0 +1,168 @@
+// The types of expressions (IEC 61131-3, 3.3.1).
+ghost use Rattle.std.specs.Prelude.{◌≡◌};
+ghost use Rattle.st_tree.specs.SyntaxView.{tree_view, links_view};
+ghost use Rattle.st_types.specs.Typing.{kind_at, is_comparison, compares, own, own_of_links, or_dint, type_of, own_of_first, operand_type, next_type, takes, place_of};
+ghost use Rattle.st_tree.specs.Types.{is_integer};
+
+use crate::literals::{own_of_literal, place_of_literal};
+use crate::scope::{Meaning, Scope};
+use st_tree::{Elementary, Expr, Link, Operator};
+
+/// The type of what a path stands for.
+pub(crate) fn kind_at(meaning: Option<Meaning>) -> Option<Elementary>
+    ensures { result ≡ kind_at meaning }
+{
+    match meaning {
+        None => None,
+        Some(meaning) => Some(meaning.kind),
+    }
+}
+
+/// Whether a type is one of the integer types.
+pub(crate) fn is_integer(kind: Elementary) -> bool
+    ensures { result ≡ is_integer kind }
+{
+    match kind {
+        Elementary::Sint | Elementary::Int | Elementary::Dint => true,
+        Elementary::Usint | Elementary::Uint | Elementary::Udint => true,
+        Elementary::Bool | Elementary::Byte | Elementary::Word | Elementary::Dword => false,
+    }
+}
+
+fn is_comparison(operator: Operator) -> bool
+    ensures { result ≡ is_comparison operator }
+{
+    matches!(
+        operator,
+        Operator::Equal
+            | Operator::NotEqual
+            | Operator::Less
+            | Operator::Greater
+            | Operator::LessEqual
+            | Operator::GreaterEqual
+    )
+}
+
+fn compares(links: &[Link]) -> bool
+    ensures { result ≡ compares (links_view links.now) }
+{
+    match links.first() {
+        None => false,
+        Some(link) => is_comparison(link.operator),
+    }
+}
+
+/// The own type of an expression, where it has one.
+#[cycle(own)]
+pub(crate) fn own<S: Scope>(scope: &S, expr: &Expr) -> Option<Elementary>
+    ensures { result ≡ own (S.means scope.now) (tree_view expr.now) }
+{
+    match expr {
+        Expr::Literal(literal) => own_of_literal(*literal),
+        Expr::Path(path) => kind_at(scope.meaning(path)),
+        Expr::Enumerator(_, _) => None,
+        Expr::Paren(_, inner) => own(scope, inner),
+        Expr::Unary(_, _, operand) => own(scope, operand),
+        Expr::Chain(first, links) => {
+            if compares(links) {
+                return Some(Elementary::Bool);
+            }
+            match own(scope, first) {
+                Some(kind) => Some(kind),
+                None => own_of_links(scope, links),
+            }
+        }
+    }
+}
+
+// The own type of the leftmost operand that has one.
+#[cycle(own)]
+fn own_of_links<S: Scope>(scope: &S, links: &[Link]) -> Option<Elementary>
+    ensures { result ≡ own_of_links (S.means scope.now) (links_view links.now) }
+{
+    for link in links {
+        if let Some(kind) = own(scope, &link.right) {
+            return Some(kind);
+        }
+    }
+    None
+}
+
+/// The type that an untyped literal takes.
+pub(crate) fn or_dint(wanted: Option<Elementary>) -> Elementary
+    ensures { result ≡ or_dint wanted }
+{
+    wanted.unwrap_or(Elementary::Dint)
+}
+
+/// The type of an expression where a type is wanted, or none.
+pub(crate) fn type_of<S: Scope>(scope: &S, wanted: Option<Elementary>, expr: &Expr) -> Elementary
+    ensures { result ≡ type_of (S.means scope.now) wanted (tree_view expr.now) }
+{
+    or_dint(own(scope, expr).or(wanted))
+}
+
+fn own_of_first<S: Scope>(scope: &S, links: &[Link]) -> Option<Elementary>
+    ensures { result ≡ own_of_first (S.means scope.now) (links_view links.now) }
+{
+    match links.first() {
+        None => None,
+        Some(link) => own(scope, &link.right),
+    }
+}
+
+/// The type of the operands of a chain.
+pub(crate) fn operand_type<S: Scope>(
+    scope: &S,
+    wanted: Option<Elementary>,
+    first: &Expr,
+    links: &[Link],
+) -> Elementary
+    ensures { result ≡ operand_type (S.means scope.now) wanted (tree_view first.now) (links_view links.now) }
+{
+    let of_first = own(scope, first);
+    if compares(links) {
+        or_dint(of_first.or(own_of_first(scope, links)))
+    } else {
+        or_dint(of_first.or(own_of_links(scope, links)).or(wanted))
+    }
+}
+
+/// The type of the operands of the operator behind this one.
+pub(crate) fn next_type(operator: Operator, kind: Elementary) -> Elementary
+    ensures { result ≡ next_type operator kind }
+{
+    if is_comparison(operator) {
+        Elementary::Bool
+    } else {
+        kind
+    }
+}
+
+/// Whether an operator takes operands of a type.
+pub(crate) fn takes(operator: Operator, kind: Elementary) -> bool
+    ensures { result ≡ takes operator kind }
+{
+    match operator {
+        Operator::Or | Operator::Xor | Operator::And => !is_integer(kind),
+        Operator::Plus | Operator::Minus => is_integer(kind),
+        Operator::Times | Operator::Divide | Operator::Mod => is_integer(kind),
+        Operator::Equal | Operator::NotEqual => true,
+        Operator::Less | Operator::Greater => true,
+        Operator::LessEqual | Operator::GreaterEqual => true,
+    }
+}
+
+/// The place of an expression's first token.
+pub(crate) fn place_of(expr: &Expr) -> usize
+    ensures { result ≡ place_of (tree_view expr.now) }
+{
+    match expr {
+        Expr::Literal(literal) => place_of_literal(*literal),
+        Expr::Path(path) => path.first.at,
+        Expr::Enumerator(kind, _) => kind.at,
+        Expr::Paren(at, _) => *at,
+        Expr::Unary(_, at, _) => *at,
+        Expr::Chain(first, _) => place_of(first),
+    }
+}

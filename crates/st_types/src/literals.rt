@@ -1,0 +1,74 @@
+// Literals: their own types and their values.
+ghost use Rattle.std.specs.Prelude.{◌≡◌, ◌<ℤ◌, ◌^◌, pos, neg_ℤ};
+ghost use Rattle.st_types.specs.Typing.{own_of_literal, negated, truth_value, literal_value, is_literal_of, is_number, place_of_literal};
+
+use crate::numbers::is_value_of;
+use st_tree::{Elementary, Literal};
+
+/// The own type of a literal; a number without a type before it has none.
+pub(crate) fn own_of_literal(literal: Literal) -> Option<Elementary>
+    ensures { result ≡ own_of_literal literal }
+{
+    match literal {
+        Literal::Number { .. } => None,
+        Literal::Truth { .. } => Some(Elementary::Bool),
+        Literal::TypedNumber { kind, .. } => Some(kind),
+        Literal::TypedTruth { kind, .. } => Some(kind),
+    }
+}
+
+/// A number, or what a minus sign before it makes of it.
+pub(crate) fn negated(minus: bool, value: i128) -> i128
+    requires above { neg_ℤ (pos (2 ^ 64)) <ℤ value }
+    ensures value { result ≡ negated minus value }
+{
+    if minus { -value } else { value }
+}
+
+/// The value of a literal.
+pub(crate) fn literal_value(literal: Literal) -> i128
+    ensures value { result ≡ literal_value literal }
+    ensures above { neg_ℤ (pos (2 ^ 64)) <ℤ result }
+{
+    match literal {
+        Literal::Number { value, .. } => i128::from(value),
+        Literal::Truth { value, .. } => i128::from(value),
+        Literal::TypedNumber { minus, value, .. } => negated(minus.is_some(), i128::from(value)),
+        Literal::TypedTruth { value, .. } => i128::from(value),
+    }
+}
+
+/// Whether a literal, with a minus sign before it or not, is a value of a type.
+pub(crate) fn is_literal_of(kind: Elementary, minus: bool, literal: Literal) -> bool
+    ensures { result ≡ is_literal_of kind minus literal }
+{
+    match literal {
+        Literal::Truth { .. } => true,
+        Literal::TypedTruth { kind, .. } => kind == Elementary::Bool,
+        Literal::Number { .. } | Literal::TypedNumber { .. } => {
+            is_value_of(negated(minus, literal_value(literal)), kind)
+        }
+    }
+}
+
+/// Whether a minus sign before a literal is part of it.
+pub(crate) fn is_number(literal: Literal) -> bool
+    ensures { result ≡ is_number literal }
+{
+    matches!(
+        literal,
+        Literal::Number { .. } | Literal::TypedNumber { .. }
+    )
+}
+
+/// The place of a literal's first token.
+pub(crate) fn place_of_literal(literal: Literal) -> usize
+    ensures { result ≡ place_of_literal literal }
+{
+    match literal {
+        Literal::Number { at, .. } => at,
+        Literal::Truth { at, .. } => at,
+        Literal::TypedNumber { at, .. } => at,
+        Literal::TypedTruth { at, .. } => at,
+    }
+}

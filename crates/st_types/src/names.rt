@@ -1,0 +1,29 @@
+// The names of a program.
+ghost use Rattle.std.specs.Prelude.{◌≡◌, ◌∷◌, true, map};
+ghost use Rattle.st_tree.specs.SyntaxView.{pou_view};
+ghost use Rattle.st_names.specs.Bound.{variables_in_pou};
+ghost use Rattle.st_types.specs.Wholes.{is_sound};
+
+use crate::meanings::meant;
+use crate::scope::{Meaning, Scope};
+use st_names::Resolved;
+use st_tree::Path;
+
+/// A program whose names are bound, and which of its cells' declarations break no rule.
+#[derive(Drop)]
+pub(crate) struct ProgramScope<'p> {
+    pub names: &'p Resolved,
+    pub wholes: Vec<bool>,
+    ghost judged: { wholes.items ≡ true ∷ map is_sound (variables_in_pou (pou_view names.now.program)) },
+}
+
+impl Scope for ProgramScope<'_> {
+    ghost use Rattle.st_types.specs.Bodies.{means_in};
+
+    ghost means = { means_in };
+
+    fn meaning(&self, path: &Path) -> Option<Meaning> {
+        let bound = self.names.variable(path.first.text.as_str());
+        meant(&self.wholes, bound)
+    }
+}

@@ -1,0 +1,91 @@
+// Typed expressions.
+ghost use Rattle.std.specs.Prelude.{◌≡◌, map, IfOk};
+ghost use Rattle.st_tree.specs.SyntaxView.{tree_view, links_view};
+ghost use Rattle.st_tree.specs.View.{expr_view, operands_view};
+ghost use Rattle.st_types.specs.Typed.{number_of, cell_of, typed, typed_links};
+
+use crate::expressions::negative_literal;
+use crate::kinds::{next_type, operand_type, type_of};
+use crate::literals::{literal_value, negated};
+use crate::numbers::wrapped;
+use crate::scope::{Meaning, Scope};
+use st_tree::{Elementary, Expr, Link, Literal, Operand, TypedExpr};
+use std::alloc::{AllocError, Global};
+
+// A literal's number.
+fn number_of(kind: Elementary, minus: bool, literal: Literal) -> TypedExpr
+    ensures { expr_view result ≡ number_of kind minus literal }
+{
+    TypedExpr::Number(wrapped(negated(minus, literal_value(literal)), kind))
+}
+
+/// The cell that a path stands for.
+pub(crate) fn cell_of(meaning: Option<Meaning>) -> usize
+    ensures { result ≡ cell_of meaning }
+{
+    match meaning {
+        None => 0,
+        Some(meaning) => meaning.cell,
+    }
+}
+
+/// The typed expression that an expression stands for where a type is wanted, or none.
+#[cycle(type_expr)]
+pub(crate) fn type_expr<S: Scope>(
+    alloc: Global,
+    scope: &S,
+    wanted: Option<Elementary>,
+    expr: &Expr,
+) -> Result<TypedExpr, AllocError>
+    ensures { IfOk result (λ e. expr_view e ≡ typed (S.means scope.now) wanted (tree_view expr.now)) }
+{
+    match expr {
+        Expr::Literal(literal) => {
+            let kind = type_of(scope, wanted, expr);
+            Ok(number_of(kind, false, *literal))
+        }
+        Expr::Path(path) => Ok(TypedExpr::Cell(cell_of(scope.meaning(path)))),
+        Expr::Enumerator(_, _) => Ok(TypedExpr::Number(0)),
+        Expr::Paren(_, inner) => type_expr(alloc, scope, wanted, inner),
+        Expr::Unary(operator, _, operand) => {
+            let kind = type_of(scope, wanted, operand);
+            match negative_literal(*operator, operand) {
+                Some(literal) => Ok(number_of(kind, true, literal)),
+                None => {
+                    let inner = type_expr(alloc, scope, Some(kind), operand)?;
+                    Ok(TypedExpr::Unary(*operator, kind, Box::new(alloc, inner)?))
+                }
+            }
+        }
+        Expr::Chain(first, links) => {
+            let kind = operand_type(scope, wanted, first, links);
+            let first = type_expr(alloc, scope, Some(kind), first)?;
+            let operands = type_links(alloc, scope, kind, links)?;
+            Ok(TypedExpr::Chain(Box::new(alloc, first)?, operands))
+        }
+    }
+}
+
+// The operands that operators join to what stands before.
+#[cycle(type_expr)]
+fn type_links<S: Scope>(
+    alloc: Global,
+    scope: &S,
+    kind: Elementary,
+    links: &[Link],
+) -> Result<Vec<Operand>, AllocError>
+    ensures { IfOk result (λ operands. operands_view operands.items ≡ typed_links (S.means scope.now) kind (links_view links.now)) }
+{
+    let mut kind = kind;
+    let mut operands = Vec::new(alloc);
+    for link in links {
+        let right = type_expr(alloc, scope, Some(kind), &link.right)?;
+        operands.push(Operand {
+            operator: link.operator,
+            kind,
+            right,
+        })?;
+        kind = next_type(link.operator, kind);
+    }
+    Ok(operands)
+}

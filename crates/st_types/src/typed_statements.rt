@@ -1,0 +1,81 @@
+// Typed statements.
+ghost use Rattle.std.specs.Prelude.{◌≡◌, option_map, IfOk};
+ghost use Rattle.st_tree.specs.SyntaxView.{stmt_view, stmts_view, arms_view, else_view};
+ghost use Rattle.st_tree.specs.View.{stmt_view as typed_view, stmts_view as typed_stmts_view, choices_view};
+ghost use Rattle.st_types.specs.Typed.{typed_stmts, typed_arms, typed_else};
+ghost use Rattle.st_types.specs.TypedLists.{statement_of};
+
+use crate::kinds::kind_at;
+use crate::scope::Scope;
+use crate::typed_expressions::{cell_of, type_expr};
+use st_tree::{Arm, Stmt, TypedArm, TypedStmt};
+use std::alloc::{AllocError, Global};
+
+// The typed statement that a statement stands for; an empty one leaves nothing.
+#[cycle(type_stmts)]
+fn type_stmt<S: Scope>(
+    alloc: Global,
+    scope: &S,
+    stmt: &Stmt,
+) -> Result<Option<TypedStmt>, AllocError>
+    ensures { IfOk result (λ typed. option_map typed_view typed ≡ statement_of (S.means scope.now) (stmt_view stmt.now)) }
+{
+    match stmt {
+        Stmt::Empty => Ok(None),
+        Stmt::Assign(path, value) => {
+            let target = scope.meaning(path);
+            let value = type_expr(alloc, scope, kind_at(target), value)?;
+            Ok(Some(TypedStmt::Assign(cell_of(target), value)))
+        }
+        Stmt::If(arms, other) => {
+            let arms = type_arms(alloc, scope, arms)?;
+            let other = type_else(alloc, scope, other)?;
+            Ok(Some(TypedStmt::If(arms, other)))
+        }
+    }
+}
+
+/// The typed statements that statements stand for.
+#[cycle(type_stmts)]
+pub(crate) fn type_stmts<S: Scope>(
+    alloc: Global,
+    scope: &S,
+    stmts: &[Stmt],
+) -> Result<Vec<TypedStmt>, AllocError>
+    ensures { IfOk result (λ list. typed_stmts_view list.items ≡ typed_stmts (S.means scope.now) (stmts_view stmts.now)) }
+{
+    let mut list = Vec::new(alloc);
+    for stmt in stmts {
+        if let Some(typed) = type_stmt(alloc, scope, stmt)? {
+            list.push(typed)?;
+        }
+    }
+    Ok(list)
+}
+
+#[cycle(type_stmts)]
+fn type_arms<S: Scope>(alloc: Global, scope: &S, arms: &[Arm]) -> Result<Vec<TypedArm>, AllocError>
+    ensures { IfOk result (λ list. choices_view list.items ≡ typed_arms (S.means scope.now) (arms_view arms.now)) }
+{
+    let mut list = Vec::new(alloc);
+    for arm in arms {
+        let condition = type_expr(alloc, scope, None, &arm.condition)?;
+        let body = type_stmts(alloc, scope, &arm.body)?;
+        list.push(TypedArm { condition, body })?;
+    }
+    Ok(list)
+}
+
+#[cycle(type_stmts)]
+fn type_else<S: Scope>(
+    alloc: Global,
+    scope: &S,
+    other: &Option<Vec<Stmt>>,
+) -> Result<Vec<TypedStmt>, AllocError>
+    ensures { IfOk result (λ list. typed_stmts_view list.items ≡ typed_else (S.means scope.now) (else_view other.now)) }
+{
+    match other {
+        None => Ok(Vec::new(alloc)),
+        Some(other) => type_stmts(alloc, scope, other),
+    }
+}
