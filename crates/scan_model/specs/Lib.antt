@@ -3,4 +3,7 @@ pub mod Scans
 pub mod InRange
 pub mod Pairs
 pub mod Runs
+pub mod Candidates
+pub mod Verdicts
 pub mod Laws
+pub mod VerdictLaws

@@ -11,12 +11,14 @@ use Rattle.scan_model.specs.Values.{State, value_of, faults, is_truth}
 use Rattle.scan_model.specs.Scans.{ranges_of, range_at, initial, scanned}
 use Rattle.scan_model.specs.InRange.{Row, IsInRange}
 
--- a relation: its numbers, its INPUT lines, and its ENV and RELATE clauses over OLD's cells and then NEW's
+-- a relation: its numbers, its INPUT lines, and its ENV and RELATE clauses over OLD's cells and then NEW's; where faults have
+-- to agree the last RELATE clause says so
 pub record RelationData : Type 0 where
   pub depth : ℕ
   pub conflicts : ℕ
   pub inputs : List InputLine
   pub environment : List Expression
+  pub equal_faults : Bool
   pub relates : List Expression
 
 abbrev pub relation_view : Relation → RelationData
@@ -25,6 +27,7 @@ relation_view r = record {
   conflicts = r.conflicts;
   inputs = r.inputs.items;
   environment = exprs_view r.environment.items;
+  equal_faults = r.equal_faults;
   relates = exprs_view r.relates.items;
 }
 

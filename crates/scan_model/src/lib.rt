@@ -3,6 +3,15 @@
 
 mod laws;
 mod relation;
+mod side;
+mod verdict;
+mod verdict_laws;
 
 pub use laws::ranges_are_kept;
 pub use relation::{Ending, InputLine, Relation};
+pub use side::Side;
+pub use verdict::Verdict;
+pub use verdict_laws::{
+    failing_is_not_kept, greatest_is_inductive, no_break_where_related, one_verdict,
+    related_for_ever,
+};

@@ -11,6 +11,8 @@ pub struct Relation {
     pub inputs: Vec<InputLine>,
     /// The ENV clauses: what inputs may come.
     pub environment: Vec<TypedExpr>,
+    /// Whether faults have to agree.
+    pub equal_faults: bool,
     /// The RELATE clauses, and last the one on FAULT where faults have to agree.
     pub relates: Vec<TypedExpr>,
 }

@@ -6,8 +6,8 @@ use Rattle.scan_model.specs.declared.relation.Relation.{Relation}
 use Rattle.scan_model.specs.Values.{State}
 use Rattle.scan_model.specs.InRange.{Row, IsProgram}
 use Rattle.scan_model.specs.Pairs.{Pair, relation_view, BelongsTo, IsPairInRange, is_allowed, is_related, after_row, start}
-use Rattle.scan_replay.specs.declared.side.Side.{Side}
-use Rattle.scan_replay.specs.declared.side.Side.TheVariants as sides
+use Rattle.scan_model.specs.declared.side.Side.{Side}
+use Rattle.scan_model.specs.declared.side.Side.TheVariants as sides
 
 -- two programs, a relation between them, and a state of each
 pub record Compared : Type 0 where

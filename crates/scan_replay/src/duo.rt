@@ -5,10 +5,9 @@ ghost use Rattle.scan_model.specs.Pairs.{start};
 ghost use Rattle.scan_replay.specs.Duos.{AreComparable, with_pair, start_of, IsInRangeOf, allows, pair_after, is_pair_related, program_of, state_of};
 
 use crate::pair::{all_hold, copy_both, fits_lines, load, reset_both, scan_both, start_both};
-use crate::side::Side;
 use crate::states::value_at;
 use crate::two_states::States;
-use scan_model::Relation;
+use scan_model::{Relation, Side};
 use st_tree::Program;
 use std::alloc::{AllocError, Global};
 use std::marker::Model;
@@ -112,6 +111,16 @@ impl<'p> Duo<'p> {
         ensures { result ≡ is_pair_related self.now }
     {
         all_hold(&self.relation.relates, &self.states)
+    }
+
+    /// The values of the cells of a program, in order.
+    pub fn state(&self, side: Side) -> &[i64]
+        ensures { result.now ≡ state_of side self.now.pair }
+    {
+        match side {
+            Side::Old => &self.states.of_old,
+            Side::New => &self.states.of_new,
+        }
     }
 
     /// The value of a cell of a program, by its place.

@@ -1,11 +1,11 @@
 // The value of an expression, and whether its evaluation meets a fault. A clause reads two states as one, OLD's
 // cells and then NEW's; a program reads its own alone.
 ghost use Rattle.std.specs.Prelude.{◌≡◌, ◌||◌, ◌++◌, false, pos, neg_ℤ, ◌≤ℤ◌, ◌^◌, slice_index_or};
-ghost use Rattle.st_tree.specs.Types.{wrap_to};
+ghost use Rattle.st_tree.specs.Types.{width_of, is_signed, least_of, greatest_of, wrap_to};
 ghost use Rattle.st_tree.specs.View.{expr_view, operands_view};
 ghost use Rattle.scan_model.specs.Values.{unary_result, unary_applied, binary_result, result_type, applied, divides_by_zero, value_of, value_on, faults, any_faults};
 
-use num_core::{IntType, quot, rem, wrap};
+use num_core::{IntType, fits, quot, rem, wrap};
 use st_tree::{Elementary, Operand, Operator, TypedExpr, UnaryOperator};
 
 /// What an expression gives.
@@ -163,7 +163,20 @@ fn binary_result(operator: Operator, left: i64, right: i64) -> i128
 fn wrap_to(kind: Elementary, value: i128) -> i64
     ensures { result ≡ wrap_to kind value }
 {
-    wrapped(kind, value) as i64
+    narrowed(kind, value) as i64
+}
+
+// Most results lie in their type's range, and need no division to be wrapped.
+fn narrowed(kind: Elementary, value: i128) -> i128
+    ensures value { result ≡ wrap_to kind value }
+    ensures low { neg_ℤ (pos (2 ^ 32)) ≤ℤ result }
+    ensures high { result ≤ℤ pos (2 ^ 32) }
+{
+    if fits(value, numbers_of(kind)) {
+        value
+    } else {
+        wrapped(kind, value)
+    }
 }
 
 fn wrapped(kind: Elementary, value: i128) -> i128
@@ -171,5 +184,15 @@ fn wrapped(kind: Elementary, value: i128) -> i128
     ensures low { neg_ℤ (pos (2 ^ 32)) ≤ℤ result }
     ensures high { result ≤ℤ pos (2 ^ 32) }
 {
-    wrap(value, IntType::whole(kind.width(), kind.is_signed()))
+    wrap(value, numbers_of(kind))
+}
+
+// The numbers of a type.
+fn numbers_of(kind: Elementary) -> IntType
+    ensures width { result.width ≡ width_of kind }
+    ensures sign { result.signed ≡ is_signed kind }
+    ensures from { result.lo ≡ least_of kind }
+    ensures up_to { result.hi ≡ greatest_of kind }
+{
+    IntType::whole(kind.width(), kind.is_signed())
 }

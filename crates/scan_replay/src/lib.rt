@@ -6,13 +6,12 @@ mod evaluate;
 mod machine;
 mod pair;
 mod run;
-mod side;
 mod states;
 mod two_states;
 
 pub use duo::Duo;
 pub use machine::Machine;
-pub use side::Side;
+pub use scan_model::Side;
 
 #[cfg(test)]
 mod tests;

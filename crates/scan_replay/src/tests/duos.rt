@@ -39,6 +39,7 @@ fn relation(alloc: Global, environment: Vec<TypedExpr>) -> Result<Relation, Allo
         conflicts: 1,
         inputs,
         environment,
+        equal_faults: false,
         relates: vec![in alloc; same]?,
     })
 }

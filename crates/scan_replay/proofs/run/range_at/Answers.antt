@@ -1,4 +1,3 @@
-use Rattle.std.proofs.Common.{arith}
 use Rattle.scan_replay.proofs.CellLemmas.{range_at-cell}
 use Rattle.scan_replay.proofs.run.range_at.Goals as goal
 

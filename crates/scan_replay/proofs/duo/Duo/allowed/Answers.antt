@@ -1,4 +1,4 @@
-use Rattle.std.proofs.Common.{◌≡◌, true, ap, sym, subst, ◌∙◌, length}
+use Rattle.std.proofs.Common.{◌≡◌, true, sym, subst, ◌∙◌}
 use Rattle.st_tree.specs.View.{program_view}
 use Rattle.scan_model.specs.Pairs.{Pair, IsPairInRange, fits_lines, loaded}
 use Rattle.scan_model.proofs.Keeping.{IsPairInRange-loaded}

@@ -1,7 +1,7 @@
-use Rattle.std.proofs.Common.{◌<◌, arith, ap, length, subst, sym}
+use Rattle.std.proofs.Common.{◌<◌, arith, length, subst, sym}
 use Rattle.scan_model.proofs.Keeping.{IsInRange-length}
 use Rattle.scan_replay.specs.Duos.{Compared, program_of}
-use Rattle.scan_replay.specs.declared.side.Side.TheVariants as sides
+use Rattle.scan_model.specs.declared.side.Side.TheVariants as sides
 use Rattle.scan_replay.proofs.RowLemmas.{length-ranges}
 use Rattle.scan_replay.proofs.duo.Duo.value.Goals as goal
 

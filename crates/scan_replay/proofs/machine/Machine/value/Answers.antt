@@ -1,4 +1,4 @@
-use Rattle.std.proofs.Common.{◌<◌, arith, ap, length, subst, sym}
+use Rattle.std.proofs.Common.{◌<◌, arith, length, subst, sym}
 use Rattle.scan_model.proofs.Keeping.{IsInRange-length}
 use Rattle.scan_replay.specs.Machines.{Running}
 use Rattle.scan_replay.proofs.RowLemmas.{length-ranges}
