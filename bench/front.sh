@@ -1,7 +1,7 @@
 #!/usr/bin/env bash
-# Reads programs of 1 MiB and of half that size by each reader, and prints the least times of some runs.
-# One has statements as a plant's program has them, the other one chain of operators. The stack keeps its usual
-# limit of 8 MiB. Needs python3 and rt. Use: bench/front.sh [RUNS]
+# Reads programs and others of half their size by each reader, and prints the least times of some runs. Two have 1 MiB,
+# with statements as a plant's program has them and with one chain of operators; the third has 4,095 variables and
+# 20,000 statements. The stack keeps its usual limit of 8 MiB. Needs python3 and rt. Use: bench/front.sh [RUNS]
 set -euo pipefail
 
 top=$(dirname -- "$(dirname -- "$(readlink -f -- "${BASH_SOURCE[0]}")")")

@@ -1,8 +1,10 @@
 #!/usr/bin/env python3
-"""Writes programs of two kinds into a folder, each whole (1 MiB, the most that a file may have) and half.
+"""Writes programs of three kinds into a folder, each whole and half.
 
-statements: assignments and IFs of a plant's program, with comments, over 160 variables.
-chain: one assignment whose right side joins the same variable by AND, again and again.
+statements: 1 MiB, the most that a file may have, of assignments and IFs of a plant's program, with comments, over
+160 variables.
+chain: 1 MiB of one assignment whose right side joins the same variable by AND, again and again.
+variables: the most variables that a program may have, 4,095, and 20,000 assignments over them.
 Use: make_programs.py FOLDER
 """
 import random
@@ -137,11 +139,22 @@ def chain(size):
     return padded(front + " AND a" * count + back, size)
 
 
+def variables(count, assignments):
+    choose = random.Random(2).randrange
+    lines = ["PROGRAM M", "VAR"]
+    lines += [f"  v{number} : INT := {number};" for number in range(count)]
+    lines.append("END_VAR")
+    lines += [f"v{choose(count)} := v{choose(count)} + v{choose(count)};" for _ in range(assignments)]
+    return "\n".join(lines + ["END_PROGRAM", ""])
+
+
 def main():
     folder = Path(sys.argv[1])
     for kind, make in [("statements", statements), ("chain", chain)]:
         for part, size in [("half", MOST_BYTES // 2), ("whole", MOST_BYTES)]:
             (folder / f"{kind}.{part}.st").write_bytes(make(size).encode())
+    (folder / "variables.half.st").write_text(variables(2_047, 10_000))
+    (folder / "variables.whole.st").write_text(variables(4_095, 20_000))
 
 
 if __name__ == "__main__":

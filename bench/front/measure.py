@@ -37,7 +37,7 @@ def least(program, text, runs):
 
 def main():
     program, folder, runs = sys.argv[1], Path(sys.argv[2]), int(sys.argv[3])
-    for kind in ["statements", "chain"]:
+    for kind in ["statements", "chain", "variables"]:
         half, _ = least(program, folder / f"{kind}.half.st", runs)
         whole, said = least(program, folder / f"{kind}.whole.st", runs)
         print(f"{kind}: {said}")

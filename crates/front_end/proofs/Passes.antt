@@ -1,5 +1,5 @@
 -- What each pass says of a text.
-use Rattle.std.proofs.Common.{◌≡◌, [], ◌∷◌, List, ℕ, inl, inr, subst}
+use Rattle.std.proofs.Common.{◌≡◌, [], ◌∷◌, List, ℕ, inl, inr}
 use Rattle.st_tree.specs.declared.token.Tok.{Tok}
 use Rattle.st_tree.specs.declared.parse_fault.ParseFault.{ParseFault}
 use Rattle.st_tree.specs.declared.parse_fault.ParseFault.TheVariants as parser

@@ -4,6 +4,7 @@ ghost use Rattle.st_tree.specs.View.{program_view};
 ghost use Rattle.st_tree.specs.SyntaxView.{file_view};
 ghost use Rattle.front_end.specs.Texts.{HasTokens, HasNoTokens, HasTree, HasNoTree, IsProgram, IsNoProgram};
 ghost use Rattle.front_end.specs.Faults.{IfRefused};
+ghost use Rattle.st_types.specs.Ready.{IsReady};
 
 use crate::fault::AcceptFault;
 use st_lexer::lex;
@@ -43,6 +44,7 @@ fn tree_of(alloc: Global, text: &[u8]) -> Result<SourceFile, AcceptFault>
 /// out, nesting, grammar, names, types and the count of cells, in this order of passes.
 pub fn accept_text(alloc: Global, text: &[u8]) -> Result<Program, AcceptFault>
     ensures program { IfOk result (λ p. IsProgram text.now (program_view p)) }
+    ensures ready { IfOk result (λ p. IsReady (program_view p)) }
     ensures refused { IfErr result (IfRefused (IsNoProgram text.now)) }
 {
     let file = tree_of(alloc, text)?;

@@ -3,6 +3,11 @@
 
 mod accept;
 mod fault;
+mod laws;
 
 pub use accept::{accept_text, tokens_of};
 pub use fault::AcceptFault;
+pub use laws::one_acceptance;
+
+#[cfg(test)]
+mod tests;

@@ -1,9 +1,10 @@
 // Reads a program's text from a file, and prints how far its readers come and how long each takes.
 #![tactic(auto)]
 
+mod reading;
 mod stages;
 
-use st_lexer::{LexFault, lex};
+use reading::{Stop, read};
 use st_tree::Refusal;
 use stages::Stages;
 use std::io::Print;
@@ -23,12 +24,10 @@ fn main(rt: HostRuntime) -> io::Result<()> {
     };
     let text = fs::read(&rt, path.as_str())?;
     let mut stages = Stages::start(&rt, words.next().is_some())?;
-    let tokens = match lex(alloc, &text) {
-        Ok(tokens) => tokens,
-        Err(LexFault::Refused(refusal)) => return print_refusal(&rt, refusal),
-        Err(LexFault::Memory) => return println!(rt; "memory was wanting"),
-    };
-    stages.done(&rt, "lex")?;
-    let count = tokens.len();
-    println!(rt; "{count} tokens")
+    match read(&rt, alloc, &text, &mut stages) {
+        Ok((tokens, cells)) => println!(rt; "{tokens} tokens, {cells} cells"),
+        Err(Stop::Refused(refusal)) => print_refusal(&rt, refusal),
+        Err(Stop::Memory) => println!(rt; "memory was wanting"),
+        Err(Stop::Output(error)) => Err(error),
+    }
 }

@@ -1,10 +1,9 @@
 -- How often a file's scope has a name, counted POU by POU.
-use Rattle.std.proofs.Common.{◌≡◌, ℕ, ◌+◌, ◌<◌, ◌≤◌, List, [], ◌∷◌, ◌++◌, length, take, get_or, Bool, true, false, cond, ◌||◌, nat_lt, Option, Some, None, refl, sym, ap, ◌∙◌, if◌then◌else◌, count_by, map, String, arith, add-zero, zero-add}
+use Rattle.std.proofs.Common.{◌≡◌, ℕ, ◌+◌, ◌<◌, ◌≤◌, List, [], ◌∷◌, ◌++◌, length, Bool, true, false, ◌||◌, nat_lt, Option, Some, refl, sym, ap, ◌∙◌, if◌then◌else◌, count_by, String, arith, add-zero, zero-add}
 use Rattle.std.specs.HashMap.{HashMap, get_by_text, UpdatesBy}
 use Rattle.std.specs.String.{string_bytes, string_eq}
 use Rattle.std.specs.Option.{unwrap_or}
 use Rattle.std.specs.List.{list_any}
-use Rattle.std.specs.Str.{bytes_eq}
 use Rattle.std.specs.Cmp.Lexicographic.{bytes_decides}
 use Rattle.std.proofs.lemmas.Bool.Decides.{nat_tests}
 use Rattle.std.proofs.lemmas.List.Sums.{sum_by-append, count_by-le-length}
@@ -12,7 +11,7 @@ use Rattle.std.proofs.lemmas.Map.Text.{hash_map_updates_text}
 use Rattle.st_tree.specs.declared.rule.Refusal.{Refusal}
 use Rattle.st_tree.specs.Rules.{earlier, first_in}
 use Rattle.st_tree.specs.Syntax.{Named, PouData, FileData}
-use Rattle.st_names.specs.Broken.{twice, unknown, misused, pous_twice, in_file}
+use Rattle.st_names.specs.Broken.{twice, pous_twice, in_file}
 use Rattle.st_names.specs.Counts.{used, Counts}
 use Rattle.st_names.specs.Library.{is_library}
 use Rattle.st_names.specs.Scopes.{is_pou_of_name, is_known}

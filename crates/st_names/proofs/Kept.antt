@@ -1,10 +1,10 @@
 -- What a file keeps that breaks no rule on names.
-use Rattle.std.proofs.Common.{◌≡◌, ◌≢◌, ℕ, suc, zero, ◌+◌, List, [], ◌∷◌, ◌++◌, length, Bool, true, false, true≢false, ◌&&◌, ◌||◌, ◌==◌, nat_lt, refl, sym, ap, ◌∙◌, if◌then◌else◌, count_by, arith}
+use Rattle.std.proofs.Common.{◌≡◌, ◌≢◌, ℕ, ◌+◌, List, [], ◌∷◌, ◌++◌, length, Bool, true, false, true≢false, ◌==◌, nat_lt, refl, sym, ap, ◌∙◌, if◌then◌else◌, arith}
 use Rattle.std.proofs.lemmas.Bool.Decides.{nat_tests}
 use Rattle.st_tree.specs.declared.rule.Refusal.{Refusal}
 use Rattle.st_tree.specs.Syntax.{Named, TypeData, of_elementary, of_name, PouData, FileData}
 use Rattle.st_names.specs.Bound.{variables_in_pou, are_elementary}
-use Rattle.st_names.specs.Broken.{twice, unknown, misused, in_file, in_type, in_initial, in_declarations, in_body, in_pous, variables_twice, pous_twice, not_one, broken_names}
+use Rattle.st_names.specs.Broken.{twice, in_file, in_type, in_initial, in_declarations, in_body, in_pous, variables_twice, pous_twice, not_one, broken_names}
 use Rattle.st_names.specs.Library.{is_library}
 use Rattle.st_names.specs.Scopes.{Variable, is_pou_of_name, is_known, is_doubled_in_file, is_elementary}
 use Rattle.st_names.proofs.CountLemmas.{count-cons, same_pou}

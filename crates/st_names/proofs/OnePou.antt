@@ -1,5 +1,5 @@
 -- A file with one POU.
-use Rattle.std.proofs.Common.{◌≡◌, ◌<◌, ℕ, zero, suc, List, [], ◌∷◌, ◌++◌, length, get_or, refl, sym, ap, ◌∙◌, arith}
+use Rattle.std.proofs.Common.{◌≡◌, ◌<◌, ℕ, zero, suc, List, [], ◌∷◌, length, get_or, ap, ◌∙◌, arith}
 use Rattle.st_tree.specs.declared.syntax.Pou.{Pou}
 use Rattle.st_tree.specs.Syntax.{PouData, FileData}
 use Rattle.st_tree.specs.SyntaxView.{pou_view, pous_view}

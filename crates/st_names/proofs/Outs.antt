@@ -1,5 +1,5 @@
 -- The data of a tree's parts, by their fields.
-use Rattle.std.proofs.Common.{◌≡◌, map}
+use Rattle.std.proofs.Common.{◌≡◌}
 use Rattle.st_tree.specs.declared.syntax.Link.{Link, out-Link}
 use Rattle.st_tree.specs.declared.syntax.Arm.{Arm, out-Arm}
 use Rattle.st_tree.specs.declared.syntax.Expr.TheFolds.{fold_out-Link}

@@ -1,9 +1,8 @@
 -- One more variable in a scope.
-use Rattle.std.proofs.Common.{◌≡◌, ℕ, suc, ◌+◌, List, [], ◌∷◌, ◌++◌, length, Bool, true, false, cond, ◌||◌, nat_lt, Option, Some, None, option_map, is_some, refl, sym, ap, ◌∙◌, if◌then◌else◌, count_by, arith, add-zero, zero-add}
+use Rattle.std.proofs.Common.{◌≡◌, ℕ, suc, ◌+◌, List, [], ◌∷◌, ◌++◌, length, Bool, true, false, ◌||◌, nat_lt, Option, Some, None, option_map, is_some, refl, sym, ap, ◌∙◌, if◌then◌else◌, count_by, arith, add-zero, zero-add}
 use Rattle.std.specs.List.{list_any}
 use Rattle.std.specs.Cmp.Lexicographic.{bytes_decides}
 use Rattle.std.proofs.lemmas.Bool.Decides.{nat_tests}
-use Rattle.st_names.specs.declared.slots.Slot.{Slot}
 use Rattle.st_names.specs.Scopes.{Variable, is_of_name, is_fault, is_doubled}
 use Rattle.st_names.specs.Slots.{found, slot_of, slot_named, entered}
 use Rattle.st_names.proofs.CountLemmas.{count-cons, count-push}

@@ -1,7 +1,6 @@
 -- One more element of a list that is seen by its view, and one more list of refusals.
 use Rattle.std.proofs.Common.{◌≡◌, ◌<◌, ℕ, ◌+◌, List, [], ◌∷◌, ◌++◌, length, take, drop, get_or, map, Option, sym, ap, ◌∙◌, arith}
 use Rattle.std.proofs.lemmas.Grind.{common_steps}
-use Rattle.std.proofs.lemmas.List.{map-append}
 use Rattle.st_tree.specs.declared.rule.Refusal.{Refusal}
 use Rattle.st_tree.specs.Rules.{earlier, first_in}
 use Rattle.st_tree.proofs.Refusals.{earlier-assoc, first_in-append}

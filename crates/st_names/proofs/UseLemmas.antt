@@ -1,10 +1,10 @@
 -- What a slot says of a name's uses is what the variables say.
-use Rattle.std.proofs.Common.{◌≡◌, ℕ, suc, ◌+◌, ◌<◌, ◌≤◌, List, [], ◌∷◌, ◌++◌, length, Bool, true, false, not, ◌&&◌, ◌||◌, nat_lt, nat_le, Option, Some, None, option_map, is_some, refl, sym, ap, ◌∙◌, if◌then◌else◌, arith}
+use Rattle.std.proofs.Common.{◌≡◌, ℕ, suc, ◌+◌, ◌≤◌, List, [], ◌∷◌, ◌++◌, length, Bool, true, false, ◌||◌, nat_lt, nat_le, Option, Some, None, option_map, is_some, refl, sym, ap, ◌∙◌, if◌then◌else◌, arith}
 use Rattle.std.specs.List.{list_any}
 use Rattle.std.proofs.lemmas.Bool.Decides.{nat_tests}
 use Rattle.st_tree.specs.Syntax.{Named, PathData, TypeData, of_elementary, of_name, FileData}
-use Rattle.st_names.specs.Broken.{misused, in_path, in_value}
-use Rattle.st_names.specs.Scopes.{Variable, is_of_name, variable_named, is_doubled, is_elementary, is_without_names}
+use Rattle.st_names.specs.Broken.{in_path, in_value}
+use Rattle.st_names.specs.Scopes.{Variable, is_of_name, variable_named, is_doubled, is_elementary}
 use Rattle.st_names.specs.Slots.{found, elementary_of, slot_of, slot_named}
 use Rattle.st_names.specs.Uses.{used_path, used_value}
 use Rattle.st_names.proofs.SlotLemmas.{same_name}

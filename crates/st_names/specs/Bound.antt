@@ -1,5 +1,5 @@
 -- What the names of a PROGRAM are bound to, and what a file's answer is.
-use Rattle.std.specs.Prelude.{ℕ, List, Bool, Option, Some, None, option_map, option_and_then}
+use Rattle.std.specs.Prelude.{ℕ, List, Bool, Option, option_map, option_and_then}
 use Rattle.std.specs.List.{list_all}
 use Rattle.st_tree.specs.Rules.{IsAmong, IsFirst}
 use Rattle.st_tree.specs.Syntax.{PouData, FileData}

@@ -1,11 +1,10 @@
 -- The rules on names. What uses a name whose declaration breaks a rule breaks none itself, wherever it stands.
-use Rattle.std.specs.Prelude.{ℕ, List, [], ◌∷◌, ◌++◌, length, Bool, ◌==◌, ◌&&◌, ◌||◌, not, Option, Some, None, if◌then◌else◌}
+use Rattle.std.specs.Prelude.{ℕ, List, [], ◌∷◌, ◌++◌, length, ◌==◌, ◌&&◌, ◌||◌, not, Option, Some, None, if◌then◌else◌}
 use Rattle.std.specs.List.{list_any}
 use Rattle.st_tree.specs.declared.rule.Rule.TheVariants.{DeclaredTwice, UnknownName, WrongKind, NotOneProgram}
 use Rattle.st_tree.specs.declared.rule.Refusal.{Refusal}
 use Rattle.st_tree.specs.Syntax.{Named, PathData, Tree, literal, path, enumerator, paren, unary, chain, Links, no_links, link, Stmt, empty, assign, branch, Stmts, no_stmts, stmt, Arms, no_arms, arm, Otherwise, no_else, else_stmts, TypeData, of_elementary, of_name, BodyData, statements, chart as chart_body, PouData, FileData}
-use Rattle.st_names.specs.Library.{is_library}
-use Rattle.st_names.specs.Scopes.{Variable, variables_of, is_of_name, variable_named, is_fault, is_doubled, is_pou_of_name, is_known, is_doubled_in_file, is_elementary, is_without_names, is_whole}
+use Rattle.st_names.specs.Scopes.{Variable, variables_of, is_of_name, variable_named, is_fault, is_doubled, is_known, is_doubled_in_file, is_elementary, is_without_names, is_whole}
 
 abbrev pub twice : ℕ → List Refusal
 twice at = record { rule = DeclaredTwice; at = at } ∷ []

@@ -3,7 +3,7 @@ use Rattle.std.specs.Prelude.{ℕ, ◌+◌, List, [], ◌∷◌, ◌++◌, map, 
 use Rattle.std.specs.List.{list_any}
 use Rattle.std.specs.Str.{bytes_eq}
 use Rattle.st_tree.specs.declared.syntax.Section.{Section}
-use Rattle.st_tree.specs.Syntax.{Named, PathData, Tree, literal, path, enumerator, paren, unary, chain, TypeData, of_elementary, of_name, DeclarationData, VariablesData, PouData, FileData}
+use Rattle.st_tree.specs.Syntax.{Named, Tree, literal, path, enumerator, paren, unary, chain, TypeData, of_elementary, of_name, DeclarationData, VariablesData, PouData, FileData}
 use Rattle.st_names.specs.Library.{is_library}
 
 -- a variable of a POU, as it is declared

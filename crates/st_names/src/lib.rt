@@ -17,3 +17,6 @@ pub use declared::{Declared, declared_variables};
 pub use fault::NameFault;
 pub use library::is_library;
 pub use resolution::resolve;
+
+#[cfg(test)]
+mod tests;

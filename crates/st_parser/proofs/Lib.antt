@@ -18,3 +18,4 @@ pub mod FileSound
 pub mod FileAgain
 pub mod FileWhole
 pub mod FirstPlaces
+pub mod SameTokens

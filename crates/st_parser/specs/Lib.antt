@@ -11,3 +11,4 @@ pub mod FirstFault
 pub mod Declarations
 pub mod Files
 pub mod WholeFile
+pub mod Same

@@ -1,11 +1,10 @@
 -- What a name stands for is what it is bound to.
-use Rattle.std.proofs.Common.{◌≡◌, ℕ, ◌+◌, Bool, true, false, ◌&&◌, cond, if◌then◌else◌, List, [], ◌∷◌, ◌++◌, length, map, Option, Some, None, option_map, refl, sym, ap, ◌∙◌, arith, append_assoc, get_or}
+use Rattle.std.proofs.Common.{◌≡◌, ℕ, ◌+◌, Bool, true, false, ◌&&◌, if◌then◌else◌, List, [], ◌∷◌, ◌++◌, length, map, Option, Some, option_map, refl, sym, ap, ◌∙◌, append_assoc, get_or}
 use Rattle.std.specs.Prelude.{option_and_then}
 use Rattle.std.proofs.Math.Seq.{get_or-append_seam}
 use Rattle.std.proofs.lemmas.List.{length-append}
 use Rattle.st_tree.specs.declared.elementary.Elementary.{Elementary}
 use Rattle.st_tree.specs.Syntax.{TypeData, of_elementary, of_name}
-use Rattle.st_names.specs.declared.bound.Bound.{Bound}
 use Rattle.st_names.specs.Bound.{bound_of, are_elementary}
 use Rattle.st_names.specs.Scopes.{Variable, is_of_name, is_elementary}
 use Rattle.st_names.specs.Slots.{found, elementary_of}

@@ -1,5 +1,5 @@
 -- Bounds of the elementary types.
-use Rattle.std.proofs.Common.{◌≡◌, ◌^◌, arith}
+use Rattle.std.proofs.Common.{◌^◌, arith}
 use Rattle.std.proofs.Math.IntN.{pos, neg_ℤ}
 use Rattle.std.specs.Prelude.{◌≤ℤ◌}
 use Rattle.std.proofs.lemmas.Int.{ints}

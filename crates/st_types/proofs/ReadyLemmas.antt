@@ -1,5 +1,5 @@
 -- A typed program begins in range.
-use Rattle.std.proofs.Common.{◌≡◌, ℕ, ◌<◌, Bool, true, false, ◌⊎◌, inl, inr, List, [], ◌∷◌, ◌++◌, map, Option, Some, None, refl, sym, ap, ◌∙◌, subst, arith, rules, Result, Ok, Err, if◌then◌else◌}
+use Rattle.std.proofs.Common.{◌≡◌, ℕ, ◌<◌, Bool, true, false, ◌⊎◌, inl, inr, List, [], ◌∷◌, ◌++◌, map, Option, Some, None, refl, sym, subst, arith, rules, Result, Ok, Err, if◌then◌else◌}
 use Rattle.std.proofs.Math.IntN.{ℤ, pos}
 use Rattle.std.specs.Prelude.{IfOk, OnOk}
 use Rattle.std.specs.List.{AllByRecursion}
@@ -20,9 +20,9 @@ use Rattle.st_tree.specs.declared.typed.Program.{Program}
 use Rattle.st_tree.specs.View.{program_view}
 use Rattle.st_names.specs.Scopes.{Variable, variables_of}
 use Rattle.st_types.specs.Typing.{no_scope, type_of, is_same, is_literal_of, literal_value, negated, place_of_literal}
-use Rattle.st_types.specs.Judged.{Judgement, sound, breaks, tested, negative_literal, judged_literal, judged_unary, judged}
-use Rattle.st_types.specs.Programs.{kind_of, judged_value, judged_variable, judged_variables, judged_body, scope_of, broken_types}
-use Rattle.st_types.specs.Typed.{number_of, typed_signed, typed, value_of_number, initial_of, cell_for, typed_program}
+use Rattle.st_types.specs.Judged.{Judgement, sound, breaks, tested, negative_literal, judged_unary, judged}
+use Rattle.st_types.specs.Programs.{kind_of, judged_value, judged_variable, judged_variables, broken_types}
+use Rattle.st_types.specs.Typed.{typed_signed, typed, value_of_number, initial_of, cell_for, typed_program}
 use Rattle.st_types.specs.Ready.{StartsInRange, IsReady}
 
 some_bits : (t : Elementary) → 0 < width_of t

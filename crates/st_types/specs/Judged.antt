@@ -1,6 +1,6 @@
 -- The rules on types. A construct one of whose parts breaks a rule, or which uses a name whose declaration does,
 -- breaks none itself.
-use Rattle.std.specs.Prelude.{ℕ, ◌+◌, List, [], ◌∷◌, ◌++◌, Bool, true, false, not, ◌&&◌, Option, Some, None, if◌then◌else◌}
+use Rattle.std.specs.Prelude.{ℕ, List, [], ◌∷◌, ◌++◌, Bool, true, false, not, ◌&&◌, Option, Some, None, if◌then◌else◌}
 use Rattle.st_tree.specs.declared.elementary.Elementary.{Elementary}
 use Rattle.st_tree.specs.declared.elementary.Elementary.TheVariants as types
 use Rattle.st_tree.specs.declared.rule.Rule.{Rule}
@@ -9,11 +9,9 @@ use Rattle.st_tree.specs.declared.rule.Refusal.{Refusal}
 use Rattle.st_tree.specs.declared.syntax.Literal.{Literal}
 use Rattle.st_tree.specs.declared.syntax.UnaryOperator.{UnaryOperator}
 use Rattle.st_tree.specs.declared.syntax.UnaryOperator.TheVariants as signs
-use Rattle.st_tree.specs.declared.syntax.Section.{Section}
-use Rattle.st_tree.specs.declared.syntax.Section.TheVariants as sections
 use Rattle.st_tree.specs.Types.{is_integer}
-use Rattle.st_tree.specs.Syntax.{Named, PathData, Tree, literal, path, enumerator, paren, unary, chain, Links, no_links, link, Stmt, empty, assign, branch, Stmts, no_stmts, stmt, Arms, no_arms, arm, Otherwise, no_else, else_stmts, BodyData, statements, chart as chart_body}
-use Rattle.st_types.specs.Typing.{Meaning, Scope, kind_at, or_dint, is_same, own, type_of, operand_type, next_type, takes, is_literal_of, is_number, place_of_literal, place_of}
+use Rattle.st_tree.specs.Syntax.{PathData, Tree, literal, path, enumerator, paren, unary, chain, Links, no_links, link, Stmt, empty, assign, branch, Stmts, no_stmts, stmt, Arms, no_arms, arm, Otherwise, no_else, else_stmts}
+use Rattle.st_types.specs.Typing.{Meaning, Scope, kind_at, or_dint, is_same, type_of, operand_type, next_type, takes, is_literal_of, is_number, place_of_literal, place_of}
 
 -- what is broken in a construct, and whether it is whole
 pub record Judgement : Type 0 where

@@ -1,5 +1,5 @@
 -- A program whose names are bound: its variables with their types, and the rules that it breaks.
-use Rattle.std.specs.Prelude.{ℕ, suc, ◌+◌, List, [], ◌∷◌, ◌++◌, length, codes, Bool, true, false, Option, Some, None, option_map, nat_le, if◌then◌else◌}
+use Rattle.std.specs.Prelude.{ℕ, ◌+◌, List, [], ◌∷◌, ◌++◌, length, codes, Bool, true, false, Option, Some, None, nat_le, if◌then◌else◌}
 use Rattle.std.specs.Str.{bytes_eq}
 use Rattle.st_tree.specs.declared.elementary.Elementary.{Elementary}
 use Rattle.st_tree.specs.declared.elementary.Elementary.TheVariants as types
@@ -7,7 +7,7 @@ use Rattle.st_tree.specs.declared.rule.Rule.TheVariants.{ValueType}
 use Rattle.st_tree.specs.declared.rule.Refusal.{Refusal}
 use Rattle.st_tree.specs.declared.syntax.Section.{Section}
 use Rattle.st_tree.specs.declared.syntax.Section.TheVariants as sections
-use Rattle.st_tree.specs.Syntax.{Named, PathData, Tree, TypeData, of_elementary, of_name, BodyData, statements, chart as chart_body, PouData}
+use Rattle.st_tree.specs.Syntax.{Named, Tree, TypeData, of_elementary, of_name, BodyData, statements, chart as chart_body, PouData}
 use Rattle.st_tree.specs.Tree.{CellData}
 use Rattle.st_names.specs.Scopes.{Variable, variables_of, is_of_name}
 use Rattle.st_types.specs.Typing.{Meaning, Scope, no_scope, is_same, type_of}

@@ -1,5 +1,5 @@
 -- The typed program that a tree stands for.
-use Rattle.std.specs.Prelude.{ℕ, ◌+◌, List, [], ◌∷◌, map, codes, Bool, true, false, Option, Some, None, ℤ, pos, if◌then◌else◌}
+use Rattle.std.specs.Prelude.{ℕ, ◌∷◌, map, codes, Bool, true, false, Option, Some, None, ℤ, pos}
 use Rattle.st_tree.specs.declared.elementary.Elementary.{Elementary}
 use Rattle.st_tree.specs.declared.elementary.Elementary.TheVariants as types
 use Rattle.st_tree.specs.declared.syntax.Literal.{Literal}
@@ -9,8 +9,8 @@ use Rattle.st_tree.specs.declared.syntax.Section.TheVariants as sections
 use Rattle.st_tree.specs.declared.typed.Part.{Part}
 use Rattle.st_tree.specs.declared.typed.Part.TheVariants as parts
 use Rattle.st_tree.specs.Types.{wrap_to, range_of}
-use Rattle.st_tree.specs.Syntax.{Named, PathData, Tree, literal, path, enumerator, paren, unary, chain, Links, no_links, link, Stmt, empty, assign, branch, Stmts, no_stmts, stmt, Arms, no_arms, arm, Otherwise, no_else, else_stmts, BodyData, statements, chart as chart_body, PouData}
-use Rattle.st_tree.specs.Tree.{Expression, number, cell, unary as typed_unary, chain as typed_chain, Operands, no_operands, operand, Statement, assign as typed_assign, choice, Statements, no_statements, statement, Choices, no_choices, choose, CellData, ProgramData}
+use Rattle.st_tree.specs.Syntax.{Tree, literal, path, enumerator, paren, unary, chain, Links, no_links, link, empty, assign, branch, Stmts, no_stmts, stmt, Arms, no_arms, arm, Otherwise, no_else, else_stmts, BodyData, statements, chart as chart_body, PouData}
+use Rattle.st_tree.specs.Tree.{Expression, number, cell, unary as typed_unary, chain as typed_chain, Operands, no_operands, operand, assign as typed_assign, choice, Statements, no_statements, statement, Choices, no_choices, choose, CellData, ProgramData}
 use Rattle.st_names.specs.Scopes.{Variable, variables_of}
 use Rattle.st_types.specs.Typing.{Meaning, Scope, no_scope, kind_at, type_of, operand_type, next_type, literal_value, negated}
 use Rattle.st_types.specs.Judged.{negative_literal}

@@ -1,5 +1,5 @@
 -- The types of expressions (IEC 61131-3, 3.3.1).
-use Rattle.std.specs.Prelude.{ℕ, suc, ◌+◌, List, [], ◌∷◌, Bool, true, false, not, ◌&&◌, ◌||◌, Option, Some, None, if◌then◌else◌, ℤ, pos, neg_ℤ}
+use Rattle.std.specs.Prelude.{ℕ, Bool, true, false, not, Option, Some, None, if◌then◌else◌, ℤ, pos, neg_ℤ}
 use denote.Enum.Bare.{sameb}
 use Rattle.st_tree.specs.contracts.elementary.Elementary.{the_type}
 use Rattle.st_tree.specs.declared.elementary.Elementary.{Elementary}
@@ -9,7 +9,7 @@ use Rattle.st_tree.specs.declared.token.Operator.TheVariants as ops
 use Rattle.st_tree.specs.declared.syntax.Literal.{Literal}
 use Rattle.st_tree.specs.declared.syntax.Literal.TheVariants as literals
 use Rattle.st_tree.specs.Types.{is_integer, range_of, in_range}
-use Rattle.st_tree.specs.Syntax.{Named, PathData, Tree, literal, path, enumerator, paren, unary, chain, Links, no_links, link, TypeData, of_elementary, of_name}
+use Rattle.st_tree.specs.Syntax.{PathData, Tree, literal, path, enumerator, paren, unary, chain, Links, no_links, link}
 pub use Rattle.st_types.specs.declared.scope.Meaning.{Meaning}
 
 abbrev pub is_same : Elementary → Elementary → Bool

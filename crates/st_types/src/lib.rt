@@ -25,3 +25,6 @@ pub use outcome::Outcome;
 pub use pair::PairScope;
 pub use program::check;
 pub use scope::{Meaning, Scope};
+
+#[cfg(test)]
+mod tests;

@@ -1,4 +1,4 @@
-use Rattle.std.proofs.Common.{subst, sym}
+use Rattle.std.proofs.Common.{subst}
 use Rattle.std.proofs.lemmas.Result.{err_from_is_err_and}
 use Rattle.st_tree.specs.SyntaxView.{file_view}
 use Rattle.st_parser.specs.WholeFile.{IsFile, IsFileFault}

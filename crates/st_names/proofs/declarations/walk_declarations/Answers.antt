@@ -1,4 +1,4 @@
-use Rattle.std.proofs.Common.{◌≡◌, ◌<◌, ◌+◌, length, ◌∷◌, ◌++◌, [], take, drop, ap, sym, ◌∙◌, arith}
+use Rattle.std.proofs.Common.{◌<◌, ◌+◌, length, ◌∷◌, ◌++◌, [], take, drop, ap, sym, ◌∙◌, arith}
 use Rattle.st_tree.specs.Rules.{earlier, first_in}
 use Rattle.st_names.specs.Broken.{in_type, in_initial, in_declarations}
 use Rattle.st_names.specs.NamesView.{file_in, variables_in}

@@ -1,5 +1,4 @@
-use Rattle.std.proofs.Common.{◌≡◌, [], ◌∷◌, None, ap, sym, subst, ◌∙◌}
-use Rattle.st_tree.specs.Rules.{first_in}
+use Rattle.std.proofs.Common.{◌≡◌, [], ap, sym, subst, ◌∙◌}
 use Rattle.st_tree.specs.Syntax.{FileData}
 use Rattle.st_tree.specs.SyntaxView.{pou_view, pous_view}
 use Rattle.st_names.specs.Broken.{broken_names}

@@ -1,5 +1,4 @@
 use Rattle.std.proofs.Common.{[], ◌++◌, refl, ◌∙◌}
-use Rattle.st_tree.specs.Rules.{first_in}
 use Rattle.st_tree.specs.SyntaxView.{pous_view}
 use Rattle.st_names.specs.Broken.{not_one, pous_twice, in_pous}
 use Rattle.st_tree.proofs.Refusals.{first_in-append}

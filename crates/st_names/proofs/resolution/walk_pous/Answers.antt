@@ -1,4 +1,4 @@
-use Rattle.std.proofs.Common.{◌≡◌, ◌+◌, drop, ap, sym, ◌∙◌, arith}
+use Rattle.std.proofs.Common.{◌+◌, drop, ap, sym, ◌∙◌, arith}
 use Rattle.st_tree.specs.Rules.{earlier, first_in}
 use Rattle.st_tree.specs.SyntaxView.{pou_view, pous_view}
 use Rattle.st_names.specs.Bound.{variables_in_pou}

@@ -1,4 +1,4 @@
-use Rattle.st_tree.specs.SyntaxView.{body_view, pou_view}
+use Rattle.st_tree.specs.SyntaxView.{pou_view}
 use Rattle.st_names.specs.Bound.{variables_in_pou}
 use Rattle.st_names.specs.ScopeView.{variables_view}
 use Rattle.st_types.specs.Programs.{judged_body, scope_of}

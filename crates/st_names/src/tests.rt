@@ -1,0 +1,153 @@
+// Texts with answers that were worked by hand from the rules on names.
+use crate::{Bound, NameFault, declared_variables, is_library, resolve};
+use st_lexer::lex;
+use st_parser::parse_file;
+use st_tree::{Elementary, NoCharts, Refusal, Rule, Section, SourceFile};
+use std::alloc::Global;
+use std::test::Fail;
+
+const MOTOR: &str =
+    "PROGRAM m VAR_INPUT a : BOOL; END_VAR VAR b, C : INT := 3; END_VAR VAR_OUTPUT d : WORD; END_VAR b := c; END_PROGRAM";
+
+const REFUSED: [(&str, Rule, usize); 14] = [
+    ("", Rule::NotOneProgram, 0),
+    (
+        "PROGRAM M zz := 1; END_PROGRAM PROGRAM M END_PROGRAM",
+        Rule::NotOneProgram,
+        0,
+    ),
+    ("PROGRAM abs END_PROGRAM", Rule::DeclaredTwice, 8),
+    ("PROGRAM int_to_sint END_PROGRAM", Rule::DeclaredTwice, 8),
+    (
+        "PROGRAM M VAR Fault : INT; END_VAR END_PROGRAM",
+        Rule::DeclaredTwice,
+        14,
+    ),
+    (
+        "PROGRAM M VAR x, X : INT; END_VAR x.y := zz; END_PROGRAM",
+        Rule::DeclaredTwice,
+        17,
+    ),
+    // the type comes before the second name
+    (
+        "PROGRAM M VAR x : ZZ; y, y : INT; END_VAR x.y := 1; END_PROGRAM",
+        Rule::UnknownName,
+        18,
+    ),
+    (
+        "PROGRAM M VAR x : MAX; END_VAR x := 1; END_PROGRAM",
+        Rule::WrongKind,
+        18,
+    ),
+    (
+        "PROGRAM M VAR x : INT := 1; y : INT := x; END_VAR END_PROGRAM",
+        Rule::WrongKind,
+        39,
+    ),
+    (
+        "PROGRAM M VAR x : INT := M#x; END_VAR END_PROGRAM",
+        Rule::WrongKind,
+        25,
+    ),
+    (
+        "PROGRAM M VAR x : INT; END_VAR x.y := 1; END_PROGRAM",
+        Rule::WrongKind,
+        33,
+    ),
+    ("PROGRAM M FAULT := TRUE; END_PROGRAM", Rule::WrongKind, 10),
+    (
+        "PROGRAM M IF TRUE THEN ; ELSIF (1 = -zz) THEN yy := 1; END_IF END_PROGRAM",
+        Rule::UnknownName,
+        37,
+    ),
+    (
+        "PROGRAM M IF TRUE THEN ; ELSE zz := 1; END_IF END_PROGRAM",
+        Rule::UnknownName,
+        30,
+    ),
+];
+
+// The tree of a text.
+fn tree_of(alloc: Global, text: &str) -> Result<SourceFile, Fail> {
+    let toks = lex(alloc, text.as_bytes())?;
+    Ok(parse_file(alloc, &toks, text.len(), &NoCharts)?)
+}
+
+fn refusal(alloc: Global, text: &str) -> Result<Option<Refusal>, Fail> {
+    match resolve(alloc, tree_of(alloc, text)?) {
+        Err(NameFault::Refused(refusal)) => Ok(Some(refusal)),
+        _ => Ok(None),
+    }
+}
+
+#[test]
+fn first_broken_rules(rt: HostRuntime) -> Result<(), Fail> {
+    for (text, rule, at) in REFUSED {
+        let want = Some(Refusal { rule, at });
+        assert_eq!(rt; refusal(rt.alloc(), text)?, want, "{text}");
+    }
+    Ok(())
+}
+
+#[test]
+fn names_of_a_program(rt: HostRuntime) -> Result<(), Fail> {
+    let resolved = resolve(rt.alloc(), tree_of(rt.alloc(), MOTOR)?)?;
+    assert_eq!(rt; resolved.program.name.text.as_str(), "M");
+    let rows = [
+        ("A", 1, Section::Input, Elementary::Bool),
+        ("C", 3, Section::Local, Elementary::Int),
+        ("D", 4, Section::Output, Elementary::Word),
+    ];
+    for (name, cell, section, kind) in rows {
+        let want = Some(Bound {
+            cell,
+            section,
+            kind,
+        });
+        assert_eq!(rt; resolved.variable(name), want, "{name}");
+    }
+    for name in ["c", "M", "FAULT", ""] {
+        assert_eq!(rt; resolved.variable(name), None, "{name}");
+    }
+    Ok(())
+}
+
+#[test]
+fn variables_in_declared_order(rt: HostRuntime) -> Result<(), Fail> {
+    let file = tree_of(rt.alloc(), MOTOR)?;
+    assert_eq!(rt; file.pous.len(), 1);
+    let variables = declared_variables(rt.alloc(), &file.pous[0].variables)?;
+    let rows = [
+        ("A", 20, Section::Input, false),
+        ("B", 42, Section::Local, true),
+        ("C", 45, Section::Local, true),
+        ("D", 78, Section::Output, false),
+    ];
+    assert_eq!(rt; variables.len(), rows.len());
+    for (variable, (name, at, section, begins)) in variables.iter().zip(rows) {
+        assert_eq!(rt; variable.name.text.as_str(), name);
+        assert_eq!(rt; variable.name.at, at);
+        assert_eq!(rt; variable.section, section);
+        assert_eq!(rt; variable.declaration.initial.is_some(), begins);
+    }
+    Ok(())
+}
+
+#[test]
+fn names_of_the_library(rt: HostRuntime) {
+    let rows = [
+        ("CTUD", true),
+        ("ROR", true),
+        ("DWORD_TO_BOOL", true),
+        ("BOOL_TO_DWORD", true),
+        ("INT_TO_INT", false),
+        ("INT_TO_REAL", false),
+        ("INT_TO_", false),
+        ("abs", false),
+        ("CTUDX", false),
+        ("", false),
+    ];
+    for (text, want) in rows {
+        assert_eq!(rt; is_library(text), want, "{text}");
+    }
+}

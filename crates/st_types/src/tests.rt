@@ -1,0 +1,179 @@
+// Texts and clauses with answers that were worked by hand from the rules on types.
+use crate::{PairScope, TypeFault, check, check_clause, typed_clause};
+use st_lexer::lex;
+use st_names::{Resolved, resolve};
+use st_parser::{parse_expr, parse_file};
+use st_tree::{Elementary, Expr, NoCharts, Operator, Program, Refusal, Rule, TypedExpr, TypedStmt};
+use std::alloc::Global;
+use std::test::Fail;
+
+const OLD: &str = "PROGRAM M VAR_INPUT a : BOOL; END_VAR VAR n : INT; END_VAR END_PROGRAM";
+
+const NEW: &str =
+    "PROGRAM M VAR s : SINT := -3; END_VAR ; IF s = 1 THEN s := s + 1; END_IF END_PROGRAM";
+
+const REFUSED: [(&str, Rule, usize); 12] = [
+    (
+        "PROGRAM M VAR b : BOOL; END_VAR b := b + 1; END_PROGRAM",
+        Rule::OperandType,
+        39,
+    ),
+    (
+        "PROGRAM M VAR b : BOOL; i : INT; END_VAR i := b + b; END_PROGRAM",
+        Rule::OperandType,
+        48,
+    ),
+    (
+        "PROGRAM M VAR w : BYTE; END_VAR IF w THEN w := 256; END_IF END_PROGRAM",
+        Rule::OperandType,
+        35,
+    ),
+    (
+        "PROGRAM M VAR s : SINT; i : INT; END_VAR i := 1 + s + i; END_PROGRAM",
+        Rule::OperandType,
+        52,
+    ),
+    (
+        "PROGRAM M VAR s : SINT; i : INT; END_VAR i := s; END_PROGRAM",
+        Rule::ValueType,
+        41,
+    ),
+    (
+        "PROGRAM M VAR b, c : BOOL := INT#1; END_VAR b := 5; END_PROGRAM",
+        Rule::ValueType,
+        14,
+    ),
+    (
+        "PROGRAM M VAR s : SINT := 128; END_VAR s := 1; END_PROGRAM",
+        Rule::OutsideType,
+        26,
+    ),
+    (
+        "PROGRAM M VAR s : SINT; END_VAR s := -129; END_PROGRAM",
+        Rule::OutsideType,
+        37,
+    ),
+    (
+        "PROGRAM M VAR i : INT; END_VAR i := -INT#TRUE; END_PROGRAM",
+        Rule::OutsideType,
+        37,
+    ),
+    (
+        "PROGRAM M VAR b : BOOL; END_VAR b := 1 = 3_000_000_000; END_PROGRAM",
+        Rule::OutsideType,
+        41,
+    ),
+    (
+        "PROGRAM M VAR b : BOOL; END_VAR b := -TRUE; END_PROGRAM",
+        Rule::OperandType,
+        37,
+    ),
+    (
+        "PROGRAM M VAR_INPUT a : BOOL; END_VAR IF a THEN ; ELSE a := INT#5; END_IF END_PROGRAM",
+        Rule::NotAssignable,
+        55,
+    ),
+];
+
+fn resolved(alloc: Global, text: &str) -> Result<Resolved, Fail> {
+    let toks = lex(alloc, text.as_bytes())?;
+    let file = parse_file(alloc, &toks, text.len(), &NoCharts)?;
+    Ok(resolve(alloc, file)?)
+}
+
+fn program(alloc: Global, text: &str) -> Result<Program, Fail> {
+    Ok(check(alloc, resolved(alloc, text)?)?)
+}
+
+fn clause(alloc: Global, text: &str) -> Result<Expr, Fail> {
+    let toks = lex(alloc, text.as_bytes())?;
+    Ok(parse_expr(alloc, &toks, text.len(), 0)?.0)
+}
+
+fn refusal(alloc: Global, text: &str) -> Result<Option<Refusal>, Fail> {
+    match check(alloc, resolved(alloc, text)?) {
+        Err(TypeFault::Refused(refusal)) => Ok(Some(refusal)),
+        _ => Ok(None),
+    }
+}
+
+#[test]
+fn first_broken_rules(rt: HostRuntime) -> Result<(), Fail> {
+    for (text, rule, at) in REFUSED {
+        let want = Some(Refusal { rule, at });
+        assert_eq!(rt; refusal(rt.alloc(), text)?, want, "{text}");
+    }
+    Ok(())
+}
+
+#[test]
+fn a_typed_program(rt: HostRuntime) -> Result<(), Fail> {
+    let program = program(rt.alloc(), NEW)?;
+    assert_eq!(rt; program.name.as_str(), "M");
+    assert_eq!(rt; program.cells.len(), 2);
+    assert_eq!(rt; program.cells[1].path.as_str(), "S");
+    assert_eq!(rt; program.cells[1].initial, -3);
+    assert_eq!(rt; program.cells[1].range.high, 127);
+    assert_eq!(rt; program.body.len(), 1);
+    match &program.body[0] {
+        TypedStmt::If(arms, other) => {
+            assert_eq!(rt; arms.len(), 1);
+            assert_eq!(rt; other.len(), 0);
+            assert_eq!(rt; arms[0].body.len(), 1);
+            assert!(rt; matches!(&arms[0].body[0], TypedStmt::Assign(1, _)));
+        }
+        TypedStmt::Assign(_, _) => assert!(rt; false, "an assignment"),
+    }
+    Ok(())
+}
+
+// Each clause with the rule that it breaks, where it breaks one.
+const CLAUSES: [(&str, Option<(Rule, usize)>); 9] = [
+    ("old.a AND new.FAULT = Old.fault", None),
+    ("1 = 1", None),
+    // a path that is no cell is a matter of names
+    ("old.zz = old.n", None),
+    ("old.n", Some((Rule::NotBool, 0))),
+    ("(old.n + 1)", Some((Rule::NotBool, 0))),
+    ("old.n + 40000", Some((Rule::OutsideType, 8))),
+    ("old.a AND new.s = 200", Some((Rule::OutsideType, 18))),
+    ("old.n = new.s", Some((Rule::OperandType, 6))),
+    ("1", Some((Rule::NotBool, 0))),
+];
+
+#[test]
+fn clauses_over_a_pair(rt: HostRuntime) -> Result<(), Fail> {
+    let old = program(rt.alloc(), OLD)?;
+    let new = program(rt.alloc(), NEW)?;
+    let scope = PairScope::new(rt.alloc(), &old, &new)?;
+    for (text, want) in CLAUSES {
+        let found = check_clause(&scope, &clause(rt.alloc(), text)?);
+        assert_eq!(rt;
+            found,
+            want.map(|(rule, at)| Refusal { rule, at }),
+            "{text}"
+        );
+    }
+    Ok(())
+}
+
+// OLD has the cells 0 to 2, and NEW those from 3 on.
+#[test]
+fn a_typed_clause(rt: HostRuntime) -> Result<(), Fail> {
+    let old = program(rt.alloc(), OLD)?;
+    let new = program(rt.alloc(), NEW)?;
+    let scope = PairScope::new(rt.alloc(), &old, &new)?;
+    let clause = clause(rt.alloc(), "new.s < -1")?;
+    let typed = typed_clause(rt.alloc(), &scope, &clause)?;
+    match &typed {
+        TypedExpr::Chain(first, operands) => {
+            assert!(rt; matches!(&**first, TypedExpr::Cell(4)));
+            assert_eq!(rt; operands.len(), 1);
+            assert_eq!(rt; operands[0].operator, Operator::Less);
+            assert_eq!(rt; operands[0].kind, Elementary::Sint);
+            assert!(rt; matches!(&operands[0].right, TypedExpr::Number(-1)));
+        }
+        _ => assert!(rt; false, "no chain"),
+    }
+    Ok(())
+}
