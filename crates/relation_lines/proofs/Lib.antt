@@ -1,0 +1,5 @@
+pub mod WordsAre
+pub mod Fits
+pub mod Sound
+pub mod Again
+pub mod Whole

@@ -1,0 +1,32 @@
+-- What tokens are the lines of a relation file, and why others are none.
+use Rattle.std.specs.Prelude.{◌≡◌, ◌⊎◌, List}
+use Rattle.st_tree.specs.declared.token.Tok.{Tok}
+use Rattle.st_tree.specs.declared.rule.Rule.TheVariants.{NoTree}
+use Rattle.st_tree.specs.declared.rule.Refusal.{Refusal}
+use Rattle.st_tree.specs.declared.parse_fault.ParseFault.{ParseFault}
+use Rattle.st_tree.specs.declared.parse_fault.ParseFault.TheVariants.{Refused, Memory}
+use Rattle.st_tree.specs.SyntaxView.{symbols}
+use Rattle.st_parser.specs.FirstFault.{IsSound, IsFirstFault}
+use Rattle.relation_lines.specs.Lines.{LineData}
+use Rattle.relation_lines.specs.Prints.{print_lines}
+use Rattle.relation_lines.specs.Levels.{AreLinesLevelled}
+
+-- Tokens are these lines: they break neither X1 nor G2, and the lines, which are levelled, print them.
+pub record AreLines (toks : List Tok) (ls : List LineData) : Type 0 where
+  pub sound : IsSound toks
+  pub printed : symbols toks ≡ print_lines ls
+  pub levelled : AreLinesLevelled ls
+
+-- Tokens break neither X1 nor G2, and no levelled lines print them: G1.
+pub record HasNoLines (toks : List Tok) (r : Refusal) : Type 0 where
+  pub sound : IsSound toks
+  pub rule : r.rule ≡ NoTree
+  pub none : (ls : List LineData) → AreLinesLevelled ls → symbols toks ≡ print_lines ls → ⊥
+
+-- why tokens are no relation file, by this rule first
+abbrev pub IsLinesRefusal : List Tok → Refusal → Type 0
+IsLinesRefusal toks r = IsFirstFault toks r ⊎ HasNoLines toks r
+
+abbrev pub IsLinesFault : List Tok → ParseFault → Type 0
+IsLinesFault toks (Refused r) = IsLinesRefusal toks r
+IsLinesFault toks Memory = Unit {0}

@@ -1,0 +1,13 @@
+// From the tokens of a relation file to exactly the lines that print them.
+#![tactic(auto)]
+
+mod content;
+mod line;
+mod parse;
+mod word;
+
+pub use line::{Condition, Content, Line, Setting};
+pub use parse::{one_list, parse_lines};
+
+#[cfg(test)]
+mod tests;
