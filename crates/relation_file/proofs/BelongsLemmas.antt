@@ -1,0 +1,132 @@
+-- The inputs of lines that break nothing are cells of the lines' ranges.
+use Rattle.std.proofs.Common.{◌≡◌, ◌<◌, ℕ, suc, ◌+◌, List, [], ◌∷◌, ◌++◌, length, Bool, true, false, ◌&&◌, Option, Some, None, refl, sym, ap, subst, ◌∙◌, arith, All}
+use Rattle.std.specs.Str.{bytes_eq}
+use Rattle.std.specs.Ordering.{int_eq}
+use Rattle.std.proofs.lemmas.Bool.Decides.{Decides-int_eq}
+use Rattle.std.proofs.lemmas.List.Elements.{All-nil, All-cons}
+use Rattle.st_tree.specs.declared.rule.Rule.{Rule}
+use Rattle.st_tree.specs.declared.rule.Rule.TheVariants.{InputsDiffer}
+use Rattle.st_tree.specs.declared.rule.Refusal.{Refusal}
+use Rattle.st_tree.specs.declared.typed.Range.{Range}
+use Rattle.st_tree.specs.Syntax.{Named}
+use Rattle.st_tree.specs.Tree.{CellData, ProgramData}
+use Rattle.st_types.specs.Typing.{is_same}
+use Rattle.scan_model.specs.declared.side.Side.TheVariants as sides
+use Rattle.scan_model.specs.declared.relation.InputLine.{InputLine}
+use Rattle.scan_model.specs.Scans.{ranges_of, range_at}
+use Rattle.scan_model.specs.Pairs.{RelationData, IsCellOf, NamesCells, BelongsTo}
+use Rattle.relation_lines.specs.Lines.{ContentData, setting, faults, paired, single, clause, LineData}
+use Rattle.relation_file.specs.declared.places.Placed.{Placed}
+use Rattle.relation_file.specs.Refusals.{unless, or_own}
+use Rattle.relation_file.specs.Inputs.{placed, cell_named, are_alike, is_same_range}
+use Rattle.relation_file.specs.Broken.{broken_name, broken_parts, broken_line, broken_behind, broken_lines}
+use Rattle.relation_file.specs.Relations.{before, both_line, single_line, input_of, inputs_in, relation_of}
+
+-- ---- what is found is a cell
+
+record IsPlaced (cs : List CellData) (place : ℕ) (p : Placed) : Type 0 where
+  pub index : ℕ
+  pub at : p.place ≡ place + index
+  pub within : index < length cs
+  pub ranged : range_at (ranges_of cs) index ≡ p.range
+
+placed_first : (c : CellData) (cs : List CellData) (place : ℕ) (p : Placed) → placed place c ≡ p → IsPlaced (c ∷ cs) place p
+placed_first c cs place p h = record {
+  index = 0;
+  at = sym (ap (λ (q : Placed). q.place) h) ∙ omega arith;
+  within = omega arith;
+  ranged = ap (λ (q : Placed). q.range) h;
+}
+
+placed_later : (c : CellData) (cs : List CellData) (place : ℕ) (p : Placed) → IsPlaced cs (place + 1) p → IsPlaced (c ∷ cs) place p
+placed_later c cs place p h = record {
+  index = suc h.index;
+  at = h.at ∙ omega arith;
+  within = omega (arith, h.within);
+  ranged = h.ranged;
+}
+
+found_placed : (text : List ℕ) (place : ℕ) (cs : List CellData) (p : Placed) → cell_named text place cs ≡ Some p → IsPlaced cs place p
+found_placed text place [] p h = absurd (let e : ⊥ = cc in e)
+found_placed text place (c ∷ cs) p h = by (bytes_eq c.path text) refl (found_placed text (place + 1) cs p)
+  where
+    by : (b : Bool) → bytes_eq c.path text ≡ b → (cell_named text (place + 1) cs ≡ Some p → IsPlaced cs (place + 1) p) → IsPlaced (c ∷ cs) place p
+    by true e rest = placed_first c cs place p (let f : Some (placed place c) ≡ Some p = rw e at h in cc)
+    by false e rest = placed_later c cs place p (rest (let f : cell_named text (place + 1) cs ≡ Some p = rw e at h in f))
+
+is_cell : (program : ProgramData) (text : List ℕ) (p : Placed) → cell_named text 0 program.cells ≡ Some p → IsCellOf program p.place p.range
+is_cell program text p h =
+    let q = found_placed text 0 program.cells p h in
+    let e : p.place ≡ q.index = q.at ∙ omega arith in
+    (omega (arith, q.within), ap (range_at (ranges_of program.cells)) e ∙ q.ranged)
+
+-- ---- the lines of a content
+
+or_nothing : (xs ys : List Refusal) → or_own xs ys ≡ [] → (xs ≡ []) × (ys ≡ [])
+or_nothing [] ys h = (refl, h)
+or_nothing (x ∷ xs) ys h = absurd (let e : ⊥ = cc in e)
+
+nothing_of_both : (xs ys : List Refusal) → xs ++ ys ≡ [] → (xs ≡ []) × (ys ≡ [])
+nothing_of_both [] ys h = (refl, h)
+nothing_of_both (x ∷ xs) ys h = absurd (let e : ⊥ = cc in e)
+
+holds : (b : Bool) (rule : Rule) (at : ℕ) → unless b rule at ≡ [] → b ≡ true
+holds true rule at h = refl
+holds false rule at h = absurd (let e : ⊥ = cc in e)
+
+both_true : (a b : Bool) → (a && b) ≡ true → (a ≡ true) × (b ≡ true)
+both_true true b h = (refl, h)
+both_true false b h = absurd (let e : ⊥ = cc in e)
+
+same_range : (r s : Range) → is_same_range r s ≡ true → r ≡ s
+same_range r s h =
+    let e = both_true (int_eq r.low s.low) (int_eq r.high s.high) h in
+    let low = (Decides-int_eq r.low s.low).0 e.0 in
+    let high = (Decides-int_eq r.high s.high).0 e.1 in
+    λ i. record { low = low i; high = high i }
+
+module _ (old new : ProgramData) where
+  -- a line, where there is one, names cells
+  abbrev pub IfLine : Option InputLine → Type 0
+  IfLine None = Unit {0}
+  IfLine (Some l) = NamesCells old new l
+
+  both_belong : (a b : Named) (p q : Option Placed) → cell_named a.text 0 old.cells ≡ p → cell_named b.text 0 new.cells ≡ q → are_alike p q ≡ true → IfLine (both_line p q)
+  both_belong a b None q f g h = tt
+  both_belong a b (Some p) None f g h = tt
+  both_belong a b (Some p) (Some q) f g h =
+      let e = both_true (is_same p.kind q.kind) (is_same_range p.range q.range) h in
+      (is_cell old a.text p f, subst (IsCellOf new q.place) (sym (same_range p.range q.range e.1)) (is_cell new b.text q g))
+
+  single_old : (a : Named) (p : Option Placed) → cell_named a.text 0 old.cells ≡ p → IfLine (single_line sides.Old p)
+  single_old a None f = tt
+  single_old a (Some p) f = is_cell old a.text p f
+
+  single_new : (a : Named) (p : Option Placed) → cell_named a.text 0 new.cells ≡ p → IfLine (single_line sides.New p)
+  single_new a None f = tt
+  single_new a (Some p) f = is_cell new a.text p f
+
+  input_belongs : (above : List LineData) (c : ContentData) → broken_parts old new above c ≡ [] → IfLine (input_of old new c)
+  input_belongs above (setting s value at) h = tt
+  input_belongs above (faults equal at) h = tt
+  input_belongs above (paired a at b) h =
+      let alike = are_alike (cell_named a.text 0 old.cells) (cell_named b.text 0 new.cells) in
+      let none = or_nothing (broken_name old new sides.Old above a ++ broken_name old new sides.New above b) (unless alike InputsDiffer a.at) h in
+      both_belong a b _ _ refl refl (holds alike InputsDiffer a.at none.1)
+  input_belongs above (single sides.Old at a) h = single_old a _ refl
+  input_belongs above (single sides.New at a) h = single_new a _ refl
+  input_belongs above (clause c e) h = tt
+
+  before_belong : (o : Option InputLine) (ls : List InputLine) → IfLine o → All (NamesCells old new) ls → All (NamesCells old new) (before o ls)
+  before_belong None ls h rest = rest
+  before_belong (Some l) ls h rest = All-cons (NamesCells old new) l ls h rest
+
+  inputs_belong : (end : ℕ) (above ls : List LineData) → broken_behind old new end above ls ≡ [] → All (NamesCells old new) (inputs_in old new ls)
+  inputs_belong end above [] h = All-nil (NamesCells old new)
+  inputs_belong end above (l ∷ ls) h =
+      let e = nothing_of_both (broken_line old new above l) (broken_behind old new end (l ∷ above) ls) h in
+      let parts = or_nothing (broken_parts old new above l.content) _ e.0 in
+      before_belong (input_of old new l.content) (inputs_in old new ls) (input_belongs above l.content parts.0) (inputs_belong end (l ∷ above) ls e.1)
+
+pub relation_belongs : (old new : ProgramData) (end : ℕ) (lines : List LineData) (r : RelationData) → broken_lines old new end lines ≡ [] → r ≡ relation_of old new lines → BelongsTo old new r
+relation_belongs old new end lines r sound is = subst (BelongsTo old new) (sym is) (inputs_belong old new end [] lines sound)

@@ -1,0 +1,16 @@
+-- What the lines of tokens break, the tokens do.
+use Rattle.std.proofs.Common.{List, ℕ, inl, inr}
+use Rattle.st_tree.specs.declared.token.Tok.{Tok}
+use Rattle.st_tree.specs.Tree.{ProgramData}
+use Rattle.relation_lines.specs.Lines.{LineData}
+use Rattle.relation_lines.specs.Whole.{AreLines}
+use Rattle.relation_file.specs.declared.fault.RelFault.{RelFault}
+use Rattle.relation_file.specs.declared.fault.RelFault.TheVariants as faults
+use Rattle.relation_file.specs.Faults.{IfRefused}
+use Rattle.relation_file.specs.Stated.{IsFirstOf, IsNoRelation, by_lines, by_types}
+
+module _ (old new : ProgramData) (end : ℕ) (toks : List Tok) where
+  pub rules_refused : (lines : List LineData) (e : RelFault) → AreLines toks lines → IfRefused (IsFirstOf old new end lines) e → IfRefused (IsNoRelation old new end toks) e
+  rules_refused lines (faults.Refused r) h (inl k) = by_lines lines h k
+  rules_refused lines (faults.Refused r) h (inr k) = by_types lines h k.0 k.1
+  rules_refused lines faults.Memory h k = tt

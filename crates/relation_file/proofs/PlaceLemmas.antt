@@ -1,0 +1,33 @@
+-- Cells by their paths.
+use Rattle.std.proofs.Common.{◌≡◌, ℕ, ◌+◌, ◌-◌, ◌<◌, ◌≤◌, cond, List, ◌∷◌, length, get_or, drop, Some, sym, ap, ◌∙◌, arith, suc, drop-cons, Bor}
+use Rattle.std.specs.Str.{bytes_eq}
+use Rattle.std.proofs.lemmas.Map.Text.{hash_map_updates_str}
+use Rattle.indexmap.specs.IndexMap.{IndexMap, get_by, Updates}
+use Rattle.st_tree.specs.declared.typed.Cell.{Cell}
+use Rattle.st_tree.specs.Tree.{CellData}
+use Rattle.st_tree.specs.View.{cell_view, cells_view}
+use Rattle.relation_file.specs.declared.places.Placed.{Placed}
+use Rattle.relation_file.specs.Inputs.{placed, cell_named}
+use Rattle.relation_file.specs.Places.{Finds}
+
+last_one : (cs : List Cell) (place : ℕ) (d : Cell) → 0 < place → place ≤ length cs → drop (place - 1) cs ≡ get_or cs (place - 1) d ∷ drop place cs
+last_one cs place d some within =
+    let e : suc (place - 1) ≡ place = omega arith in
+    let s : place - 1 < length cs = omega arith in
+    drop-cons cs (place - 1) d s ∙ ap (λ n. get_or cs (place - 1) d ∷ drop n cs) e
+
+-- one more cell, before those that are found
+pub finds_one_more : {S : Type 0} (cs : List Cell) (place : ℕ) (path : Bor (List ℕ)) (cell : Cell) (p : Placed) (old new : IndexMap (Bor (List ℕ)) Placed S)
+    → 0 < place → place ≤ length cs → cell ≡ get_or cs (place - 1) cell → path.now ≡ (cell_view cell).path → p ≡ placed (place - 1) (cell_view cell)
+    → Updates (λ x y. bytes_eq x.now y.now) old new path (Some p) → Finds old place (cells_view (drop place cs)) → Finds new (place - 1) (cells_view (drop (place - 1) cs))
+finds_one_more cs place path cell p old new some within same named known updates finds text =
+    let c : CellData = cell_view cell in
+    let rest : List CellData = cells_view (drop place cs) in
+    let next : place ≡ place - 1 + 1 = omega arith in
+    let listed : cells_view (drop (place - 1) cs) ≡ c ∷ rest = ap cells_view (last_one cs place cell some within) ∙ ap (λ x. cell_view x ∷ rest) (sym same) in
+    let one : get_by (λ k. bytes_eq text k.now) new ≡ cond (bytes_eq path.now text) (Some p) (get_by (λ k. bytes_eq text k.now) old) = hash_map_updates_str path.now old new (Some p) updates text in
+    let two : get_by (λ k. bytes_eq text k.now) old ≡ cell_named text (place - 1 + 1) rest = finds text ∙ ap (λ n. cell_named text n rest) next in
+    one ∙ ap (λ o. cond (bytes_eq path.now text) (Some p) o) two
+    ∙ ap (λ (t : List ℕ). cond (bytes_eq t text) (Some p) (cell_named text (place - 1 + 1) rest)) named
+    ∙ ap (λ (x : Placed). cond (bytes_eq c.path text) (Some x) (cell_named text (place - 1 + 1) rest)) known
+    ∙ ap (cell_named text (place - 1)) (sym listed)

@@ -1,0 +1,41 @@
+-- The names of clauses.
+use Rattle.std.specs.Prelude.{ℕ, List, [], ◌∷◌, ◌++◌, codes, Bool, ◌||◌, Option, Some, None, if◌then◌else◌}
+use Rattle.std.specs.Str.{bytes_eq}
+use Rattle.st_tree.specs.declared.rule.Rule.TheVariants.{NoSide, UnknownName}
+use Rattle.st_tree.specs.declared.rule.Refusal.{Refusal}
+use Rattle.st_tree.specs.Syntax.{Named, PathData, Tree, literal, path, enumerator, paren, unary, chain, Links, no_links, link}
+use Rattle.st_types.specs.declared.scope.Meaning.{Meaning}
+use Rattle.st_types.specs.Typing.{Scope}
+use Rattle.relation_file.specs.Refusals.{breaks}
+
+abbrev pub is_side : List ℕ → Bool
+is_side text = bytes_eq text (codes "OLD") || bytes_eq text (codes "NEW")
+
+abbrev pub no_side : ℕ → List Refusal
+no_side at = breaks NoSide at
+
+abbrev pub unknown_unless : ℕ → Option Meaning → List Refusal
+unknown_unless at None = breaks UnknownName at
+unknown_unless at (Some m) = []
+
+-- A path has `old` or `new` before it (R3), and names a cell (N2, at the name behind).
+abbrev pub broken_members : Scope → PathData → List Named → List Refusal
+broken_members scope p [] = no_side p.first.at
+broken_members scope p (n ∷ ns) = if is_side p.first.text then unknown_unless n.at (scope p) else no_side p.first.at
+
+abbrev pub broken_path : Scope → PathData → List Refusal
+broken_path scope p = broken_members scope p p.members
+
+-- all that the names of an expression break
+abbrev mutual
+  pub broken_names : Scope → Tree → List Refusal
+  broken_names scope (literal l) = []
+  broken_names scope (path p) = broken_path scope p
+  broken_names scope (enumerator t v) = no_side t.at
+  broken_names scope (paren at e) = broken_names scope e
+  broken_names scope (unary o at e) = broken_names scope e
+  broken_names scope (chain e ls) = broken_names scope e ++ broken_links scope ls
+
+  pub broken_links : Scope → Links → List Refusal
+  broken_links scope no_links = []
+  broken_links scope (link o at e ls) = broken_names scope e ++ broken_links scope ls

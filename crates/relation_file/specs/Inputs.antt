@@ -1,0 +1,76 @@
+-- The names of INPUT lines.
+use Rattle.std.specs.Prelude.{ℕ, ◌+◌, List, [], ◌∷◌, ◌++◌, Bool, true, false, not, ◌&&◌, Option, Some, None, if◌then◌else◌}
+use Rattle.std.specs.List.{list_any, list_all}
+use Rattle.std.specs.Ordering.{int_eq}
+use Rattle.std.specs.Str.{bytes_eq}
+use Rattle.st_tree.specs.declared.rule.Rule.TheVariants.{UnknownName, WrongKind, InputCount}
+use Rattle.st_tree.specs.declared.rule.Refusal.{Refusal}
+use Rattle.st_tree.specs.declared.typed.Range.{Range}
+use Rattle.st_tree.specs.Cells.{is_input}
+use Rattle.st_tree.specs.Syntax.{Named}
+use Rattle.st_tree.specs.Tree.{CellData}
+use Rattle.st_types.specs.Typing.{is_same}
+use Rattle.scan_model.specs.declared.side.Side.{Side}
+use Rattle.scan_model.specs.declared.side.Side.TheVariants as sides
+use Rattle.relation_file.specs.Refusals.{breaks, unless}
+use Rattle.relation_file.specs.declared.places.Placed.{Placed}
+use Rattle.relation_lines.specs.Lines.{ContentData, setting, faults, paired, single, clause, LineData}
+
+-- what is known of a cell at a place
+abbrev pub placed : ℕ → CellData → Placed
+placed place c = record { place = place; part = c.part; kind = c.kind; range = c.range }
+
+-- the first cell of a path, among those that begin at a place
+abbrev pub cell_named : List ℕ → ℕ → List CellData → Option Placed
+cell_named text place [] = None
+cell_named text place (c ∷ cs) = if bytes_eq c.path text then Some (placed place c) else cell_named text (place + 1) cs
+
+-- the names by which a line names inputs of a program
+abbrev pub named_single : Side → Side → Named → List (List ℕ)
+named_single sides.Old sides.Old n = n.text ∷ []
+named_single sides.New sides.New n = n.text ∷ []
+named_single sides.Old sides.New n = []
+named_single sides.New sides.Old n = []
+
+abbrev pub named_paired : Side → Named → Named → List (List ℕ)
+named_paired sides.Old a b = a.text ∷ []
+named_paired sides.New a b = b.text ∷ []
+
+abbrev pub named_by : Side → ContentData → List (List ℕ)
+named_by side (setting s value at) = []
+named_by side (faults equal at) = []
+named_by side (paired a at b) = named_paired side a b
+named_by side (single s at a) = named_single side s a
+named_by side (clause c e) = []
+
+abbrev pub names_in : Side → List LineData → List (List ℕ)
+names_in side [] = []
+names_in side (l ∷ ls) = named_by side l.content ++ names_in side ls
+
+abbrev pub is_among : List (List ℕ) → List ℕ → Bool
+is_among names text = list_any (λ name. bytes_eq name text) names
+
+-- What a name of an INPUT line breaks: N2 where it is no variable; N4 where it is no input; P2 where a line
+-- before has named it.
+abbrev pub broken_at_cell : Bool → Named → Option Placed → List Refusal
+broken_at_cell again n None = breaks UnknownName n.at
+broken_at_cell again n (Some c) = if is_input c.part then unless (not again) InputCount n.at else breaks WrongKind n.at
+
+-- the names of the lines before come first
+abbrev pub broken_input : List (List ℕ) → List CellData → Named → List Refusal
+broken_input before cells n = broken_at_cell (is_among before n.text) n (cell_named n.text 0 cells)
+
+abbrev pub is_same_range : Range → Range → Bool
+is_same_range r s = int_eq r.low s.low && int_eq r.high s.high
+
+-- two inputs are of one type with the same bounds
+abbrev pub are_alike : Option Placed → Option Placed → Bool
+are_alike (Some a) (Some b) = is_same a.kind b.kind && is_same_range a.range b.range
+are_alike _ _ = false
+
+-- each input is named
+abbrev pub is_listed : (List ℕ → Bool) → CellData → Bool
+is_listed is_named c = if is_input c.part then is_named c.path else true
+
+abbrev pub all_listed : (List ℕ → Bool) → List CellData → Bool
+all_listed is_named cells = list_all (is_listed is_named) cells

@@ -1,0 +1,11 @@
+pub mod Order
+pub mod Refusals
+pub mod Inputs
+pub mod Clauses
+pub mod Broken
+pub mod Relations
+pub mod Stated
+pub mod Faults
+pub mod Places
+pub mod Seen
+pub mod PairView

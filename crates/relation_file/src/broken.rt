@@ -1,0 +1,115 @@
+// What the lines of a relation file break.
+ghost use Rattle.std.specs.Prelude.{◌≡◌, List, ◌++◌, ◌&&◌, IfOk};
+ghost use Rattle.st_tree.specs.Rules.{first_in};
+ghost use Rattle.indexmap.specs.IndexSet.{contains_text};
+ghost use Rattle.relation_lines.specs.Lines.{LineData};
+ghost use Rattle.relation_lines.specs.View.{content_view, line_view, lines_view};
+ghost use Rattle.relation_file.specs.Order.{in_limits};
+ghost use Rattle.relation_file.specs.Inputs.{all_listed};
+ghost use Rattle.relation_file.specs.Broken.{broken_parts, broken_line, missing_kinds, missing_inputs, broken_lines, broken_content, broken_clauses};
+ghost use Rattle.relation_file.specs.PairView.{old_of, new_of};
+ghost use Rattle.relation_file.specs.Seen.{Recalls};
+
+use crate::inputs::{all_listed, name_refusal, pair_refusal};
+use crate::names::names_refusal;
+use crate::pair::Pair;
+use crate::seen::Seen;
+use crate::unless::unless;
+use relation_lines::{Content, Line, Setting};
+use st_tree::{Refusal, Rule};
+use st_types::check_clause;
+use std::alloc::{AllocError, Global};
+
+// Whether a number is from 1 to its greatest value.
+fn in_limits(setting: Setting, value: u64) -> bool
+    ensures { result ≡ in_limits setting value }
+{
+    let greatest = match setting {
+        Setting::Version => 1,
+        Setting::Depth => 64,
+        Setting::Conflicts => 1_000_000,
+    };
+    1 <= value && value <= greatest
+}
+
+// What the parts of a line break.
+fn parts_refusal(pair: &Pair<'_>, seen: &Seen, content: &Content) -> Option<Refusal>
+    ensures { (before : List LineData) → Recalls seen.now before → result ≡ first_in (broken_parts (old_of pair.now) (new_of pair.now) before (content_view content.now)) }
+{
+    match content {
+        Content::Setting(setting, value, at) => {
+            unless(in_limits(*setting, *value), Rule::NumberLimits, *at)
+        }
+        Content::Faults(_, _) => None,
+        Content::Paired(old, _, new) => pair_refusal(pair, seen, old, new),
+        Content::Single(side, _, name) => name_refusal(pair, seen, *side, name),
+        Content::Clause(_, clause) => names_refusal(&pair.scope, clause),
+    }
+}
+
+// What a line breaks: R1 where its parts break nothing and it stands out of order.
+fn line_refusal(pair: &Pair<'_>, seen: &Seen, line: &Line) -> Option<Refusal>
+    ensures { (before : List LineData) → Recalls seen.now before → result ≡ first_in (broken_line (old_of pair.now) (new_of pair.now) before (line_view line.now)) }
+{
+    let parts = parts_refusal(pair, seen, &line.content);
+    let late = seen.kinds.is_out_of_order(&line.content);
+    parts.or(unless(!late, Rule::LineOrder, line.at))
+}
+
+// Whether each input of both programs is named.
+fn has_inputs(pair: &Pair<'_>, seen: &Seen) -> bool
+    ensures { result ≡ (all_listed (contains_text seen.now.of_old) (old_of pair.now).cells && all_listed (contains_text seen.now.of_new) (new_of pair.now).cells) }
+{
+    all_listed(&seen.of_old, &pair.old.program.cells)
+        && all_listed(&seen.of_new, &pair.new.program.cells)
+}
+
+// What is missing at the end of a file: R1 a kind, and P2 an input.
+fn missing(pair: &Pair<'_>, seen: &Seen, end: usize) -> Option<Refusal>
+    ensures { (before : List LineData) → Recalls seen.now before
+        → result ≡ first_in (missing_kinds (old_of pair.now) (new_of pair.now) end before ++ missing_inputs (old_of pair.now) (new_of pair.now) end before) }
+{
+    let kinds = unless(seen.kinds.has_needed(), Rule::LineOrder, end);
+    let inputs = unless(has_inputs(pair, seen), Rule::InputCount, end);
+    Refusal::earlier(kinds, inputs)
+}
+
+/// The first rule on lines and names that the lines of a file of `end` bytes break.
+pub(crate) fn first_of_lines(
+    alloc: Global,
+    pair: &Pair<'_>,
+    end: usize,
+    lines: &[Line],
+) -> Result<Option<Refusal>, AllocError>
+    ensures { IfOk result (λ first. first ≡ first_in (broken_lines (old_of pair.now) (new_of pair.now) end (lines_view lines.now))) }
+{
+    let mut seen = Seen::new(alloc);
+    let mut first = None;
+    for line in lines {
+        first = Refusal::earlier(first, line_refusal(pair, &seen, line));
+        seen.note(line)?;
+    }
+    Ok(Refusal::earlier(first, missing(pair, &seen, end)))
+}
+
+// What the types of a clause break.
+fn clause_refusal(pair: &Pair<'_>, content: &Content) -> Option<Refusal>
+    ensures { result ≡ first_in (broken_content (old_of pair.now) (new_of pair.now) (content_view content.now)) }
+{
+    match content {
+        Content::Clause(_, clause) => check_clause(&pair.scope, clause),
+        Content::Setting(_, _, _) | Content::Faults(_, _) => None,
+        Content::Paired(_, _, _) | Content::Single(_, _, _) => None,
+    }
+}
+
+/// The first rule on types that the clauses break.
+pub(crate) fn first_of_clauses(pair: &Pair<'_>, lines: &[Line]) -> Option<Refusal>
+    ensures { result ≡ first_in (broken_clauses (old_of pair.now) (new_of pair.now) (lines_view lines.now)) }
+{
+    let mut first = None;
+    for line in lines {
+        first = Refusal::earlier(first, clause_refusal(pair, &line.content));
+    }
+    first
+}

@@ -1,0 +1,104 @@
+// What INPUT lines break.
+ghost use Rattle.std.specs.Prelude.{◌≡◌, List};
+ghost use Rattle.st_tree.specs.Rules.{first_in};
+ghost use Rattle.st_tree.specs.Cells.{is_input as plays_input};
+ghost use Rattle.st_tree.specs.SyntaxView.{name_view};
+ghost use Rattle.st_tree.specs.View.{cell_view, cells_view};
+ghost use Rattle.indexmap.specs.IndexSet.{contains_text};
+ghost use Rattle.relation_lines.specs.Lines.{LineData};
+ghost use Rattle.relation_file.specs.Inputs.{broken_at_cell, are_alike, is_same_range, is_listed, all_listed};
+ghost use Rattle.relation_file.specs.Broken.{broken_name, broken_pair};
+ghost use Rattle.relation_file.specs.PairView.{old_of, new_of};
+ghost use Rattle.relation_file.specs.Seen.{Recalls};
+
+use crate::pair::Pair;
+use crate::places::Placed;
+use crate::seen::Seen;
+use crate::unless::{breaks, unless};
+use indexmap::IndexSet;
+use scan_model::Side;
+use st_tree::{Cell, Name, Part, Range, Refusal, Rule};
+
+fn is_input(part: Part) -> bool
+    ensures { result ≡ plays_input part }
+{
+    match part {
+        Part::Input => true,
+        Part::Fault | Part::Output | Part::Local => false,
+    }
+}
+
+// What a name breaks: N2 where it is no variable, N4 where it is no input, and P2 where a line before named it.
+fn at_cell(again: bool, name: &Name, cell: Option<Placed>) -> Option<Refusal>
+    ensures { result ≡ first_in (broken_at_cell again (name_view name.now) cell) }
+{
+    match cell {
+        None => breaks(Rule::UnknownName, name.at),
+        Some(cell) => {
+            if is_input(cell.part) {
+                unless(!again, Rule::InputCount, name.at)
+            } else {
+                breaks(Rule::WrongKind, name.at)
+            }
+        }
+    }
+}
+
+/// What a name of an INPUT line breaks.
+pub(crate) fn name_refusal(pair: &Pair<'_>, seen: &Seen, side: Side, name: &Name) -> Option<Refusal>
+    ensures { (before : List LineData) → Recalls seen.now before → result ≡ first_in (broken_name (old_of pair.now) (new_of pair.now) side before (name_view name.now)) }
+{
+    let text = name.text.as_str();
+    match side {
+        Side::Old => at_cell(seen.of_old.contains(text), name, pair.old.find(text)),
+        Side::New => at_cell(seen.of_new.contains(text), name, pair.new.find(text)),
+    }
+}
+
+fn is_same_range(range: Range, other: Range) -> bool
+    ensures { result ≡ is_same_range range other }
+{
+    range.low == other.low && range.high == other.high
+}
+
+// Whether two inputs are of one type with the same bounds.
+fn are_alike(old: Option<Placed>, new: Option<Placed>) -> bool
+    ensures { result ≡ are_alike old new }
+{
+    match (old, new) {
+        (Some(old), Some(new)) => old.kind == new.kind && is_same_range(old.range, new.range),
+        (_, _) => false,
+    }
+}
+
+/// What the names of a line break that names an input of each program: P1 where they differ.
+pub(crate) fn pair_refusal(pair: &Pair<'_>, seen: &Seen, old: &Name, new: &Name) -> Option<Refusal>
+    ensures { (before : List LineData) → Recalls seen.now before → result ≡ first_in (broken_pair (old_of pair.now) (new_of pair.now) before (name_view old.now) (name_view new.now)) }
+{
+    let alike = are_alike(
+        pair.old.find(old.text.as_str()),
+        pair.new.find(new.text.as_str()),
+    );
+    let of_old = name_refusal(pair, seen, Side::Old, old);
+    let of_new = name_refusal(pair, seen, Side::New, new);
+    Refusal::earlier(of_old, of_new).or(unless(alike, Rule::InputsDiffer, old.at))
+}
+
+// Whether a cell is no input, or is named.
+fn is_listed(names: &IndexSet<String>, cell: &Cell) -> bool
+    ensures { result ≡ is_listed (contains_text names.now) (cell_view cell.now) }
+{
+    !is_input(cell.part) || names.contains(cell.path.as_str())
+}
+
+/// Whether each input is named.
+pub(crate) fn all_listed(names: &IndexSet<String>, cells: &[Cell]) -> bool
+    ensures { result ≡ all_listed (contains_text names.now) (cells_view cells.now) }
+{
+    for cell in cells {
+        if !is_listed(names, cell) {
+            return false;
+        }
+    }
+    true
+}

@@ -1,0 +1,22 @@
+// From the tokens of a relation file to the relation that they state between two programs, or to the first rule that they break.
+#![tactic(auto)]
+
+mod broken;
+mod fault;
+mod inputs;
+mod kinds;
+mod laws;
+mod names;
+mod pair;
+mod places;
+mod read;
+mod relation;
+mod seen;
+mod unless;
+
+pub use fault::RelFault;
+pub use laws::one_relation;
+pub use read::read_lines;
+
+#[cfg(test)]
+mod tests;

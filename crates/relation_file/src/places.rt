@@ -1,0 +1,71 @@
+// The cells of a program by their paths.
+ghost use Rattle.std.specs.Prelude.{◌≡◌, IfOk};
+ghost use Rattle.st_tree.specs.View.{cell_view, cells_view, program_view};
+ghost use Rattle.relation_file.specs.Inputs.{placed, cell_named};
+ghost use Rattle.relation_file.specs.Places.{Finds};
+
+use indexmap::IndexMap;
+use st_tree::{Cell, Elementary, Part, Program, Range};
+use std::alloc::{AllocError, Global};
+
+/// What is known of a cell: its place, the part that it plays, its type and its range.
+#[derive(Clone, Copy, Debug, PartialEq, Eq)]
+pub struct Placed {
+    pub place: usize,
+    pub part: Part,
+    pub kind: Elementary,
+    pub range: Range,
+}
+
+// Cells by their paths.
+type Places<'p> = IndexMap<&'p str, Placed>;
+
+fn known(place: usize, cell: &Cell) -> Placed
+    ensures { result ≡ placed place (cell_view cell.now) }
+{
+    Placed {
+        place,
+        part: cell.part,
+        kind: cell.kind,
+        range: cell.range,
+    }
+}
+
+// Of each path the first cell.
+fn places<'p>(alloc: Global, cells: &'p [Cell]) -> Result<Places<'p>, AllocError>
+    ensures { IfOk result (λ found. Finds found 0 (cells_view cells.now)) }
+{
+    let mut found = IndexMap::new(alloc);
+    for index in (0..cells.len()).rev() {
+        let cell = &cells[index];
+        found.insert(cell.path.as_str(), known(index, cell))?;
+    }
+    Ok(found)
+}
+
+/// A program, and its cells by their paths.
+#[derive(Drop)]
+pub(crate) struct Cells<'p> {
+    pub program: &'p Program,
+    places: Places<'p>,
+    ghost finds: { Finds places 0 (program_view program.now).cells },
+}
+
+impl<'p> Cells<'p> {
+    /// The cells of a program, to be looked up.
+    pub(crate) fn new(alloc: Global, program: &'p Program) -> Result<Cells<'p>, AllocError>
+        ensures { IfOk result (λ cells. cells.program.now ≡ program.now) }
+    {
+        Ok(Cells {
+            program,
+            places: places(alloc, &program.cells)?,
+        })
+    }
+
+    /// The first cell of a path.
+    pub(crate) fn find(&self, path: &str) -> Option<Placed>
+        ensures { result ≡ cell_named path.now 0 (program_view self.now.program.now).cells }
+    {
+        self.places.get(path).copied()
+    }
+}

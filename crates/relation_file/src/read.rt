@@ -1,0 +1,62 @@
+// The relation that a file states.
+ghost use Rattle.std.specs.Prelude.{◌≡◌, [], IfOk, IfErr, OnOk};
+ghost use Rattle.st_tree.specs.View.{program_view};
+ghost use Rattle.scan_model.specs.Pairs.{relation_view, BelongsTo};
+ghost use Rattle.relation_lines.specs.View.{lines_view};
+ghost use Rattle.relation_file.specs.Broken.{broken_lines, broken_clauses};
+ghost use Rattle.relation_file.specs.PairView.{old_of, new_of};
+ghost use Rattle.relation_file.specs.Relations.{relation_of};
+ghost use Rattle.relation_file.specs.Stated.{IsFirstOf, IsRelation, IsNoRelation};
+ghost use Rattle.relation_file.specs.Faults.{IfRefused};
+
+use crate::broken::{first_of_clauses, first_of_lines};
+use crate::fault::RelFault;
+use crate::pair::Pair;
+use crate::relation::relation_of;
+use relation_lines::{Line, parse_lines};
+use scan_model::Relation;
+use st_tree::{Program, Tok};
+use std::alloc::Global;
+
+// The relation that the lines of a file of `end` bytes state, or the first rule that they break.
+fn relation_in(
+    alloc: Global,
+    pair: &Pair<'_>,
+    end: usize,
+    lines: &[Line],
+) -> Result<Relation, RelFault>
+    ensures sound { OnOk result (broken_lines (old_of pair.now) (new_of pair.now) end (lines_view lines.now) ≡ []) }
+    ensures typing { OnOk result (broken_clauses (old_of pair.now) (new_of pair.now) (lines_view lines.now) ≡ []) }
+    ensures stated { IfOk result (λ r. relation_view r ≡ relation_of (old_of pair.now) (new_of pair.now) (lines_view lines.now)) }
+    ensures refused { IfErr result (IfRefused (IsFirstOf (old_of pair.now) (new_of pair.now) end (lines_view lines.now))) }
+{
+    if let Some(refusal) = first_of_lines(alloc, pair, end, lines)? {
+        return Err(RelFault::Refused(refusal));
+    }
+    if let Some(refusal) = first_of_clauses(pair, lines) {
+        return Err(RelFault::Refused(refusal));
+    }
+    let relation = relation_of(alloc, pair, lines)?;
+    Ok(relation)
+}
+
+/// The relation between two programs that the tokens of a relation file state, whose text has a length of `end`
+/// bytes, or the first rule that they break: of X1 and G2, of the grammar, of the lines and names, and then of the
+/// types of clauses.
+pub fn read_lines(
+    alloc: Global,
+    toks: &[Tok<'_>],
+    end: usize,
+    old: &Program,
+    new: &Program,
+) -> Result<Relation, RelFault>
+    ensures read { IfOk result (λ r. IsRelation (program_view old.now) (program_view new.now) end toks.now (relation_view r)) }
+    // The cells that its INPUT lines name are cells of the programs, of the lines' ranges.
+    ensures belongs { IfOk result (λ r. BelongsTo (program_view old.now) (program_view new.now) (relation_view r)) }
+    ensures refused { IfErr result (IfRefused (IsNoRelation (program_view old.now) (program_view new.now) end toks.now)) }
+{
+    let lines = parse_lines(alloc, toks, end)?;
+    let pair = Pair::new(alloc, old, new)?;
+    let relation = relation_in(alloc, &pair, end, &lines)?;
+    Ok(relation)
+}
