@@ -1,17 +1,15 @@
 -- How a run ends.
-use Rattle.std.proofs.Common.{◌≡◌, ◌≢◌, ℕ, List, ◌++◌, Bool, true, false, Option, refl, sym, ap, ◌∙◌, subst, append_assoc}
-use Rattle.std.specs.Bool.{MatchBool}
+use Rattle.std.proofs.Common.{◌≡◌, ◌≢◌, ℕ, List, ◌++◌, Bool, true, false, Option, refl, sym, ap, ◌∙◌, append_assoc}
 use Rattle.outside.specs.Contents.{extended}
-use Rattle.interim_model.specs.declared.relation.Ending.{Ending}
-use Rattle.interim_model.specs.declared.relation.Ending.TheVariants.{Related, Unrelated as UnrelatedAt, NotAllowed as NotAllowedAt}
+use Rattle.scan_model.specs.declared.relation.Ending.{Ending}
+use Rattle.scan_model.specs.declared.relation.Ending.TheVariants.{Related, Unrelated as UnrelatedAt, NotAllowed as NotAllowedAt}
 use Rattle.regver_top.specs.declared.status.Status.{Status}
 use Rattle.regver_top.specs.declared.status.Status.TheVariants.{Replayed, Unrelated, NotAllowed, Usage, Refused, ReadFault, WriteFault, Memory}
 use Rattle.regver_top.specs.Lines.{ending_line}
 use Rattle.regver_top.specs.Outcomes.{Outcome}
 use Rattle.regver_top.specs.Played.{outcome_report}
 use Rattle.regver_top.specs.Puts.{PutsPart}
-use Rattle.regver_top.specs.Accepting.{Texts}
-use Rattle.regver_top.specs.Reports.{Report, Reports, Asked, usage, is_replay, ending_status}
+use Rattle.regver_top.specs.Reports.{Report, ending_status}
 use Rattle.regver_top.specs.Answers.{Answers, HasPut, IsExact, PutsFront, MayPut, a_report, a_read_fault, no_memory, no_memory_behind, memory_line, read_fault_line}
 use Rattle.regver_top.proofs.PlayLemmas.{extended-twice}
 
@@ -146,10 +144,3 @@ memory_behind_part Wanted faulted r lines more result told old new w cut p h =
 -- the sink gave up in the lines of a replay
 pub part_answered : (o : Outcome) (told new : Option (List ℕ)) → PutsPart told new o.lines → PutsFront (λ r. r ≡ outcome_report o) ⊥ told new
 part_answered o told new p = ((outcome_report o).text, a_report (outcome_report o) refl refl, part_longer told new o.lines (ending_line o.ending) p)
-
--- what the words ask for, where they ask for a replay, and where they do not
-pub asked_replay : (words : List (List ℕ)) (t : Texts) (r : Report) → is_replay words ≡ true → Reports t r → Asked words t r
-asked_replay words t r e h = let P : Bool → Type 0 = λ b. MatchBool b (Reports t r) (r ≡ usage) in subst P (sym e) h
-
-pub asked_usage : (words : List (List ℕ)) (t : Texts) → is_replay words ≡ false → Asked words t usage
-asked_usage words t e = let P : Bool → Type 0 = λ b. MatchBool b (Reports t usage) (usage ≡ usage) in subst P (sym e) refl

@@ -1,13 +1,18 @@
 -- What has been put of a replay while it goes on.
-use Rattle.std.proofs.Common.{◌≡◌, ◌<◌, ℕ, suc, ◌+◌, ℤ, List, [], ◌∷◌, ◌++◌, length, take, drop, get_or, drop-cons, add-one, Vec, true, false, if◌then◌else◌, Option, Some, None, Result, Ok, Err, OnErr, refl, sym, ap, ◌∙◌, subst, append_assoc, append-nil}
+use Rattle.std.proofs.Common.{Bool, ◌≡◌, ◌<◌, ℕ, suc, ◌+◌, ℤ, List, [], ◌∷◌, ◌++◌, length, take, drop, get_or, drop-cons, add-one, Vec, true, false, if◌then◌else◌, Option, Some, None, Result, Ok, Err, OnErr, refl, sym, ap, ◌∙◌, subst, append_assoc, append-nil}
 use Rattle.std.proofs.lemmas.List.{take-append-drop}
 use Rattle.std.specs.declared.alloc.Global.{Global}
+use Rattle.st_tree.specs.declared.typed.Program.{Program}
+use Rattle.st_tree.specs.View.{program_view}
+use Rattle.scan_model.specs.declared.relation.Relation.{Relation}
+use Rattle.scan_replay.specs.Duos.{Compared, with_pair, allows, pair_after, is_pair_related}
 use Rattle.outside.specs.declared.OutErr.{OutErr}
 use Rattle.outside.specs.Contents.{extended, Adds}
-use Rattle.interim_tree.specs.Tree.{ProgramData}
-use Rattle.interim_model.specs.declared.relation.Ending.{Ending}
-use Rattle.interim_model.specs.declared.relation.Ending.TheVariants.{Unrelated}
-use Rattle.interim_model.specs.Pairs.{RelationData, Row, Pair, is_allowed, is_related, after_row}
+use Rattle.st_tree.specs.Tree.{ProgramData}
+use Rattle.scan_model.specs.declared.relation.Ending.{Ending}
+use Rattle.scan_model.specs.declared.relation.Ending.TheVariants.{Unrelated}
+use Rattle.scan_model.specs.InRange.{Row}
+use Rattle.scan_model.specs.Pairs.{RelationData, Pair, relation_view, is_allowed, is_related, after_row}
 use Rattle.regver_top.specs.Held.{rows_of}
 use Rattle.regver_top.specs.Lines.{scan_line}
 use Rattle.regver_top.specs.Outcomes.{Outcome, ended, with_line, outcome_from}
@@ -66,9 +71,41 @@ adds_part (Err e) old new bytes text same h =
     let count = h.part.0 in
     subst (PutsPart old new) same (record { kept = take count bytes; rest = drop count bytes; whole = sym (take-append-drop count bytes); put = h.part.1 })
 
+-- ---- two programs that are compared
+
+-- they are these, under this relation
+pub record AreOf (old new : Program) (rel : Relation) (d : Compared) : Type 0 where
+  pub old_is : d.old_program ≡ old
+  pub new_is : d.new_program ≡ new
+  pub relation_is : d.relation ≡ rel
+
+pub are_allowed : (old new : Program) (rel : Relation) (d : Compared) (row : Row) (b : Bool) → AreOf old new rel d → b ≡ allows d row → b ≡ true
+    → is_allowed (relation_view rel) row d.pair ≡ true
+are_allowed old new rel d row b h e may = ap (λ r. is_allowed (relation_view r) row d.pair) (sym h.relation_is) ∙ sym e ∙ may
+
+pub are_related : (old new : Program) (rel : Relation) (d : Compared) (b c : Bool) → AreOf old new rel d → b ≡ is_pair_related d → b ≡ c → is_related (relation_view rel) d.pair ≡ c
+are_related old new rel d b c h e is = ap (λ r. is_related (relation_view r) d.pair) (sym h.relation_is) ∙ sym e ∙ is
+
+-- a step leaves the programs and the relation
+pub are_still : (old new : Program) (rel : Relation) (d now next : Compared) (pair : Pair) → AreOf old new rel d → now ≡ d → next ≡ with_pair pair now → AreOf old new rel next
+are_still old new rel d now next pair h e step = record {
+  old_is = ap (λ x. x.old_program) step ∙ ap (λ x. x.old_program) e ∙ h.old_is;
+  new_is = ap (λ x. x.new_program) step ∙ ap (λ x. x.new_program) e ∙ h.new_is;
+  relation_is = ap (λ x. x.relation) step ∙ ap (λ x. x.relation) e ∙ h.relation_is;
+}
+
+pub pair_stepped : (old new : Program) (rel : Relation) (d now next : Compared) (row : Row) → AreOf old new rel d → now ≡ d → next ≡ with_pair (pair_after now row) now
+    → next.pair ≡ after_row (program_view old) (program_view new) (relation_view rel) row d.pair
+pair_stepped old new rel d now next row h e step =
+    ap (λ x. x.pair) step
+    ∙ ap (λ x. pair_after x row) e
+    ∙ ap (λ p. after_row (program_view p) (program_view d.new_program) (relation_view d.relation) row d.pair) h.old_is
+    ∙ ap (λ p. after_row (program_view old) (program_view p) (relation_view d.relation) row d.pair) h.new_is
+    ∙ ap (λ r. after_row (program_view old) (program_view new) (relation_view r) row d.pair) h.relation_is
+
 -- ---- one row
 
-outcome-row : (old new : ProgramData) (rel : RelationData) (k : ℕ) (pair : Pair) (row : Row) (rows : List Row) → is_allowed rel.inputs row ≡ true
+outcome-row : (old new : ProgramData) (rel : RelationData) (k : ℕ) (pair : Pair) (row : Row) (rows : List Row) → is_allowed rel row pair ≡ true
     → outcome_from old new rel k pair (row ∷ rows) ≡ with_line (scan_line old new (k + 1) (after_row old new rel row pair))
     (if is_related rel (after_row old new rel row pair) then outcome_from old new rel (k + 1) (after_row old new rel row pair) rows else ended (Unrelated (k + 1)))
 outcome-row old new rel k pair row rows a = rw a refl
@@ -87,7 +124,7 @@ pub record HasRunRow (old new : ProgramData) (rel : RelationData) (told now : Op
 
 pub row_run : (old new : ProgramData) (rel : RelationData) (told now : Option (List ℕ)) (all : Outcome) (done : ℕ) (pair next : Pair) (rows : List (Vec ℤ Global)) (vec : Vec ℤ Global) (row : Row)
     → HasPlayed told now all (outcome_from old new rel done pair (rows_of (drop done rows)))
-    → done < length rows → vec ≡ get_or rows done vec → row ≡ vec.items → is_allowed rel.inputs row ≡ true → next ≡ after_row old new rel row pair
+    → done < length rows → vec ≡ get_or rows done vec → row ≡ vec.items → is_allowed rel row pair ≡ true → next ≡ after_row old new rel row pair
     → HasRunRow old new rel told now all done next (rows_of (drop (done + 1) rows))
 row_run old new rel told now all done pair next rows vec row h short at same allowed stepped =
     let more = rows_of (drop (done + 1) rows) in
@@ -95,6 +132,15 @@ row_run old new rel told now all done pair next rows vec row h short at same all
     let first = subst (λ r. HasPlayed told now all (outcome_from old new rel done pair r)) cut h in
     let then_line = subst (HasPlayed told now all) (outcome-row old new rel done pair row more allowed) first in
     record { played = subst (λ p. HasPlayed told now all (with_line (scan_line old new (done + 1) p) (to_come old new rel done p more))) (sym stepped) then_line }
+
+-- a row that is allowed was run by a step
+pub step_run : (old new : Program) (rel : Relation) (told now : Option (List ℕ)) (all : Outcome) (done : ℕ) (d held next : Compared) (rows : List (Vec ℤ Global)) (vec : Vec ℤ Global) (tried row : Row) (b : Bool)
+    → AreOf old new rel d → HasPlayed told now all (outcome_from (program_view old) (program_view new) (relation_view rel) done d.pair (rows_of (drop done rows)))
+    → done < length rows → vec ≡ get_or rows done vec → tried ≡ vec.items → row ≡ vec.items → b ≡ allows d tried → b ≡ true → held ≡ d → next ≡ with_pair (pair_after held row) held
+    → HasRunRow (program_view old) (program_view new) (relation_view rel) told now all done next.pair (rows_of (drop (done + 1) rows))
+step_run old new rel told now all done d held next rows vec tried row b are h short at first same e may still step =
+    let allowed = subst (λ r. is_allowed (relation_view rel) r d.pair ≡ true) (first ∙ sym same) (are_allowed old new rel d tried b are e may) in
+    row_run (program_view old) (program_view new) (relation_view rel) told now all done d.pair next.pair rows vec row h short at same allowed (pair_stepped old new rel d held next row are still step)
 
 -- its line was put, and the pair is related
 pub row_related : (old new : ProgramData) (rel : RelationData) (told now put : Option (List ℕ)) (all : Outcome) (done : ℕ) (next : Pair) (rows : List Row)

@@ -1,7 +1,8 @@
 -- A replay row by row is a report on the texts.
 use Rattle.std.proofs.Common.{◌≡◌, List, ap, ◌∙◌}
-use Rattle.interim_tree.specs.Tree.{ProgramData}
-use Rattle.interim_model.specs.Pairs.{RelationData, Row, start}
+use Rattle.st_tree.specs.Tree.{ProgramData}
+use Rattle.scan_model.specs.InRange.{Row}
+use Rattle.scan_model.specs.Pairs.{RelationData, start}
 use Rattle.regver_top.specs.Outcomes.{outcome_of}
 use Rattle.regver_top.specs.Played.{outcome_report}
 use Rattle.regver_top.specs.Accepting.{Texts, IsAccepted}

@@ -1,26 +1,27 @@
 -- A replay row by row is the run of the rows.
 use Rattle.std.proofs.Common.{◌≡◌, ℕ, suc, ◌+◌, List, [], ◌∷◌, ◌++◌, length, Bool, true, false, refl, sym, ap, ◌∙◌, arith, append_assoc, append-nil, add-zero, zero-add}
-use Rattle.interim_tree.specs.Tree.{ProgramData}
-use Rattle.interim_model.specs.declared.relation.Ending.{Ending}
-use Rattle.interim_model.specs.declared.relation.Ending.TheVariants.{Related, Unrelated, NotAllowed}
-use Rattle.interim_model.specs.Pairs.{RelationData, Row, Pair, start, is_allowed, is_related, after_row}
-use Rattle.interim_model.specs.Runs.{after_rows, AllRelated, IsRun, all_related, first_unrelated, first_not_allowed}
+use Rattle.st_tree.specs.Tree.{ProgramData}
+use Rattle.scan_model.specs.declared.relation.Ending.{Ending}
+use Rattle.scan_model.specs.declared.relation.Ending.TheVariants.{Related, Unrelated, NotAllowed}
+use Rattle.scan_model.specs.InRange.{Row}
+use Rattle.scan_model.specs.Pairs.{RelationData, Pair, start, is_allowed, is_related, after_row}
+use Rattle.scan_model.specs.Runs.{after_rows, AllRelated, IsRun, all_related, first_unrelated, first_not_allowed}
 use Rattle.regver_top.specs.Lines.{scan_line, scan_lines}
 use Rattle.regver_top.specs.Outcomes.{Outcome, ended, with_line, outcome_from, outcome_of}
 
 -- what a row gives, by the two tests
 row_allowed : (old new : ProgramData) (rel : RelationData) (k : ℕ) (pair : Pair) (row : Row) (rows : List Row)
-    → is_allowed rel.inputs row ≡ true → is_related rel (after_row old new rel row pair) ≡ true
+    → is_allowed rel row pair ≡ true → is_related rel (after_row old new rel row pair) ≡ true
     → outcome_from old new rel k pair (row ∷ rows) ≡ with_line (scan_line old new (k + 1) (after_row old new rel row pair)) (outcome_from old new rel (k + 1) (after_row old new rel row pair) rows)
 row_allowed old new rel k pair row rows a r = rw (a, r) refl
 
 row_unrelated : (old new : ProgramData) (rel : RelationData) (k : ℕ) (pair : Pair) (row : Row) (rows : List Row)
-    → is_allowed rel.inputs row ≡ true → is_related rel (after_row old new rel row pair) ≡ false
+    → is_allowed rel row pair ≡ true → is_related rel (after_row old new rel row pair) ≡ false
     → outcome_from old new rel k pair (row ∷ rows) ≡ with_line (scan_line old new (k + 1) (after_row old new rel row pair)) (ended (Unrelated (k + 1)))
 row_unrelated old new rel k pair row rows a r = rw (a, r) refl
 
 row_not_allowed : (old new : ProgramData) (rel : RelationData) (k : ℕ) (pair : Pair) (row : Row) (rows : List Row)
-    → is_allowed rel.inputs row ≡ false → outcome_from old new rel k pair (row ∷ rows) ≡ ended (NotAllowed (k + 1))
+    → is_allowed rel row pair ≡ false → outcome_from old new rel k pair (row ∷ rows) ≡ ended (NotAllowed (k + 1))
 row_not_allowed old new rel k pair row rows a = rw a refl
 
 two_lines : (a b : List ℕ) (o : Outcome) → with_line a (with_line b o) ≡ with_line (a ++ b) o
@@ -92,7 +93,7 @@ pub record HasRun (old new : ProgramData) (rel : RelationData) (pair : Pair) (ro
 
 -- a row before the others, which is allowed and leaves a related pair
 run_behind : (old new : ProgramData) (rel : RelationData) (pair : Pair) (row : Row) (rows run : List Row) (ending : Ending)
-    → is_allowed rel.inputs row ≡ true → is_related rel (after_row old new rel row pair) ≡ true
+    → is_allowed rel row pair ≡ true → is_related rel (after_row old new rel row pair) ≡ true
     → IsRun old new rel (after_row old new rel row pair) rows run ending → HasRun old new rel pair (row ∷ rows)
 run_behind old new rel pair row rows run ending a r (all_related h same e) =
     record { run = row ∷ rows; ending = Related (length (row ∷ rows)); is = all_related (a, r, h) refl refl }
@@ -102,7 +103,7 @@ run_behind old new rel pair row rows run ending a r (first_not_allowed before re
     record { run = row ∷ before; ending = NotAllowed (length (row ∷ before) + 1); is = first_not_allowed (row ∷ before) rest bad (ap (λ l. row ∷ l) cut) (a, r, h) b refl refl }
 
 by_tests : (old new : ProgramData) (rel : RelationData) (pair : Pair) (row : Row) (rows : List Row) (allowed related : Bool)
-    → is_allowed rel.inputs row ≡ allowed → is_related rel (after_row old new rel row pair) ≡ related
+    → is_allowed rel row pair ≡ allowed → is_related rel (after_row old new rel row pair) ≡ related
     → HasRun old new rel (after_row old new rel row pair) rows → HasRun old new rel pair (row ∷ rows)
 by_tests old new rel pair row rows true true a r more = run_behind old new rel pair row rows more.run more.ending a r more.is
 by_tests old new rel pair row rows true false a r more =
@@ -113,4 +114,4 @@ by_tests old new rel pair row rows false related a r more =
 pub has_run : (old new : ProgramData) (rel : RelationData) (pair : Pair) (rows : List Row) → HasRun old new rel pair rows
 has_run old new rel pair [] = record { run = []; ending = Related 0; is = all_related tt refl refl }
 has_run old new rel pair (row ∷ rows) =
-    by_tests old new rel pair row rows (is_allowed rel.inputs row) (is_related rel (after_row old new rel row pair)) refl refl (has_run old new rel (after_row old new rel row pair) rows)
+    by_tests old new rel pair row rows (is_allowed rel row pair) (is_related rel (after_row old new rel row pair)) refl refl (has_run old new rel (after_row old new rel row pair) rows)

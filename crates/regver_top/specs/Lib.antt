@@ -1,11 +1,3 @@
-pub mod Fronts
-pub mod Lexing
-pub mod Names
-pub mod Forms
-pub mod Programs
-pub mod Worded
-pub mod Relations
-pub mod Related
 pub mod Traces
 pub mod Kept
 pub mod Held
@@ -14,6 +6,7 @@ pub mod Accepted
 pub mod Lines
 pub mod Outcomes
 pub mod Reports
+pub mod Alike
 pub mod Played
 pub mod Puts
 pub mod Answers

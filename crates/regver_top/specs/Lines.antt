@@ -1,18 +1,20 @@
 -- The lines of a replay.
 use Rattle.std.specs.Prelude.{ℕ, ◌+◌, List, [], ◌∷◌, ◌++◌, codes, decimal, ℤ}
 use Rattle.std.specs.Fmt.{signed_decimal}
-use Rattle.interim_tree.specs.declared.tree.Part.{Part}
-use Rattle.interim_tree.specs.declared.tree.Part.TheVariants.{Fault, Input, Output}
-use Rattle.interim_tree.specs.Tree.{CellData, ProgramData}
-use Rattle.interim_model.specs.declared.relation.Ending.{Ending}
-use Rattle.interim_model.specs.declared.relation.Ending.TheVariants.{Related, Unrelated, NotAllowed}
-use Rattle.interim_model.specs.Values.{State}
-use Rattle.interim_model.specs.Pairs.{RelationData, Row, Pair, after_row}
+use Rattle.st_tree.specs.declared.typed.Part.{Part}
+use Rattle.st_tree.specs.declared.typed.Part.TheVariants.{Fault, Input, Output, Local}
+use Rattle.st_tree.specs.Tree.{CellData, ProgramData}
+use Rattle.scan_model.specs.declared.relation.Ending.{Ending}
+use Rattle.scan_model.specs.declared.relation.Ending.TheVariants.{Related, Unrelated, NotAllowed}
+use Rattle.scan_model.specs.Values.{State}
+use Rattle.scan_model.specs.InRange.{Row}
+use Rattle.scan_model.specs.Pairs.{RelationData, Pair, after_row}
 
 abbrev pub shown_cell : Part → ℤ → List ℕ
 shown_cell Fault v = codes " " ++ signed_decimal v
 shown_cell Input v = []
 shown_cell Output v = codes " " ++ signed_decimal v
+shown_cell Local v = []
 
 -- FAULT, then the outputs as declared
 abbrev pub shown : List CellData → State → List ℕ

@@ -1,9 +1,10 @@
 -- A replay row by row: the lines that it puts and how it ends.
 use Rattle.std.specs.Prelude.{ℕ, ◌+◌, List, [], ◌∷◌, ◌++◌, if◌then◌else◌}
-use Rattle.interim_tree.specs.Tree.{ProgramData}
-use Rattle.interim_model.specs.declared.relation.Ending.{Ending}
-use Rattle.interim_model.specs.declared.relation.Ending.TheVariants.{Related, Unrelated, NotAllowed}
-use Rattle.interim_model.specs.Pairs.{RelationData, Row, Pair, start, is_allowed, is_related, after_row}
+use Rattle.st_tree.specs.Tree.{ProgramData}
+use Rattle.scan_model.specs.declared.relation.Ending.{Ending}
+use Rattle.scan_model.specs.declared.relation.Ending.TheVariants.{Related, Unrelated, NotAllowed}
+use Rattle.scan_model.specs.InRange.{Row}
+use Rattle.scan_model.specs.Pairs.{RelationData, Pair, start, is_allowed, is_related, after_row}
 use Rattle.regver_top.specs.Lines.{scan_line}
 
 pub record Outcome : Type 0 where
@@ -20,7 +21,7 @@ with_line line o = record { lines = line ++ o.lines; ending = o.ending }
 abbrev pub outcome_from : ProgramData → ProgramData → RelationData → ℕ → Pair → List Row → Outcome
 outcome_from old new rel k pair [] = ended (Related k)
 outcome_from old new rel k pair (row ∷ rows) =
-    if is_allowed rel.inputs row
+    if is_allowed rel row pair
     then with_line (scan_line old new (k + 1) (after_row old new rel row pair))
     (if is_related rel (after_row old new rel row pair) then outcome_from old new rel (k + 1) (after_row old new rel row pair) rows else ended (Unrelated (k + 1)))
     else ended (NotAllowed (k + 1))

@@ -1,20 +1,19 @@
 -- What the command `replay` answers.
-use Rattle.std.specs.Prelude.{◌≡◌, ◌⊎◌, ℕ, List, ◌++◌, length, codes, decimal, Bool, ◌&&◌, ◌==◌, slice_index_or, [], Option, Some}
-use Rattle.std.specs.Str.{bytes_eq}
-use Rattle.std.specs.Bool.{MatchBool}
-use Rattle.interim_tree.specs.Tree.{ProgramData}
-use Rattle.interim_model.specs.declared.relation.Ending.{Ending}
-use Rattle.interim_model.specs.declared.relation.Ending.TheVariants.{Related, Unrelated as UnrelatedAt, NotAllowed as NotAllowedAt}
-use Rattle.interim_model.specs.Pairs.{RelationData, Row, start}
-use Rattle.interim_model.specs.Runs.{IsRun}
+use Rattle.std.specs.Prelude.{◌≡◌, ◌⊎◌, ℕ, List, ◌++◌, codes, decimal, Option, Some}
+use Rattle.st_tree.specs.Tree.{ProgramData}
+use Rattle.scan_model.specs.declared.relation.Ending.{Ending}
+use Rattle.scan_model.specs.declared.relation.Ending.TheVariants.{Related, Unrelated as UnrelatedAt, NotAllowed as NotAllowedAt}
+use Rattle.scan_model.specs.InRange.{Row}
+use Rattle.scan_model.specs.Pairs.{RelationData, start}
+use Rattle.scan_model.specs.Runs.{IsRun}
 use Rattle.outside.specs.Causes.{Rose}
+use Rattle.command_line.specs.Asked.{Asked, replay, usage}
+use Rattle.st_tree.specs.Rules.{name_of}
 use Rattle.regver_top.specs.declared.status.Status.{Status}
 use Rattle.regver_top.specs.declared.status.Status.TheVariants.{Replayed, Unrelated, NotAllowed, Usage, Refused}
 use Rattle.regver_top.specs.declared.refusal.Source.{Source}
 use Rattle.regver_top.specs.declared.refusal.Source.TheVariants.{Old, New, Relation as RelationFile, Trace}
-use Rattle.regver_top.specs.declared.refusal.Rule.{Rule}
-use Rattle.regver_top.specs.declared.refusal.Rule.TheVariants.{TooLong, NoForm, NoTrace}
-use Rattle.regver_top.specs.declared.refusal.Refusal.{Refusal}
+use Rattle.st_tree.specs.declared.rule.Refusal.{Refusal}
 use Rattle.regver_top.specs.Lines.{scan_lines, ending_line}
 use Rattle.regver_top.specs.Accepting.{Texts, IsAccepted, IsRefused}
 
@@ -29,13 +28,8 @@ source_word New = codes "NEW"
 source_word RelationFile = codes "REL"
 source_word Trace = codes "TRACE"
 
-abbrev pub rule_word : Rule → List ℕ
-rule_word TooLong = codes "M1"
-rule_word NoForm = codes "U1"
-rule_word NoTrace = codes "J1"
-
 abbrev pub refusal_line : Source → Refusal → List ℕ
-refusal_line file r = codes "REFUSED " ++ source_word file ++ codes " " ++ rule_word r.rule ++ codes " at " ++ decimal r.at ++ codes "\n"
+refusal_line file r = codes "REFUSED " ++ source_word file ++ codes " " ++ name_of r.rule ++ codes " at " ++ decimal r.at ++ codes "\n"
 
 abbrev pub refusal_report : Source → Refusal → Report
 refusal_report file r = record { text = refusal_line file r; status = Refused }
@@ -57,27 +51,28 @@ pub data Reports (t : Texts) (r : Report) : Type 0 where
 
 -- ---- the command line
 
-abbrev pub word_at : List (List ℕ) → ℕ → List ℕ
-word_at words i = slice_index_or words i []
+abbrev pub usage_report : Report
+usage_report = record { text = codes "USAGE verify OLD NEW REL FINDING, check, replay, explain or gen\n"; status = Usage }
 
--- six words, of which the second is `replay`
-abbrev pub is_replay : List (List ℕ) → Bool
-is_replay words = (length words == 6) && bytes_eq (word_at words 1) (codes "replay")
+-- the shelf tells these texts of the four files
+pub record AreTexts (file : List ℕ → Option (List ℕ)) (old new rel trace : List ℕ) (t : Texts) : Type 0 where
+  pub old_told : file old ≡ Some t.old
+  pub new_told : file new ≡ Some t.new
+  pub rel_told : file rel ≡ Some t.rel
+  pub trace_told : file trace ≡ Some t.trace
 
-abbrev pub usage : Report
-usage = record { text = codes "USAGE verify OLD NEW REL FINDING, check, replay, explain or gen\n"; status = Usage }
+-- the shelf tells these texts of the files that are named
+abbrev pub AreTold : (List ℕ → Option (List ℕ)) → Asked → Texts → Type 0
+AreTold file (replay old new rel trace) t = AreTexts file old new rel trace t
+AreTold file usage t = Unit {0}
 
--- the shelf tells these texts of the four files that are named
-pub record AreTold (file : List ℕ → Option (List ℕ)) (words : List (List ℕ)) (t : Texts) : Type 0 where
-  pub old : file (word_at words 2) ≡ Some t.old
-  pub new : file (word_at words 3) ≡ Some t.new
-  pub rel : file (word_at words 4) ≡ Some t.rel
-  pub trace : file (word_at words 5) ≡ Some t.trace
+-- the count of one of the files that are named rose
+abbrev pub SomeRose : (List ℕ → ℕ) → (List ℕ → ℕ) → Asked → Type 0
+SomeRose before now (replay old new rel trace) =
+    Rose (before old) (now old) ⊎ Rose (before new) (now new) ⊎ Rose (before rel) (now rel) ⊎ Rose (before trace) (now trace)
+SomeRose before now usage = ⊥
 
--- the count of one of the four files rose
-abbrev pub SomeRose : (List ℕ → ℕ) → (List ℕ → ℕ) → List (List ℕ) → Type 0
-SomeRose before now words = Rose (before (word_at words 2)) (now (word_at words 2)) ⊎ Rose (before (word_at words 3)) (now (word_at words 3)) ⊎ Rose (before (word_at words 4)) (now (word_at words 4)) ⊎ Rose (before (word_at words 5)) (now (word_at words 5))
-
--- what the words ask for: the report on the texts, or how the program is used
-abbrev pub Asked : List (List ℕ) → Texts → Report → Type 0
-Asked words t r = MatchBool (is_replay words) (Reports t r) (r ≡ usage)
+-- a report is what is asked for: that on the texts, or how the program is used
+abbrev pub IsAsked : Asked → Texts → Report → Type 0
+IsAsked (replay old new rel trace) t r = Reports t r
+IsAsked usage t r = r ≡ usage_report

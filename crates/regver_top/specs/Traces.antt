@@ -3,7 +3,7 @@ use Rattle.std.specs.Prelude.{◌≡◌, ℕ, List, [], ◌∷◌, length, ◌==
 use Rattle.serde_json.specs.Data.{Data, Items, no_items, item}
 use Rattle.serde_json.specs.Read.{read}
 use Rattle.serde_json.specs.Find.{as_array, as_number, as_i64}
-use Rattle.interim_model.specs.Pairs.{Row}
+use Rattle.scan_model.specs.InRange.{Row}
 
 -- a whole number, of 64 bits with a sign
 abbrev pub number_in : Data → Option ℤ

@@ -1,22 +1,23 @@
 // From the four texts of a replay to its programs, relation and rows.
 ghost use Rattle.std.specs.Prelude.{◌≡◌, IfOk, IfErr, List, ℕ};
-ghost use Rattle.interim_tree.specs.View.{program_view};
-ghost use Rattle.interim_model.specs.Pairs.{relation_view};
+ghost use Rattle.st_tree.specs.View.{program_view};
+ghost use Rattle.st_tree.specs.declared.rule.Rule.TheVariants.{TooLong};
+ghost use Rattle.st_types.specs.Ready.{IsReady};
+ghost use Rattle.scan_model.specs.Pairs.{relation_view, BelongsTo};
+ghost use Rattle.scan_replay.specs.Duos.{AreComparable};
+ghost use Rattle.front_end.specs.Texts.{IsProgram, IsNoProgram};
 ghost use Rattle.regver_top.specs.Held.{rows_of};
 ghost use Rattle.regver_top.specs.Kept.{IsKept};
-ghost use Rattle.regver_top.specs.Programs.{IsProgram};
-ghost use Rattle.regver_top.specs.Relations.{IsRelation};
 ghost use Rattle.regver_top.specs.Traces.{IsTrace};
-ghost use Rattle.regver_top.specs.Accepting.{Texts, Accepts, IsBroken, IsRefused};
-ghost use Rattle.regver_top.specs.Accepted.{AreKept, ReplayIsAccepted, IfRefused, IfRefusedOf};
-ghost use Rattle.regver_top.specs.declared.refusal.Rule.TheVariants.{NoForm, NoTrace};
+ghost use Rattle.regver_top.specs.Accepting.{Texts, Accepts, StatesRelation, StatesNoRelation, IsNoTrace, IsRefused};
+ghost use Rattle.regver_top.specs.Accepted.{AreKept, ReplayIsAccepted, IfRefused, IfRefusedOf, of_text, of_lines};
 
-use crate::read::read_program;
-use crate::refusal::{AcceptError, Refusal, Rule, Source};
-use crate::relate::read_relation;
+use crate::refusal::{AcceptError, Source};
 use crate::trace::read_trace;
-use interim_model::Relation;
-use interim_tree::Program;
+use front_end::{AcceptFault, accept_text, tokens_of};
+use relation_file::{RelFault, read_lines};
+use scan_model::Relation;
+use st_tree::{Program, Refusal, Rule};
 use std::alloc::Global;
 
 /// The texts of the four files; one that is too long is not there.
@@ -43,16 +44,56 @@ fn refused(source: Source, rule: Rule) -> AcceptError
     AcceptError::Refused(source, Refusal { rule, at: 0 })
 }
 
+fn of_text(source: Source, fault: AcceptFault) -> AcceptError
+    ensures { result ≡ of_text source fault }
+{
+    match fault {
+        AcceptFault::Refused(refusal) => AcceptError::Refused(source, refusal),
+        AcceptFault::Memory => AcceptError::Memory,
+    }
+}
+
+fn of_lines(fault: RelFault) -> AcceptError
+    ensures { result ≡ of_lines fault }
+{
+    match fault {
+        RelFault::Refused(refusal) => AcceptError::Refused(Source::Relation, refusal),
+        RelFault::Memory => AcceptError::Memory,
+    }
+}
+
 fn program_in(alloc: Global, source: Source, text: &Option<Vec<u8>>) -> Result<Program, AcceptError>
-    ensures ok { (bytes : List ℕ) → IsKept text.now bytes → IfOk result (λ p. Accepts (IsProgram bytes) bytes (program_view p)) }
-    ensures refused { (bytes : List ℕ) → IsKept text.now bytes → IfErr result (IfRefusedOf source (IsBroken (IsProgram bytes) NoForm bytes)) }
+    ensures ok { (bytes : List ℕ) → IsKept text.now bytes → IfOk result (λ p. IsProgram bytes (program_view p)) }
+    ensures ready { IfOk result (λ p. IsReady (program_view p)) }
+    ensures refused { (bytes : List ℕ) → IsKept text.now bytes → IfErr result (IfRefusedOf source (IsNoProgram bytes)) }
 {
     let Some(text) = text else {
         return Err(refused(source, Rule::TooLong));
     };
-    match read_program(alloc, text)? {
-        None => Err(refused(source, Rule::NoForm)),
-        Some(program) => Ok(program),
+    match accept_text(alloc, text) {
+        Ok(program) => Ok(program),
+        Err(fault) => Err(of_text(source, fault)),
+    }
+}
+
+// The relation between two programs that a text states.
+fn relation_of(
+    alloc: Global,
+    old: &Program,
+    new: &Program,
+    text: &[u8],
+) -> Result<Relation, AcceptError>
+    ensures ok { IfOk result (λ r. StatesRelation (program_view old.now) (program_view new.now) text.now (relation_view r)) }
+    ensures belongs { IfOk result (λ r. BelongsTo (program_view old.now) (program_view new.now) (relation_view r)) }
+    ensures refused { IfErr result (IfRefusedOf Source.Relation (StatesNoRelation (program_view old.now) (program_view new.now) text.now)) }
+{
+    let toks = match tokens_of(alloc, text) {
+        Ok(toks) => toks,
+        Err(fault) => return Err(of_text(Source::Relation, fault)),
+    };
+    match read_lines(alloc, &toks, text.len(), old, new) {
+        Ok(relation) => Ok(relation),
+        Err(fault) => Err(of_lines(fault)),
     }
 }
 
@@ -62,15 +103,13 @@ fn relation_in(
     new: &Program,
     text: &Option<Vec<u8>>,
 ) -> Result<Relation, AcceptError>
-    ensures ok { (bytes : List ℕ) → IsKept text.now bytes → IfOk result (λ r. Accepts (IsRelation (program_view old.now) (program_view new.now) bytes) bytes (relation_view r)) }
-    ensures refused { (bytes : List ℕ) → IsKept text.now bytes → IfErr result (IfRefusedOf Source.Relation (IsBroken (IsRelation (program_view old.now) (program_view new.now) bytes) NoForm bytes)) }
+    ensures ok { (bytes : List ℕ) → IsKept text.now bytes → IfOk result (λ r. StatesRelation (program_view old.now) (program_view new.now) bytes (relation_view r)) }
+    ensures belongs { IfOk result (λ r. BelongsTo (program_view old.now) (program_view new.now) (relation_view r)) }
+    ensures refused { (bytes : List ℕ) → IsKept text.now bytes → IfErr result (IfRefusedOf Source.Relation (StatesNoRelation (program_view old.now) (program_view new.now) bytes)) }
 {
-    let Some(text) = text else {
-        return Err(refused(Source::Relation, Rule::TooLong));
-    };
-    match read_relation(alloc, old, new, text)? {
-        None => Err(refused(Source::Relation, Rule::NoForm)),
-        Some(relation) => Ok(relation),
+    match text {
+        None => Err(refused(Source::Relation, Rule::TooLong)),
+        Some(text) => relation_of(alloc, old, new, text),
     }
 }
 
@@ -80,7 +119,7 @@ fn rows_in(
     text: &Option<Vec<u8>>,
 ) -> Result<Vec<Vec<i64>>, AcceptError>
     ensures ok { (bytes : List ℕ) → IsKept text.now bytes → IfOk result (λ rows. Accepts (IsTrace width bytes) bytes (rows_of rows.items)) }
-    ensures refused { (bytes : List ℕ) → IsKept text.now bytes → IfErr result (IfRefusedOf Source.Trace (IsBroken (IsTrace width bytes) NoTrace bytes)) }
+    ensures refused { (bytes : List ℕ) → IsKept text.now bytes → IfErr result (IfRefusedOf Source.Trace (IsNoTrace width bytes)) }
 {
     let Some(text) = text else {
         return Err(refused(Source::Trace, Rule::TooLong));
@@ -94,6 +133,7 @@ fn rows_in(
 /// What the texts are, or the first rule that the first of them breaks.
 pub fn accept(alloc: Global, texts: &KeptTexts) -> Result<Replay, AcceptError>
     ensures ok { (t : Texts) → AreKept texts.now t → IfOk result (ReplayIsAccepted t) }
+    ensures comparable { IfOk result (λ r. AreComparable r.old r.new r.relation) }
     ensures refused { (t : Texts) → AreKept texts.now t → IfErr result (IfRefused (IsRefused t)) }
 {
     let old = program_in(alloc, Source::Old, &texts.old)?;

@@ -2,13 +2,14 @@
 ghost use Rattle.std.specs.Prelude.{◌≡◌, ◌≢◌, ◌≤◌, ◌++◌, List, ℕ, Option, IfOk, string_bytes};
 ghost use Rattle.outside.specs.Causes.{Rose};
 ghost use Rattle.outside.specs.Contents.{extended};
-ghost use Rattle.interim_tree.specs.View.{program_view};
-ghost use Rattle.interim_model.specs.Pairs.{relation_view};
+ghost use Rattle.st_tree.specs.View.{program_view};
+ghost use Rattle.scan_model.specs.Pairs.{relation_view};
+ghost use Rattle.scan_replay.specs.Duos.{AreComparable};
 ghost use Rattle.regver_top.specs.Held.{rows_of};
 ghost use Rattle.regver_top.specs.Lines.{ending_line};
 ghost use Rattle.regver_top.specs.Outcomes.{Outcome, outcome_of};
 ghost use Rattle.regver_top.specs.Played.{outcome_report};
-ghost use Rattle.regver_top.specs.Reports.{source_word, rule_word, refusal_line, refusal_report, ending_status, Reports};
+ghost use Rattle.regver_top.specs.Reports.{source_word, refusal_line, refusal_report, ending_status, Reports};
 ghost use Rattle.regver_top.specs.Accepting.{Texts};
 ghost use Rattle.regver_top.specs.Accepted.{AreKept};
 ghost use Rattle.regver_top.specs.Answers.{Answers, HasPut};
@@ -16,12 +17,13 @@ ghost use Rattle.regver_top.specs.Answers.{Answers, HasPut};
 use crate::accept::{KeptTexts, Replay, accept};
 use crate::play::{PlayError, play};
 use crate::put::put_text;
-use crate::refusal::{AcceptError, Refusal, Rule, Source};
+use crate::refusal::{AcceptError, Source};
 use crate::show::show_ending;
 use crate::status::Status;
-use interim_model::Ending;
 use itoa::Buffer;
 use outside::{OutErr, Sink};
+use scan_model::Ending;
+use st_tree::Refusal;
 use std::alloc::{AllocError, Global};
 
 /// Puts the last text of a run, and says with which status the run ends.
@@ -49,16 +51,6 @@ fn source_word(source: Source) -> &'static str
     }
 }
 
-fn rule_word(rule: Rule) -> &'static str
-    ensures { result.now ≡ rule_word rule }
-{
-    match rule {
-        Rule::TooLong => "M1",
-        Rule::NoForm => "U1",
-        Rule::NoTrace => "J1",
-    }
-}
-
 fn refusal_line(alloc: Global, source: Source, refusal: Refusal) -> Result<String, AllocError>
     ensures { IfOk result (λ line. string_bytes line ≡ refusal_line source refusal) }
 {
@@ -66,7 +58,7 @@ fn refusal_line(alloc: Global, source: Source, refusal: Refusal) -> Result<Strin
     let mut line = String::from_str(alloc, "REFUSED ")?;
     line.push_str(source_word(source))?;
     line.push_str(" ")?;
-    line.push_str(rule_word(refusal.rule))?;
+    line.push_str(refusal.rule.name())?;
     line.push_str(" at ")?;
     line.push_str(digits.format(refusal.at))?;
     line.push_str("\n")?;
@@ -120,6 +112,7 @@ fn put_ending<K: Sink>(alloc: Global, ending: Ending, out: &mut K) -> Status
 
 // Runs the rows, and puts the lines of the run.
 fn put_replay<K: Sink>(alloc: Global, replay: &Replay, out: &mut K) -> Status
+    requires { AreComparable replay.now.old replay.now.new replay.now.relation }
     ensures answer { Answers (λ r. r ≡ outcome_report (outcome_of (program_view replay.now.old) (program_view replay.now.new) (relation_view replay.now.relation) (rows_of replay.now.rows.items))) ⊥ result (K.taken out.old) (K.taken out.new) }
     ensures no_usage { result ≢ Status.Usage }
     ensures no_read_fault { result ≢ Status.ReadFault }

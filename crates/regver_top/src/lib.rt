@@ -3,21 +3,13 @@
 
 mod accept;
 mod answer;
-mod classes;
+#[cfg(test)]
+mod case_tests;
 mod files;
-mod form;
-mod front;
-mod interpreter;
-mod lex;
-mod names;
-mod pair;
+mod laws;
 mod play;
 mod put;
-mod read;
-#[cfg(test)]
-mod reader_tests;
 mod refusal;
-mod relate;
 mod show;
 mod status;
 #[cfg(test)]
@@ -25,6 +17,6 @@ mod tests;
 mod top;
 mod trace;
 
-pub use lex::one_spelling;
+pub use laws::one_report;
 pub use status::Status;
-pub use top::{one_report, regver};
+pub use top::regver;

@@ -3,19 +3,20 @@ ghost use Rattle.std.specs.Prelude.{◌≡◌, ◌≤◌, ◌+◌, IfOk, OnOk, O
 ghost use Rattle.outside.specs.Causes.{Rose};
 ghost use Rattle.outside.specs.Contents.{extended};
 ghost use Rattle.outside.specs.declared.OutErr.TheVariants.{Fault};
-ghost use Rattle.interim_tree.specs.View.{program_view};
-ghost use Rattle.interim_model.specs.Pairs.{relation_view, after_row};
+ghost use Rattle.st_tree.specs.View.{program_view};
+ghost use Rattle.scan_model.specs.Pairs.{relation_view};
+ghost use Rattle.scan_replay.specs.Duos.{AreComparable};
 ghost use Rattle.regver_top.specs.Lines.{scan_line};
 ghost use Rattle.regver_top.specs.Outcomes.{outcome_of};
 ghost use Rattle.regver_top.specs.Puts.{PutsPart};
-ghost use Rattle.regver_top.specs.Held.{rows_of, pair_of};
+ghost use Rattle.regver_top.specs.Held.{rows_of};
 
-use crate::pair::{States, is_allowed, is_related, start, step};
 use crate::put::put_text;
 use crate::show::show_scan;
-use interim_model::{Ending, Relation};
-use interim_tree::Program;
 use outside::{OutErr, Sink};
+use scan_model::{Ending, Relation};
+use scan_replay::{Duo, Side};
+use st_tree::Program;
 use std::alloc::{AllocError, Global};
 use thiserror::Error;
 
@@ -45,15 +46,22 @@ fn put_scan<K: Sink>(
     number: usize,
     old: &Program,
     new: &Program,
-    states: &States,
+    duo: &Duo<'_>,
 ) -> Result<(), PlayError>
-    ensures whole { OnOk result (K.taken out.new ≡ extended (K.taken out.old) (scan_line (program_view old.now) (program_view new.now) number (pair_of states.now))) }
-    ensures part { OnErr result (PutsPart (K.taken out.old) (K.taken out.new) (scan_line (program_view old.now) (program_view new.now) number (pair_of states.now))) }
+    ensures whole { OnOk result (K.taken out.new ≡ extended (K.taken out.old) (scan_line (program_view old.now) (program_view new.now) number duo.now.pair)) }
+    ensures part { OnErr result (PutsPart (K.taken out.old) (K.taken out.new) (scan_line (program_view old.now) (program_view new.now) number duo.now.pair)) }
     ensures later { K.faults out.old ≤ K.faults out.new }
     ensures cause { result ≡ Err (PlayError.Sink Fault) → Rose (K.faults out.old) (K.faults out.new) }
 {
     line.clear();
-    show_scan(line, number, old, &states.of_old, new, &states.of_new)?;
+    show_scan(
+        line,
+        number,
+        old,
+        duo.state(Side::Old),
+        new,
+        duo.state(Side::New),
+    )?;
     match put_text(out, line.as_str()) {
         Ok(()) => Ok(()),
         Err(error) => Err(PlayError::Sink(error)),
@@ -69,20 +77,21 @@ pub fn play<K: Sink>(
     rows: &[Vec<i64>],
     out: &mut K,
 ) -> Result<Ending, PlayError>
+    requires { AreComparable old.now new.now relation.now }
     ensures whole { IfOk result (λ e. let o = outcome_of (program_view old.now) (program_view new.now) (relation_view relation.now) (rows_of rows.now) in (K.taken out.new ≡ extended (K.taken out.old) o.lines) × (e ≡ o.ending)) }
     ensures part { OnErr result (PutsPart (K.taken out.old) (K.taken out.new) (outcome_of (program_view old.now) (program_view new.now) (relation_view relation.now) (rows_of rows.now)).lines) }
     ensures later { K.faults out.old ≤ K.faults out.new }
     ensures cause { result ≡ Err (PlayError.Sink Fault) → Rose (K.faults out.old) (K.faults out.new) }
 {
-    let mut states = start(alloc, old, new)?;
+    let mut duo = Duo::new(alloc, old, new, relation)?;
     let mut line = String::new(alloc);
     for (done, row) in rows.iter().enumerate() {
-        if !is_allowed(&relation.inputs, row) {
+        if !duo.allowed(row) {
             return Ok(Ending::NotAllowed(done + 1));
         }
-        step(old, new, relation, row, &mut states);
-        put_scan(out, &mut line, done + 1, old, new, &states)?;
-        if !is_related(relation, &states) {
+        duo.step(row);
+        put_scan(out, &mut line, done + 1, old, new, &duo)?;
+        if !duo.related() {
             return Ok(Ending::Unrelated(done + 1));
         }
     }

@@ -1,4 +1,5 @@
-// Why a file is refused.
+// Why a replay is refused.
+use st_tree::Refusal;
 use std::alloc::AllocError;
 use thiserror::Error;
 
@@ -9,24 +10,6 @@ pub enum Source {
     New,
     Relation,
     Trace,
-}
-
-/// A rule that a file may break.
-#[derive(Clone, Copy, Debug, PartialEq, Eq)]
-pub enum Rule {
-    /// M1: the file is longer than 1,048,576 bytes.
-    TooLong,
-    /// U1: the text is not of the one form that is read so far.
-    NoForm,
-    /// J1: the text is no JSON array of rows, each with a whole number for each INPUT line.
-    NoTrace,
-}
-
-/// The first rule that a file breaks, and its place in bytes from 0.
-#[derive(Clone, Copy, Debug, PartialEq, Eq)]
-pub struct Refusal {
-    pub rule: Rule,
-    pub at: usize,
 }
 
 /// Why texts are not accepted.

@@ -1,18 +1,18 @@
 // The lines of a replay as text.
 ghost use Rattle.std.specs.Prelude.{◌≡◌, ◌++◌, OnOk, decimal, string_bytes};
-ghost use Rattle.interim_tree.specs.View.{cells_view, program_view};
+ghost use Rattle.st_tree.specs.View.{cells_view, program_view};
 ghost use Rattle.regver_top.specs.Lines.{shown_cell, shown, scan_line, ending_line};
 
-use interim_model::Ending;
-use interim_tree::{Cell, Part, Program};
 use itoa::Buffer;
+use scan_model::Ending;
+use st_tree::{Cell, Part, Program};
 use std::alloc::AllocError;
 
 fn show_cell(line: &mut String, part: Part, value: i64) -> Result<(), AllocError>
     ensures { OnOk result (string_bytes line.new ≡ string_bytes line.old ++ shown_cell part value) }
 {
     match part {
-        Part::Input => Ok(()),
+        Part::Input | Part::Local => Ok(()),
         Part::Fault | Part::Output => {
             let mut digits = Buffer::new();
             line.push_str(" ")?;

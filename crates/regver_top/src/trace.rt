@@ -1,7 +1,7 @@
 // From a JSON text to rows of numbers.
 ghost use Rattle.std.specs.Prelude.{◌≡◌, List, IfOk, MatchOption, option_map, None, Some};
 ghost use Rattle.serde_json.specs.View.{view, items_view};
-ghost use Rattle.interim_model.specs.Pairs.{Row};
+ghost use Rattle.scan_model.specs.InRange.{Row};
 ghost use Rattle.regver_top.specs.Held.{rows_of};
 ghost use Rattle.regver_top.specs.Traces.{numbers_in, row_in, rows_in, trace_in, IsTrace};
 

@@ -1,14 +1,18 @@
 use Rattle.std.proofs.Common.{◌≡◌, ◌∙◌, subst, length}
 use Rattle.std.proofs.lemmas.Result.{err_from_is_err_and}
-use Rattle.interim_tree.specs.View.{program_view}
-use Rattle.interim_model.specs.Pairs.{relation_view}
+use Rattle.st_tree.specs.View.{program_view}
+use Rattle.scan_model.specs.Pairs.{relation_view}
 use Rattle.regver_top.specs.declared.refusal.Source.TheVariants.{Trace}
-use Rattle.regver_top.specs.declared.refusal.Rule.TheVariants.{NoTrace}
-use Rattle.regver_top.specs.Traces.{IsTrace}
-use Rattle.regver_top.specs.Accepting.{IsBroken}
+use Rattle.regver_top.specs.Accepting.{IsNoTrace}
 use Rattle.regver_top.specs.Accepted.{IfRefusedOf}
-use Rattle.regver_top.proofs.Refusals.{at_new, at_relation, at_trace}
+use Rattle.regver_top.proofs.Ready.{program_of_ready}
+use Rattle.regver_top.proofs.Refusals.{at_old, at_new, at_relation, at_trace}
 use Rattle.regver_top.proofs.accept.accept.Goals as goal
+
+pub returns-in_err-old-clause-refused : goal.returns-in_err-old-clause-refused
+returns-in_err-old-clause-refused c = λ t kept.
+    let p = err_from_is_err_and c.from_residual.result c.from_residual.ensures.1 in
+    rw (p.1, p.2) (at_old t c.in_err-old.field-0.0 (c.in_err-old.ensures.refused t.old kept.old))
 
 pub returns-in_err-new-clause-refused : goal.returns-in_err-new-clause-refused
 returns-in_err-new-clause-refused c = λ t kept.
@@ -27,4 +31,11 @@ returns-in_err-rows-clause-refused c = λ t kept.
     let width : c.len.result ≡ length c.in_ok-relation.relation.inputs.items = c.len.ensures ∙ c.in_ok-relation.relation.inputs.ok.0 in
     rw (p.1, p.2) (at_trace t (program_view c.in_ok-old.old) (program_view c.in_ok-new.new) (relation_view c.in_ok-relation.relation) c.in_err-rows.field-0.0
     (c.in_ok-old.ensures.ok t.old kept.old) (c.in_ok-new.ensures.ok t.new kept.new) (c.in_ok-relation.ensures.ok t.rel kept.rel)
-    (subst (λ n. IfRefusedOf Trace (IsBroken (IsTrace n t.trace) NoTrace t.trace) c.in_err-rows.field-0.0) width (c.in_err-rows.ensures.refused t.trace kept.trace)))
+    (subst (λ n. IfRefusedOf Trace (IsNoTrace n t.trace) c.in_err-rows.field-0.0) width (c.in_err-rows.ensures.refused t.trace kept.trace)))
+
+pub returns-clause-comparable : goal.returns-clause-comparable
+returns-clause-comparable c = record {
+  old_is_program = program_of_ready (program_view c.in_ok-old.old) c.in_ok-old.ensures.ready;
+  new_is_program = program_of_ready (program_view c.in_ok-new.new) c.in_ok-new.ensures.ready;
+  belongs = c.in_ok-relation.ensures.belongs;
+}

@@ -1,6 +1,6 @@
 use Rattle.std.proofs.Common.{◌≡◌}
-use Rattle.interim_tree.specs.View.{program_view}
-use Rattle.interim_model.specs.Pairs.{relation_view}
+use Rattle.st_tree.specs.View.{program_view}
+use Rattle.scan_model.specs.Pairs.{relation_view}
 use Rattle.regver_top.specs.Held.{rows_of}
 use Rattle.regver_top.specs.Outcomes.{outcome_of}
 use Rattle.regver_top.specs.Played.{outcome_report}

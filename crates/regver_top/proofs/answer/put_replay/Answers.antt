@@ -1,7 +1,7 @@
 use Rattle.std.proofs.Common.{◌≡◌, refl, subst, List, Vec, ℤ}
 use Rattle.std.specs.declared.alloc.Global.{Global}
-use Rattle.interim_tree.specs.View.{program_view}
-use Rattle.interim_model.specs.Pairs.{relation_view}
+use Rattle.st_tree.specs.View.{program_view}
+use Rattle.scan_model.specs.Pairs.{relation_view}
 use Rattle.regver_top.specs.Held.{rows_of}
 use Rattle.regver_top.specs.Lines.{ending_line}
 use Rattle.regver_top.specs.Outcomes.{Outcome, outcome_of}

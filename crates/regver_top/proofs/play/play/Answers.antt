@@ -1,30 +1,27 @@
-use Rattle.std.proofs.Common.{◌≡◌, true, sym, ◌∙◌, arith}
-use Rattle.interim_tree.specs.View.{program_view}
-use Rattle.interim_model.specs.Pairs.{relation_view, is_allowed}
-use Rattle.regver_top.specs.Held.{pair_of}
-use Rattle.regver_top.proofs.PlayLemmas.{row_run, row_related, row_unrelated, row_part, on_err}
+use Rattle.std.proofs.Common.{arith}
+use Rattle.regver_top.proofs.PlayLemmas.{are_related, are_still, step_run, row_related, row_unrelated, row_part, on_err}
 use Rattle.regver_top.proofs.play.play.Goals as goal
 
 pub returns-in_err-put_scan-clause-part : goal.returns-in_err-put_scan-clause-part
 returns-in_err-put_scan-clause-part g c =
-    let allowed : is_allowed c.args.relation.now.inputs.items c.deref-in-loop-done-2.result.now ≡ true = cc (c.is_allowed.ensures, c.deref.ensures.value, c.if-not-is_allowed.false, c.deref-in-loop-done.ensures.value, c.deref-in-loop-done-2.ensures.value) in
-    let run = row_run (program_view c.args.old.now) (program_view c.args.new.now) (relation_view c.args.relation.now) _ _ _ c.loop-done.done (pair_of c.loop-done.states) (pair_of c.step.new.states) c.args.rows.now c.index-rows-done.result c.deref-in-loop-done-2.result.now
-    c.loop-done.invariant.played c.loop-done-test.true c.index-rows-done.is c.deref-in-loop-done-2.ensures.value allowed c.step.ensures in
+    let run = step_run c.args.old.now c.args.new.now c.args.relation.now _ _ _ c.loop-done.done c.loop-done.duo c.allowed.new.self c.step.new.self c.args.rows.now c.index-rows-done.result c.deref.result.now c.deref-in-loop-done.result.now c.allowed.result
+    c.loop-done.invariant.same c.loop-done.invariant.played c.loop-done-test.true c.index-rows-done.is c.deref.ensures.value c.deref-in-loop-done.ensures.value c.allowed.ensures.allowed c.if-not-allowed.false c.allowed.ensures.unchanged c.step.ensures.pair in
     on_err c.from_residual-in_err-put_scan.result _ (row_part _ _ _ _ _ _ _ _ _ _ run c.in_err-put_scan.ensures.part)
 
-pub returns-then-not-is_related-clause-whole : goal.returns-then-not-is_related-clause-whole
-returns-then-not-is_related-clause-whole g c =
-    let allowed : is_allowed c.args.relation.now.inputs.items c.deref-in-loop-done-2.result.now ≡ true = cc (c.is_allowed.ensures, c.deref.ensures.value, c.if-not-is_allowed.false, c.deref-in-loop-done.ensures.value, c.deref-in-loop-done-2.ensures.value) in
-    let run = row_run (program_view c.args.old.now) (program_view c.args.new.now) (relation_view c.args.relation.now) _ _ _ c.loop-done.done (pair_of c.loop-done.states) (pair_of c.step.new.states) c.args.rows.now c.index-rows-done.result c.deref-in-loop-done-2.result.now
-    c.loop-done.invariant.played c.loop-done-test.true c.index-rows-done.is c.deref-in-loop-done-2.ensures.value allowed c.step.ensures in
-    row_unrelated _ _ _ _ _ _ _ _ _ _ run c.in_ok-put_scan.ensures.whole (sym c.is_related.ensures ∙ c.if-not-is_related.true)
+pub returns-then-not-related-clause-whole : goal.returns-then-not-related-clause-whole
+returns-then-not-related-clause-whole g c =
+    let run = step_run c.args.old.now c.args.new.now c.args.relation.now _ _ _ c.loop-done.done c.loop-done.duo c.allowed.new.self c.step.new.self c.args.rows.now c.index-rows-done.result c.deref.result.now c.deref-in-loop-done.result.now c.allowed.result
+    c.loop-done.invariant.same c.loop-done.invariant.played c.loop-done-test.true c.index-rows-done.is c.deref.ensures.value c.deref-in-loop-done.ensures.value c.allowed.ensures.allowed c.if-not-allowed.false c.allowed.ensures.unchanged c.step.ensures.pair in
+    let still = are_still c.args.old.now c.args.new.now c.args.relation.now c.loop-done.duo c.allowed.new.self c.step.new.self _ c.loop-done.invariant.same c.allowed.ensures.unchanged c.step.ensures.pair in
+    row_unrelated _ _ _ _ _ _ _ _ _ _ run c.in_ok-put_scan.ensures.whole (are_related c.args.old.now c.args.new.now c.args.relation.now c.step.new.self c.related.result _ still c.related.ensures c.if-not-related.true)
 
 pub loop-done-preserved : goal.loop-done-preserved
 loop-done-preserved g c =
-    let allowed : is_allowed c.args.relation.now.inputs.items c.deref-in-loop-done-2.result.now ≡ true = cc (c.is_allowed.ensures, c.deref.ensures.value, c.if-not-is_allowed.false, c.deref-in-loop-done.ensures.value, c.deref-in-loop-done-2.ensures.value) in
-    let run = row_run (program_view c.args.old.now) (program_view c.args.new.now) (relation_view c.args.relation.now) _ _ _ c.loop-done.done (pair_of c.loop-done.states) (pair_of c.step.new.states) c.args.rows.now c.index-rows-done.result c.deref-in-loop-done-2.result.now
-    c.loop-done.invariant.played c.loop-done-test.true c.index-rows-done.is c.deref-in-loop-done-2.ensures.value allowed c.step.ensures in
+    let run = step_run c.args.old.now c.args.new.now c.args.relation.now _ _ _ c.loop-done.done c.loop-done.duo c.allowed.new.self c.step.new.self c.args.rows.now c.index-rows-done.result c.deref.result.now c.deref-in-loop-done.result.now c.allowed.result
+    c.loop-done.invariant.same c.loop-done.invariant.played c.loop-done-test.true c.index-rows-done.is c.deref.ensures.value c.deref-in-loop-done.ensures.value c.allowed.ensures.allowed c.if-not-allowed.false c.allowed.ensures.unchanged c.step.ensures.pair in
+    let still = are_still c.args.old.now c.args.new.now c.args.relation.now c.loop-done.duo c.allowed.new.self c.step.new.self _ c.loop-done.invariant.same c.allowed.ensures.unchanged c.step.ensures.pair in
     record {
-      played = row_related _ _ _ _ _ _ _ _ _ _ run c.in_ok-put_scan.ensures.whole (sym c.is_related.ensures ∙ c.if-not-is_related.false);
+      same = still;
+      played = row_related _ _ _ _ _ _ _ _ _ _ run c.in_ok-put_scan.ensures.whole (are_related c.args.old.now c.args.new.now c.args.relation.now c.step.new.self c.related.result _ still c.related.ensures c.if-not-related.false);
       later = omega (arith, c.loop-done.invariant.later, c.in_ok-put_scan.ensures.later);
     }

@@ -1,22 +1,20 @@
-use Rattle.std.proofs.Common.{◌≡◌, map, string_bytes, true, false, Err, ap, sym, refl}
-use Rattle.regver_top.specs.Reports.{Asked, Reports, is_replay, usage}
-use Rattle.regver_top.proofs.AnswerLemmas.{answered, answers-wider, fault_answered, asked_replay, asked_usage}
+use Rattle.std.proofs.Common.{◌≡◌, map, string_bytes, Some, refl, subst}
+use Rattle.command_line.specs.Asked.{Asked, asked, read_as, usage}
+use Rattle.regver_top.specs.Reports.{AreTold, IsAsked, SomeRose, usage_report}
+use Rattle.regver_top.specs.Answers.{Answers}
+use Rattle.regver_top.proofs.AnswerLemmas.{answered}
 use Rattle.regver_top.proofs.top.answer_words.Goals as goal
 
-pub returns-then-not-is_replay-clause-answer : goal.returns-then-not-is_replay-clause-answer
-returns-then-not-is_replay-clause-answer g c = λ t told.
-    let words = map string_bytes c.args.words.now in
-    let no : is_replay words ≡ false = sym c.if-not-is_replay.ensures in
-    answered (Asked words t) _ usage c.put_last.result _ _ (asked_usage words t no) refl c.put_last.ensures.put
+pub returns-in-Ok-None-clause-answer : goal.returns-in-Ok-None-clause-answer
+returns-in-Ok-None-clause-answer g c = λ t.
+    let words : usage ≡ asked (map string_bytes c.args.words.items) = rw c.in-Ok-None.field-0-is at c.in-Ok-None.ensures.asked in
+    let P : Asked → Type 0 = λ a. AreTold (g.S.Shelf.file c.args.shelf.now) a t
+    → Answers (IsAsked a t) (SomeRose (g.S.Shelf.read_faults c.args.shelf.now) (g.S.Shelf.read_faults c.args.shelf.now) a) c.put_last.result (g.K.Sink.taken c.args.out.now) (g.K.Sink.taken c.put_last.new.out) in
+    subst P words (λ told. answered (IsAsked usage t) ⊥ usage_report c.put_last.result _ _ refl refl c.put_last.ensures.put)
 
-pub returns-in-Ok-clause-answer : goal.returns-in-Ok-clause-answer
-returns-in-Ok-clause-answer g c = λ t told.
-    let words = map string_bytes c.args.words.now in
-    let yes : is_replay words ≡ true = sym c.if-not-is_replay.ensures in
-    answers-wider (Reports t) (Asked words t) ⊥ _ c.put_answer.result _ _ (λ r h. asked_replay words t r yes h) (λ x. absurd x) (c.put_answer.ensures.answer t (c.in-Ok.ensures.texts t (told yes)))
-
-pub returns-in-Err-Fault-clause-answer : goal.returns-in-Err-Fault-clause-answer
-returns-in-Err-Fault-clause-answer g c = λ t told.
-    let words = map string_bytes c.args.words.now in
-    let rose = c.in-Err-Fault.ensures.fault (ap Err c.in-Err-Fault.field-0-is) in
-    fault_answered (Asked words t) _ c.put_last-in-Err-Fault.result _ _ rose c.put_last-in-Err-Fault.ensures.put
+pub returns-in-Ok-Some-clause-answer : goal.returns-in-Ok-Some-clause-answer
+returns-in-Ok-Some-clause-answer g c = λ t.
+    let words : read_as (Some c.in-Ok-Some.command) ≡ asked (map string_bytes c.args.words.items) = rw c.in-Ok-Some.field-0-is at c.in-Ok-Some.ensures.asked in
+    let P : Asked → Type 0 = λ a. AreTold (g.S.Shelf.file c.args.shelf.now) a t
+    → Answers (IsAsked a t) (SomeRose (g.S.Shelf.read_faults c.args.shelf.now) (g.S.Shelf.read_faults c.answer_command.new.shelf) a) c.answer_command.result (g.K.Sink.taken c.args.out.now) (g.K.Sink.taken c.answer_command.new.out) in
+    subst P words (c.answer_command.ensures.answer t)

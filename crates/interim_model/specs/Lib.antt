@@ -1,4 +1,0 @@
-pub mod Values
-pub mod Scans
-pub mod Pairs
-pub mod Runs

@@ -1,0 +1,12 @@
+use Rattle.std.proofs.Common.{◌≡◌, ◌∙◌, subst}
+use Rattle.front_end.specs.Texts.{IsNoProgram}
+use Rattle.regver_top.specs.Accepted.{IfRefusedOf}
+use Rattle.regver_top.proofs.Refusals.{program_refused}
+use Rattle.regver_top.proofs.accept.program_in.Goals as goal
+
+pub returns-in-Err-clause-refused : goal.returns-in-Err-clause-refused
+returns-in-Err-clause-refused c = λ bytes kept.
+    let held = rw c.in-Some.is at kept in
+    let same : c.deref.result.now ≡ bytes = c.deref.ensures.value ∙ held.0 in
+    subst (λ b. IfRefusedOf c.args.source (IsNoProgram b) c.of_text.result) same
+    (rw c.of_text.ensures (program_refused c.args.source c.deref.result.now c.in-Err.fault c.in-Err.ensures.refused))

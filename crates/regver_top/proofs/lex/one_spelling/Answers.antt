@@ -1,5 +1,0 @@
-use Rattle.regver_top.proofs.Cuts.{spells_once}
-use Rattle.regver_top.proofs.lex.one_spelling.Goals as goal
-
-pub returns : goal.returns
-returns c = λ ts us s t. spells_once c.args.text.now ts us s t

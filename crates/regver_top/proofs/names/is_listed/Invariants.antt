@@ -1,6 +1,0 @@
-use Rattle.std.proofs.Common.{◌≡◌, drop, map}
-use Rattle.regver_top.specs.Names.{is_listed}
-use Rattle.regver_top.proofs.names.is_listed.Given as goal
-
-abbrev pub invariant-loop-word : goal.invariant-loop-word
-invariant-loop-word l = is_listed (map (λ w. w.now) (drop l.word-index l.list)) l.text ≡ is_listed (map (λ w. w.now) l.list) l.text
