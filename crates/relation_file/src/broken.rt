@@ -17,7 +17,7 @@ use crate::seen::Seen;
 use crate::unless::unless;
 use relation_lines::{Content, Line, Setting};
 use st_tree::{Refusal, Rule};
-use st_types::check_clause;
+use st_types::judge_clause;
 use std::alloc::{AllocError, Global};
 
 // Whether a number is from 1 to its greatest value.
@@ -97,7 +97,7 @@ fn clause_refusal(pair: &Pair<'_>, content: &Content) -> Option<Refusal>
     ensures { result ≡ first_in (broken_content (old_of pair.now) (new_of pair.now) (content_view content.now)) }
 {
     match content {
-        Content::Clause(_, clause) => check_clause(&pair.scope, clause),
+        Content::Clause(_, clause) => judge_clause(&pair.scope, clause),
         Content::Setting(_, _, _) | Content::Faults(_, _) => None,
         Content::Paired(_, _, _) | Content::Single(_, _, _) => None,
     }

@@ -1,6 +1,7 @@
--- Which fault a program leads to.
-use Rattle.std.specs.Prelude.{◌≡◌, ◌⊎◌, [], false}
+-- Which fault a program, and which a clause leads to.
+use Rattle.std.specs.Prelude.{◌≡◌, ◌⊎◌, List, [], false}
 use Rattle.st_tree.specs.declared.rule.Rule.TheVariants.{TooManyCells}
+use Rattle.st_tree.specs.declared.rule.Refusal.{Refusal}
 use Rattle.st_tree.specs.Rules.{IsAmong, IsFirst}
 use Rattle.st_tree.specs.Syntax.{PouData}
 use Rattle.st_types.specs.declared.fault.TypeFault.{TypeFault}
@@ -13,3 +14,8 @@ IsFaultOf p (Refused r) =
     IsFirst (λ x. IsAmong x (broken_types p)) r
     ⊎ ((broken_types p ≡ []) × (has_room p ≡ false) × (r ≡ record { rule = TooManyCells; at = 0 }))
 IsFaultOf p Memory = Unit {0}
+
+-- a clause is refused by the first of the rules on types that it breaks
+abbrev pub IsClauseFault : List Refusal → TypeFault → Type 0
+IsClauseFault broken (Refused r) = IsFirst (λ x. IsAmong x broken) r
+IsClauseFault broken Memory = Unit {0}

@@ -19,7 +19,7 @@ mod typed_expressions;
 mod typed_statements;
 mod variables;
 
-pub use clauses::{check_clause, typed_clause};
+pub use clauses::{check_clause, judge_clause, typed_clause};
 pub use fault::TypeFault;
 pub use outcome::Outcome;
 pub use pair::PairScope;

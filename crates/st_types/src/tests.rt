@@ -1,5 +1,5 @@
 // Texts and clauses with answers that were worked by hand from the rules on types.
-use crate::{PairScope, TypeFault, check, check_clause, typed_clause};
+use crate::{PairScope, TypeFault, check, check_clause, judge_clause, typed_clause};
 use st_lexer::lex;
 use st_names::{Resolved, resolve};
 use st_parser::{parse_expr, parse_file};
@@ -141,18 +141,33 @@ const CLAUSES: [(&str, Option<(Rule, usize)>); 9] = [
     ("1", Some((Rule::NotBool, 0))),
 ];
 
+// What a clause over two programs breaks first.
+fn broken_in(
+    alloc: Global,
+    clause: &Expr,
+    old: &Program,
+    new: &Program,
+) -> Result<Option<Refusal>, Fail> {
+    match check_clause(alloc, clause, old, new) {
+        Err(TypeFault::Refused(refusal)) => Ok(Some(refusal)),
+        other => {
+            other?;
+            Ok(None)
+        }
+    }
+}
+
 #[test]
 fn clauses_over_a_pair(rt: HostRuntime) -> Result<(), Fail> {
-    let old = program(rt.alloc(), OLD)?;
-    let new = program(rt.alloc(), NEW)?;
-    let scope = PairScope::new(rt.alloc(), &old, &new)?;
+    let alloc = rt.alloc();
+    let old = program(alloc, OLD)?;
+    let new = program(alloc, NEW)?;
+    let scope = PairScope::new(alloc, &old, &new)?;
     for (text, want) in CLAUSES {
-        let found = check_clause(&scope, &clause(rt.alloc(), text)?);
-        assert_eq!(rt;
-            found,
-            want.map(|(rule, at)| Refusal { rule, at }),
-            "{text}"
-        );
+        let clause = clause(alloc, text)?;
+        let want = want.map(|(rule, at)| Refusal { rule, at });
+        assert_eq!(rt; judge_clause(&scope, &clause), want, "{text}");
+        assert_eq!(rt; broken_in(alloc, &clause, &old, &new)?, want, "{text}");
     }
     Ok(())
 }
