@@ -51,6 +51,64 @@ fn quotients_and_remainders(rt: HostRuntime) -> Result<(), Fail> {
     row(&rt, DIVIDES, DIVIDES, relation, "[[-7],[7]]", lines, 0)
 }
 
+const NEGATED: &str =
+    "PROGRAM M VAR_INPUT x : SINT; END_VAR VAR_OUTPUT y : SINT; END_VAR y := x / -1; END_PROGRAM";
+
+const SUBTRACTED: &str =
+    "PROGRAM M VAR_INPUT x : SINT; END_VAR VAR_OUTPUT y : SINT; END_VAR y := 0 - x; END_PROGRAM";
+
+#[test]
+fn the_least_number_divided_by_minus_one(rt: HostRuntime) -> Result<(), Fail> {
+    let relation =
+        "RELATION 1; FAULTS EQUAL; DEPTH 3; CONFLICTS 100000; INPUT x = x; RELATE old.y = new.y;";
+    let lines =
+        "SCAN 1 OLD 0 -128 NEW 0 -128\nSCAN 2 OLD 0 -127 NEW 0 -127\nREPLAY scans 2 related\n";
+    row(
+        &rt,
+        NEGATED,
+        SUBTRACTED,
+        relation,
+        "[[-128],[127]]",
+        lines,
+        0,
+    )
+}
+
+const QUOTIENT: &str =
+    "PROGRAM M VAR_INPUT a, b : SINT; END_VAR VAR_OUTPUT y : SINT; END_VAR y := a / b; END_PROGRAM";
+
+const ELSE_QUOTIENT: &str =
+    "PROGRAM M VAR_INPUT a, b : SINT; END_VAR VAR_OUTPUT y : SINT; END_VAR IF b = 0 THEN y := 0; ELSE y := a / b; END_IF; END_PROGRAM";
+
+const IF_QUOTIENT: &str =
+    "PROGRAM M VAR_INPUT a, b : SINT; END_VAR VAR_OUTPUT y : SINT; END_VAR IF b <> 0 THEN y := a / b; END_IF; END_PROGRAM";
+
+#[test]
+fn no_fault_of_a_branch_not_taken(rt: HostRuntime) -> Result<(), Fail> {
+    let relation =
+        "RELATION 1; FAULTS EQUAL; DEPTH 3; CONFLICTS 100000; INPUT a = a; INPUT b = b; RELATE old.y = new.y;";
+    let lines = "SCAN 1 OLD 0 -3 NEW 0 -3\nSCAN 2 OLD 1 0 NEW 0 0\nREPLAY unrelated at 2\n";
+    row(
+        &rt,
+        QUOTIENT,
+        ELSE_QUOTIENT,
+        relation,
+        "[[-7,2],[1,0]]",
+        lines,
+        1,
+    )?;
+    let lines = "SCAN 1 OLD 0 0 NEW 0 0\nREPLAY scans 1 related\n";
+    row(
+        &rt,
+        IF_QUOTIENT,
+        ELSE_QUOTIENT,
+        relation,
+        "[[1,0]]",
+        lines,
+        0,
+    )
+}
+
 #[test]
 fn sums_wrap_and_division_by_zero_is_a_fault(rt: HostRuntime) -> Result<(), Fail> {
     let relation =
