@@ -7,7 +7,7 @@ use Rattle.st_tree.specs.Tree.{ProgramData}
 use Rattle.st_tree.proofs.FirstOnce.{first_once}
 use Rattle.st_names.specs.Broken.{broken_names}
 use Rattle.st_types.specs.Programs.{broken_types, has_room}
-use Rattle.st_types.specs.Typed.{typed_program}
+use Rattle.st_types.specs.TypedPrograms.{typed_program}
 use Rattle.front_end.specs.Texts.{HasTree, IsProgram, IsNoProgram, by_tree, by_names, by_types, by_room}
 use Rattle.front_end.proofs.OneReading.{one_tree, no_tree_too, one_no_tree}
 

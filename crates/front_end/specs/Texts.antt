@@ -17,7 +17,7 @@ use Rattle.st_lexer.specs.Lexing.{lexemes_of}
 use Rattle.st_parser.specs.FirstFault as nesting
 use Rattle.st_names.specs.Broken.{broken_names}
 use Rattle.st_types.specs.Programs.{broken_types, has_room}
-use Rattle.st_types.specs.Typed.{typed_program}
+use Rattle.st_types.specs.TypedPrograms.{typed_program}
 
 -- how many bytes a text may have
 abbrev pub limit : ℕ

@@ -591,8 +591,8 @@ fn words(alloc: Global) -> Result<Vec<String>, AllocError> {
     Ok(words)
 }
 
-// One row of a table.
-fn replays(
+/// One row of a table.
+pub fn replays(
     rt: &(impl Abort + AllocGlobal),
     row: (&str, &str, &str, &str, &str, u8),
 ) -> Result<(), Fail> {

@@ -6,6 +6,8 @@ mod answer;
 #[cfg(test)]
 mod case_tests;
 mod files;
+#[cfg(test)]
+mod language_tests;
 mod laws;
 mod play;
 mod put;

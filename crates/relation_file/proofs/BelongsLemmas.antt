@@ -54,7 +54,7 @@ found_placed text place (c ∷ cs) p h = by (bytes_eq c.path text) refl (found_p
     by true e rest = placed_first c cs place p (let f : Some (placed place c) ≡ Some p = rw e at h in cc)
     by false e rest = placed_later c cs place p (rest (let f : cell_named text (place + 1) cs ≡ Some p = rw e at h in f))
 
-is_cell : (program : ProgramData) (text : List ℕ) (p : Placed) → cell_named text 0 program.cells ≡ Some p → IsCellOf program p.place p.range
+pub is_cell : (program : ProgramData) (text : List ℕ) (p : Placed) → cell_named text 0 program.cells ≡ Some p → IsCellOf program p.place p.range
 is_cell program text p h =
     let q = found_placed text 0 program.cells p h in
     let e : p.place ≡ q.index = q.at ∙ omega arith in

@@ -5,3 +5,4 @@ pub mod PlaceLemmas
 pub mod SeenLemmas
 pub mod BelongsLemmas
 pub mod PassLemmas
+pub mod CandidateLemmas

@@ -7,10 +7,14 @@ use Rattle.relation_lines.specs.Whole.{AreLines}
 use Rattle.relation_file.specs.declared.fault.RelFault.{RelFault}
 use Rattle.relation_file.specs.declared.fault.RelFault.TheVariants as faults
 use Rattle.relation_file.specs.Faults.{IfRefused}
-use Rattle.relation_file.specs.Stated.{IsFirstOf, IsNoRelation, by_lines, by_types}
+use Rattle.relation_file.specs.Stated.{IsFirstOf, IsNoRelation, by_lines, by_types, IsNoSmallRelation, by_relation}
 
 module _ (old new : ProgramData) (end : ℕ) (toks : List Tok) where
   pub rules_refused : (lines : List LineData) (e : RelFault) → AreLines toks lines → IfRefused (IsFirstOf old new end lines) e → IfRefused (IsNoRelation old new end toks) e
   rules_refused lines (faults.Refused r) h (inl k) = by_lines lines h k
   rules_refused lines (faults.Refused r) h (inr k) = by_types lines h k.0 k.1
   rules_refused lines faults.Memory h k = tt
+
+  pub small_refused : (e : RelFault) → IfRefused (IsNoRelation old new end toks) e → IfRefused (IsNoSmallRelation old new end toks) e
+  small_refused (faults.Refused r) h = by_relation h
+  small_refused faults.Memory h = tt

@@ -1,16 +1,18 @@
--- Cells by their paths.
-use Rattle.std.proofs.Common.{◌≡◌, ℕ, ◌+◌, ◌-◌, ◌<◌, ◌≤◌, cond, List, ◌∷◌, length, get_or, drop, Some, sym, ap, ◌∙◌, arith, suc, drop-cons, Bor}
+-- Cells by their paths, and names.
+use Rattle.std.proofs.Common.{◌≡◌, ℕ, ◌+◌, ◌-◌, ◌<◌, ◌≤◌, cond, Bool, true, false, ◌||◌, String, refl, List, ◌∷◌, length, get_or, drop, Some, sym, ap, ◌∙◌, arith, suc, drop-cons, Bor}
 use Rattle.std.specs.Str.{bytes_eq}
 use Rattle.std.proofs.lemmas.Map.Text.{hash_map_updates_str}
 use Rattle.indexmap.specs.IndexMap.{IndexMap, get_by, Updates}
+use Rattle.indexmap.specs.IndexSet.{IndexSet, contains_by, Updates as SetUpdates}
+use Rattle.std.specs.declared.alloc.Global.{Global}
 use Rattle.st_tree.specs.declared.typed.Cell.{Cell}
 use Rattle.st_tree.specs.Tree.{CellData}
-use Rattle.st_tree.specs.View.{cell_view, cells_view}
+use Rattle.st_tree.specs.View.{cell_view, cells_view, text_view, texts_view}
 use Rattle.relation_file.specs.declared.places.Placed.{Placed}
-use Rattle.relation_file.specs.Inputs.{placed, cell_named}
-use Rattle.relation_file.specs.Places.{Finds}
+use Rattle.relation_file.specs.Inputs.{placed, cell_named, is_among}
+use Rattle.relation_file.specs.Places.{Finds, HasNames}
 
-last_one : (cs : List Cell) (place : ℕ) (d : Cell) → 0 < place → place ≤ length cs → drop (place - 1) cs ≡ get_or cs (place - 1) d ∷ drop place cs
+last_one : {A : Type 0} (cs : List A) (place : ℕ) (d : A) → 0 < place → place ≤ length cs → drop (place - 1) cs ≡ get_or cs (place - 1) d ∷ drop place cs
 last_one cs place d some within =
     let e : suc (place - 1) ≡ place = omega arith in
     let s : place - 1 < length cs = omega arith in
@@ -31,3 +33,20 @@ finds_one_more cs place path cell p old new some within same named known updates
     ∙ ap (λ (t : List ℕ). cond (bytes_eq t text) (Some p) (cell_named text (place - 1 + 1) rest)) named
     ∙ ap (λ (x : Placed). cond (bytes_eq c.path text) (Some x) (cell_named text (place - 1 + 1) rest)) known
     ∙ ap (cell_named text (place - 1)) (sym listed)
+
+-- one more name, before those that are known
+or_is : (b x : Bool) → cond b true x ≡ (b || x)
+or_is true x = refl
+or_is false x = refl
+
+pub has_one_more : {S : Type 0} (names : List (String Global)) (place : ℕ) (key : Bor (List ℕ)) (name : String Global) (old new : IndexSet (Bor (List ℕ)) S)
+    → 0 < place → place ≤ length names → name ≡ get_or names (place - 1) name → key.now ≡ text_view name
+    → SetUpdates (λ x y. bytes_eq x.now y.now) old new key true → HasNames old (texts_view (drop place names)) → HasNames new (texts_view (drop (place - 1) names))
+has_one_more names place key name old new some within same named updates has text =
+    let rest : List (List ℕ) = texts_view (drop place names) in
+    let listed : texts_view (drop (place - 1) names) ≡ text_view name ∷ rest = ap texts_view (last_one names place name some within) ∙ ap (λ x. text_view x ∷ rest) (sym same) in
+    let one : contains_by (λ k. bytes_eq text k.now) new ≡ cond (bytes_eq key.now text) true (contains_by (λ k. bytes_eq text k.now) old) = updates.0 (record key { now = text }) in
+    one ∙ ap (λ b. cond (bytes_eq key.now text) true b) (has text)
+    ∙ ap (λ (t : List ℕ). cond (bytes_eq t text) true (is_among rest text)) named
+    ∙ or_is (bytes_eq (text_view name) text) (is_among rest text)
+    ∙ ap (λ ns. is_among ns text) (sym listed)

@@ -4,7 +4,7 @@ use Rattle.std.specs.Prelude.{ℕ, List, [], ◌∷◌, ◌++◌, not, ◌&&◌}
 use Rattle.st_tree.specs.declared.rule.Rule.TheVariants.{LineOrder, NumberLimits, InputsDiffer, InputCount}
 use Rattle.st_tree.specs.declared.rule.Refusal.{Refusal}
 use Rattle.st_tree.specs.Syntax.{Named}
-use Rattle.st_tree.specs.Tree.{CellData, ProgramData}
+use Rattle.st_tree.specs.Tree.{ProgramData}
 use Rattle.scan_model.specs.declared.side.Side.{Side}
 use Rattle.scan_model.specs.declared.side.Side.TheVariants as sides
 use Rattle.st_types.specs.Judged.{judged_clause}
@@ -16,13 +16,13 @@ use Rattle.relation_file.specs.Inputs.{cell_named, names_in, is_among, broken_in
 use Rattle.relation_file.specs.Clauses.{broken_names}
 
 module _ (old new : ProgramData) where
-  abbrev pub cells_at : Side → List CellData
-  cells_at sides.Old = old.cells
-  cells_at sides.New = new.cells
+  abbrev pub program_at : Side → ProgramData
+  program_at sides.Old = old
+  program_at sides.New = new
 
   -- what a name of an INPUT line breaks, behind the lines before
   abbrev pub broken_name : Side → List LineData → Named → List Refusal
-  broken_name side before n = broken_input (names_in side before) (cells_at side) n
+  broken_name side before n = broken_input (names_in side before) (program_at side) n
 
   -- P1, at the first name, where two inputs that break nothing are not alike
   abbrev pub broken_pair : List LineData → Named → Named → List Refusal

@@ -3,7 +3,8 @@ use Rattle.std.specs.Prelude.{ℕ, List, [], ◌∷◌, ◌++◌, codes, Bool, �
 use Rattle.std.specs.Str.{bytes_eq}
 use Rattle.st_tree.specs.declared.rule.Rule.TheVariants.{NoSide, UnknownName}
 use Rattle.st_tree.specs.declared.rule.Refusal.{Refusal}
-use Rattle.st_tree.specs.Syntax.{Named, PathData, Tree, literal, path, enumerator, paren, unary, chain, Links, no_links, link}
+use Rattle.st_tree.specs.Syntax.{Named, PathData, Tree, literal, path, enumerator, paren, unary, chain, call, Links, no_links, link, Arguments, no_arguments, argument}
+use Rattle.st_names.specs.Library.{is_function}
 use Rattle.st_types.specs.declared.scope.Meaning.{Meaning}
 use Rattle.st_types.specs.Typing.{Scope}
 use Rattle.relation_file.specs.Refusals.{breaks}
@@ -26,6 +27,15 @@ broken_members scope p (n ∷ ns) = if is_side p.first.text then unknown_unless 
 abbrev pub broken_path : Scope → PathData → List Refusal
 broken_path scope p = broken_members scope p p.members
 
+-- a called name is that of a standard function (N2)
+abbrev pub broken_called : Named → List Refusal
+broken_called n = if is_function n.text then [] else breaks UnknownName n.at
+
+-- standard functions have no argument names (N2)
+abbrev pub broken_argument : Bool → Option Named → List Refusal
+broken_argument known None = []
+broken_argument known (Some n) = if known then breaks UnknownName n.at else []
+
 -- all that the names of an expression break
 abbrev mutual
   pub broken_names : Scope → Tree → List Refusal
@@ -35,7 +45,13 @@ abbrev mutual
   broken_names scope (paren at e) = broken_names scope e
   broken_names scope (unary o at e) = broken_names scope e
   broken_names scope (chain e ls) = broken_names scope e ++ broken_links scope ls
+  broken_names scope (call n at args) = broken_called n ++ broken_arguments scope (is_function n.text) args
 
   pub broken_links : Scope → Links → List Refusal
   broken_links scope no_links = []
   broken_links scope (link o at e ls) = broken_names scope e ++ broken_links scope ls
+
+  -- the arguments of a function that is known, or of a name that is not
+  pub broken_arguments : Scope → Bool → Arguments → List Refusal
+  broken_arguments scope known no_arguments = []
+  broken_arguments scope known (argument n e args) = broken_argument known n ++ broken_names scope e ++ broken_arguments scope known args

@@ -9,3 +9,4 @@ pub mod Faults
 pub mod Places
 pub mod Seen
 pub mod PairView
+pub mod Candidates

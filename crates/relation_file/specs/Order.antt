@@ -7,7 +7,7 @@ use Rattle.relation_lines.specs.declared.line.Condition.{Condition}
 use Rattle.relation_lines.specs.declared.line.Condition.TheVariants as conditions
 use Rattle.relation_lines.specs.Lines.{ContentData, setting, faults, paired, single, clause, LineData}
 
--- The kinds of lines in the order in which they stand: RELATION, FAULTS, DEPTH, CONFLICTS, INPUT, ENV, RELATE.
+-- The kinds of lines in the order in which they stand: RELATION, FAULTS, DEPTH, CONFLICTS, INPUT, ENV, RELATE, INVARIANT.
 abbrev pub rank_of_setting : Setting → ℕ
 rank_of_setting settings.Version = 0
 rank_of_setting settings.Depth = 2
@@ -16,6 +16,7 @@ rank_of_setting settings.Conflicts = 3
 abbrev pub rank_of_condition : Condition → ℕ
 rank_of_condition conditions.Environment = 5
 rank_of_condition conditions.Relate = 6
+rank_of_condition conditions.Invariant = 7
 
 abbrev pub rank_of : ContentData → ℕ
 rank_of (setting s value at) = rank_of_setting s
@@ -41,7 +42,7 @@ is_late rank (above ∷ ls) = nat_lt rank (rank_of above.content)
 abbrev pub is_out_of_order : ContentData → List LineData → Bool
 is_out_of_order c before = is_late (rank_of c) before || is_single (rank_of c) && has_kind (rank_of c) before
 
--- each kind is there but INPUT and ENV, which may be missing
+-- each kind is there but INPUT, ENV and INVARIANT, which may be missing
 abbrev pub has_needed : List LineData → Bool
 has_needed ls = has_kind 0 ls && has_kind 1 ls && has_kind 2 ls && has_kind 3 ls && has_kind 6 ls
 

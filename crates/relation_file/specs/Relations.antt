@@ -11,6 +11,7 @@ use Rattle.scan_model.specs.declared.side.Side.TheVariants as sides
 use Rattle.scan_model.specs.declared.relation.InputLine.{InputLine}
 use Rattle.scan_model.specs.declared.relation.InputLine.TheVariants as inputs_of
 use Rattle.scan_model.specs.Pairs.{RelationData}
+use Rattle.scan_model.specs.Candidates.{candidates_of}
 use Rattle.relation_lines.specs.declared.line.Setting.{Setting}
 use Rattle.relation_lines.specs.declared.line.Setting.TheVariants as settings
 use Rattle.relation_lines.specs.declared.line.Condition.{Condition}
@@ -28,6 +29,7 @@ is_setting _ _ = false
 abbrev pub is_condition : Condition → Condition → Bool
 is_condition conditions.Environment conditions.Environment = true
 is_condition conditions.Relate conditions.Relate = true
+is_condition conditions.Invariant conditions.Invariant = true
 is_condition _ _ = false
 
 -- the number of a line of this kind
@@ -101,13 +103,19 @@ module _ (old new : ProgramData) where
   abbrev pub faults_clause : List LineData → List Expression
   faults_clause ls = if faults_are_equal ls then equal_faults (length old.cells) ∷ [] else []
 
-  -- the relation: its numbers, its inputs, its ENV clauses, and its RELATE clauses with that on FAULT last
-  abbrev pub relation_of : List LineData → RelationData
-  relation_of ls = record {
+  -- the relation but for its candidates: its numbers, its inputs, and its clauses, the RELATE clauses with that on FAULT last
+  abbrev pub clauses_of : List LineData → RelationData
+  clauses_of ls = record {
     depth = setting_in settings.Depth ls;
     conflicts = setting_in settings.Conflicts ls;
     inputs = inputs_in ls;
     environment = clauses_in conditions.Environment ls;
     equal_faults = faults_are_equal ls;
     relates = clauses_in conditions.Relate ls ++ faults_clause ls;
+    invariants = clauses_in conditions.Invariant ls;
+    candidates = [];
   }
+
+  -- the relation that lines state
+  abbrev pub relation_of : List LineData → RelationData
+  relation_of ls = record (clauses_of ls) { candidates = candidates_of old new (clauses_of ls) }

@@ -13,7 +13,7 @@ use Rattle.relation_file.specs.Inputs.{is_among, names_in}
 -- the kinds of lines before, nearest first
 pub record HasKinds (kinds : Kinds) (before : List LineData) : Type 0 where
   pub late : (rank : ℕ) → is_late rank before ≡ nat_lt rank kinds.above
-  pub had : (rank : ℕ) → rank < 7 → has_kind rank before ≡ slice_index_or kinds.had rank false
+  pub had : (rank : ℕ) → rank < 8 → has_kind rank before ≡ slice_index_or kinds.had rank false
 
 -- a name's text, where there is one
 abbrev pub texts : Option (Bor Name) → List (List ℕ)

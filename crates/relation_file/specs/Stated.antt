@@ -1,7 +1,8 @@
 -- Which relation the tokens of a relation file state, and which rule other tokens break first. The passes come one
 -- after the other: left-out words and nesting, grammar, lines and names, types.
-use Rattle.std.specs.Prelude.{◌≡◌, ◌⊎◌, ℕ, List, []}
+use Rattle.std.specs.Prelude.{◌≡◌, ◌⊎◌, ℕ, List, [], length, nat_le, Bool, true, false}
 use Rattle.st_tree.specs.declared.token.Tok.{Tok}
+use Rattle.st_tree.specs.declared.rule.Rule.TheVariants.{TooManyCandidates}
 use Rattle.st_tree.specs.declared.rule.Refusal.{Refusal}
 use Rattle.st_tree.specs.Rules.{IsAmong, IsFirst}
 use Rattle.st_tree.specs.Tree.{ProgramData}
@@ -31,3 +32,13 @@ pub data IsNoRelation (old new : ProgramData) (end : ℕ) (toks : List Tok) (r :
   by_lines : (lines : List LineData) → AreLines toks lines → IsFirst (λ x. IsAmong x (broken_lines old new end lines)) r → IsNoRelation old new end toks r
   by_types : (lines : List LineData) → AreLines toks lines → broken_lines old new end lines ≡ []
       → IsFirst (λ x. IsAmong x (broken_clauses old new lines)) r → IsNoRelation old new end toks r
+
+-- M4: at most 4,096 candidates
+abbrev pub has_few_candidates : RelationData → Bool
+has_few_candidates rel = nat_le (length rel.candidates) 4096
+
+-- Tokens state no relation, or one with too many candidates, and this is the first rule that they break.
+pub data IsNoSmallRelation (old new : ProgramData) (end : ℕ) (toks : List Tok) (r : Refusal) : Type 0 where
+  by_relation : IsNoRelation old new end toks r → IsNoSmallRelation old new end toks r
+  by_count : (rel : RelationData) → IsRelation old new end toks rel → has_few_candidates rel ≡ false → r ≡ record { rule = TooManyCandidates; at = 0 }
+      → IsNoSmallRelation old new end toks r

@@ -28,11 +28,13 @@ fn is_input(part: Part) -> bool
     }
 }
 
-// What a name breaks: N2 where it is no variable, N4 where it is no input, and P2 where a line before named it.
-fn at_cell(again: bool, name: &Name, cell: Option<Placed>) -> Option<Refusal>
-    ensures { result ≡ first_in (broken_at_cell again (name_view name.now) cell) }
+// What a name breaks: N2 where it is no variable, N4 where it is a constant or no input, and P2 where a line before
+// named it.
+fn at_cell(again: bool, constant: bool, name: &Name, cell: Option<Placed>) -> Option<Refusal>
+    ensures { result ≡ first_in (broken_at_cell again constant (name_view name.now) cell) }
 {
     match cell {
+        None if constant => breaks(Rule::WrongKind, name.at),
         None => breaks(Rule::UnknownName, name.at),
         Some(cell) => {
             if is_input(cell.part) {
@@ -50,8 +52,24 @@ pub(crate) fn name_refusal(pair: &Pair<'_>, seen: &Seen, side: Side, name: &Name
 {
     let text = name.text.as_str();
     match side {
-        Side::Old => at_cell(seen.of_old.contains(text), name, pair.old.find(text)),
-        Side::New => at_cell(seen.of_new.contains(text), name, pair.new.find(text)),
+        Side::Old => {
+            let constant = pair.old.is_constant(text);
+            at_cell(
+                seen.of_old.contains(text),
+                constant,
+                name,
+                pair.old.find(text),
+            )
+        }
+        Side::New => {
+            let constant = pair.new.is_constant(text);
+            at_cell(
+                seen.of_new.contains(text),
+                constant,
+                name,
+                pair.new.find(text),
+            )
+        }
     }
 }
 

@@ -7,10 +7,10 @@ ghost use Rattle.relation_file.specs.Seen.{HasKinds};
 
 use relation_lines::{Condition, Content, Line, Setting};
 
-/// The rank of a line: RELATION, FAULTS, DEPTH, CONFLICTS, INPUT, ENV and RELATE stand in this order.
+/// The rank of a line: RELATION, FAULTS, DEPTH, CONFLICTS, INPUT, ENV, RELATE and INVARIANT stand in this order.
 pub(crate) fn rank_of(content: &Content) -> usize
     ensures rank { result ≡ rank_of (content_view content.now) }
-    ensures within { result < 7 }
+    ensures within { result < 8 }
 {
     match content {
         Content::Setting(Setting::Version, _, _) => 0,
@@ -20,6 +20,7 @@ pub(crate) fn rank_of(content: &Content) -> usize
         Content::Paired(_, _, _) | Content::Single(_, _, _) => 4,
         Content::Clause(Condition::Environment, _) => 5,
         Content::Clause(Condition::Relate, _) => 6,
+        Content::Clause(Condition::Invariant, _) => 7,
     }
 }
 
@@ -27,7 +28,7 @@ pub(crate) fn rank_of(content: &Content) -> usize
 #[derive(Clone, Copy, Debug, PartialEq, Eq)]
 pub(crate) struct Kinds {
     pub above: usize,
-    pub had: [bool; 7],
+    pub had: [bool; 8],
 }
 
 impl Kinds {
@@ -37,7 +38,7 @@ impl Kinds {
     {
         Kinds {
             above: 0,
-            had: [false; 7],
+            had: [false; 8],
         }
     }
 

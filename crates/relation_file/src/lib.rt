@@ -2,6 +2,7 @@
 #![tactic(auto)]
 
 mod broken;
+mod candidates;
 mod fault;
 mod inputs;
 mod kinds;
@@ -16,7 +17,7 @@ mod unless;
 
 pub use fault::RelFault;
 pub use laws::one_relation;
-pub use read::read_lines;
+pub use read::{read_lines, read_relation};
 
 #[cfg(test)]
 mod tests;

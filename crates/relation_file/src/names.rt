@@ -1,11 +1,13 @@
 // The names of clauses.
-ghost use Rattle.std.specs.Prelude.{◌≡◌, None};
+ghost use Rattle.std.specs.Prelude.{◌≡◌, None, option_map};
 ghost use Rattle.st_tree.specs.Rules.{earlier, first_in};
-ghost use Rattle.st_tree.specs.SyntaxView.{path_view, tree_view, links_view};
-ghost use Rattle.relation_file.specs.Clauses.{is_side, broken_path, broken_names, broken_links, unknown_unless};
+ghost use Rattle.st_tree.specs.SyntaxView.{name_view, path_view, tree_view, links_view, arguments_view};
+ghost use Rattle.st_names.specs.Library.{is_function};
+ghost use Rattle.relation_file.specs.Clauses.{is_side, broken_path, broken_called, broken_argument, broken_names, broken_links, broken_arguments, unknown_unless};
 
 use crate::unless::breaks;
-use st_tree::{Expr, Link, Path, Refusal, Rule};
+use st_names::standard_function;
+use st_tree::{Argument, Expr, Link, Name, Path, Refusal, Rule};
 use st_types::{Meaning, Scope};
 
 // Whether a word says which program is meant.
@@ -37,6 +39,33 @@ fn path_refusal<S: Scope>(scope: &S, path: &Path) -> Option<Refusal>
     }
 }
 
+fn is_function(text: &str) -> bool
+    ensures { result ≡ is_function text.now }
+{
+    standard_function(text).is_some()
+}
+
+// What a called name breaks: it is that of a standard function (N2).
+fn called_refusal(function: &Name) -> Option<Refusal>
+    ensures { result ≡ first_in (broken_called (name_view function.now)) }
+{
+    if is_function(function.text.as_str()) {
+        None
+    } else {
+        breaks(Rule::UnknownName, function.at)
+    }
+}
+
+// What an argument's name breaks: standard functions have none (N2).
+fn argument_refusal(known: bool, name: &Option<Name>) -> Option<Refusal>
+    ensures { result ≡ first_in (broken_argument known (option_map name_view name.now)) }
+{
+    match name {
+        Some(name) if known => breaks(Rule::UnknownName, name.at),
+        _ => None,
+    }
+}
+
 // Keeps what the names of an expression break, where it comes first.
 #[cycle(walk_names)]
 fn walk_names<S: Scope>(scope: &S, expr: &Expr, first: &mut Option<Refusal>)
@@ -54,6 +83,10 @@ fn walk_names<S: Scope>(scope: &S, expr: &Expr, first: &mut Option<Refusal>)
             walk_names(scope, left, first);
             walk_links(scope, links, first);
         }
+        Expr::Call(function, _, arguments) => {
+            *first = Refusal::earlier(*first, called_refusal(function));
+            walk_arguments(scope, is_function(function.text.as_str()), arguments, first);
+        }
     }
 }
 
@@ -64,6 +97,22 @@ fn walk_links<S: Scope>(scope: &S, links: &[Link], first: &mut Option<Refusal>)
 {
     for link in links {
         walk_names(scope, &link.right, first);
+    }
+}
+
+// Keeps what the names of arguments break.
+#[cycle(walk_names)]
+fn walk_arguments<S: Scope>(
+    scope: &S,
+    known: bool,
+    arguments: &[Argument],
+    first: &mut Option<Refusal>,
+)
+    ensures { first.new ≡ earlier first.old (first_in (broken_arguments (S.means scope.now) known (arguments_view arguments.now))) }
+{
+    for argument in arguments {
+        *first = Refusal::earlier(*first, argument_refusal(known, &argument.name));
+        walk_names(scope, &argument.value, first);
     }
 }
 

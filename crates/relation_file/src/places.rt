@@ -1,10 +1,10 @@
-// The cells of a program by their paths.
+// The cells of a program by their paths, and the names of its constants.
 ghost use Rattle.std.specs.Prelude.{◌≡◌, IfOk};
-ghost use Rattle.st_tree.specs.View.{cell_view, cells_view, program_view};
-ghost use Rattle.relation_file.specs.Inputs.{placed, cell_named};
-ghost use Rattle.relation_file.specs.Places.{Finds};
+ghost use Rattle.st_tree.specs.View.{cell_view, cells_view, texts_view, program_view};
+ghost use Rattle.relation_file.specs.Inputs.{placed, cell_named, is_among};
+ghost use Rattle.relation_file.specs.Places.{Finds, HasNames};
 
-use indexmap::IndexMap;
+use indexmap::{IndexMap, IndexSet};
 use st_tree::{Cell, Elementary, Part, Program, Range};
 use std::alloc::{AllocError, Global};
 
@@ -19,6 +19,9 @@ pub struct Placed {
 
 // Cells by their paths.
 type Places<'p> = IndexMap<&'p str, Placed>;
+
+// Names.
+type Names<'p> = IndexSet<&'p str>;
 
 fn known(place: usize, cell: &Cell) -> Placed
     ensures { result ≡ placed place (cell_view cell.now) }
@@ -43,12 +46,25 @@ fn places<'p>(alloc: Global, cells: &'p [Cell]) -> Result<Places<'p>, AllocError
     Ok(found)
 }
 
-/// A program, and its cells by their paths.
+// A list of names as a set.
+fn names<'p>(alloc: Global, list: &'p [String]) -> Result<Names<'p>, AllocError>
+    ensures { IfOk result (λ set. HasNames set (texts_view list.now)) }
+{
+    let mut set = IndexSet::new(alloc);
+    for index in (0..list.len()).rev() {
+        set.insert(list[index].as_str())?;
+    }
+    Ok(set)
+}
+
+/// A program, its cells by their paths, and the names of its constants.
 #[derive(Drop)]
 pub(crate) struct Cells<'p> {
     pub program: &'p Program,
     places: Places<'p>,
+    constants: Names<'p>,
     ghost finds: { Finds places 0 (program_view program.now).cells },
+    ghost named: { HasNames constants (program_view program.now).constants },
 }
 
 impl<'p> Cells<'p> {
@@ -59,6 +75,7 @@ impl<'p> Cells<'p> {
         Ok(Cells {
             program,
             places: places(alloc, &program.cells)?,
+            constants: names(alloc, &program.constants)?,
         })
     }
 
@@ -67,5 +84,12 @@ impl<'p> Cells<'p> {
         ensures { result ≡ cell_named path.now 0 (program_view self.now.program.now).cells }
     {
         self.places.get(path).copied()
+    }
+
+    /// Whether a name is that of a constant.
+    pub(crate) fn is_constant(&self, name: &str) -> bool
+        ensures { result ≡ is_among (program_view self.now.program.now).constants name.now }
+    {
+        self.constants.contains(name)
     }
 }

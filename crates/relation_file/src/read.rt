@@ -1,12 +1,12 @@
 // The relation that a file states.
-ghost use Rattle.std.specs.Prelude.{◌≡◌, [], IfOk, IfErr, OnOk};
+ghost use Rattle.std.specs.Prelude.{◌≡◌, [], true, IfOk, IfErr, OnOk};
 ghost use Rattle.st_tree.specs.View.{program_view};
 ghost use Rattle.scan_model.specs.Pairs.{relation_view, BelongsTo};
 ghost use Rattle.relation_lines.specs.View.{lines_view};
 ghost use Rattle.relation_file.specs.Broken.{broken_lines, broken_clauses};
 ghost use Rattle.relation_file.specs.PairView.{old_of, new_of};
 ghost use Rattle.relation_file.specs.Relations.{relation_of};
-ghost use Rattle.relation_file.specs.Stated.{IsFirstOf, IsRelation, IsNoRelation};
+ghost use Rattle.relation_file.specs.Stated.{IsFirstOf, IsRelation, IsNoRelation, has_few_candidates, IsNoSmallRelation};
 ghost use Rattle.relation_file.specs.Faults.{IfRefused};
 
 use crate::broken::{first_of_clauses, first_of_lines};
@@ -15,7 +15,7 @@ use crate::pair::Pair;
 use crate::relation::relation_of;
 use relation_lines::{Line, parse_lines};
 use scan_model::Relation;
-use st_tree::{Program, Tok};
+use st_tree::{Program, Refusal, Rule, Tok};
 use std::alloc::Global;
 
 // The relation that the lines of a file of `end` bytes state, or the first rule that they break.
@@ -58,5 +58,37 @@ pub fn read_lines(
     let lines = parse_lines(alloc, toks, end)?;
     let pair = Pair::new(alloc, old, new)?;
     let relation = relation_in(alloc, &pair, end, &lines)?;
+    Ok(relation)
+}
+
+// Whether a relation has at most 4,096 candidates.
+fn has_few_candidates(relation: &Relation) -> bool
+    ensures { result ≡ has_few_candidates (relation_view relation.now) }
+{
+    relation.candidates.len() <= 4_096
+}
+
+/// The same, where the relation has at most 4,096 candidates.
+///
+/// # Errors
+///
+/// Those of `read_lines`, and then M4.
+pub fn read_relation(
+    alloc: Global,
+    toks: &[Tok<'_>],
+    end: usize,
+    old: &Program,
+    new: &Program,
+) -> Result<Relation, RelFault>
+    ensures read { IfOk result (λ r. IsRelation (program_view old.now) (program_view new.now) end toks.now (relation_view r)) }
+    ensures few { IfOk result (λ r. has_few_candidates (relation_view r) ≡ true) }
+    ensures belongs { IfOk result (λ r. BelongsTo (program_view old.now) (program_view new.now) (relation_view r)) }
+    ensures refused { IfErr result (IfRefused (IsNoSmallRelation (program_view old.now) (program_view new.now) end toks.now)) }
+{
+    let relation = read_lines(alloc, toks, end, old, new)?;
+    if !has_few_candidates(&relation) {
+        let rule = Rule::TooManyCandidates;
+        return Err(RelFault::Refused(Refusal { rule, at: 0 }));
+    }
     Ok(relation)
 }

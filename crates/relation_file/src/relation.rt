@@ -3,9 +3,10 @@ ghost use Rattle.std.specs.Prelude.{◌≡◌, option_map, IfOk};
 ghost use Rattle.st_tree.specs.View.{expr_view, exprs_view};
 ghost use Rattle.scan_model.specs.Pairs.{relation_view};
 ghost use Rattle.relation_lines.specs.View.{content_view, lines_view};
-ghost use Rattle.relation_file.specs.Relations.{number_of, setting_in, asks_equal_faults, faults_are_equal, both_line, single_line, equal_faults, input_of, inputs_in, clause_of, clauses_in, relation_of};
+ghost use Rattle.relation_file.specs.Relations.{number_of, setting_in, asks_equal_faults, faults_are_equal, both_line, single_line, equal_faults, input_of, inputs_in, clause_of, clauses_in, clauses_of, relation_of};
 ghost use Rattle.relation_file.specs.PairView.{old_of, new_of};
 
+use crate::candidates::candidates_of;
 use crate::pair::Pair;
 use crate::places::Placed;
 use relation_lines::{Condition, Content, Line, Setting};
@@ -164,14 +165,10 @@ fn equal_faults(alloc: Global, old_cells: usize) -> Result<TypedExpr, AllocError
     Ok(TypedExpr::Chain(Box::new(alloc, TypedExpr::Cell(0))?, operands))
 }
 
-/// The relation that lines state: its numbers, its inputs, its ENV clauses, and its RELATE clauses with that on
-/// FAULT last.
-pub(crate) fn relation_of(
-    alloc: Global,
-    pair: &Pair<'_>,
-    lines: &[Line],
-) -> Result<Relation, AllocError>
-    ensures { IfOk result (λ r. relation_view r ≡ relation_of (old_of pair.now) (new_of pair.now) (lines_view lines.now)) }
+// The relation but for its candidates: its numbers, its inputs, and its clauses, the RELATE clauses with that on
+// FAULT last.
+fn clauses_of(alloc: Global, pair: &Pair<'_>, lines: &[Line]) -> Result<Relation, AllocError>
+    ensures { IfOk result (λ r. relation_view r ≡ clauses_of (old_of pair.now) (new_of pair.now) (lines_view lines.now)) }
 {
     let mut relates = clauses_in(alloc, pair, Condition::Relate, lines)?;
     let must_agree = faults_are_equal(lines);
@@ -185,5 +182,20 @@ pub(crate) fn relation_of(
         environment: clauses_in(alloc, pair, Condition::Environment, lines)?,
         equal_faults: must_agree,
         relates,
+        invariants: clauses_in(alloc, pair, Condition::Invariant, lines)?,
+        candidates: Vec::new(alloc),
     })
+}
+
+/// The relation that lines state, with its candidates.
+pub(crate) fn relation_of(
+    alloc: Global,
+    pair: &Pair<'_>,
+    lines: &[Line],
+) -> Result<Relation, AllocError>
+    ensures { IfOk result (λ r. relation_view r ≡ relation_of (old_of pair.now) (new_of pair.now) (lines_view lines.now)) }
+{
+    let mut relation = clauses_of(alloc, pair, lines)?;
+    relation.candidates = candidates_of(alloc, pair, &relation)?;
+    Ok(relation)
 }

@@ -1,13 +1,13 @@
 // Relation files of which the relation, or the first broken rule, was found by another reader of the language.
-use crate::{RelFault, read_lines};
+use crate::{RelFault, read_lines, read_relation};
 use front_end::{accept_text, tokens_of};
 use scan_model::{InputLine, Relation};
 use st_tree::{Operator, Range, Refusal, Rule, TypedExpr};
-use std::alloc::Global;
+use std::alloc::{AllocError, Global};
 use std::test::Fail;
 
 const OLD: &str =
-    "PROGRAM M VAR_INPUT a : BOOL; n : INT; END_VAR VAR_OUTPUT q : BOOL; END_VAR VAR t : INT; END_VAR END_PROGRAM";
+    "PROGRAM M VAR_INPUT a : BOOL; n : INT; END_VAR VAR_OUTPUT q : BOOL; END_VAR VAR t : INT; END_VAR VAR CONSTANT k : INT := 3; END_VAR END_PROGRAM";
 
 const NEW: &str =
     "PROGRAM M VAR_INPUT n : INT; a : BOOL; b : SINT; END_VAR VAR_OUTPUT q : BOOL; END_VAR END_PROGRAM";
@@ -74,6 +74,7 @@ fn names_of_inputs(rt: HostRuntime) -> Result<(), Fail> {
     let rows = [
         ("INPUT a = q;", Rule::WrongKind, 63),
         ("INPUT OLD fault;", Rule::WrongKind, 63),
+        ("INPUT OLD k;", Rule::WrongKind, 63),
         ("INPUT OLD zz;", Rule::UnknownName, 63),
         ("INPUT zz = yy;", Rule::UnknownName, 59),
         ("INPUT a = a; INPUT OLD a;", Rule::InputCount, 76),
@@ -102,6 +103,7 @@ fn names_and_types_of_clauses(rt: HostRuntime) -> Result<(), Fail> {
     let rows = [
         ("", Rule::LineOrder, 92),
         ("RELATE old.q; ENV old.q;", Rule::LineOrder, 106),
+        ("INVARIANT old.q; RELATE old.q;", Rule::LineOrder, 109),
         ("ENV zz;", Rule::NoSide, 96),
         ("RELATE old;", Rule::NoSide, 99),
         ("RELATE q.old;", Rule::NoSide, 99),
@@ -191,5 +193,91 @@ fn a_relation_by_its_parts(rt: HostRuntime) -> Result<(), Fail> {
     assert_eq!(rt; relation.relates.len(), 2);
     assert_eq!(rt; compared(&relation.relates[0]), Some((3, 9)));
     assert_eq!(rt; compared(&relation.relates[1]), Some((0, 5)));
+    Ok(())
+}
+
+const ONE: &str =
+    "PROGRAM M VAR_INPUT a : BOOL; END_VAR VAR_OUTPUT q : BOOL; END_VAR q := a; END_PROGRAM";
+
+// The relation that a text states between a program and itself.
+fn stated(alloc: Global, program: &str, text: &str) -> Option<Relation> {
+    let old = accept_text(alloc, program.as_bytes()).ok()?;
+    let new = accept_text(alloc, program.as_bytes()).ok()?;
+    let tokens = tokens_of(alloc, text.as_bytes()).ok()?;
+    read_lines(alloc, &tokens, text.len(), &old, &new).ok()
+}
+
+// The names of the candidates, each behind a comma.
+fn names(alloc: Global, relation: &Relation) -> Result<String, AllocError> {
+    let mut list = String::new(alloc);
+    for candidate in &relation.candidates {
+        list.push_str(", ")?;
+        list.push_str(candidate.name.as_str())?;
+    }
+    Ok(list)
+}
+
+#[test]
+fn names_of_candidates(rt: HostRuntime) -> Result<(), Fail> {
+    let alloc = rt.alloc();
+    let text = format!(in alloc; "{NUMBERS}INPUT a = a; RELATE old.q = new.q;")?;
+    let relation = stated(alloc, ONE, text.as_str()).ok_or("relation")?;
+    let want =
+        ", SAME FAULT, SAME A, SAME Q, RELATE 1, RELATE FAULTS, OLD FAULT = 0, OLD A = 0, OLD Q = 0, NEW FAULT = 0, NEW A = 0, NEW Q = 0";
+    assert_eq!(rt; names(alloc, &relation)?.as_str(), want);
+    let text = format!(in alloc; "{text} INVARIANT old.q = old.a;")?;
+    let relation = stated(alloc, ONE, text.as_str()).ok_or("relation")?;
+    let want = format!(in alloc; ", INVARIANT 1{want}")?;
+    assert_eq!(rt; names(alloc, &relation)?.as_str(), want.as_str());
+    assert_eq!(rt; relation.candidates.len(), 12);
+    assert_eq!(rt; compared(&relation.candidates[0].clause), Some((2, 1)));
+    assert_eq!(rt; compared(&relation.candidates[2].clause), Some((1, 4)));
+    Ok(())
+}
+
+// A program with so many outputs.
+fn outputs(alloc: Global, count: u32) -> Result<String, AllocError> {
+    let mut text = String::from_str(alloc, "PROGRAM M VAR_OUTPUT ")?;
+    for number in 0..count {
+        let output = format!(in alloc; "q{number} : BOOL; ")?;
+        text.push_str(output.as_str())?;
+    }
+    text.push_str("END_VAR END_PROGRAM")?;
+    Ok(text)
+}
+
+// What a text breaks where candidates are counted.
+fn refusal_of_count(alloc: Global, program: &str, text: &str) -> Option<Option<Refusal>> {
+    let old = accept_text(alloc, program.as_bytes()).ok()?;
+    let new = accept_text(alloc, program.as_bytes()).ok()?;
+    let tokens = tokens_of(alloc, text.as_bytes()).ok()?;
+    match read_relation(alloc, &tokens, text.len(), &old, &new) {
+        Ok(_) => Some(None),
+        Err(RelFault::Refused(refusal)) => Some(Some(refusal)),
+        Err(RelFault::Memory) => None,
+    }
+}
+
+// There are 3 n + 5 candidates.
+#[test]
+fn too_many_candidates(rt: HostRuntime) -> Result<(), Fail> {
+    let alloc = rt.alloc();
+    let text = format!(in alloc; "{NUMBERS}RELATE old.q0 = new.q0;")?;
+    let few = outputs(alloc, 1_363)?;
+    let many = outputs(alloc, 1_364)?;
+    let want = Refusal {
+        rule: Rule::TooManyCandidates,
+        at: 0,
+    };
+    assert_eq!(rt;
+        refusal_of_count(alloc, few.as_str(), text.as_str()),
+        Some(None)
+    );
+    assert_eq!(rt;
+        refusal_of_count(alloc, many.as_str(), text.as_str()),
+        Some(Some(want))
+    );
+    let relation = stated(alloc, many.as_str(), text.as_str()).ok_or("relation")?;
+    assert_eq!(rt; relation.candidates.len(), 4_097);
     Ok(())
 }

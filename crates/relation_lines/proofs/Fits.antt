@@ -1,9 +1,9 @@
 -- Lines whose clauses nest within a depth.
-use Rattle.std.proofs.Common.{◌≡◌, ℕ, ◌+◌, ◌-◌, List, [], ◌∷◌, ◌++◌, ap, subst, arith, append_assoc}
+use Rattle.std.proofs.Common.{◌≡◌, ℕ, ◌-◌, List, [], ◌∷◌, ◌++◌, ap, subst, arith, append_assoc}
 use Rattle.st_tree.specs.declared.token.Mark.TheVariants.{Semicolon}
 use Rattle.st_tree.specs.Syntax.{Symbol, name, mark}
 use Rattle.st_parser.specs.Fits.{Fits}
-use Rattle.st_parser.specs.Nesting.{NestsWithin}
+use Rattle.st_parser.specs.Nesting.{nothing_open, NestsWithin}
 use Rattle.st_parser.proofs.Nests.{nests-behind}
 use Rattle.st_parser.proofs.Nested.{nested, fits_levelled}
 use Rattle.relation_lines.specs.Lines.{ContentData, setting, faults, paired, single, clause, LineData}
@@ -27,22 +27,22 @@ line_shape l rest = ap (λ (x : List Symbol). name (word_of l.content) l.at ∷ 
 
 -- ---- levelled lines fit what their symbols nest within
 
-content_fits : (limit : ℕ) (c : ContentData) (rest : List Symbol) → IsContentLevelled c → NestsWithin limit 0 0 (print_content c ++ rest) → ContentFits c limit
+content_fits : (limit : ℕ) (c : ContentData) (rest : List Symbol) → IsContentLevelled c → NestsWithin limit nothing_open (print_content c ++ rest) → ContentFits c limit
 content_fits limit (setting s value at) rest levelled h = tt
 content_fits limit (faults equal at) rest levelled h = tt
 content_fits limit (paired a at b) rest levelled h = tt
 content_fits limit (single s at a) rest levelled h = tt
 content_fits limit (clause c e) rest levelled h =
-    let all : limit - (0 + 0) ≡ limit = omega arith in
-    subst (Fits e) all (nested limit e 0 0 rest levelled h).0
+    let all : limit - 0 ≡ limit = omega arith in
+    subst (Fits e) all (nested limit e nothing_open rest levelled h).0
 
-pub lines_fit : (limit : ℕ) (ls : List LineData) → AreLinesLevelled ls → NestsWithin limit 0 0 (print_lines ls) → LinesFit ls limit
+pub lines_fit : (limit : ℕ) (ls : List LineData) → AreLinesLevelled ls → NestsWithin limit nothing_open (print_lines ls) → LinesFit ls limit
 lines_fit limit [] levelled h = tt
 lines_fit limit (l ∷ ls) levelled h =
     let behind : List Symbol = mark Semicolon ∷ print_lines ls in
     let first : List Symbol = name (word_of l.content) l.at ∷ [] in
-    let inner = nests-behind limit first (print_content l.content ++ behind) 0 0 (subst (NestsWithin limit 0 0) (line_shape l (print_lines ls)) h) in
-    let last = nests-behind limit (mark Semicolon ∷ []) (print_lines ls) 0 0 (nests-behind limit (print_content l.content) behind 0 0 inner) in
+    let inner = nests-behind limit first (print_content l.content ++ behind) nothing_open (subst (NestsWithin limit nothing_open) (line_shape l (print_lines ls)) h) in
+    let last = nests-behind limit (mark Semicolon ∷ []) (print_lines ls) nothing_open (nests-behind limit (print_content l.content) behind nothing_open inner) in
     (content_fits limit l.content behind levelled.0 inner, lines_fit limit ls levelled.1 last)
 
 -- ---- fitting lines are levelled

@@ -7,7 +7,7 @@ use Rattle.st_tree.specs.SyntaxView as view
 use Rattle.st_parser.specs.declared.fault.Stop.{Stop}
 use Rattle.st_parser.specs.declared.fault.Stop.TheVariants as stops
 use Rattle.st_parser.specs.Faults.{fault_of}
-use Rattle.st_parser.specs.Nesting.{NestsWithin, Shallow}
+use Rattle.st_parser.specs.Nesting.{nothing_open, NestsWithin, Shallow}
 use Rattle.st_parser.specs.Reading.{ahead}
 use Rattle.st_parser.specs.FirstFault.{IsSound}
 use Rattle.st_parser.proofs.Steps.{some_is}
@@ -26,12 +26,12 @@ use Rattle.relation_lines.proofs.Again.{file_again}
 length_symbols : (toks : List Tok) → length (view.symbols toks) ≤ length toks
 length_symbols toks = omega (arith, length-map toks view.symbol)
 
-file_read : (n limit : ℕ) (ls : List LineData) → length (print_lines ls) ≤ n → NestsWithin limit 0 0 (print_lines ls) → AreLinesLevelled ls → file n limit (print_lines ls) ≡ Some ls
+file_read : (n limit : ℕ) (ls : List LineData) → length (print_lines ls) ≤ n → NestsWithin limit nothing_open (print_lines ls) → AreLinesLevelled ls → file n limit (print_lines ls) ≡ Some ls
 file_read n limit ls len within levelled = file_again n limit ls (lines_fit limit ls levelled within) len
 
-no_lines_are : (n : ℕ) (ts : List Symbol) (ls : List LineData) → length ts ≤ n → Shallow 0 0 ts → file n 64 ts ≡ None → AreLinesLevelled ls → ts ≡ print_lines ls → ⊥
+no_lines_are : (n : ℕ) (ts : List Symbol) (ls : List LineData) → length ts ≤ n → Shallow ts → file n 64 ts ≡ None → AreLinesLevelled ls → ts ≡ print_lines ls → ⊥
 no_lines_are n ts ls len shallow none levelled printed =
-    let h = file_read n 64 ls (subst (λ (x : List Symbol). length x ≤ n) printed len) (subst (Shallow 0 0) printed shallow) levelled in
+    let h = file_read n 64 ls (subst (λ (x : List Symbol). length x ≤ n) printed len) (subst Shallow printed shallow) levelled in
     let both : None ≡ Some ls = sym none ∙ ap (file n 64) printed ∙ h in
     cc
 
@@ -44,7 +44,7 @@ lines_found toks ls sound e =
     let found = file_is (length toks) 64 (view.symbols toks) ls (ap (file (length toks) 64) (sym (ahead_start toks)) ∙ e) in
     record { sound = sound; printed = found.0; levelled = lines_levelled ls 64 found.1 }
 
-pub lines_fault : (toks : List Tok) (stop : Stop) → IsSound toks → Shallow 0 0 (view.symbols toks) → (stop ≢ stops.Memory → file (length toks) 64 (ahead toks 0) ≡ None) → IsLinesFault toks (fault_of stop)
+pub lines_fault : (toks : List Tok) (stop : Stop) → IsSound toks → Shallow (view.symbols toks) → (stop ≢ stops.Memory → file (length toks) 64 (ahead toks 0) ≡ None) → IsLinesFault toks (fault_of stop)
 lines_fault toks (stops.NoTree at) sound shallow none =
     inr (record {
       sound = sound;
@@ -56,7 +56,7 @@ lines_fault toks stops.Memory sound shallow none = tt
 -- ---- one list of lines at most
 
 file_whole : (n : ℕ) (ls : List LineData) → length (print_lines ls) ≤ n → AreLinesLevelled ls → file n n (print_lines ls) ≡ Some ls
-file_whole n ls len levelled = file_read n n ls len (nests-length n (print_lines ls) 0 0 (omega arith)) levelled
+file_whole n ls len levelled = file_read n n ls len (nests-length n (print_lines ls) nothing_open (omega arith)) levelled
 
 pub one_lines : (ls ms : List LineData) → AreLinesLevelled ls → AreLinesLevelled ms → print_lines ls ≡ print_lines ms → ls ≡ ms
 one_lines ls ms levelled other same =

@@ -36,7 +36,8 @@ first_word_is text w e =
     tried spelling text (words.Setting settings.Conflicts) _ w _ refl (
     tried spelling text words.Input _ w _ refl (
     tried spelling text (words.Clause conditions.Environment) _ w _ refl (
-    tried spelling text (words.Clause conditions.Relate) _ w _ refl (none_tried spelling text w))))))) e
+    tried spelling text (words.Clause conditions.Relate) _ w _ refl (
+    tried spelling text (words.Clause conditions.Invariant) _ w _ refl (none_tried spelling text w)))))))) e
 
 pub agreement_is : (text : List ℕ) (equal : Bool) → agreement_of text ≡ Some equal → text ≡ faults_word equal
 unfolding agreement_of
@@ -56,6 +57,7 @@ first_word_again words.Faults = refl
 first_word_again words.Input = refl
 first_word_again (words.Clause conditions.Environment) = refl
 first_word_again (words.Clause conditions.Relate) = refl
+first_word_again (words.Clause conditions.Invariant) = refl
 
 pub agreement_again : (equal : Bool) → agreement_of (faults_word equal) ≡ Some equal
 unfolding agreement_of

@@ -20,6 +20,7 @@ setting_word settings.Conflicts = codes "CONFLICTS"
 abbrev pub condition_word : Condition → List ℕ
 condition_word conditions.Environment = codes "ENV"
 condition_word conditions.Relate = codes "RELATE"
+condition_word conditions.Invariant = codes "INVARIANT"
 
 abbrev pub side_word : Side → List ℕ
 side_word sides.Old = codes "OLD"

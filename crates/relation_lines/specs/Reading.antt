@@ -45,7 +45,7 @@ input ts = named ts >>= λ first. input_or first.0 first.1 (equal_sign first.1)
 
 -- The first number bounds the turns of each loop: that of the tokens is always enough. The second is how deep parentheses nest.
 module _ (turns depth : ℕ) where
-  -- behind ENV or RELATE
+  -- behind ENV, RELATE or INVARIANT
   unfoldable pub condition : Condition → Read ContentData
   condition c ts = expression turns depth ts >>= λ e. Some (clause c e.0, e.1)
 

@@ -17,7 +17,8 @@ first_word_of text =
     else (if bytes_eq text (codes "INPUT") then Some words.Input
     else (if bytes_eq text (codes "ENV") then Some (words.Clause conditions.Environment)
     else (if bytes_eq text (codes "RELATE") then Some (words.Clause conditions.Relate)
-    else None))))))
+    else (if bytes_eq text (codes "INVARIANT") then Some (words.Clause conditions.Invariant)
+    else None)))))))
 
 -- the word behind FAULTS: whether faults are equal
 unfoldable pub agreement_of : List ℕ → Option Bool

@@ -14,11 +14,13 @@ pub enum Setting {
     Conflicts,
 }
 
-/// What the clause of a line says: which inputs may come (`ENV`), or what holds after a scan (`RELATE`).
+/// What the clause of a line says: which inputs may come (`ENV`), what holds after a scan
+/// (`RELATE`), or what may help to show that it does (`INVARIANT`).
 #[derive(Clone, Copy, Debug, PartialEq, Eq)]
 pub enum Condition {
     Environment,
     Relate,
+    Invariant,
 }
 
 /// What a line says behind its first word.
@@ -32,7 +34,7 @@ pub enum Content {
     Paired(Name, usize, Name),
     /// `INPUT OLD a;` or `INPUT NEW a;`, and the place of the second word.
     Single(Side, usize, Name),
-    /// `ENV e;` or `RELATE e;`.
+    /// `ENV e;`, `RELATE e;` or `INVARIANT e;`.
     Clause(Condition, Expr),
 }
 

@@ -102,10 +102,12 @@ fn lines_of_one_word_or_number(rt: HostRuntime) -> Result<(), Fail> {
 
 #[test]
 fn lines_of_inputs_and_clauses(rt: HostRuntime) -> Result<(), Fail> {
-    let text = "INPUT a = b ; INPUT OLD = b ; INPUT old c ; INPUT NEW d ; ENV x ; RELATE x = y ;";
+    let text =
+        "INPUT a = b ; INPUT OLD = b ; INPUT old c ; INPUT NEW d ; ENV x ; RELATE x = y ; Invariant x ;";
     let found = lines(rt.alloc(), text)?;
-    assert_eq!(rt; found.len(), 6);
+    assert_eq!(rt; found.len(), 7);
     assert_eq!(rt; found[5].at, 66);
+    assert_eq!(rt; found[6].at, 81);
     assert!(rt;
         matches!(&found[0].content, Content::Paired(a, 8, b) if a.text.as_str() == "A" && b.at == 10)
     );
@@ -126,6 +128,12 @@ fn lines_of_inputs_and_clauses(rt: HostRuntime) -> Result<(), Fail> {
         matches!(
             &found[5].content,
             Content::Clause(Condition::Relate, Expr::Chain(_, _))
+        )
+    );
+    assert!(rt;
+        matches!(
+            &found[6].content,
+            Content::Clause(Condition::Invariant, Expr::Path(_))
         )
     );
     Ok(())

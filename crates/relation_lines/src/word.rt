@@ -33,6 +33,8 @@ pub fn first_word_of(text: &str) -> Option<FirstWord>
         Some(FirstWord::Clause(Condition::Environment))
     } else if text == "RELATE" {
         Some(FirstWord::Clause(Condition::Relate))
+    } else if text == "INVARIANT" {
+        Some(FirstWord::Clause(Condition::Invariant))
     } else {
         None
     }

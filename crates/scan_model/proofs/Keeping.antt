@@ -1,14 +1,14 @@
 -- Loading and scans keep every value in its cell's range.
-use Rattle.std.proofs.Common.{◌≡◌, ℕ, zero, suc, Bool, true, false, ◌&&◌, List, [], ◌∷◌, ℤ, pos, ◌≤ℤ◌, refl, ap, subst, sym, length, rules, arith, tests}
-use Rattle.std.specs.Prelude.{◌<◌, int_le, slice_set, if◌then◌else◌, All}
+use Rattle.std.proofs.Common.{◌≡◌, ℕ, zero, suc, Bool, true, false, ◌&&◌, List, [], ◌∷◌, ℤ, pos, ◌+ℤ◌, ◌≤ℤ◌, refl, ap, subst, sym, length, rules, arith, tests}
+use Rattle.std.specs.Prelude.{slice_set, if◌then◌else◌, All}
 use Rattle.std.proofs.lemmas.Int.{ints}
 use Rattle.st_tree.specs.declared.typed.Range.{Range}
 use Rattle.st_tree.specs.Types.{in_range}
-use Rattle.st_tree.specs.Tree.{Statement, assign, choice, Statements, no_statements, statement, Choices, no_choices, choose, CellData, ProgramData}
+use Rattle.st_tree.specs.Tree.{Statement, assign, choice, cases, repeat, Statements, no_statements, statement, Choices, no_choices, choose, Entries, no_entries, entry, CellData, ProgramData}
 use Rattle.scan_model.specs.declared.relation.InputLine.{InputLine}
 use Rattle.scan_model.specs.declared.relation.InputLine.TheVariants.{Both, Old, New}
-use Rattle.scan_model.specs.Values.{State, value_of, faults, is_truth}
-use Rattle.scan_model.specs.Scans.{ranges_of, range_at, with_fault, stored, effect_of, effect_of_all, effect_of_choices, scanned}
+use Rattle.expression_value.specs.Values.{State, value_of, faults, is_truth}
+use Rattle.scan_model.specs.Scans.{ranges_of, range_at, with_fault, stored, is_labelled, effect_of_turns, effect_of, effect_of_all, effect_of_choices, effect_of_entries, scanned}
 use Rattle.scan_model.specs.InRange.{Row, IsInRange, BeginsWithFault, IsProgram, fits_places, put_at}
 use Rattle.scan_model.specs.Pairs.{RelationData, BelongsTo, is_allowed, after_row, Pair, IsPairInRange, IsCellOf, NamesCells, fits_lines, range_of_line, loaded_one, loaded}
 
@@ -67,10 +67,18 @@ module _ (rs : List Range) (first : HoldsFault rs) where
   kept_by_store : (c : ℕ) (v : ℤ) (s : State) → IsInRange rs s → IsInRange rs (stored rs c v s)
   kept_by_store c v s f = either rs (in_range v (range_at rs c)) _ _ (λ h. IsInRange-set rs s c v f h) (λ _. faulted s f)
 
+  kept_by_turns : (n c : ℕ) (v step : ℤ) (body : State → State) → ((s : State) → IsInRange rs s → IsInRange rs (body s)) → (s : State) → IsInRange rs s → IsInRange rs (effect_of_turns rs n c v step body s)
+  kept_by_turns zero c v step body keeps s f = kept_by_store c v s f
+  kept_by_turns (suc n) c v step body keeps s f = kept_by_turns n c (v +ℤ step) step body keeps _ (keeps _ (kept_by_store c v s f))
+
   mutual
     kept_by_statement : (a : Statement) (s : State) → IsInRange rs s → IsInRange rs (effect_of rs a s)
     kept_by_statement (assign c e) s f = kept_by_store c _ _ (fault_added (faults e s) s f)
     kept_by_statement (choice arms other) s f = kept_by_choices arms (effect_of_all rs other) (λ x g. kept_by_all other x g) s f
+    kept_by_statement (cases e es other) s f =
+        kept_by_entries (value_of e s) es (effect_of_all rs other) (λ x g. kept_by_all other x g) _ (fault_added (faults e s) s f)
+    kept_by_statement (repeat turns body) s f =
+        kept_by_turns turns.count turns.control turns.first turns.step (effect_of_all rs body) (λ x g. kept_by_all body x g) s f
 
     kept_by_all : (b : Statements) (s : State) → IsInRange rs s → IsInRange rs (effect_of_all rs b s)
     kept_by_all no_statements s f = f
@@ -81,6 +89,11 @@ module _ (rs : List Range) (first : HoldsFault rs) where
     kept_by_choices (choose e b arms) other keeps s f =
         let g = fault_added (faults e s) s f in
         either rs (is_truth (value_of e s)) _ _ (λ _. kept_by_all b _ g) (λ _. kept_by_choices arms other keeps _ g)
+
+    kept_by_entries : (v : ℤ) (es : Entries) (other : State → State) → ((s : State) → IsInRange rs s → IsInRange rs (other s)) → (s : State) → IsInRange rs s → IsInRange rs (effect_of_entries rs v es other s)
+    kept_by_entries v no_entries other keeps s f = keeps s f
+    kept_by_entries v (entry labels b es) other keeps s f =
+        either rs (is_labelled v labels) _ _ (λ _. kept_by_all b s f) (λ _. kept_by_entries v es other keeps s f)
 
 -- a scan keeps the ranges
 pub IsInRange-scanned : (p : ProgramData) → IsProgram p → (s : State) → IsInRange (ranges_of p.cells) s → IsInRange (ranges_of p.cells) (scanned p s)

@@ -1,10 +1,10 @@
 -- The union of all inductive sets is inductive, and what it proves holds along allowed rows.
-use Rattle.std.proofs.Common.{◌≡◌, ℕ, ◌<◌, Bool, true, false, List, [], ◌∷◌, sym, ◌∙◌}
+use Rattle.std.proofs.Common.{◌≡◌, ℕ, true, false, List, [], ◌∷◌, sym, ◌∙◌}
 use Rattle.st_tree.specs.Tree.{ProgramData}
-use Rattle.scan_model.specs.InRange.{Row, IsProgram}
-use Rattle.scan_model.specs.Pairs.{RelationData, Pair, IsPairInRange, BelongsTo, start, holds, is_allowed, is_related, after_row}
+use Rattle.scan_model.specs.InRange.{Row}
+use Rattle.scan_model.specs.Pairs.{RelationData, Pair, IsPairInRange, start, holds, is_allowed, after_row}
 use Rattle.scan_model.specs.Candidates.{candidates_of, clause_at}
-use Rattle.scan_model.specs.Verdicts.{CandidateSet, Meets, IsInductive, IsKept, IsGreatest, IsBreakFrom, Proves, IsProved, HasBreak, count_of, AreAllowedFrom, AreRelatedFrom}
+use Rattle.scan_model.specs.Verdicts.{CandidateSet, Meets, IsInductive, IsBreakFrom, Proves, IsProved, HasBreak, AreAllowedFrom, AreRelatedFrom}
 use Rattle.scan_model.specs.VerdictLaws.{AreRelatable, GreatestIsInductive, FailingIsNotKept}
 use Rattle.scan_model.proofs.Keeping.{IsPairInRange-after_row}
 

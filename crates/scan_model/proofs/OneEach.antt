@@ -1,9 +1,8 @@
 -- The numbers of a verdict are determined.
-use Rattle.std.proofs.Common.{◌≡◌, ℕ, suc, zero, ◌<◌, ◌≤◌, ◌+◌, Bool, true, false, refl, sym, ◌∙◌, ap, arith, inl, inr}
+use Rattle.std.proofs.Common.{◌≡◌, ℕ, suc, zero, ◌<◌, Bool, true, false, refl, sym, ◌∙◌, ap, arith, inl, inr}
 use Rattle.std.proofs.lemmas.Bool.{cases_lt}
 use Rattle.st_tree.specs.Tree.{ProgramData}
 use Rattle.scan_model.specs.Pairs.{RelationData}
-use Rattle.scan_model.specs.declared.verdict.Verdict.{Verdict}
 use Rattle.scan_model.specs.declared.verdict.Verdict.TheVariants.{Vacuous, Related, Different, Open}
 use Rattle.scan_model.specs.Verdicts.{CandidateSet, size_below, IsGreatest, IsSizeOfGreatest, HasBreak, NoBreakBelow, count_of}
 use Rattle.scan_model.specs.VerdictLaws.{OneVerdict}

@@ -1,5 +1,5 @@
 -- The candidates of a relation between two programs: clauses that may hold after every scan, each with its printed name.
-use Rattle.std.specs.Prelude.{ℕ, ◌+◌, List, [], ◌∷◌, ◌++◌, length, codes, decimal, Bool, ◌&&◌, ℤ, pos, Option, Some, None, if◌then◌else◌, slice_index_or}
+use Rattle.std.specs.Prelude.{ℕ, ◌+◌, List, [], ◌∷◌, ◌++◌, length, codes, decimal, Bool, pos, if◌then◌else◌, slice_index_or}
 use Rattle.std.specs.Fmt.{signed_decimal}
 use Rattle.std.specs.Str.{bytes_eq}
 use denote.Enum.Bare.{sameb}
@@ -7,11 +7,7 @@ use Rattle.st_tree.specs.contracts.elementary.Elementary.{the_type}
 use Rattle.st_tree.specs.declared.elementary.Elementary.{Elementary}
 use Rattle.st_tree.specs.declared.token.Operator.TheVariants.{Equal}
 use Rattle.st_tree.specs.Tree.{Expression, number, cell, chain, no_operands, operand, CellData, ProgramData}
-use Rattle.scan_model.specs.Pairs.{RelationData}
-
-pub record Candidate : Type 0 where
-  pub name : List ℕ
-  pub clause : Expression
+use Rattle.scan_model.specs.Pairs.{CandidateData, RelationData, Pair, holds}
 
 -- a cell of the pair has the value of an expression of its type
 abbrev pub is_equal : ℕ → Elementary → Expression → Expression
@@ -19,14 +15,14 @@ is_equal place kind e = chain (cell place) (operand Equal kind e no_operands)
 
 -- `SAME P`: the cells of one path in OLD, at a place, and in NEW, whose cells stand from `behind` on, where they are of one
 -- type. Bounds are left aside.
-abbrev pub same_if : CellData → ℕ → ℕ → Bool → List Candidate
+abbrev pub same_if : CellData → ℕ → ℕ → Bool → List CandidateData
 same_if c place other alike = if alike then record { name = codes "SAME " ++ c.path; clause = is_equal place c.kind (cell other) } ∷ [] else []
 
-abbrev pub same_as : CellData → ℕ → ℕ → List CellData → List Candidate
+abbrev pub same_as : CellData → ℕ → ℕ → List CellData → List CandidateData
 same_as c place behind [] = []
 same_as c place behind (d ∷ ds) = if bytes_eq d.path c.path then same_if c place behind (sameb the_type c.kind d.kind) else same_as c place (behind + 1) ds
 
-abbrev pub same_cells : ℕ → ℕ → List CellData → List CellData → List Candidate
+abbrev pub same_cells : ℕ → ℕ → List CellData → List CellData → List CandidateData
 same_cells place behind new [] = []
 same_cells place behind new (c ∷ cs) = same_as c place behind new ++ same_cells (place + 1) behind new cs
 
@@ -34,24 +30,33 @@ abbrev pub relate_name : ℕ → List ℕ
 relate_name n = codes "RELATE " ++ decimal n
 
 -- `RELATE n`: the RELATE clauses as written; the last is `RELATE FAULTS` where it was added
-abbrev pub relate_clauses : Bool → ℕ → List Expression → List Candidate
+abbrev pub relate_clauses : Bool → ℕ → List Expression → List CandidateData
 relate_clauses added n [] = []
 relate_clauses added n (e ∷ []) = record { name = (if added then codes "RELATE FAULTS" else relate_name n); clause = e } ∷ []
 relate_clauses added n (e ∷ f ∷ es) = record { name = relate_name n; clause = e } ∷ relate_clauses added (n + 1) (f ∷ es)
 
 -- `OLD P = v` and `NEW P = v`: each cell has its initial value
-abbrev pub initial_values : List ℕ → ℕ → List CellData → List Candidate
+abbrev pub initial_values : List ℕ → ℕ → List CellData → List CandidateData
 initial_values program place [] = []
 initial_values program place (c ∷ cs) =
     record { name = program ++ codes " " ++ c.path ++ codes " = " ++ signed_decimal c.initial; clause = is_equal place c.kind (number c.initial) }
     ∷ initial_values program (place + 1) cs
 
+-- `INVARIANT n`: the INVARIANT clauses as written
+abbrev pub invariant_clauses : ℕ → List Expression → List CandidateData
+invariant_clauses n [] = []
+invariant_clauses n (e ∷ es) = record { name = codes "INVARIANT " ++ decimal n; clause = e } ∷ invariant_clauses (n + 1) es
+
 -- the candidates in their order
-abbrev pub candidates_of : ProgramData → ProgramData → RelationData → List Candidate
+abbrev pub candidates_of : ProgramData → ProgramData → RelationData → List CandidateData
 candidates_of old new rel =
-    same_cells 0 (length old.cells) new.cells old.cells ++ relate_clauses rel.equal_faults 1 rel.relates
+    invariant_clauses 1 rel.invariants ++ same_cells 0 (length old.cells) new.cells old.cells ++ relate_clauses rel.equal_faults 1 rel.relates
     ++ initial_values (codes "OLD") 0 old.cells ++ initial_values (codes "NEW") (length old.cells) new.cells
 
 -- the clause of a candidate by its number, from 0; where there is no candidate, one that never holds
-abbrev pub clause_at : List Candidate → ℕ → Expression
+abbrev pub clause_at : List CandidateData → ℕ → Expression
 clause_at cs n = (slice_index_or cs n (record { name = []; clause = number (pos 0) })).clause
+
+-- the candidate of a number, from 0, holds on a pair
+abbrev pub candidate_holds : List CandidateData → ℕ → Pair → Bool
+candidate_holds cs n pair = holds (clause_at cs n) pair

@@ -5,7 +5,7 @@ use Rattle.st_tree.specs.declared.typed.Part.TheVariants as parts
 use Rattle.st_tree.specs.declared.typed.Range.{Range}
 use Rattle.st_tree.specs.Types.{range_of, in_range}
 use Rattle.st_tree.specs.Tree.{CellData, ProgramData}
-use Rattle.scan_model.specs.Values.{State}
+use Rattle.expression_value.specs.Values.{State}
 use Rattle.scan_model.specs.Scans.{ranges_of, range_at, initial}
 
 -- each cell has one value, in its range

@@ -1,4 +1,3 @@
-pub mod Values
 pub mod Scans
 pub mod InRange
 pub mod Pairs

@@ -1,18 +1,24 @@
 -- A pair of programs under a relation: rows of inputs, and what must hold after a scan.
-use Rattle.std.specs.Prelude.{◌≡◌, ◌<◌, ℕ, List, [], ◌∷◌, ◌++◌, length, All, Bool, true, false, not, ◌&&◌, slice_set, ℤ}
+use Rattle.std.specs.Prelude.{◌≡◌, ◌<◌, ℕ, List, [], ◌∷◌, ◌++◌, length, map, string_bytes, All, Bool, true, false, not, ◌&&◌, slice_set, ℤ}
 use Rattle.st_tree.specs.declared.typed.Range.{Range}
 use Rattle.st_tree.specs.Types.{in_range}
 use Rattle.st_tree.specs.Tree.{Expression, ProgramData}
-use Rattle.st_tree.specs.View.{exprs_view}
+use Rattle.st_tree.specs.View.{expr_view, exprs_view}
+use Rattle.scan_model.specs.declared.relation.Candidate.{Candidate}
 use Rattle.scan_model.specs.declared.relation.Relation.{Relation}
 use Rattle.scan_model.specs.declared.relation.InputLine.{InputLine}
 use Rattle.scan_model.specs.declared.relation.InputLine.TheVariants.{Both, Old, New}
-use Rattle.scan_model.specs.Values.{State, value_of, faults, is_truth}
+use Rattle.expression_value.specs.Values.{State, value_of, faults, is_truth}
 use Rattle.scan_model.specs.Scans.{ranges_of, range_at, initial, scanned}
 use Rattle.scan_model.specs.InRange.{Row, IsInRange}
 
--- a relation: its numbers, its INPUT lines, and its ENV and RELATE clauses over OLD's cells and then NEW's; where faults have
--- to agree the last RELATE clause says so
+-- a clause that may hold after every scan, and its printed name
+pub record CandidateData : Type 0 where
+  pub name : List ℕ
+  pub clause : Expression
+
+-- a relation: its numbers, its INPUT lines, its ENV, RELATE and INVARIANT clauses over OLD's cells and then NEW's, and its
+-- candidates; where faults have to agree the last RELATE clause says so
 pub record RelationData : Type 0 where
   pub depth : ℕ
   pub conflicts : ℕ
@@ -20,6 +26,14 @@ pub record RelationData : Type 0 where
   pub environment : List Expression
   pub equal_faults : Bool
   pub relates : List Expression
+  pub invariants : List Expression
+  pub candidates : List CandidateData
+
+abbrev pub candidate_view : Candidate → CandidateData
+candidate_view c = record { name = string_bytes c.name; clause = expr_view c.clause }
+
+abbrev pub candidates_view : List Candidate → List CandidateData
+candidates_view cs = map candidate_view cs
 
 abbrev pub relation_view : Relation → RelationData
 relation_view r = record {
@@ -29,6 +43,8 @@ relation_view r = record {
   environment = exprs_view r.environment.items;
   equal_faults = r.equal_faults;
   relates = exprs_view r.relates.items;
+  invariants = exprs_view r.invariants.items;
+  candidates = candidates_view r.candidates.items;
 }
 
 -- the two states

@@ -1,9 +1,9 @@
 -- What statements do to a state, and one scan of a program. The ranges are those of the cells, in their order.
-use Rattle.std.specs.Prelude.{ℕ, List, map, Bool, slice_set, slice_index_or, ℤ, pos, if◌then◌else◌}
+use Rattle.std.specs.Prelude.{ℕ, suc, zero, List, [], ◌∷◌, map, Bool, false, ◌||◌, slice_set, slice_index_or, ℤ, pos, ◌+ℤ◌, if◌then◌else◌}
 use Rattle.st_tree.specs.declared.typed.Range.{Range}
 use Rattle.st_tree.specs.Types.{in_range}
-use Rattle.st_tree.specs.Tree.{Expression, Statement, assign, choice, Statements, no_statements, statement, Choices, no_choices, choose, CellData, ProgramData}
-use Rattle.scan_model.specs.Values.{State, value_of, faults, is_truth}
+use Rattle.st_tree.specs.Tree.{Statement, assign, choice, cases, repeat, Statements, no_statements, statement, Choices, no_choices, choose, Entries, no_entries, entry, CellData, ProgramData}
+use Rattle.expression_value.specs.Values.{State, value_of, faults, is_truth}
 
 abbrev pub ranges_of : List CellData → List Range
 ranges_of cells = map (λ c. c.range) cells
@@ -20,10 +20,23 @@ with_fault fault s = if fault then slice_set s 0 (pos 1) else s
 abbrev pub stored : List Range → ℕ → ℤ → State → State
 stored rs target v s = if in_range v (range_at rs target) then slice_set s target v else slice_set s 0 (pos 1)
 
+-- a value is among those of the labels of an entry
+abbrev pub is_labelled : ℤ → List Range → Bool
+is_labelled v [] = false
+is_labelled v (r ∷ rs) = in_range v r || is_labelled v rs
+
+-- So many turns of a body: the control variable gets its value, and the body runs; behind the last turn the variable gets the
+-- value that ends the FOR.
+abbrev pub effect_of_turns : List Range → ℕ → ℕ → ℤ → ℤ → (State → State) → State → State
+effect_of_turns rs zero control v step body s = stored rs control v s
+effect_of_turns rs (suc count) control v step body s = effect_of_turns rs count control (v +ℤ step) step body (body (stored rs control v s))
+
 abbrev mutual
   pub effect_of : List Range → Statement → State → State
   effect_of rs (assign target e) s = stored rs target (value_of e s) (with_fault (faults e s) s)
   effect_of rs (choice arms other) s = effect_of_choices rs arms (effect_of_all rs other) s
+  effect_of rs (cases e es other) s = effect_of_entries rs (value_of e s) es (effect_of_all rs other) (with_fault (faults e s) s)
+  effect_of rs (repeat turns body) s = effect_of_turns rs turns.count turns.control turns.first turns.step (effect_of_all rs body) s
 
   pub effect_of_all : List Range → Statements → State → State
   effect_of_all rs no_statements s = s
@@ -34,6 +47,12 @@ abbrev mutual
   effect_of_choices rs no_choices other s = other s
   effect_of_choices rs (choose e ss arms) other s =
       if is_truth (value_of e s) then effect_of_all rs ss (with_fault (faults e s) s) else effect_of_choices rs arms other (with_fault (faults e s) s)
+
+  -- the entry runs that is the first to have the selector's value among its labels; with none, the others run
+  pub effect_of_entries : List Range → ℤ → Entries → (State → State) → State → State
+  effect_of_entries rs v no_entries other s = other s
+  effect_of_entries rs v (entry labels ss es) other s =
+      if is_labelled v labels then effect_of_all rs ss s else effect_of_entries rs v es other s
 
 abbrev pub initial : List CellData → State
 initial cells = map (λ c. c.initial) cells

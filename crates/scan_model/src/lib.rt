@@ -8,7 +8,7 @@ mod verdict;
 mod verdict_laws;
 
 pub use laws::ranges_are_kept;
-pub use relation::{Ending, InputLine, Relation};
+pub use relation::{Candidate, Ending, InputLine, Relation};
 pub use side::Side;
 pub use verdict::Verdict;
 pub use verdict_laws::{

@@ -1,6 +1,13 @@
 // A relation between two programs, and how a replay under it ends.
 use st_tree::{Range, TypedExpr};
 
+/// A clause that may hold after every scan, and its printed name.
+#[derive(Drop)]
+pub struct Candidate {
+    pub name: String,
+    pub clause: TypedExpr,
+}
+
 /// What a relation file says of two programs. A clause is an expression over OLD's cells and then NEW's.
 #[derive(Drop)]
 pub struct Relation {
@@ -15,6 +22,10 @@ pub struct Relation {
     pub equal_faults: bool,
     /// The RELATE clauses, and last the one on FAULT where faults have to agree.
     pub relates: Vec<TypedExpr>,
+    /// The INVARIANT clauses: what is asked to hold after every scan.
+    pub invariants: Vec<TypedExpr>,
+    /// The candidates, in their order.
+    pub candidates: Vec<Candidate>,
 }
 
 /// One number of a row of inputs: its range, and the cells that it is put into, by their places: one of each

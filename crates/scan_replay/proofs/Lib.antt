@@ -1,3 +1,4 @@
 pub mod CellLemmas
 pub mod RowLemmas
 pub mod DuoLemmas
+pub mod TurnLemmas

@@ -8,7 +8,7 @@ use Rattle.st_tree.specs.Types.{in_range}
 use Rattle.st_tree.specs.View.{cells_view}
 use Rattle.scan_model.specs.declared.relation.InputLine.{InputLine}
 use Rattle.scan_model.specs.Pairs.{Pair, range_of_line, fits_lines, loaded}
-use Rattle.scan_model.specs.Values.{State}
+use Rattle.expression_value.specs.Values.{State}
 use Rattle.scan_model.specs.Scans.{ranges_of, range_at}
 use Rattle.scan_model.specs.InRange.{Row, IsInRange, fits_places, put_at}
 

@@ -1,11 +1,12 @@
 -- Pairs of programs that run under a relation.
-use Rattle.std.specs.Prelude.{Bool}
+use Rattle.std.specs.Prelude.{ℕ, Bool}
 use Rattle.st_tree.specs.declared.typed.Program.{Program}
 use Rattle.st_tree.specs.View.{program_view}
 use Rattle.scan_model.specs.declared.relation.Relation.{Relation}
-use Rattle.scan_model.specs.Values.{State}
+use Rattle.expression_value.specs.Values.{State}
 use Rattle.scan_model.specs.InRange.{Row, IsProgram}
 use Rattle.scan_model.specs.Pairs.{Pair, relation_view, BelongsTo, IsPairInRange, is_allowed, is_related, after_row, start}
+use Rattle.scan_model.specs.Candidates.{candidate_holds}
 use Rattle.scan_model.specs.declared.side.Side.{Side}
 use Rattle.scan_model.specs.declared.side.Side.TheVariants as sides
 
@@ -40,6 +41,10 @@ pair_after d row = after_row (program_view d.old_program) (program_view d.new_pr
 
 abbrev pub is_pair_related : Compared → Bool
 is_pair_related d = is_related (relation_view d.relation) d.pair
+
+-- the candidate of a number, from 0, holds
+abbrev pub has_candidate : Compared → ℕ → Bool
+has_candidate d candidate = candidate_holds (relation_view d.relation).candidates candidate d.pair
 
 abbrev pub program_of : Side → Compared → Program
 program_of sides.Old d = d.old_program

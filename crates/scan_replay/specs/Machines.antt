@@ -3,7 +3,7 @@ use Rattle.std.specs.Prelude.{Bool}
 use Rattle.st_tree.specs.declared.typed.Program.{Program}
 use Rattle.st_tree.specs.Cells.{inputs_of}
 use Rattle.st_tree.specs.View.{program_view, cells_view}
-use Rattle.scan_model.specs.Values.{State}
+use Rattle.expression_value.specs.Values.{State}
 use Rattle.scan_model.specs.Scans.{ranges_of}
 use Rattle.scan_model.specs.InRange.{Row, fits_places, put_at}
 

@@ -2,9 +2,11 @@
 ghost use Rattle.std.specs.Prelude.{◌≡◌, ◌<◌, IsTrue, IfOk, pos, length, slice_index_or};
 ghost use Rattle.st_tree.specs.View.{program_view};
 ghost use Rattle.scan_model.specs.Pairs.{start};
-ghost use Rattle.scan_replay.specs.Duos.{AreComparable, with_pair, start_of, IsInRangeOf, allows, pair_after, is_pair_related, program_of, state_of};
+ghost use Rattle.scan_replay.specs.Duos.{AreComparable, with_pair, start_of, IsInRangeOf, allows, pair_after, is_pair_related, has_candidate, program_of, state_of};
 
-use crate::pair::{all_hold, copy_both, fits_lines, load, reset_both, scan_both, start_both};
+use crate::pair::{
+    all_hold, candidate_holds, copy_both, fits_lines, load, reset_both, scan_both, start_both,
+};
 use crate::states::value_at;
 use crate::two_states::States;
 use scan_model::{Relation, Side};
@@ -111,6 +113,13 @@ impl<'p> Duo<'p> {
         ensures { result ≡ is_pair_related self.now }
     {
         all_hold(&self.relation.relates, &self.states)
+    }
+
+    /// Whether a candidate holds, by its number, from 0; a number without a candidate never does.
+    pub fn holds(&self, candidate: usize) -> bool
+        ensures { result ≡ has_candidate self.now candidate }
+    {
+        candidate_holds(&self.relation.candidates, candidate, &self.states)
     }
 
     /// The values of the cells of a program, in order.

@@ -2,11 +2,12 @@
 #![tactic(auto)]
 
 mod duo;
-mod evaluate;
 mod machine;
 mod pair;
 mod run;
+mod selection;
 mod states;
+mod turns;
 mod two_states;
 
 pub use duo::Duo;

@@ -1,14 +1,15 @@
 // A pair of states under a relation: rows of inputs, and clauses.
 ghost use Rattle.std.specs.Prelude.{◌≡◌, ◌++◌, IfOk, length};
 ghost use Rattle.st_tree.specs.View.{expr_view, exprs_view, program_view};
-ghost use Rattle.scan_model.specs.Pairs.{Pair, start, scanned_both, range_of_line, fits_lines, loaded_one, loaded, holds, all_hold};
+ghost use Rattle.scan_model.specs.Pairs.{Pair, start, scanned_both, range_of_line, fits_lines, loaded_one, loaded, holds, all_hold, candidates_view};
+ghost use Rattle.scan_model.specs.Candidates.{candidate_holds};
 ghost use Rattle.scan_replay.specs.States.{pair_of};
 
-use crate::evaluate::evaluate;
 use crate::run::{is_in_range, put, scan};
 use crate::states::{copy_over, reset, start};
 use crate::two_states::States;
-use scan_model::InputLine;
+use expression_value::evaluate;
+use scan_model::{Candidate, InputLine};
 use st_tree::{Program, Range, TypedExpr};
 use std::alloc::{AllocError, Global};
 
@@ -111,6 +112,17 @@ pub fn all_hold(clauses: &[TypedExpr], states: &States) -> bool
         }
     }
     true
+}
+
+/// Whether the candidate of a number, from 0, holds; without a candidate nothing does.
+pub fn candidate_holds(candidates: &[Candidate], number: usize, states: &States) -> bool
+    ensures { result ≡ candidate_holds (candidates_view candidates.now) number (pair_of states.now) }
+{
+    if number < candidates.len() {
+        holds(&candidates[number].clause, states)
+    } else {
+        false
+    }
 }
 
 fn holds(clause: &TypedExpr, states: &States) -> bool

@@ -2,10 +2,12 @@
 ghost use Rattle.std.specs.Prelude.{◌≡◌, if◌then◌else◌, slice_set};
 ghost use Rattle.st_tree.specs.Types.{in_range};
 ghost use Rattle.st_tree.specs.View.{stmt_view, stmts_view, choices_view, cells_view, program_view};
-ghost use Rattle.scan_model.specs.Values.{State};
+ghost use Rattle.expression_value.specs.Values.{State};
 ghost use Rattle.scan_model.specs.Scans.{ranges_of, range_at, with_fault, stored, effect_of, effect_of_all, effect_of_choices, scanned};
 
-use crate::evaluate::evaluate;
+use crate::selection::run_entries;
+use crate::turns::run_turns;
+use expression_value::evaluate;
 use st_tree::{Cell, Program, Range, TypedArm, TypedStmt};
 
 /// FAULT becomes FALSE, then the body runs.
@@ -16,9 +18,9 @@ pub fn scan(program: &Program, state: &mut [i64])
     run_all(&program.body, &program.cells, state);
 }
 
-// Runs statements over cells with these ranges.
+/// Runs statements over cells with these ranges.
 #[cycle(run)]
-fn run_all(list: &[TypedStmt], cells: &[Cell], state: &mut [i64])
+pub fn run_all(list: &[TypedStmt], cells: &[Cell], state: &mut [i64])
     ensures { state.new ≡ effect_of_all (ranges_of (cells_view cells.now)) (stmts_view list.now) state.old }
 {
     for stmt in list {
@@ -41,6 +43,14 @@ fn run(stmt: &TypedStmt, cells: &[Cell], state: &mut [i64])
                 run_all(other, cells, state);
             }
         }
+        TypedStmt::Case(selector, entries, other) => {
+            let given = evaluate(selector, state, &[]);
+            add_fault(given.fault, state);
+            if !run_entries(entries, given.value, cells, state) {
+                run_all(other, cells, state);
+            }
+        }
+        TypedStmt::For(turns, body) => run_turns(body, *turns, cells, state),
     }
 }
 
@@ -61,6 +71,7 @@ fn run_arms(arms: &[TypedArm], cells: &[Cell], state: &mut [i64]) -> bool
     false
 }
 
+#[inline(always)]
 fn add_fault(fault: bool, state: &mut [i64])
     ensures { state.new ≡ with_fault fault state.old }
 {
@@ -70,6 +81,7 @@ fn add_fault(fault: bool, state: &mut [i64])
 }
 
 // Assigns a value where it is in the target's range; else that is a fault.
+#[inline(always)]
 fn store(cells: &[Cell], target: usize, value: i64, state: &mut [i64])
     ensures { state.new ≡ stored (ranges_of (cells_view cells.now)) target value state.old }
 {
@@ -81,6 +93,7 @@ fn store(cells: &[Cell], target: usize, value: i64, state: &mut [i64])
 }
 
 /// The range of a cell; where there is no cell no value is in it.
+#[inline(always)]
 pub fn range_at(cells: &[Cell], place: usize) -> Range
     ensures { result ≡ range_at (ranges_of (cells_view cells.now)) place }
 {
@@ -92,6 +105,7 @@ pub fn range_at(cells: &[Cell], place: usize) -> Range
 }
 
 /// Whether a value lies in a range.
+#[inline(always)]
 pub fn is_in_range(value: i64, range: Range) -> bool
     ensures { result ≡ in_range value range }
 {
@@ -99,6 +113,7 @@ pub fn is_in_range(value: i64, range: Range) -> bool
 }
 
 /// Puts a value into a cell, where there is one.
+#[inline(always)]
 pub fn put(state: &mut [i64], place: usize, value: i64)
     ensures { state.new ≡ slice_set state.old place value }
 {

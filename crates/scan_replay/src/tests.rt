@@ -1,4 +1,5 @@
 mod asked;
 mod duos;
 mod machines;
+mod selections;
 mod trees;

@@ -64,7 +64,8 @@ fn tokens_in_order(rt: HostRuntime) -> Result<(), Fail> {
 
 #[test]
 fn terminals_in_any_case(rt: HostRuntime) -> Result<(), Fail> {
-    let text = "If end_Program ifs AND & xor Not tRUE Usint wstring For :=<>..(#-16#1F".as_bytes();
+    let text =
+        "If end_Program ifs AND & xor Not tRUE Usint wstring For Var_Temp :=<>..(#-16#1F".as_bytes();
     let tokens = lex(rt.alloc(), text).ok().ok_or("tokens")?;
     let rows = [
         Terminal::Mark(Mark::If),
@@ -77,7 +78,8 @@ fn terminals_in_any_case(rt: HostRuntime) -> Result<(), Fail> {
         Terminal::Truth(true),
         Terminal::Type(Elementary::Usint),
         Terminal::LeftOut,
-        Terminal::LeftOut,
+        Terminal::For,
+        Terminal::Mark(Mark::VarTemp),
         Terminal::Mark(Mark::Assign),
         Terminal::Operator(Operator::NotEqual),
         Terminal::Mark(Mark::Range),

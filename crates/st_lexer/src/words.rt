@@ -24,14 +24,15 @@ static WORDS_OF_3: [(&str, Terminal); 8] = [
     ("XOR", Terminal::Operator(Operator::Xor)),
     ("MOD", Terminal::Operator(Operator::Mod)),
     ("NOT", Terminal::Not),
+    ("FOR", Terminal::For),
     ("INT", Terminal::Type(Elementary::Int)),
     ("TOD", Terminal::LeftOut),
-    ("FOR", Terminal::LeftOut),
 ];
 
 static WORDS_OF_4: [(&str, Terminal); 19] = [
     ("THEN", Terminal::Mark(Mark::Then)),
     ("ELSE", Terminal::Mark(Mark::Else)),
+    ("CASE", Terminal::Mark(Mark::Case)),
     ("FROM", Terminal::Mark(Mark::From)),
     ("TRUE", Terminal::Truth(true)),
     ("BOOL", Terminal::Type(Elementary::Bool)),
@@ -47,7 +48,6 @@ static WORDS_OF_4: [(&str, Terminal); 19] = [
     ("EXIT", Terminal::LeftOut),
     ("TASK", Terminal::LeftOut),
     ("TYPE", Terminal::LeftOut),
-    ("CASE", Terminal::LeftOut),
     ("STEP", Terminal::LeftOut),
 ];
 
@@ -79,16 +79,16 @@ static WORDS_OF_6: [(&str, Terminal); 9] = [
 static WORDS_OF_7: [(&str, Terminal); 4] = [
     ("PROGRAM", Terminal::Mark(Mark::Program)),
     ("END_VAR", Terminal::Mark(Mark::EndVar)),
+    ("END_FOR", Terminal::Mark(Mark::EndFor)),
     ("WSTRING", Terminal::LeftOut),
-    ("END_FOR", Terminal::LeftOut),
 ];
 
 static WORDS_OF_8: [(&str, Terminal); 7] = [
+    ("VAR_TEMP", Terminal::Mark(Mark::VarTemp)),
+    ("CONSTANT", Terminal::Mark(Mark::Constant)),
+    ("END_CASE", Terminal::Mark(Mark::EndCase)),
     ("RESOURCE", Terminal::LeftOut),
     ("END_TYPE", Terminal::LeftOut),
-    ("END_CASE", Terminal::LeftOut),
-    ("VAR_TEMP", Terminal::LeftOut),
-    ("CONSTANT", Terminal::LeftOut),
     ("FUNCTION", Terminal::LeftOut),
     ("END_STEP", Terminal::LeftOut),
 ];

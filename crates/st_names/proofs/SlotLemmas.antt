@@ -12,8 +12,8 @@ same_name v q h = (bytes_decides v.name.text q).0 h
 
 -- what is found once a variable is declared behind others
 abbrev pushed : List ℕ → ℕ → Variable → Option (ℕ × Variable) → Option (ℕ × Variable)
-pushed q cell v (Some f) = Some f
-pushed q cell v None = if is_of_name q v then Some (cell, v) else None
+pushed q number v (Some f) = Some f
+pushed q number v None = if is_of_name q v then Some (number, v) else None
 
 found-push : (q : List ℕ) (n : ℕ) (xs : List Variable) (v : Variable) → found q n (xs ++ v ∷ []) ≡ pushed q (n + length xs) v (found q n xs)
 found-push q n [] v = rw add-zero refl

@@ -18,9 +18,9 @@ entered_at : (q : List ℕ) (xs : List Variable) (v : Variable) (b : Bool) (rest
 entered_at q xs v true rest h = ap (λ t. Some (entered (length xs + 1) v (slot_named xs t))) (same_name v q h)
 entered_at q xs v false rest h = refl
 
-module _ {Y S : Type 0} (m n : HashMap (String Y) Slot S) (key : String Y) (xs : List Variable) (v : Variable) (slot : Slot) (known : Option Slot) (cell : ℕ) where
+module _ {Y S : Type 0} (m n : HashMap (String Y) Slot S) (key : String Y) (xs : List Variable) (v : Variable) (slot : Slot) (known : Option Slot) (number : ℕ) where
   pub held_push : Holds m (slot_named xs) → UpdatesBy string_eq (string_eq key) m n (Some slot) → string_bytes key ≡ v.name.text
-      → known ≡ get_by_text m v.name.text → cell ≡ length xs + 1 → slot ≡ entered cell v known → Holds n (slot_named (xs ++ v ∷ []))
+      → known ≡ get_by_text m v.name.text → number ≡ length xs + 1 → slot ≡ entered number v known → Holds n (slot_named (xs ++ v ∷ []))
   held_push held updates named know place new q =
       let is : slot ≡ entered (length xs + 1) v (slot_named xs v.name.text) = new ∙ ap (λ k. entered k v known) place ∙ ap (entered (length xs + 1) v) (know ∙ held v.name.text) in
       hash_map_updates_text (string_bytes key) m n (Some slot) updates q

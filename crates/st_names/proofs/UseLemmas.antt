@@ -38,7 +38,7 @@ found_from q n (v ∷ vs) f h = by (is_of_name q v) (found_from q (n + 1) vs f) 
     by true rest k = let g : n ≡ f.0 = (let i : (n, v) ≡ f = cc in ap (λ p. p.0) i) in omega arith
     by false rest k = let g = rest k in omega arith
 
--- a variable stands before a place where its cell is not behind it
+-- a variable stands before a place where its number is not behind it
 pub found_before : (q : List ℕ) (n : ℕ) (before rest : List Variable) (f : ℕ × Variable) → found q n (before ++ rest) ≡ Some f → list_any (is_of_name q) before ≡ nat_lt f.0 (n + length before)
 found_before q n [] rest f h = let k = found_from q n rest f h in grind (arith, nat_tests)
 found_before q n (v ∷ before) rest f h = by (is_of_name q v) (found_before q (n + 1) before rest f) h

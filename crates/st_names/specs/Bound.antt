@@ -11,7 +11,7 @@ use Rattle.st_names.specs.Scopes.{Variable, variables_of, is_elementary}
 use Rattle.st_names.specs.Slots.{found, elementary_of}
 
 abbrev pub bound_of : ℕ × Variable → Option Bound
-bound_of f = option_map (λ kind. record { cell = f.0; section = f.1.section; kind = kind }) (elementary_of f.1.kind)
+bound_of f = option_map (λ kind. record { number = f.0; section = f.1.section; kind = kind }) (elementary_of f.1.kind)
 
 -- a name is bound to the first variable of that name, if its type is elementary
 abbrev pub bound_named : List Variable → List ℕ → Option Bound

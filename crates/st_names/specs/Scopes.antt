@@ -3,7 +3,7 @@ use Rattle.std.specs.Prelude.{ℕ, ◌+◌, List, [], ◌∷◌, ◌++◌, map, 
 use Rattle.std.specs.List.{list_any}
 use Rattle.std.specs.Str.{bytes_eq}
 use Rattle.st_tree.specs.declared.syntax.Section.{Section}
-use Rattle.st_tree.specs.Syntax.{Named, Tree, literal, path, enumerator, paren, unary, chain, TypeData, of_elementary, of_name, DeclarationData, VariablesData, PouData, FileData}
+use Rattle.st_tree.specs.Syntax.{Named, Tree, literal, path, enumerator, paren, unary, chain, call, TypeData, of_elementary, of_name, DeclarationData, VariablesData, PouData, FileData}
 use Rattle.st_names.specs.Library.{is_library}
 
 -- a variable of a POU, as it is declared
@@ -66,6 +66,7 @@ is_without_names (Some (enumerator t v)) = false
 is_without_names (Some (paren at e)) = false
 is_without_names (Some (unary o at e)) = true
 is_without_names (Some (chain e ls)) = false
+is_without_names (Some (call n at args)) = false
 
 -- A declaration breaks no rule: its name is declared once, and its type and its initial value are whole.
 abbrev pub is_whole : List Variable → Variable → Bool

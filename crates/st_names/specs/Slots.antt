@@ -6,26 +6,26 @@ use Rattle.st_tree.specs.Syntax.{TypeData, of_elementary, of_name}
 use Rattle.st_names.specs.declared.slots.Slot.{Slot}
 use Rattle.st_names.specs.Scopes.{Variable, is_of_name, is_fault, is_doubled, is_without_names}
 
--- the first variable of a name, and its cell, where these variables have the cells from one on
+-- the first variable of a name, and its number in declared order, where these variables are counted from one on
 abbrev pub found : List ℕ → ℕ → List Variable → Option (ℕ × Variable)
-found text cell [] = None
-found text cell (v ∷ vs) = if is_of_name text v then Some (cell, v) else found text (cell + 1) vs
+found text number [] = None
+found text number (v ∷ vs) = if is_of_name text v then Some (number, v) else found text (number + 1) vs
 
 abbrev pub elementary_of : TypeData → Option Elementary
 elementary_of (of_elementary kind at) = Some kind
 elementary_of (of_name n) = None
 
 abbrev pub slot_of : Bool → ℕ × Variable → Slot
-slot_of doubled f = record { cell = f.0; section = f.1.section; kind = elementary_of f.1.kind; is_plain = is_without_names f.1.initial; is_doubled = doubled }
+slot_of doubled f = record { number = f.0; section = f.1.section; kind = elementary_of f.1.kind; is_plain = is_without_names f.1.initial; is_doubled = doubled }
 
--- FAULT has cell 0, and the variables those behind it
+-- the variables are counted from 1
 abbrev pub slot_named : List Variable → List ℕ → Option Slot
 slot_named vs text = option_map (slot_of (is_doubled vs text)) (found text 1 vs)
 
 -- the slot of a name once it is declared, again or for the first time
 abbrev pub entered : ℕ → Variable → Option Slot → Slot
-entered cell v (Some s) = record s { is_doubled = true }
-entered cell v None = slot_of (is_fault v.name.text) (cell, v)
+entered number v (Some s) = record s { is_doubled = true }
+entered number v None = slot_of (is_fault v.name.text) (number, v)
 
 -- a map holds what a look-up finds
 abbrev pub Holds : {Y X S : Type 0} → HashMap (String Y) X S → (List ℕ → Option X) → Type 0

@@ -17,5 +17,5 @@ used_path f None p = if is_fault p.first.text then misused p.first else in_file 
 
 -- a name where a value is wanted, behind so many variables
 abbrev pub used_value : FileData → ℕ → Option Slot → Named → List Refusal
-used_value f place (Some s) n = if s.is_doubled then [] else (if is_some s.kind && (s.is_plain || not (nat_le s.cell place)) then misused n else [])
+used_value f place (Some s) n = if s.is_doubled then [] else (if is_some s.kind && (s.is_plain || not (nat_le s.number place)) then misused n else [])
 used_value f place None n = if is_fault n.text then misused n else in_file f n

@@ -8,11 +8,10 @@ ghost use Rattle.st_names.specs.Slots.{slot_named, Holds};
 use crate::slots::{Slots, slot_at};
 use st_tree::{Elementary, Pou, Section};
 
-/// A variable that a name is bound to: its cell, which is its place in declared order behind FAULT's cell 0, its
-/// section and its type.
+/// A variable that a name is bound to: its number in declared order, from 1, its section and its type.
 #[derive(Clone, Copy, Debug, PartialEq, Eq)]
 pub struct Bound {
-    pub cell: usize,
+    pub number: usize,
     pub section: Section,
     pub kind: Elementary,
 }
@@ -45,7 +44,7 @@ impl Resolved {
         let slot = slot_at(&self.slots, name)?;
         let kind = slot.kind?;
         Some(Bound {
-            cell: slot.cell,
+            number: slot.number,
             section: slot.section,
             kind,
         })

@@ -15,7 +15,7 @@ mod walk;
 pub use bound::{Bound, Resolved};
 pub use declared::{Declared, declared_variables};
 pub use fault::NameFault;
-pub use library::is_library;
+pub use library::{is_library, standard_function};
 pub use resolution::resolve;
 
 #[cfg(test)]

@@ -1,21 +1,44 @@
 // Names that each file's scope has from the start.
-ghost use Rattle.std.specs.Prelude.{◌≡◌, Some, option_map, map};
-ghost use Rattle.st_names.specs.Library.{is_listed, after_front, is_other_type, is_conversion_from, is_conversion, is_library};
+ghost use Rattle.std.specs.Prelude.{◌≡◌, map, option_map};
+ghost use Rattle.std.specs.List.{list_any};
+ghost use Rattle.std.specs.Str.{bytes_eq};
+ghost use Rattle.st_names.specs.Library.{function_in, type_in, after_front, conversion_to, conversion_from, conversion_in, standard_function, is_library};
 
-/// The elementary types, between each two of which there is a conversion `A_TO_B`.
-pub const ELEMENTARY: [&str; 10] = [
-    "BOOL", "SINT", "INT", "DINT", "USINT", "UINT", "UDINT", "BYTE", "WORD", "DWORD",
+use st_tree::{Elementary, Shift, StandardFunction};
+
+// The blocks of the prelude.
+const BLOCKS: [&str; 7] = ["R_TRIG", "F_TRIG", "SR", "RS", "CTU", "CTD", "CTUD"];
+
+// The standard functions, but for the conversions.
+const FUNCTIONS: [(&str, StandardFunction); 9] = [
+    ("ABS", StandardFunction::Absolute),
+    ("MIN", StandardFunction::Minimum),
+    ("MAX", StandardFunction::Maximum),
+    ("LIMIT", StandardFunction::Limit),
+    ("SEL", StandardFunction::Select),
+    ("SHL", StandardFunction::Shift(Shift::Left)),
+    ("SHR", StandardFunction::Shift(Shift::Right)),
+    ("ROL", StandardFunction::Shift(Shift::RotateLeft)),
+    ("ROR", StandardFunction::Shift(Shift::RotateRight)),
 ];
 
-/// The function blocks of the prelude, and the standard functions but for the conversions.
-pub const LIBRARY: [&str; 16] = [
-    "R_TRIG", "F_TRIG", "SR", "RS", "CTU", "CTD", "CTUD", "ABS", "MIN", "MAX", "LIMIT", "SEL",
-    "SHL", "SHR", "ROL", "ROR",
+// The elementary types, between each two of which there is a conversion `A_TO_B`.
+const ELEMENTARY: [(&str, Elementary); 10] = [
+    ("BOOL", Elementary::Bool),
+    ("SINT", Elementary::Sint),
+    ("INT", Elementary::Int),
+    ("DINT", Elementary::Dint),
+    ("USINT", Elementary::Usint),
+    ("UINT", Elementary::Uint),
+    ("UDINT", Elementary::Udint),
+    ("BYTE", Elementary::Byte),
+    ("WORD", Elementary::Word),
+    ("DWORD", Elementary::Dword),
 ];
 
 // Whether a text in upper case is on a list.
 fn is_listed(list: &[&str], text: &[u8]) -> bool
-    ensures { result ≡ is_listed (map (λ w. w.now) list.now) text.now }
+    ensures { result ≡ list_any (λ w. bytes_eq w text.now) (map (λ w. w.now) list.now) }
 {
     for word in list {
         if word.as_bytes() == text {
@@ -23,6 +46,30 @@ fn is_listed(list: &[&str], text: &[u8]) -> bool
         }
     }
     false
+}
+
+// The function of a name, among these.
+fn function_in(functions: &[(&str, StandardFunction)], text: &[u8]) -> Option<StandardFunction>
+    ensures { result ≡ function_in (map (λ e. (e.0.now, e.1)) functions.now) text.now }
+{
+    for (name, function) in functions {
+        if name.as_bytes() == text {
+            return Some(*function);
+        }
+    }
+    None
+}
+
+// The type of a name, among these.
+fn type_in(types: &[(&str, Elementary)], text: &[u8]) -> Option<Elementary>
+    ensures { result ≡ type_in (map (λ e. (e.0.now, e.1)) types.now) text.now }
+{
+    for (name, kind) in types {
+        if name.as_bytes() == text {
+            return Some(*kind);
+        }
+    }
+    None
 }
 
 // What stands in a text behind a front of it.
@@ -42,45 +89,61 @@ fn after_front<'a>(front: &[u8], text: &'a [u8]) -> Option<&'a [u8]>
     }
 }
 
-// Whether a text is an elementary type other than this one.
-fn is_other_type(from: &[u8], to: &[u8]) -> bool
-    ensures { result ≡ is_other_type from.now (Some to.now) }
+// The conversion between two types, where they are two.
+fn conversion_to(from: Elementary, to: Option<Elementary>) -> Option<StandardFunction>
+    ensures { result ≡ conversion_to from to }
 {
-    if from == to {
-        return false;
+    match to {
+        None => None,
+        Some(to) => {
+            if from == to {
+                return None;
+            }
+            Some(StandardFunction::Conversion { from, to })
+        }
     }
-    is_listed(&ELEMENTARY, to)
 }
 
-// Whether a text is `A_TO_B`, A being this type and B another.
-fn is_conversion_from(from: &[u8], text: &[u8]) -> bool
-    ensures { result ≡ is_conversion_from from.now text.now }
+// The conversion `A_TO_B` that a text names, A being this type, of this name.
+fn conversion_from(name: &[u8], from: Elementary, text: &[u8]) -> Option<StandardFunction>
+    ensures { result ≡ conversion_from name.now from text.now }
 {
-    match after_front(from, text) {
-        None => false,
+    match after_front(name, text) {
+        None => None,
         Some(rest) => match after_front(b"_TO_", rest) {
-            None => false,
-            Some(to) => is_other_type(from, to),
+            None => None,
+            Some(to) => conversion_to(from, type_in(&ELEMENTARY, to)),
         },
     }
 }
 
-// Whether a text is `A_TO_B`, A being one of these types.
-fn is_conversion(types: &[&str], text: &[u8]) -> bool
-    ensures { result ≡ is_conversion (map (λ w. w.now) types.now) text.now }
+// The conversion `A_TO_B` that a text names, A being one of these types.
+fn conversion_in(types: &[(&str, Elementary)], text: &[u8]) -> Option<StandardFunction>
+    ensures { result ≡ conversion_in (map (λ e. (e.0.now, e.1)) types.now) text.now }
 {
-    for from in types {
-        if is_conversion_from(from.as_bytes(), text) {
-            return true;
+    for (name, from) in types {
+        if let Some(conversion) = conversion_from(name.as_bytes(), *from, text) {
+            return Some(conversion);
         }
     }
-    false
+    None
+}
+
+/// The standard function that a text in upper case names, conversions among them.
+#[tactic(auto, unfolding(crate::specs::Library::standard_function))]
+pub fn standard_function(text: &str) -> Option<StandardFunction>
+    ensures { result ≡ standard_function text.now }
+{
+    let bytes = text.as_bytes();
+    match function_in(&FUNCTIONS, bytes) {
+        Some(function) => Some(function),
+        None => conversion_in(&ELEMENTARY, bytes),
+    }
 }
 
 /// Whether a text in upper case names a standard function, a conversion, or a block of the prelude.
 pub fn is_library(text: &str) -> bool
     ensures { result ≡ is_library text.now }
 {
-    let bytes = text.as_bytes();
-    is_listed(&LIBRARY, bytes) || is_conversion(&ELEMENTARY, bytes)
+    is_listed(&BLOCKS, text.as_bytes()) || standard_function(text).is_some()
 }

@@ -13,11 +13,11 @@ use indexmap::IndexMap;
 use st_tree::{Elementary, Expr, Name, Refusal, Rule, Section, TypeName};
 use std::alloc::{AllocError, Global};
 
-/// What is known of a name: the cell, the section and the type of the first variable of that name, whether its
+/// What is known of a name: the number in declared order, the section and the type of the first variable of that name, whether its
 /// initial value names nothing, and whether the name is declared twice. A type by name is none.
 #[derive(Clone, Copy, Debug, PartialEq, Eq)]
 pub struct Slot {
-    pub cell: usize,
+    pub number: usize,
     pub section: Section,
     pub kind: Option<Elementary>,
     pub is_plain: bool,
@@ -48,8 +48,8 @@ fn is_without_names(initial: &Option<Expr>) -> bool
 }
 
 // The slot of a name once a variable is declared by it.
-fn entered(variable: &Declared<'_>, cell: usize, known: Option<Slot>) -> Slot
-    ensures { result ≡ entered cell (variable_view variable.now) known }
+fn entered(variable: &Declared<'_>, number: usize, known: Option<Slot>) -> Slot
+    ensures { result ≡ entered number (variable_view variable.now) known }
 {
     if let Some(slot) = known {
         return Slot {
@@ -58,7 +58,7 @@ fn entered(variable: &Declared<'_>, cell: usize, known: Option<Slot>) -> Slot
         };
     }
     Slot {
-        cell,
+        number,
         section: variable.section,
         kind: elementary_of(&variable.declaration.kind),
         is_plain: is_without_names(&variable.declaration.initial),

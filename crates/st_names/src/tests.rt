@@ -1,15 +1,15 @@
 // Texts with answers that were worked by hand from the rules on names.
-use crate::{Bound, NameFault, declared_variables, is_library, resolve};
+use crate::{Bound, NameFault, declared_variables, is_library, resolve, standard_function};
 use st_lexer::lex;
 use st_parser::parse_file;
-use st_tree::{Elementary, NoCharts, Refusal, Rule, Section, SourceFile};
+use st_tree::{Elementary, NoCharts, Refusal, Rule, Section, Shift, SourceFile, StandardFunction};
 use std::alloc::Global;
 use std::test::Fail;
 
 const MOTOR: &str =
     "PROGRAM m VAR_INPUT a : BOOL; END_VAR VAR b, C : INT := 3; END_VAR VAR_OUTPUT d : WORD; END_VAR b := c; END_PROGRAM";
 
-const REFUSED: [(&str, Rule, usize); 14] = [
+const REFUSED: [(&str, Rule, usize); 18] = [
     ("", Rule::NotOneProgram, 0),
     (
         "PROGRAM M zz := 1; END_PROGRAM PROGRAM M END_PROGRAM",
@@ -65,6 +65,26 @@ const REFUSED: [(&str, Rule, usize); 14] = [
         Rule::UnknownName,
         30,
     ),
+    (
+        "PROGRAM M CASE 1 OF zz: ; END_CASE END_PROGRAM",
+        Rule::UnknownName,
+        20,
+    ),
+    (
+        "PROGRAM M VAR x : INT; END_VAR CASE x OF x: ; END_CASE END_PROGRAM",
+        Rule::WrongKind,
+        41,
+    ),
+    (
+        "PROGRAM M FOR zz := 1 TO 2 DO ; END_FOR END_PROGRAM",
+        Rule::UnknownName,
+        14,
+    ),
+    (
+        "PROGRAM M VAR i : INT; END_VAR FOR i := 1 TO 2 BY zz DO yy := 1; END_FOR END_PROGRAM",
+        Rule::UnknownName,
+        50,
+    ),
 ];
 
 // The tree of a text.
@@ -98,9 +118,9 @@ fn names_of_a_program(rt: HostRuntime) -> Result<(), Fail> {
         ("C", 3, Section::Local, Elementary::Int),
         ("D", 4, Section::Output, Elementary::Word),
     ];
-    for (name, cell, section, kind) in rows {
+    for (name, number, section, kind) in rows {
         let want = Some(Bound {
-            cell,
+            number,
             section,
             kind,
         });
@@ -149,5 +169,24 @@ fn names_of_the_library(rt: HostRuntime) {
     ];
     for (text, want) in rows {
         assert_eq!(rt; is_library(text), want, "{text}");
+    }
+}
+
+#[test]
+fn standard_functions(rt: HostRuntime) {
+    let udint_to_byte = StandardFunction::Conversion {
+        from: Elementary::Udint,
+        to: Elementary::Byte,
+    };
+    let rotation = StandardFunction::Shift(Shift::RotateRight);
+    let rows = [
+        ("LIMIT", Some(StandardFunction::Limit)),
+        ("ROR", Some(rotation)),
+        ("UDINT_TO_BYTE", Some(udint_to_byte)),
+        ("BYTE_TO_BYTE", None),
+        ("CTU", None),
+    ];
+    for (text, want) in rows {
+        assert_eq!(rt; standard_function(text), want, "{text}");
     }
 }

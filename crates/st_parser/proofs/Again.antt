@@ -8,16 +8,17 @@ use Rattle.st_tree.specs.declared.syntax.UnaryOperator.{UnaryOperator}
 use Rattle.st_tree.specs.declared.syntax.UnaryOperator.TheVariants as signs
 use Rattle.st_tree.specs.declared.syntax.Literal.{Literal}
 use Rattle.st_tree.specs.declared.syntax.Literal.TheVariants as literals
-use Rattle.st_tree.specs.Syntax.{Symbol, operator, mark, Named, PathData, Tree, literal, path, enumerator, paren, unary, chain, Links, no_links, link}
-use Rattle.st_tree.specs.Prints.{name_symbol, unary_symbol, print_members, print_path, print_literal, print, print_links}
+use Rattle.st_tree.specs.Syntax.{Symbol, operator, mark, Named, PathData, Tree, literal, path, enumerator, paren, unary, chain, call, Links, no_links, link, Arguments, no_arguments, argument}
+use Rattle.st_tree.specs.Prints.{name_symbol, unary_symbol, print_members, print_path, print_literal, print, print_links, print_arguments}
 use Rattle.st_tree.specs.Levels.{level_of, level, IsPrimary}
 use Rattle.st_parser.specs.Marks.{same_mark}
-use Rattle.st_parser.specs.Reading.{Read, ◌>>=◌, after, named, numbered, minus, operator_of, sign}
+use Rattle.st_parser.specs.Reading.{Read, ◌>>=◌, after, named, numbered, minus, opened, operator_of, sign}
 use Rattle.st_parser.specs.Ends.{goes_on}
 use Rattle.st_parser.specs.Fits.{Fits, LinksFit}
-use Rattle.st_parser.specs.Expressions.{typed_value, typed, constant, members, path_from, referred, primary, signed, add_link, links, joined, levelled, inside, expression}
-use Rattle.st_parser.proofs.Fronts.{no_point, no_hash, no_operator, goes_on-below, operator-here, level_of-within, level-le}
+use Rattle.st_parser.specs.Expressions.{typed_value, typed, constant, members, path_from, called, referred, primary, signed, add_link, links, joined, levelled, inside, expression}
+use Rattle.st_parser.proofs.Fronts.{no_point, no_hash, not_opened, no_operator, goes_on-below, operator-here, level_of-within, level-le}
 use Rattle.st_parser.proofs.Sound.{join, join-none, join-add}
+use Rattle.st_parser.proofs.ArgumentsAgain.{step_close, InsideAgain, ArgumentsAgain, CallAgain, arguments_none, arguments_more, call_none, call_some}
 
 -- ---- paths
 
@@ -28,10 +29,6 @@ step_named n ts = refl
 pub step_point : (ts : List Symbol) → after Point (mark Point ∷ ts) ≡ Some ts
 unfolding after same_mark
 step_point ts = refl
-
-step_close : (ts : List Symbol) → after Close (mark Close ∷ ts) ≡ Some ts
-unfolding after same_mark
-step_close ts = refl
 
 ends_closed : (k : ℕ) (ts : List Symbol) → goes_on k (mark Close ∷ ts) ≡ false
 unfolding same_mark
@@ -59,6 +56,11 @@ not_hash : (ns : List Named) (rest : List Symbol) → after Hash rest ≡ None �
 unfolding after same_mark
 not_hash [] rest h = h
 not_hash (n ∷ ns) rest h = refl
+
+members_unopened : (ns : List Named) (rest : List Symbol) → opened rest ≡ None → opened (print_members ns ++ rest) ≡ None
+unfolding opened
+members_unopened [] rest h = h
+members_unopened (n ∷ ns) rest h = refl
 
 -- ---- literals
 
@@ -148,8 +150,8 @@ module _ (turns : ℕ) where
   }
 
   again_path : (p : PathData) → First (path p)
-  unfolding primary referred
-  again_path p d rest fits h len = rw (not_hash p.members rest (no_hash 0 rest h), path_again turns p rest (no_point 0 rest h) len) refl
+  unfolding primary referred called
+  again_path p d rest fits h len = rw (not_hash p.members rest (no_hash 0 rest h), members_unopened p.members rest (not_opened 0 rest h), path_again turns p rest (no_point 0 rest h) len) refl
 
   again_enumerator : (n v : Named) → First (enumerator n v)
   unfolding primary referred named after same_mark
@@ -166,6 +168,16 @@ module _ (turns : ℕ) where
       let shape : (print e ++ mark Close ∷ []) ++ rest ≡ print e ++ mark Close ∷ rest = append_assoc (print e) (mark Close ∷ []) rest in
       let shorter : length (print e ++ mark Close ∷ rest) ≤ turns = omega (arith, ap length shape) in
       rw (shape, inside-suc, a.whole d 7 (mark Close ∷ rest) fits (level-le e) (ends_closed 7 rest) shorter, step_close) refl
+
+  inside_again : (e : Tree) → Again e → InsideAgain turns e
+  inside_again e a d rest fits h len = inside-suc d (print e ++ rest) ∙ a.whole d 7 rest fits (level-le e) h len
+
+  call_first : (n : Named) (at : ℕ) (args : Arguments) → CallAgain turns args → First (call n at args)
+  unfolding primary referred called after opened CallAgain
+  call_first n at args a d rest fits h len =
+      let shape : (print_arguments args ++ mark Close ∷ []) ++ rest ≡ print_arguments args ++ mark Close ∷ rest = append_assoc (print_arguments args) (mark Close ∷ []) rest in
+      let shorter : length (print_arguments args ++ mark Close ∷ rest) ≤ turns = omega (arith, ap length shape) in
+      rw (shape, a d rest fits shorter) refl
 
   signed_again : (o : UnaryOperator) (at : ℕ) (e : Tree) (d : ℕ) (rest : List Symbol) → Again e → IsPrimary e → Fits e d → goes_on 0 rest ≡ false → length (print e ++ rest) ≤ turns
       → levelled turns (inner d) zero (unary_symbol o at ∷ (print e ++ rest)) ≡ Some (unary o at e, rest)
@@ -248,6 +260,13 @@ module _ (turns : ℕ) where
   unfolding sign
   paren_unsigned at e rest = refl
 
+  call_unsigned : (n : Named) (at : ℕ) (args : Arguments) (rest : List Symbol) → sign (print (call n at args) ++ rest) ≡ None
+  unfolding sign
+  call_unsigned n at args rest = refl
+
+  again_call : (n : Named) (at : ℕ) (args : Arguments) → CallAgain turns args → Again (call n at args)
+  again_call n at args a = alone (call n at args) refl (call_unsigned n at args) (call_first n at args a)
+
   mutual
     pub again : (t : Tree) → Again t
     again (literal l) = alone (literal l) refl (literal_unsigned l) (λ d rest fits h len. literal_again turns (inner d) l rest)
@@ -256,10 +275,16 @@ module _ (turns : ℕ) where
     again (paren at e) = alone (paren at e) refl (paren_unsigned at e) (again_paren at e (again e))
     again (unary o at e) = again_unary o at e (again e)
     again (chain e ls) = again_chain e ls (again e) (again_links ls)
+    again (call n at no_arguments) = again_call n at no_arguments (call_none turns)
+    again (call n at (argument m e args)) = again_call n at (argument m e args) (call_some turns m e args (inside_again e (again e)) (again_arguments args))
 
     again_links : (ls : Links) → LinksAgain ls
     again_links no_links = links_none
     again_links (link o at e ls) = links_more o at e ls (again e) (again_links ls)
+
+    again_arguments : (args : Arguments) → ArgumentsAgain turns args
+    again_arguments no_arguments = arguments_none turns
+    again_arguments (argument n e args) = arguments_more turns n e args (inside_again e (again e)) (again_arguments args)
 
 -- a fitting tree's print is read as that tree
 pub expression_again : (turns : ℕ) (t : Tree) (d : ℕ) (rest : List Symbol) → Fits t d → goes_on 7 rest ≡ false → length (print t ++ rest) ≤ turns → expression turns d (print t ++ rest) ≡ Some (t, rest)

@@ -1,18 +1,18 @@
 -- What declarations print is read as those declarations.
-use Rattle.std.proofs.Common.{◌≡◌, ℕ, zero, suc, ◌≤◌, List, [], ◌∷◌, ◌++◌, length, Option, Some, None, refl, sym, ap, ◌∙◌, append_assoc, arith, length-append}
-use Rattle.std.proofs.lemmas.List.{append-nil}
-use Rattle.st_tree.specs.declared.token.Mark.TheVariants.{Colon, Semicolon, EndVar}
+use Rattle.std.proofs.Common.{◌≡◌, ℕ, zero, suc, ◌<◌, ◌≤◌, List, [], ◌∷◌, ◌++◌, map, length, Option, Some, None, refl, sym, ap, ◌∙◌, append_assoc, arith, length-append}
+use Rattle.std.proofs.lemmas.List.{append-nil, length-map}
+use Rattle.st_tree.specs.declared.token.Mark.TheVariants.{Colon, Semicolon, Hash, Constant, EndVar}
 use Rattle.st_tree.specs.declared.syntax.UnaryOperator.TheVariants as signs
 use Rattle.st_tree.specs.declared.syntax.Literal.{Literal}
 use Rattle.st_tree.specs.declared.syntax.Literal.TheVariants as literals
 use Rattle.st_tree.specs.declared.syntax.Section.{Section}
-use Rattle.st_tree.specs.declared.syntax.Section.TheVariants.{Input, Output, Local}
-use Rattle.st_tree.specs.Syntax.{Symbol, mark, Named, Tree, literal, path, enumerator, paren, unary, chain, TypeData, of_elementary, of_name, DeclarationData, VariablesData}
-use Rattle.st_tree.specs.Prints.{name_symbol, print_members, print_literal, print, print_others, type_symbol, print_initial, print_declaration, print_declarations, section_mark, print_variables}
+use Rattle.st_tree.specs.declared.syntax.Section.TheVariants as sections
+use Rattle.st_tree.specs.Syntax.{Symbol, mark, Named, Tree, literal, path, enumerator, paren, unary, chain, call, TypeData, of_elementary, of_name, DeclarationData, VariablesData}
+use Rattle.st_tree.specs.Prints.{name_symbol, print_members, print_literal, print, print_others, type_symbol, print_initial, print_declaration, print_declarations, section_marks, print_variables}
 use Rattle.st_tree.specs.Levels.{IsConstant, IsInitialFormed, AreDeclarationsFormed, AreVariablesFormed}
 use Rattle.st_parser.specs.Marks.{same_mark}
 use Rattle.st_parser.specs.Reading.{after, named, minus}
-use Rattle.st_parser.specs.Declarations.{named_value, literal_value, initial_value, initial, type_of, others, section_of, declared, declaration, declarations, variables}
+use Rattle.st_parser.specs.Declarations.{named_value, literal_value, initial_value, initial, type_of, others, local, section_of, declared, declaration, declarations, variables}
 use Rattle.st_parser.proofs.Again.{constant_again}
 use Rattle.st_parser.proofs.DeclarationSound.{declaration_shape}
 
@@ -25,30 +25,44 @@ literal_value_again (literals.Truth value at) rest = rw (constant_again (literal
 literal_value_again (literals.TypedNumber kind at m value value_at) rest = rw (constant_again (literals.TypedNumber kind at m value value_at) rest) refl
 literal_value_again (literals.TypedTruth kind at value value_at) rest = rw (constant_again (literals.TypedTruth kind at value value_at) rest) refl
 
-path_value_again : (n : Named) (ns : List Named) (rest : List Symbol) → ns ≡ [] → initial_value (name_symbol n ∷ (print_members ns ++ mark Semicolon ∷ rest)) ≡ Some (path (record { first = n; members = ns }), mark Semicolon ∷ rest)
-unfolding initial_value named_value after same_mark
-path_value_again n [] rest none = refl
-path_value_again n (m ∷ ns) rest none = absurd cc
+path_value_again : (n : Named) (ns : List Named) (rest : List Symbol) → ns ≡ [] → after Hash rest ≡ None → initial_value (name_symbol n ∷ (print_members ns ++ rest)) ≡ Some (path (record { first = n; members = ns }), rest)
+unfolding initial_value named_value
+path_value_again n [] rest none hash = rw hash refl
+path_value_again n (m ∷ ns) rest none hash = absurd cc
 
-value_again : (e : Tree) (rest : List Symbol) → IsConstant e → initial_value (print e ++ mark Semicolon ∷ rest) ≡ Some (e, mark Semicolon ∷ rest)
-unfolding initial_value literal_value named_value minus after named same_mark
-value_again (literal l) rest is = literal_value_again l (mark Semicolon ∷ rest)
-value_again (path p) rest is = path_value_again p.first p.members rest is
-value_again (enumerator n v) rest is = refl
-value_again (paren at e) rest is = absurd is
-value_again (unary signs.Minus at (literal l)) rest is = rw (constant_again l (mark Semicolon ∷ rest)) refl
-value_again (unary signs.Minus at (path p)) rest is = absurd is
-value_again (unary signs.Minus at (enumerator n v)) rest is = absurd is
-value_again (unary signs.Minus at (paren place e)) rest is = absurd is
-value_again (unary signs.Minus at (unary o place e)) rest is = absurd is
-value_again (unary signs.Minus at (chain e ls)) rest is = absurd is
-value_again (unary signs.Not at e) rest is = absurd is
-value_again (chain e ls) rest is = absurd is
+enumerator_value_again : (n v : Named) (rest : List Symbol) → initial_value (print (enumerator n v) ++ rest) ≡ Some (enumerator n v, rest)
+unfolding initial_value named_value after named same_mark
+enumerator_value_again n v rest = refl
+
+minus_value_again : (at : ℕ) (l : Literal) (rest : List Symbol) → initial_value (print (unary signs.Minus at (literal l)) ++ rest) ≡ Some (unary signs.Minus at (literal l), rest)
+unfolding initial_value literal_value minus
+minus_value_again at l rest = rw (constant_again l rest) refl
+
+-- a constant is read up to what does not go on with it
+pub value_again : (e : Tree) (rest : List Symbol) → IsConstant e → after Hash rest ≡ None → initial_value (print e ++ rest) ≡ Some (e, rest)
+value_again (literal l) rest is hash = literal_value_again l rest
+value_again (path p) rest is hash = path_value_again p.first p.members rest is hash
+value_again (enumerator n v) rest is hash = enumerator_value_again n v rest
+value_again (paren at e) rest is hash = absurd is
+value_again (unary signs.Minus at (literal l)) rest is hash = minus_value_again at l rest
+value_again (unary signs.Minus at (path p)) rest is hash = absurd is
+value_again (unary signs.Minus at (enumerator n v)) rest is hash = absurd is
+value_again (unary signs.Minus at (paren place e)) rest is hash = absurd is
+value_again (unary signs.Minus at (unary o place e)) rest is hash = absurd is
+value_again (unary signs.Minus at (chain e ls)) rest is hash = absurd is
+value_again (unary signs.Minus at (call n place args)) rest is hash = absurd is
+value_again (unary signs.Not at e) rest is hash = absurd is
+value_again (chain e ls) rest is hash = absurd is
+value_again (call n at args) rest is hash = absurd is
+
+no_hash : (rest : List Symbol) → after Hash (mark Semicolon ∷ rest) ≡ None
+unfolding after same_mark
+no_hash rest = refl
 
 initial_again : (i : Option Tree) (rest : List Symbol) → IsInitialFormed i → initial (print_initial i ++ mark Semicolon ∷ rest) ≡ Some (i, mark Semicolon ∷ rest)
 unfolding initial after same_mark
 initial_again None rest is = refl
-initial_again (Some e) rest is = rw (value_again e rest is) refl
+initial_again (Some e) rest is = rw (value_again e (mark Semicolon ∷ rest) is (no_hash rest)) refl
 
 -- ---- a declaration
 
@@ -120,25 +134,49 @@ module _ (turns : ℕ) where
 
   -- ---- sections
 
-  section_again : (s : Section) (rest : List Symbol) → section_of (mark (section_mark s) ∷ rest) ≡ Some (s, rest)
-  unfolding section_of same_mark
-  section_again Input rest = refl
-  section_again Output rest = refl
-  section_again Local rest = refl
+  no_constant : (ds : List DeclarationData) (rest : List Symbol) → after Constant (print_declarations ds ++ mark EndVar ∷ rest) ≡ None
+  unfolding after same_mark
+  no_constant [] rest = refl
+  no_constant (d ∷ ds) rest = refl
+
+  section_again : (s : Section) (rest : List Symbol) → after Constant rest ≡ None → section_of (map mark (section_marks s) ++ rest) ≡ Some (s, rest)
+  unfolding section_of local after same_mark
+  section_again sections.Input rest none = refl
+  section_again sections.Output rest none = refl
+  section_again sections.Local rest none = rw none refl
+  section_again sections.Temporary rest none = refl
+  section_again sections.Constant rest none = refl
+
+  some_marks : (s : Section) → 1 ≤ length (section_marks s)
+  some_marks sections.Input = omega arith
+  some_marks sections.Output = omega arith
+  some_marks sections.Local = omega arith
+  some_marks sections.Temporary = omega arith
+  some_marks sections.Constant = omega arith
+
+  variables_shape : (v : VariablesData) (vs : List VariablesData) (rest : List Symbol) → print_variables (v ∷ vs) ++ rest ≡ map mark (section_marks v.section) ++ (print_declarations v.declarations ++ mark EndVar ∷ (print_variables vs ++ rest))
+  variables_shape v vs rest =
+      append_assoc (map mark (section_marks v.section)) (print_declarations v.declarations ++ mark EndVar ∷ print_variables vs) rest
+      ∙ ap (λ (x : List Symbol). map mark (section_marks v.section) ++ x) (append_assoc (print_declarations v.declarations) (mark EndVar ∷ print_variables vs) rest)
+
+  -- a section's word or words stand before its declarations
+  variables_length : (v : VariablesData) (vs : List VariablesData) (rest : List Symbol) → length (print_declarations v.declarations ++ mark EndVar ∷ (print_variables vs ++ rest)) < length (print_variables (v ∷ vs) ++ rest)
+  variables_length v vs rest =
+      let inner : List Symbol = print_declarations v.declarations ++ mark EndVar ∷ (print_variables vs ++ rest) in
+      omega (arith, ap length (variables_shape v vs rest), length-append (map mark (section_marks v.section)) inner, length-map (section_marks v.section) mark, some_marks v.section)
 
   pub variables_again : (n : ℕ) (before vs : List VariablesData) (rest : List Symbol) → AreVariablesFormed vs → section_of rest ≡ None → length (print_variables vs ++ rest) ≤ n → length (print_variables vs ++ rest) ≤ turns
       → variables turns n before (print_variables vs ++ rest) ≡ Some (before ++ vs, rest)
   unfolding variables
   variables_again zero before [] rest is ends le len = ap (λ (vs : List VariablesData). Some (vs, rest)) (sym (append-nil before))
-  variables_again zero before (v ∷ vs) rest is ends le len = absurd (omega arith)
+  variables_again zero before (v ∷ vs) rest is ends le len = absurd (omega (arith, variables_length v vs rest))
   variables_again (suc n) before [] rest is ends le len = rw ends (ap (λ (vs : List VariablesData). Some (vs, rest)) (sym (append-nil before)))
   variables_again (suc n) before (v ∷ vs) rest is ends le len =
       let tail : List Symbol = print_variables vs ++ rest in
       let inner : List Symbol = print_declarations v.declarations ++ mark EndVar ∷ tail in
-      let shape : print_variables (v ∷ vs) ++ rest ≡ mark (section_mark v.section) ∷ inner =
-      ap (λ (x : List Symbol). mark (section_mark v.section) ∷ x) (append_assoc (print_declarations v.declarations) (mark EndVar ∷ print_variables vs) rest) in
-      let whole : length inner ≤ turns = omega (arith, ap length shape) in
-      let less : length tail ≤ n = omega (arith, ap length shape, length-append (print_declarations v.declarations) (mark EndVar ∷ tail)) in
+      let shape : print_variables (v ∷ vs) ++ rest ≡ map mark (section_marks v.section) ++ inner = variables_shape v vs rest in
+      let whole : length inner ≤ turns = omega (arith, variables_length v vs rest) in
+      let less : length tail ≤ n = omega (arith, variables_length v vs rest, length-append (print_declarations v.declarations) (mark EndVar ∷ tail)) in
       let fewer : length tail ≤ turns = omega (arith, length-append (print_declarations v.declarations) (mark EndVar ∷ tail)) in
-      rw (shape, section_again v.section inner, declarations_again turns [] v.declarations tail is.0 whole whole)
+      rw (shape, section_again v.section inner (no_constant v.declarations tail), declarations_again turns [] v.declarations tail is.0 whole whole)
       (variables_again n (before ++ v ∷ []) vs rest is.1 ends less fewer ∙ ap (λ (x : List VariablesData). Some (x, rest)) (append_assoc before (v ∷ []) vs))

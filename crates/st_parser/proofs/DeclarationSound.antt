@@ -1,20 +1,20 @@
 -- What is read of declarations prints the symbols that were taken.
-use Rattle.std.proofs.Common.{◌≡◌, ℕ, zero, suc, Bool, true, false, cond, List, [], ◌∷◌, ◌++◌, Option, Some, None, refl, sym, ap, subst, ◌∙◌, append_assoc}
+use Rattle.std.proofs.Common.{◌≡◌, ℕ, zero, suc, Bool, true, false, cond, List, [], ◌∷◌, ◌++◌, map, Option, Some, None, refl, sym, ap, subst, ◌∙◌, append_assoc}
 use Rattle.std.proofs.lemmas.List.{append-nil}
 use Rattle.st_tree.specs.declared.token.Mark.{Mark}
-use Rattle.st_tree.specs.declared.token.Mark.TheVariants.{Comma, Colon, Semicolon, Assign, Hash, Var, VarInput, VarOutput, EndVar}
+use Rattle.st_tree.specs.declared.token.Mark.TheVariants.{Comma, Colon, Semicolon, Assign, Hash, Var, VarInput, VarOutput, VarTemp, Constant, EndVar}
 use Rattle.st_tree.specs.declared.token.Operator.TheVariants as ops
 use Rattle.st_tree.specs.declared.syntax.UnaryOperator.TheVariants as signs
 use Rattle.st_tree.specs.declared.syntax.Literal.{Literal}
 use Rattle.st_tree.specs.declared.syntax.Section.{Section}
-use Rattle.st_tree.specs.declared.syntax.Section.TheVariants.{Input, Output, Local}
+use Rattle.st_tree.specs.declared.syntax.Section.TheVariants as sections
 use Rattle.st_tree.specs.Syntax.{Symbol, name, elementary, operator, mark, Named, Tree, literal, path, enumerator, unary, TypeData, of_elementary, of_name, DeclarationData, VariablesData}
-use Rattle.st_tree.specs.Prints.{name_symbol, print, print_others, type_symbol, print_initial, print_declaration, print_declarations, section_mark, print_variables}
+use Rattle.st_tree.specs.Prints.{name_symbol, print, print_others, type_symbol, print_initial, print_declaration, print_declarations, section_marks, print_variables}
 use Rattle.st_tree.specs.Levels.{IsConstant, IsInitialFormed, AreDeclarationsFormed, AreVariablesFormed}
 use Rattle.st_parser.specs.Marks.{same_mark}
 use Rattle.st_parser.specs.Reading.{after, named, minus}
 use Rattle.st_parser.specs.Expressions.{constant}
-use Rattle.st_parser.specs.Declarations.{named_or, named_value, literal_or, literal_value, initial_value, initial_or, initial, type_of, others_step, others, section_of, declared, declaration, declarations_step, declarations, variables_step, variables}
+use Rattle.st_parser.specs.Declarations.{named_or, named_value, literal_or, literal_value, initial_value, initial_or, initial, type_of, others_step, others, local_or, local, section_of, declared, declaration, declarations_step, declarations, variables_step, variables}
 use Rattle.st_parser.proofs.Steps.{bind_some, some_is, same_mark-is, after_is, named_is, minus_is}
 use Rattle.st_parser.proofs.Sound.{constant_is}
 
@@ -52,7 +52,7 @@ literal_value_is : (ts : List Symbol) (y : Tree × List Symbol) → literal_valu
 unfolding literal_value
 literal_value_is ts y e = literal_go ts y (minus ts) refl e
 
-initial_value_is : (ts : List Symbol) (y : Tree × List Symbol) → initial_value ts ≡ Some y → ConstantIs ts y
+pub initial_value_is : (ts : List Symbol) (y : Tree × List Symbol) → initial_value ts ≡ Some y → ConstantIs ts y
 unfolding initial_value
 initial_value_is (name t at ∷ ts) y e = named_value_is (record { text = t; at = at }) ts y e
 initial_value_is ts y e = literal_value_is ts y e
@@ -170,16 +170,31 @@ module _ (turns : ℕ) where
 
   -- ---- sections
 
-  section_go : (m : Mark) (ts : List Symbol) (y : Section × List Symbol) (a b c : Bool) → same_mark m VarInput ≡ a → same_mark m VarOutput ≡ b → same_mark m Var ≡ c
-      → cond a (Some (Input, ts)) (cond b (Some (Output, ts)) (cond c (Some (Local, ts)) None)) ≡ Some y → mark m ∷ ts ≡ mark (section_mark y.0) ∷ y.1
-  section_go m ts y true b c ea eb ec e = ap (λ (x : Mark). mark x ∷ ts) (same_mark-is m VarInput ea) ∙ ap (λ (x : Section × List Symbol). mark (section_mark x.0) ∷ x.1) (some_is (Input, ts) y e)
-  section_go m ts y false true c ea eb ec e = ap (λ (x : Mark). mark x ∷ ts) (same_mark-is m VarOutput eb) ∙ ap (λ (x : Section × List Symbol). mark (section_mark x.0) ∷ x.1) (some_is (Output, ts) y e)
-  section_go m ts y false false true ea eb ec e = ap (λ (x : Mark). mark x ∷ ts) (same_mark-is m Var ec) ∙ ap (λ (x : Section × List Symbol). mark (section_mark x.0) ∷ x.1) (some_is (Local, ts) y e)
-  section_go m ts y false false false ea eb ec e = absurd cc
+  abbrev SectionIs : List Symbol → Section × List Symbol → Type 0
+  SectionIs ts y = ts ≡ map mark (section_marks y.0) ++ y.1
 
-  section_is : (ts : List Symbol) (y : Section × List Symbol) → section_of ts ≡ Some y → ts ≡ mark (section_mark y.0) ∷ y.1
+  local_go : (ts : List Symbol) (o : Option (List Symbol)) → after Constant ts ≡ o → SectionIs (mark Var ∷ ts) (local_or ts o)
+  local_go ts (Some rest) is = ap (λ (x : List Symbol). mark Var ∷ x) (after_is Constant ts rest is)
+  local_go ts None is = refl
+
+  local_is : (ts : List Symbol) → SectionIs (mark Var ∷ ts) (local ts)
+  unfolding local
+  local_is ts = local_go ts (after Constant ts) refl
+
+  section_found : (m k : Mark) (ts : List Symbol) (found y : Section × List Symbol) → same_mark m k ≡ true → SectionIs (mark k ∷ ts) found → (let o : Option (Section × List Symbol) = Some found in o) ≡ Some y → SectionIs (mark m ∷ ts) y
+  section_found m k ts found y same is e = ap (λ (x : Mark). mark x ∷ ts) (same_mark-is m k same) ∙ subst (SectionIs (mark k ∷ ts)) (some_is found y e) is
+
+  section_go : (m : Mark) (ts : List Symbol) (y : Section × List Symbol) (a b c d : Bool) → same_mark m VarInput ≡ a → same_mark m VarOutput ≡ b → same_mark m VarTemp ≡ c → same_mark m Var ≡ d
+      → cond a (Some (sections.Input, ts)) (cond b (Some (sections.Output, ts)) (cond c (Some (sections.Temporary, ts)) (cond d (Some (local ts)) None))) ≡ Some y → SectionIs (mark m ∷ ts) y
+  section_go m ts y true b c d ea eb ec ed e = section_found m VarInput ts (sections.Input, ts) y ea refl e
+  section_go m ts y false true c d ea eb ec ed e = section_found m VarOutput ts (sections.Output, ts) y eb refl e
+  section_go m ts y false false true d ea eb ec ed e = section_found m VarTemp ts (sections.Temporary, ts) y ec refl e
+  section_go m ts y false false false true ea eb ec ed e = section_found m Var ts (local ts) y ed (local_is ts) e
+  section_go m ts y false false false false ea eb ec ed e = absurd cc
+
+  section_is : (ts : List Symbol) (y : Section × List Symbol) → section_of ts ≡ Some y → SectionIs ts y
   unfolding section_of
-  section_is (mark m ∷ ts) y e = section_go m ts y (same_mark m VarInput) (same_mark m VarOutput) (same_mark m Var) refl refl refl e
+  section_is (mark m ∷ ts) y e = section_go m ts y (same_mark m VarInput) (same_mark m VarOutput) (same_mark m VarTemp) (same_mark m Var) refl refl refl refl e
   section_is ts y e = absurd cc
 
   abbrev pub VariablesAre : List VariablesData → List Symbol → List VariablesData × List Symbol → Type 0
@@ -202,9 +217,10 @@ module _ (turns : ℕ) where
       let printed : s.1 ≡ print_declarations a.0.0 ++ mark EndVar ∷ a.0.1 = d.2 ∙ ap (λ (x : List DeclarationData). print_declarations x ++ mark EndVar ∷ a.0.1) (sym d.1) in (
         v ∷ b.0,
         b.1 ∙ append_assoc before (v ∷ []) b.0,
-        section_is ts s is ∙ ap (λ (x : List Symbol). mark (section_mark s.0) ∷ x) (
+        section_is ts s is ∙ ap (λ (x : List Symbol). map mark (section_marks s.0) ++ x) (
             printed ∙ ap (λ (x : List Symbol). print_declarations a.0.0 ++ mark EndVar ∷ x) b.2
-            ∙ sym (append_assoc (print_declarations a.0.0) (mark EndVar ∷ print_variables b.0) y.1)),
+            ∙ sym (append_assoc (print_declarations a.0.0) (mark EndVar ∷ print_variables b.0) y.1))
+            ∙ sym (append_assoc (map mark (section_marks s.0)) (print_declarations a.0.0 ++ mark EndVar ∷ print_variables b.0) y.1),
         (formed, b.3),
       )
 

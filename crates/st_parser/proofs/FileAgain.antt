@@ -2,7 +2,7 @@
 use Rattle.std.proofs.Common.{◌≡◌, ℕ, zero, suc, ◌≤◌, false, List, [], ◌∷◌, ◌++◌, length, Some, None, refl, sym, ap, ◌∙◌, append_assoc, arith, length-append}
 use Rattle.std.proofs.lemmas.List.{append-nil}
 use Rattle.st_tree.specs.declared.token.Mark.TheVariants.{Program, EndProgram}
-use Rattle.st_tree.specs.Syntax.{Symbol, mark, Named, empty, assign, branch, Stmts, no_stmts, stmt, no_arms, arm, no_else, else_stmts, BodyData, statements as statement_body, chart as chart_body, PouData, FileData}
+use Rattle.st_tree.specs.Syntax.{Symbol, mark, Named, empty, assign, branch, cases, iterate, Stmts, no_stmts, stmt, no_arms, arm, no_else, else_stmts, BodyData, statements as statement_body, chart as chart_body, PouData, FileData}
 use Rattle.st_tree.specs.Prints.{name_symbol, print_stmts, print_variables, print_body, print_file}
 use Rattle.st_parser.specs.Marks.{same_mark}
 use Rattle.st_parser.specs.Ends.{begins}
@@ -22,6 +22,8 @@ no_section (stmt (assign p e) ss) rest = refl
 no_section (stmt (branch no_arms no_else) ss) rest = refl
 no_section (stmt (branch no_arms (else_stmts others)) ss) rest = refl
 no_section (stmt (branch (arm e others arms) other) ss) rest = refl
+no_section (stmt (cases e es other) ss) rest = refl
+no_section (stmt (iterate i others) ss) rest = refl
 
 no_body_section : (b : BodyData) (rest : List Symbol) → section_of (print_body b ++ mark EndProgram ∷ rest) ≡ None
 no_body_section (statement_body ss) rest = no_section ss rest
@@ -50,7 +52,7 @@ step_named n ts = refl
 module _ (turns depth : ℕ) where
   body_again : (b : BodyData) (rest : List Symbol) → BodyFits b depth → length (print_body b ++ mark EndProgram ∷ rest) ≤ turns → body turns depth (print_body b ++ mark EndProgram ∷ rest) ≡ Some (b, mark EndProgram ∷ rest)
   unfolding body
-  body_again (statement_body ss) rest fits len = rw (statements_again turns ss depth (mark EndProgram ∷ rest) fits (no_begin rest) len) refl
+  body_again (statement_body ss) rest fits len = rw (statements_again turns ss depth false (mark EndProgram ∷ rest) fits (no_begin rest) len) refl
   body_again (chart_body c) rest fits len = absurd c
 
   program_again : (p : PouData) (rest : List Symbol) → PouFits p depth → length (print_variables p.variables ++ (print_body p.body ++ mark EndProgram ∷ rest)) ≤ turns

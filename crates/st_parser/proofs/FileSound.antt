@@ -1,5 +1,5 @@
 -- What is read of files prints the symbols that were taken.
-use Rattle.std.proofs.Common.{◌≡◌, ℕ, zero, suc, List, [], ◌∷◌, ◌++◌, Option, Some, None, refl, sym, ap, subst, ◌∙◌, append_assoc}
+use Rattle.std.proofs.Common.{◌≡◌, ℕ, zero, suc, List, [], ◌∷◌, ◌++◌, false, Option, Some, None, refl, sym, ap, subst, ◌∙◌, append_assoc}
 use Rattle.std.proofs.lemmas.List.{append-nil}
 use Rattle.st_tree.specs.declared.token.Mark.TheVariants.{Program, EndProgram}
 use Rattle.st_tree.specs.Syntax.{Symbol, mark, Stmts, VariablesData, BodyData, statements as statement_body, chart as chart_body, PouData, FileData}
@@ -38,8 +38,8 @@ module _ (turns depth : ℕ) where
   body_is : (ts : List Symbol) (y : BodyData × List Symbol) → body turns depth ts ≡ Some y → (ts ≡ print_body y.0 ++ y.1) × BodyFits y.0 depth
   unfolding body
   body_is ts y e =
-      let a = bind_some (statements turns depth ts) (λ (ss : Stmts × List Symbol). Some (statement_body ss.0, ss.1)) y e in
-      let whole = statements_are turns depth ts a.0.0 a.0.1 a.1 in
+      let a = bind_some (statements turns depth false ts) (λ (ss : Stmts × List Symbol). Some (statement_body ss.0, ss.1)) y e in
+      let whole = statements_are turns depth false ts a.0.0 a.0.1 a.1 in
       subst (λ (z : BodyData × List Symbol). (ts ≡ print_body z.0 ++ z.1) × BodyFits z.0 depth) (some_is (statement_body a.0.0, a.0.1) y a.2) whole
 
   abbrev ProgramIs : List Symbol → PouData × List Symbol → Type 0

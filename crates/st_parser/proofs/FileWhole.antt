@@ -1,5 +1,5 @@
 -- What the reader of whole files says of trees.
-use Rattle.std.proofs.Common.{◌≡◌, ◌≢◌, ℕ, ◌+◌, ◌-◌, ◌≤◌, List, [], ◌∷◌, ◌++◌, length, Some, None, refl, sym, ap, subst, ◌∙◌, arith, inr}
+use Rattle.std.proofs.Common.{◌≡◌, ◌≢◌, ℕ, ◌-◌, ◌≤◌, List, [], ◌∷◌, ◌++◌, length, Some, None, refl, sym, ap, subst, ◌∙◌, arith, inr}
 use Rattle.std.proofs.lemmas.List.{length-map}
 use Rattle.st_tree.specs.declared.token.Tok.{Tok}
 use Rattle.st_tree.specs.declared.token.Mark.TheVariants.{Program, EndProgram}
@@ -11,7 +11,7 @@ use Rattle.st_parser.specs.declared.fault.Stop.{Stop}
 use Rattle.st_parser.specs.declared.fault.Stop.TheVariants as stops
 use Rattle.st_parser.specs.Faults.{fault_of}
 use Rattle.st_parser.specs.Fits.{StmtsFit}
-use Rattle.st_parser.specs.Nesting.{NestsWithin, Shallow}
+use Rattle.st_parser.specs.Nesting.{nothing_open, NestsWithin, Shallow}
 use Rattle.st_parser.specs.Reading.{ahead}
 use Rattle.st_parser.specs.Files.{file}
 use Rattle.st_parser.specs.FirstFault.{IsSound}
@@ -24,19 +24,19 @@ use Rattle.st_parser.proofs.FileAgain.{file_again}
 
 -- ---- a levelled file fits what its symbols nest within
 
-body_fits : (limit : ℕ) (b : BodyData) (rest : List Symbol) → IsBodyLevelled b → NestsWithin limit 0 0 (print_body b ++ rest) → BodyFits b limit
+body_fits : (limit : ℕ) (b : BodyData) (rest : List Symbol) → IsBodyLevelled b → NestsWithin limit nothing_open (print_body b ++ rest) → BodyFits b limit
 body_fits limit (statement_body ss) rest levelled h =
-    let all : limit - (0 + 0) ≡ limit = omega arith in
-    subst (StmtsFit ss) all (stmts_nested limit ss 0 0 rest levelled h).0
+    let all : limit - 0 ≡ limit = omega arith in
+    subst (StmtsFit ss) all (stmts_nested limit ss nothing_open rest levelled h).0
 body_fits limit (chart_body c) rest levelled h = absurd c
 
-file_fits : (limit : ℕ) (f : FileData) → IsFileLevelled f → NestsWithin limit 0 0 (print_file f) → FileFits f limit
+file_fits : (limit : ℕ) (f : FileData) → IsFileLevelled f → NestsWithin limit nothing_open (print_file f) → FileFits f limit
 file_fits limit [] levelled h = tt
 file_fits limit (p ∷ ps) levelled h =
     let behind : List Symbol = mark EndProgram ∷ print_file ps in
     let front : List Symbol = mark Program ∷ name_symbol p.name ∷ print_variables p.variables in
-    let inner = nests-behind limit front (print_body p.body ++ behind) 0 0 (subst (NestsWithin limit 0 0) (pou_shape p (print_file ps)) h) in
-    let last = nests-behind limit (mark EndProgram ∷ []) (print_file ps) 0 0 (nests-behind limit (print_body p.body) behind 0 0 inner) in
+    let inner = nests-behind limit front (print_body p.body ++ behind) nothing_open (subst (NestsWithin limit nothing_open) (pou_shape p (print_file ps)) h) in
+    let last = nests-behind limit (mark EndProgram ∷ []) (print_file ps) nothing_open (nests-behind limit (print_body p.body) behind nothing_open inner) in
     ((levelled.0, body_fits limit p.body behind levelled.1 inner), file_fits limit ps levelled.2 last)
 
 body_levelled : (b : BodyData) (d : ℕ) → BodyFits b d → IsBodyLevelled b
@@ -52,12 +52,12 @@ file_levelled (p ∷ ps) d fits = (fits.0.0, body_levelled p.body d fits.0.1, fi
 length_symbols : (toks : List Tok) → length (view.symbols toks) ≤ length toks
 length_symbols toks = omega (arith, length-map toks view.symbol)
 
-file_read : (n limit : ℕ) (f : FileData) → length (print_file f) ≤ n → NestsWithin limit 0 0 (print_file f) → IsFileLevelled f → file n limit (print_file f) ≡ Some f
+file_read : (n limit : ℕ) (f : FileData) → length (print_file f) ≤ n → NestsWithin limit nothing_open (print_file f) → IsFileLevelled f → file n limit (print_file f) ≡ Some f
 file_read n limit f len within levelled = file_again n limit f (file_fits limit f levelled within) len
 
-no_file_is : (n : ℕ) (ts : List Symbol) (f : FileData) → length ts ≤ n → Shallow 0 0 ts → file n 64 ts ≡ None → IsFileLevelled f → ts ≡ print_file f → ⊥
+no_file_is : (n : ℕ) (ts : List Symbol) (f : FileData) → length ts ≤ n → Shallow ts → file n 64 ts ≡ None → IsFileLevelled f → ts ≡ print_file f → ⊥
 no_file_is n ts f len shallow none levelled printed =
-    let h = file_read n 64 f (subst (λ (x : List Symbol). length x ≤ n) printed len) (subst (Shallow 0 0) printed shallow) levelled in
+    let h = file_read n 64 f (subst (λ (x : List Symbol). length x ≤ n) printed len) (subst Shallow printed shallow) levelled in
     let both : None ≡ Some f = sym none ∙ ap (file n 64) printed ∙ h in
     cc
 
@@ -70,7 +70,7 @@ file_found toks f sound e =
     let found = file_is (length toks) 64 (view.symbols toks) f (ap (file (length toks) 64) (sym (ahead_start toks)) ∙ e) in
     record { sound = sound; printed = found.0; levelled = file_levelled f 64 found.1 }
 
-pub file_fault : (toks : List Tok) (stop : Stop) → IsSound toks → Shallow 0 0 (view.symbols toks) → (stop ≢ stops.Memory → file (length toks) 64 (ahead toks 0) ≡ None) → IsFileFault toks (fault_of stop)
+pub file_fault : (toks : List Tok) (stop : Stop) → IsSound toks → Shallow (view.symbols toks) → (stop ≢ stops.Memory → file (length toks) 64 (ahead toks 0) ≡ None) → IsFileFault toks (fault_of stop)
 file_fault toks (stops.NoTree at) sound shallow none =
     inr (record {
       sound = sound;
@@ -82,7 +82,7 @@ file_fault toks stops.Memory sound shallow none = tt
 -- ---- one file at most
 
 file_whole : (n : ℕ) (f : FileData) → length (print_file f) ≤ n → IsFileLevelled f → file n n (print_file f) ≡ Some f
-file_whole n f len levelled = file_read n n f len (nests-length n (print_file f) 0 0 (omega arith)) levelled
+file_whole n f len levelled = file_read n n f len (nests-length n (print_file f) nothing_open (omega arith)) levelled
 
 pub one_file : (f g : FileData) → IsFileLevelled f → IsFileLevelled g → print_file f ≡ print_file g → f ≡ g
 one_file f g lf lg same =

@@ -1,18 +1,19 @@
 -- The first token that breaks a rule, by recursion on the tokens.
-use Rattle.std.proofs.Common.{Bool, true, false, cond, nat_lt, ◌-◌, ◌≡◌, ℕ, ◌+◌, ◌<◌, ◌≤◌, List, [], ◌∷◌, ◌++◌, length, get_or, drop, Option, Some, None, refl, sym, ap, subst, ◌∙◌, arith, add-one, drop-cons}
+use Rattle.std.proofs.Common.{Bool, true, false, cond, ◌||◌, nat_lt, ◌-◌, ◌≡◌, ℕ, ◌+◌, ◌<◌, ◌≤◌, List, [], ◌∷◌, ◌++◌, length, get_or, drop, Option, Some, None, refl, sym, ap, subst, ◌∙◌, arith, add-one, drop-cons}
 use Rattle.std.proofs.lemmas.List.{drop_all}
 use Rattle.std.proofs.lemmas.Bool.{ltb-false}
 use Rattle.st_tree.specs.declared.rule.Rule.TheVariants.{TooDeep}
-use Rattle.st_tree.specs.declared.token.Mark.TheVariants.{If, EndIf, Close}
-use Rattle.st_tree.specs.Syntax.{Symbol, name, number, truth, elementary, negation, operator, opening, mark, left_out}
+use Rattle.st_tree.specs.declared.token.Mark.{Mark}
+use Rattle.st_tree.specs.declared.token.Mark.TheVariants.{If, EndIf, Case, EndCase, EndFor, Close}
+use Rattle.st_tree.specs.Syntax.{Symbol, name, number, truth, elementary, negation, operator, opening, iteration, mark, left_out}
 use Rattle.st_parser.specs.Marks.{same_mark}
-use Rattle.st_parser.specs.Nesting.{open_parentheses, open_ifs, NestsWithin, Shallow}
+use Rattle.st_parser.specs.Nesting.{open_parentheses, open_ifs, open_cases, open_iterations, nothing_open, total, behind, NestsWithin, Shallow}
 use Rattle.st_tree.specs.declared.token.Tok.{Tok}
 use Rattle.st_tree.specs.declared.rule.Rule.{Rule}
 use Rattle.st_tree.specs.declared.rule.Refusal.{Refusal}
 use Rattle.st_tree.specs.SyntaxView.{symbol, symbols}
 use Rattle.st_parser.specs.declared.nesting.Open.{Open}
-use Rattle.st_parser.specs.FirstFault.{nothing_open, behind, behind_all, total, too_deep, fault_at, IsBroken, IsFirstFault}
+use Rattle.st_parser.specs.FirstFault.{behind_all, too_deep, fault_at, IsBroken, IsFirstFault}
 
 abbrev pub fault_step : (Open → Option Refusal) → Open → Tok → Option Rule → Option Refusal
 fault_step more o t None = more (behind o (symbol t))
@@ -126,18 +127,23 @@ not_deep o e = by_test (nat_lt 64 (total o)) refl e
     by_test true is e = absurd cc
     by_test false is e = ltb-false 64 (total o) is
 
-abbrev behind_tests : Open → Bool → Bool → Bool → Open
-behind_tests o is_if is_end is_close = record { parentheses = cond is_close (o.parentheses - 1) o.parentheses; ifs = cond is_if (o.ifs + 1) (cond is_end (o.ifs - 1) o.ifs) }
+closes-below : (n : ℕ) (x : Bool) → cond x (n - 1) n ≤ n
+closes-below n true = omega arith
+closes-below n false = omega arith
 
-few_mark : (o : Open) (is_if is_end is_close : Bool) → total o ≤ 64 → cond is_if (too_deep (behind_tests o is_if is_end is_close)) None ≡ None → total (behind_tests o is_if is_end is_close) ≤ 64
-few_mark o true is_end is_close few e = not_deep (behind_tests o true is_end is_close) e
-few_mark o false true true few e = omega arith
-few_mark o false true false few e = omega arith
-few_mark o false false true few e = omega arith
-few_mark o false false false few e = few
+-- a mark that opens nothing leaves no more open
+no_more_open : (o : Open) (m : Mark) → same_mark m If ≡ false → same_mark m Case ≡ false → total (behind o (mark m)) ≤ total o
+unfolding open_parentheses open_ifs open_cases open_iterations
+no_more_open o m p q =
+    rw (p, q) (omega (arith, closes-below o.parentheses (same_mark m Close), closes-below o.ifs (same_mark m EndIf), closes-below o.cases (same_mark m EndCase), closes-below o.iterations (same_mark m EndFor)))
+
+few_mark : (o : Open) (m : Mark) (is_if is_case : Bool) → same_mark m If ≡ is_if → same_mark m Case ≡ is_case → total o ≤ 64 → cond (is_if || is_case) (too_deep (behind o (mark m))) None ≡ None → total (behind o (mark m)) ≤ 64
+few_mark o m true is_case p q few e = not_deep (behind o (mark m)) e
+few_mark o m false true p q few e = not_deep (behind o (mark m)) e
+few_mark o m false false p q few e = omega (arith, no_more_open o m p q)
 
 few_behind : (s : Symbol) (o : Open) → total o ≤ 64 → fault_at o s ≡ None → total (behind o s) ≤ 64
-unfolding open_parentheses open_ifs
+unfolding open_parentheses open_ifs open_cases open_iterations
 few_behind (name t at) o few e = few
 few_behind (number n at) o few e = few
 few_behind (truth b at) o few e = few
@@ -145,21 +151,22 @@ few_behind (elementary k at) o few e = few
 few_behind (negation at) o few e = few
 few_behind (operator p at) o few e = few
 few_behind (opening at) o few e = not_deep (behind o (opening at)) e
-few_behind (mark m) o few e = few_mark o (same_mark m If) (same_mark m EndIf) (same_mark m Close) few e
+few_behind (iteration at) o few e = not_deep (behind o (iteration at)) e
+few_behind (mark m) o few e = few_mark o m (same_mark m If) (same_mark m Case) refl refl few e
 few_behind (left_out at) o few e = absurd cc
 
 shallow_go : (o : Open) (t : Tok) (ts : List Tok) (f : Option Rule) → fault_at o (symbol t) ≡ f → fault_step (λ o. fault_from o ts) o t f ≡ None → total o ≤ 64
-    → (total (behind o (symbol t)) ≤ 64 → fault_from (behind o (symbol t)) ts ≡ None → NestsWithin 64 (behind o (symbol t)).parentheses (behind o (symbol t)).ifs (symbols ts))
-    → NestsWithin 64 o.parentheses o.ifs (symbols (t ∷ ts))
+    → (total (behind o (symbol t)) ≤ 64 → fault_from (behind o (symbol t)) ts ≡ None → NestsWithin 64 (behind o (symbol t)) (symbols ts))
+    → NestsWithin 64 o (symbols (t ∷ ts))
 shallow_go o t ts None is e few below = let next = few_behind (symbol t) o few is in (next, below next e)
 shallow_go o t ts (Some rule) is e few below = absurd cc
 
-shallow_from : (toks : List Tok) (o : Open) → total o ≤ 64 → fault_from o toks ≡ None → NestsWithin 64 o.parentheses o.ifs (symbols toks)
+shallow_from : (toks : List Tok) (o : Open) → total o ≤ 64 → fault_from o toks ≡ None → NestsWithin 64 o (symbols toks)
 unfolding fault_from
 shallow_from [] o few e = tt
 shallow_from (t ∷ ts) o few e = shallow_go o t ts (fault_at o (symbol t)) refl e few (λ next e. shallow_from ts (behind o (symbol t)) next e)
 
-pub shallow : (toks : List Tok) → fault_from nothing_open toks ≡ None → Shallow 0 0 (symbols toks)
+pub shallow : (toks : List Tok) → fault_from nothing_open toks ≡ None → Shallow (symbols toks)
 shallow toks e = shallow_from toks nothing_open (omega arith) e
 
 -- ---- the first fault is one

@@ -7,7 +7,8 @@ use Rattle.st_tree.specs.declared.rule.Refusal.{Refusal}
 use Rattle.st_tree.specs.Rules.{comes_before, IsFirst}
 use Rattle.st_tree.specs.SyntaxView.{symbol, symbols}
 use Rattle.st_parser.specs.declared.nesting.Open.{Open}
-use Rattle.st_parser.specs.FirstFault.{nothing_open, behind, behind_all, fault_at, IsBroken, IsFirstFault, AreFrom}
+use Rattle.st_parser.specs.Nesting.{nothing_open, behind}
+use Rattle.st_parser.specs.FirstFault.{behind_all, fault_at, IsBroken, IsFirstFault, AreFrom}
 use Rattle.st_parser.proofs.FirstFaults.{head_of, tail_of, no_split, behind_it}
 
 abbrev Later : Refusal → Refusal → Type 0

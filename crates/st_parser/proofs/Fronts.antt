@@ -6,10 +6,10 @@ use Rattle.st_tree.specs.declared.token.Operator.{Operator}
 use Rattle.st_tree.specs.declared.token.Operator.TheVariants as operators
 use Rattle.st_tree.specs.declared.token.Mark.{Mark}
 use Rattle.st_tree.specs.declared.token.Mark.TheVariants.{Point, Hash}
-use Rattle.st_tree.specs.Syntax.{Symbol, operator, opening, mark, Tree, literal, path, enumerator, paren, unary, chain, no_links, link}
+use Rattle.st_tree.specs.Syntax.{Symbol, operator, opening, mark, Tree, literal, path, enumerator, paren, unary, chain, call, no_links, link}
 use Rattle.st_tree.specs.Levels.{level_of, level}
 use Rattle.st_parser.specs.Marks.{same_mark}
-use Rattle.st_parser.specs.Reading.{after, operator_of}
+use Rattle.st_parser.specs.Reading.{after, opened, operator_of}
 use Rattle.st_parser.specs.Ends.{goes_on}
 
 pub neither_first : (a b : Bool) → (a || b) ≡ false → a ≡ false
@@ -38,6 +38,11 @@ pub no_hash : (k : ℕ) (ts : List Symbol) → goes_on k ts ≡ false → after 
 unfolding after
 no_hash k (mark m ∷ ts) h = after_other Hash m ts (neither_second (same_mark m Point) (same_mark m Hash) h)
 no_hash k ts h = refl
+
+pub not_opened : (k : ℕ) (ts : List Symbol) → goes_on k ts ≡ false → opened ts ≡ None
+unfolding opened
+not_opened k (opening at ∷ ts) h = absurd cc
+not_opened k ts h = refl
 
 ne-eqb : (a b : ℕ) → a ≢ b → eqb a b ≡ false
 ne-eqb a b ne = elim (eqb_tells a b) [ inl p ↦ absurd (ne p.1) | inr p ↦ p.0 ]
@@ -85,6 +90,7 @@ level-le (path p) = omega arith
 level-le (enumerator n v) = omega arith
 level-le (paren at e) = omega arith
 level-le (unary o at e) = omega arith
+level-le (call n at args) = omega arith
 level-le (chain e no_links) = omega arith
 level-le (chain e (link o at f ls)) = (level_of-within o).1
 

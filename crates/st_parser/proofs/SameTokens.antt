@@ -5,7 +5,8 @@ use Rattle.st_tree.specs.declared.rule.Refusal.{Refusal}
 use Rattle.st_tree.specs.Syntax.{Symbol}
 use Rattle.st_tree.specs.SyntaxView.{symbol, symbols}
 use Rattle.st_parser.specs.declared.nesting.Open.{Open}
-use Rattle.st_parser.specs.FirstFault.{nothing_open, behind_all, fault_at, IsBroken, IsSound, IsFirstFault}
+use Rattle.st_parser.specs.Nesting.{nothing_open}
+use Rattle.st_parser.specs.FirstFault.{behind_all, fault_at, IsBroken, IsSound, IsFirstFault}
 use Rattle.st_parser.specs.Same.{placed_symbol, AreSameTokens}
 use Rattle.st_parser.proofs.FirstFaults.{first_fault_once}
 

@@ -8,13 +8,14 @@ use Rattle.st_tree.specs.declared.token.Mark.TheVariants.{Close, Point, Hash}
 use Rattle.st_tree.specs.declared.syntax.UnaryOperator.{UnaryOperator}
 use Rattle.st_tree.specs.declared.syntax.Literal.{Literal}
 use Rattle.st_tree.specs.declared.syntax.Literal.TheVariants as literals
-use Rattle.st_tree.specs.Syntax.{Symbol, name, number, truth, elementary, operator, opening, mark, Named, PathData, Tree, literal, path, enumerator, paren, unary, chain, Links, no_links, link}
-use Rattle.st_tree.specs.Prints.{name_symbol, unary_symbol, print_members, print_path, print_literal, print, print_links}
+use Rattle.st_tree.specs.Syntax.{Symbol, name, number, truth, elementary, operator, opening, mark, Named, PathData, Tree, literal, path, enumerator, paren, unary, chain, call, Links, no_links, link, Arguments}
+use Rattle.st_tree.specs.Prints.{name_symbol, unary_symbol, print_members, print_path, print_literal, print, print_links, print_arguments}
 use Rattle.st_tree.specs.Levels.{level, IsPrimary}
-use Rattle.st_parser.specs.Reading.{Read, ◌>>=◌, after, named, numbered, minus, operator_of, sign}
+use Rattle.st_parser.specs.Reading.{Read, ◌>>=◌, after, named, numbered, minus, opened, operator_of, sign}
 use Rattle.st_parser.specs.Fits.{Fits, LinksFit}
-use Rattle.st_parser.specs.Expressions.{typed_value, typed_or, typed, constant, members_step, members, path_from, referred_or, referred, primary, signed_or, signed, add_link, links_step, links, joined, levelled, inside, expression}
-use Rattle.st_parser.proofs.Steps.{bind_some, some_is, after_is, named_is, numbered_is, minus_is, operator_of_is, sign_is}
+use Rattle.st_parser.specs.Expressions.{typed_value, typed_or, typed, constant, members_step, members, path_from, arguments, called_or, called, referred_or, referred, primary, signed_or, signed, add_link, links_step, links, joined, levelled, inside, expression}
+use Rattle.st_parser.proofs.Steps.{bind_some, some_is, after_is, named_is, numbered_is, minus_is, opened_is, operator_of_is, sign_is}
+use Rattle.st_parser.proofs.ArgumentsSound.{InsideIs, printed, fits_paren, arguments_are}
 
 -- ---- literals
 
@@ -80,20 +81,6 @@ path_from_is turns n ts found e =
     let here : name_symbol n ∷ ts ≡ name_symbol n ∷ (print_members a.0.0 ++ a.0.1) = ap (λ (r : List Symbol). name_symbol n ∷ r) (m.2 ∙ ap (λ (ns : List Named). print_members ns ++ a.0.1) (sym m.1)) in
     subst (λ (x : PathData × List Symbol). name_symbol n ∷ ts ≡ print_path x.0 ++ x.1) (some_is (record { first = n; members = a.0.0 }, a.0.1) found a.2) here
 
--- ---- what is read inside parentheses
-
-abbrev pub InsideIs : ℕ → List Symbol → Tree → List Symbol → Type 0
-InsideIs zero ts t rest = ⊥
-InsideIs (suc d) ts t rest = (ts ≡ print t ++ rest) × Fits t d
-
-printed : (d : ℕ) (ts : List Symbol) (t : Tree) (rest : List Symbol) → InsideIs d ts t rest → ts ≡ print t ++ rest
-printed zero ts t rest i = absurd i
-printed (suc d) ts t rest i = i.0
-
-fits_paren : (d at : ℕ) (ts : List Symbol) (t : Tree) (rest : List Symbol) → InsideIs d ts t rest → Fits (paren at t) d
-fits_paren zero at ts t rest i = absurd i
-fits_paren (suc d) at ts t rest i = i.1
-
 -- ---- links
 
 abbrev pub join : Links → Links → Links
@@ -119,16 +106,28 @@ module _ (turns d : ℕ) (inner : Read Tree) (sound : (ts : List Symbol) (t : Tr
   moved : (ts : List Symbol) (x y : Tree × List Symbol) → x ≡ y → PrimaryIs ts x.0 x.1 → PrimaryIs ts y.0 y.1
   moved ts x y e p = subst (λ (z : Tree × List Symbol). PrimaryIs ts z.0 z.1) e p
 
-  referred_go : (n : Named) (ts : List Symbol) (t : Tree) (rest : List Symbol) (o : Option (List Symbol)) → after Hash ts ≡ o → referred_or turns n ts o ≡ Some (t, rest) → PrimaryIs (name_symbol n ∷ ts) t rest
-  referred_go n ts t rest None is e =
+  called_go : (n : Named) (ts : List Symbol) (t : Tree) (rest : List Symbol) (o : Option (ℕ × List Symbol)) → opened ts ≡ o → called_or turns inner n ts o ≡ Some (t, rest) → PrimaryIs (name_symbol n ∷ ts) t rest
+  called_go n ts t rest None is e =
       let a = bind_some (path_from turns n ts) (λ (p : PathData × List Symbol). Some (path p.0, p.1)) (t, rest) e in
       moved (name_symbol n ∷ ts) (path a.0.0, a.0.1) (t, rest) (some_is (path a.0.0, a.0.1) (t, rest) a.2) (record { parts = path_from_is turns n ts a.0 a.1; fits = tt; is = tt })
+  called_go n ts t rest (Some (at, next)) is e =
+      let a = bind_some (arguments turns inner next) (λ (args : Arguments × List Symbol). Some (call n at args.0, args.1)) (t, rest) e in
+      let f = arguments_are turns d inner sound next a.0 a.1 in
+      let all : ts ≡ opening at ∷ ((print_arguments a.0.0 ++ mark Close ∷ []) ++ a.0.1) = opened_is ts at next is ∙ ap (λ (r : List Symbol). opening at ∷ r) (f.0 ∙ sym (append_assoc (print_arguments a.0.0) (mark Close ∷ []) a.0.1)) in
+      moved (name_symbol n ∷ ts) (call n at a.0.0, a.0.1) (t, rest) (some_is (call n at a.0.0, a.0.1) (t, rest) a.2) (record { parts = ap (λ (r : List Symbol). name_symbol n ∷ r) all; fits = f.1; is = tt })
+
+  called_is : (n : Named) (ts : List Symbol) (t : Tree) (rest : List Symbol) → called turns inner n ts ≡ Some (t, rest) → PrimaryIs (name_symbol n ∷ ts) t rest
+  unfolding called
+  called_is n ts t rest e = called_go n ts t rest (opened ts) refl e
+
+  referred_go : (n : Named) (ts : List Symbol) (t : Tree) (rest : List Symbol) (o : Option (List Symbol)) → after Hash ts ≡ o → referred_or turns inner n ts o ≡ Some (t, rest) → PrimaryIs (name_symbol n ∷ ts) t rest
+  referred_go n ts t rest None is e = called_is n ts t rest e
   referred_go n ts t rest (Some next) is e =
       let a = bind_some (named next) (λ (v : Named × List Symbol). Some (enumerator n v.0, v.1)) (t, rest) e in
       let all : ts ≡ mark Hash ∷ name_symbol a.0.0 ∷ a.0.1 = after_is Hash ts next is ∙ ap (λ (r : List Symbol). mark Hash ∷ r) (named_is next a.0.0 a.0.1 a.1) in
       moved (name_symbol n ∷ ts) (enumerator n a.0.0, a.0.1) (t, rest) (some_is (enumerator n a.0.0, a.0.1) (t, rest) a.2) (record { parts = ap (λ (r : List Symbol). name_symbol n ∷ r) all; fits = tt; is = tt })
 
-  referred_is : (n : Named) (ts : List Symbol) (t : Tree) (rest : List Symbol) → referred turns n ts ≡ Some (t, rest) → PrimaryIs (name_symbol n ∷ ts) t rest
+  referred_is : (n : Named) (ts : List Symbol) (t : Tree) (rest : List Symbol) → referred turns inner n ts ≡ Some (t, rest) → PrimaryIs (name_symbol n ∷ ts) t rest
   unfolding referred
   referred_is n ts t rest e = referred_go n ts t rest (after Hash ts) refl e
 
@@ -165,6 +164,7 @@ module _ (turns d : ℕ) (inner : Read Tree) (sound : (ts : List Symbol) (t : Tr
   primary_low (paren at e) is = omega arith
   primary_low (unary o at e) is = absurd is
   primary_low (chain e ls) is = absurd is
+  primary_low (call n at args) is = omega arith
 
   signed_go : (ts : List Symbol) (t : Tree) (rest : List Symbol) (o : Option ((UnaryOperator × ℕ) × List Symbol)) → sign ts ≡ o → signed_or turns inner ts o ≡ Some (t, rest) → LevelIs 0 ts t rest
   signed_go ts t rest None is e = let p = primary_is ts t rest e in record { parts = p.parts; fits = p.fits; low = primary_low t p.is }

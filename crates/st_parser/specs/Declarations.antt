@@ -1,9 +1,9 @@
 -- Reading declarations of variables, and sections of them.
 use Rattle.std.specs.Prelude.{ℕ, zero, suc, List, [], ◌∷◌, ◌++◌, Option, Some, None, if◌then◌else◌}
-use Rattle.st_tree.specs.declared.token.Mark.TheVariants.{Comma, Colon, Semicolon, Assign, Hash, Var, VarInput, VarOutput, EndVar}
+use Rattle.st_tree.specs.declared.token.Mark.TheVariants.{Comma, Colon, Semicolon, Assign, Hash, Var, VarInput, VarOutput, VarTemp, Constant, EndVar}
 use Rattle.st_tree.specs.declared.syntax.UnaryOperator.TheVariants as signs
 use Rattle.st_tree.specs.declared.syntax.Section.{Section}
-use Rattle.st_tree.specs.declared.syntax.Section.TheVariants.{Input, Output, Local}
+use Rattle.st_tree.specs.declared.syntax.Section.TheVariants as sections
 use Rattle.st_tree.specs.Syntax.{Symbol, name, elementary, mark, Named, Tree, literal, path, enumerator, unary, TypeData, of_elementary, of_name, DeclarationData, VariablesData}
 use Rattle.st_parser.specs.Marks.{same_mark}
 use Rattle.st_parser.specs.Reading.{Read, ◌>>=◌, after, named, minus}
@@ -53,10 +53,21 @@ unfoldable pub others : ℕ → List Named → Read (List Named)
 others zero ns ts = Some (ns, ts)
 others (suc turns) ns ts = others_step (others turns) ns ts (after Comma ts)
 
+-- behind VAR, where CONSTANT may stand
+abbrev pub local_or : List Symbol → Option (List Symbol) → Section × List Symbol
+local_or ts (Some rest) = (sections.Constant, rest)
+local_or ts None = (sections.Local, ts)
+
+unfoldable pub local : List Symbol → Section × List Symbol
+local ts = local_or ts (after Constant ts)
+
 -- the section that a word begins
 unfoldable pub section_of : Read Section
 section_of (mark m ∷ ts) =
-    if same_mark m VarInput then Some (Input, ts) else (if same_mark m VarOutput then Some (Output, ts) else (if same_mark m Var then Some (Local, ts) else None))
+    if same_mark m VarInput then Some (sections.Input, ts)
+    else (if same_mark m VarOutput then Some (sections.Output, ts)
+    else (if same_mark m VarTemp then Some (sections.Temporary, ts)
+    else (if same_mark m Var then Some (local ts) else None)))
 section_of ts = None
 
 -- The first number bounds the turns of each loop: that of the tokens is always enough.

@@ -1,7 +1,7 @@
 -- Which symbols go on with an expression, and which begin a statement.
-use Rattle.std.specs.Prelude.{ℕ, Bool, true, false, List, ◌∷◌, nat_le, ◌||◌}
-use Rattle.st_tree.specs.declared.token.Mark.TheVariants.{Semicolon, If, Point, Hash}
-use Rattle.st_tree.specs.Syntax.{Symbol, name, operator, opening, mark}
+use Rattle.std.specs.Prelude.{ℕ, Bool, true, false, List, ◌∷◌, nat_le, ◌||◌, ◌&&◌, not}
+use Rattle.st_tree.specs.declared.token.Mark.TheVariants.{Comma, Semicolon, Colon, Range, If, Else, Case, EndCase, Point, Hash}
+use Rattle.st_tree.specs.Syntax.{Symbol, name, operator, opening, iteration, mark}
 use Rattle.st_tree.specs.Levels.{level_of}
 use Rattle.st_parser.specs.Marks.{same_mark}
 
@@ -12,8 +12,23 @@ goes_on k (opening at ∷ ts) = true
 goes_on k (mark m ∷ ts) = same_mark m Point || same_mark m Hash
 goes_on k ts = false
 
--- the next symbol begins a statement: a name, `;` or IF
+-- behind a name, the next symbol makes the name a label of a CASE: `:`, `,`, `..` or `#`
+abbrev pub is_label : List Symbol → Bool
+is_label (mark m ∷ ts) = same_mark m Colon || same_mark m Comma || same_mark m Range || same_mark m Hash
+is_label ts = false
+
+-- the next symbol begins a statement: a name, `;`, IF, CASE or FOR; but no name that is a label, where labels may follow
+abbrev pub begins_where : Bool → List Symbol → Bool
+begins_where labelled (name t at ∷ ts) = not (labelled && is_label ts)
+begins_where labelled (iteration at ∷ ts) = true
+begins_where labelled (mark m ∷ ts) = same_mark m Semicolon || same_mark m If || same_mark m Case
+begins_where labelled ts = false
+
+-- the same where no label may follow
 abbrev pub begins : List Symbol → Bool
-begins (name t at ∷ ts) = true
-begins (mark m ∷ ts) = same_mark m Semicolon || same_mark m If
-begins ts = false
+begins ts = begins_where false ts
+
+-- the next symbol ends the entries of a CASE: ELSE or END_CASE
+abbrev pub ends_entries : List Symbol → Bool
+ends_entries (mark m ∷ ts) = same_mark m Else || same_mark m EndCase
+ends_entries ts = false

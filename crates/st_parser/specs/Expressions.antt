@@ -1,13 +1,13 @@
 -- Reading expressions.
-use Rattle.std.specs.Prelude.{ℕ, zero, suc, List, [], ◌∷◌, ◌++◌, Option, Some, None}
+use Rattle.std.specs.Prelude.{ℕ, zero, suc, Bool, true, false, List, [], ◌∷◌, ◌++◌, Option, Some, None, is_some}
 use Rattle.st_tree.specs.declared.elementary.Elementary.{Elementary}
 use Rattle.st_tree.specs.declared.token.Operator.{Operator}
-use Rattle.st_tree.specs.declared.token.Mark.TheVariants.{Close, Point, Hash}
+use Rattle.st_tree.specs.declared.token.Mark.TheVariants.{Assign, Close, Comma, Point, Hash}
 use Rattle.st_tree.specs.declared.syntax.UnaryOperator.{UnaryOperator}
 use Rattle.st_tree.specs.declared.syntax.Literal.{Literal}
 use Rattle.st_tree.specs.declared.syntax.Literal.TheVariants as literals
-use Rattle.st_tree.specs.Syntax.{Symbol, name, number, truth, elementary, opening, Named, PathData, Tree, literal, path, enumerator, paren, unary, chain, Links, no_links, link}
-use Rattle.st_parser.specs.Reading.{Read, ◌>>=◌, after, named, numbered, minus, operator_of, sign}
+use Rattle.st_tree.specs.Syntax.{Symbol, name, number, truth, elementary, opening, Named, PathData, Tree, literal, path, enumerator, paren, unary, chain, call, Links, no_links, link, Arguments, no_arguments, argument}
+use Rattle.st_parser.specs.Reading.{Read, ◌>>=◌, after, named, numbered, minus, opened, operator_of, sign}
 
 -- what may stand behind `type#`, with no minus sign before it
 unfoldable pub typed_value : Elementary → ℕ → Read Literal
@@ -38,22 +38,62 @@ unfoldable pub members : ℕ → List Named → Read (List Named)
 members zero ns ts = Some (ns, ts)
 members (suc turns) ns ts = members_step (members turns) ns ts (after Point ts)
 
+-- an argument by name stands in front: a name, and `:=`
+abbrev pub is_by_name : List Symbol → Bool
+is_by_name (name t at ∷ ts) = is_some (after Assign ts)
+is_by_name ts = false
+
+-- what stands before the value of an argument: a name and `:=` where it is by name
+unfoldable pub argument_name : Bool → Read (Option Named)
+argument_name true ts = named ts >>= λ n. after Assign n.1 >>= λ rest. Some (Some n.0, rest)
+argument_name false ts = Some (None, ts)
+
+abbrev pub add_argument : Arguments → Option Named → Tree → Arguments
+add_argument no_arguments n e = argument n e no_arguments
+add_argument (argument m f args) n e = argument m f (add_argument args n e)
+
 -- The first number bounds the turns of each loop: that of the tokens is always enough.
 module _ (turns : ℕ) where
   -- the path that begins with this name
   unfoldable pub path_from : Named → Read PathData
   path_from n ts = members turns [] ts >>= λ ns. Some (record { first = n; members = ns.0 }, ns.1)
 
-  abbrev pub referred_or : Named → List Symbol → Option (List Symbol) → Option (Tree × List Symbol)
-  referred_or n ts (Some rest) = named rest >>= λ v. Some (enumerator n v.0, v.1)
-  referred_or n ts None = path_from n ts >>= λ p. Some (path p.0, p.1)
+  abbrev pub arguments_step : (Arguments → Read Arguments) → Arguments → List Symbol → Option (List Symbol) → Option (Arguments × List Symbol)
+  arguments_step more_of args ts None = Some (args, ts)
+  arguments_step more_of args ts (Some rest) = more_of args rest
+
+  -- arguments, all by name or all by place, after those that were read. The second number bounds the turns.
+  unfoldable pub arguments_from : Read Tree → Bool → ℕ → Arguments → Read Arguments
+  arguments_from inner by_name zero args ts = None
+  arguments_from inner by_name (suc n) args ts =
+      argument_name by_name ts >>= λ m. inner m.1 >>= λ e. arguments_step (arguments_from inner by_name n) (add_argument args m.0 e.0) e.1 (after Comma e.1)
+
+  abbrev pub arguments_or : Read Tree → List Symbol → Option (List Symbol) → Option (Arguments × List Symbol)
+  arguments_or inner ts (Some rest) = Some (no_arguments, rest)
+  arguments_or inner ts None = arguments_from inner (is_by_name ts) turns no_arguments ts >>= λ args. after Close args.1 >>= λ rest. Some (args.0, rest)
+
+  -- the arguments of a call and `)`, behind `(`
+  unfoldable pub arguments : Read Tree → Read Arguments
+  arguments inner ts = arguments_or inner ts (after Close ts)
+
+  abbrev pub called_or : Read Tree → Named → List Symbol → Option (ℕ × List Symbol) → Option (Tree × List Symbol)
+  called_or inner n ts (Some o) = arguments inner o.1 >>= λ args. Some (call n o.0 args.0, args.1)
+  called_or inner n ts None = path_from n ts >>= λ p. Some (path p.0, p.1)
+
+  -- behind a name, a call or a path
+  unfoldable pub called : Read Tree → Named → Read Tree
+  called inner n ts = called_or inner n ts (opened ts)
+
+  abbrev pub referred_or : Read Tree → Named → List Symbol → Option (List Symbol) → Option (Tree × List Symbol)
+  referred_or inner n ts (Some rest) = named rest >>= λ v. Some (enumerator n v.0, v.1)
+  referred_or inner n ts None = called inner n ts
 
   -- behind a name
-  unfoldable pub referred : Named → Read Tree
-  referred n ts = referred_or n ts (after Hash ts)
+  unfoldable pub referred : Read Tree → Named → Read Tree
+  referred inner n ts = referred_or inner n ts (after Hash ts)
 
   unfoldable pub primary : Read Tree → Read Tree
-  primary inner (name t at ∷ ts) = referred (record { text = t; at = at }) ts
+  primary inner (name t at ∷ ts) = referred inner (record { text = t; at = at }) ts
   primary inner (opening at ∷ ts) = inner ts >>= λ e. after Close e.1 >>= λ rest. Some (paren at e.0, rest)
   primary inner ts = constant ts >>= λ l. Some (literal l.0, l.1)
 

@@ -1,5 +1,5 @@
 -- Reading whole files.
-use Rattle.std.specs.Prelude.{◌≡◌, ◌≢◌, ℕ, zero, suc, List, [], ◌∷◌, ◌++◌, Option, Some, None, Result, Ok, Err}
+use Rattle.std.specs.Prelude.{◌≡◌, ◌≢◌, ℕ, zero, suc, List, [], ◌∷◌, ◌++◌, false, Option, Some, None, Result, Ok, Err}
 use Rattle.st_tree.specs.declared.syntax.SourceFile.{SourceFile}
 use Rattle.st_tree.specs.SyntaxView.{file_view}
 use Rattle.st_parser.specs.declared.fault.Stop.{Stop}
@@ -10,11 +10,11 @@ use Rattle.st_parser.specs.Reading.{Read, ◌>>=◌, after, named}
 use Rattle.st_parser.specs.Statements.{statements}
 use Rattle.st_parser.specs.Declarations.{variables}
 
--- The first number bounds the turns of each loop: that of the tokens is always enough. The second is how deep parentheses and IFs nest.
+-- The first number bounds the turns of each loop: that of the tokens is always enough. The second is how deep parentheses and statements nest.
 module _ (turns depth : ℕ) where
   -- what a program does
   unfoldable pub body : Read BodyData
-  body ts = statements turns depth ts >>= λ ss. Some (statement_body ss.0, ss.1)
+  body ts = statements turns depth false ts >>= λ ss. Some (statement_body ss.0, ss.1)
 
   -- behind PROGRAM
   unfoldable pub program : Read PouData

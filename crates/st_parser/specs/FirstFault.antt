@@ -1,25 +1,15 @@
--- What is tested before any tree is read: words that are left out, and how deep parentheses and IFs nest.
-use Rattle.std.specs.Prelude.{◌≡◌, ◌≤◌, ℕ, ◌+◌, nat_lt, if◌then◌else◌, List, [], ◌∷◌, ◌++◌, Option, Some, None}
-use Rattle.st_tree.specs.declared.token.Mark.TheVariants.{If}
+-- What is tested before any tree is read: words that are left out, and how deep parentheses and statements nest.
+use Rattle.std.specs.Prelude.{◌≡◌, ◌≤◌, ℕ, ◌+◌, nat_lt, ◌||◌, if◌then◌else◌, List, [], ◌∷◌, ◌++◌, Option, Some, None}
+use Rattle.st_tree.specs.declared.token.Mark.TheVariants.{If, Case}
 use Rattle.st_tree.specs.declared.token.Tok.{Tok}
 use Rattle.st_tree.specs.declared.rule.Rule.{Rule}
 use Rattle.st_tree.specs.declared.rule.Rule.TheVariants.{LeftOutWord, TooDeep}
 use Rattle.st_tree.specs.declared.rule.Refusal.{Refusal}
-use Rattle.st_tree.specs.Syntax.{Symbol, opening, mark, left_out}
+use Rattle.st_tree.specs.Syntax.{Symbol, opening, iteration, mark, left_out}
 use Rattle.st_tree.specs.SyntaxView.{symbol, symbols}
 use Rattle.st_parser.specs.Marks.{same_mark}
-use Rattle.st_parser.specs.Nesting.{open_parentheses, open_ifs}
+use Rattle.st_parser.specs.Nesting.{nothing_open, total, behind}
 use Rattle.st_parser.specs.declared.nesting.Open.{Open}
-
-abbrev pub nothing_open : Open
-nothing_open = record { parentheses = 0; ifs = 0 }
-
-abbrev pub total : Open → ℕ
-total o = o.parentheses + o.ifs
-
--- what is open behind a symbol
-abbrev pub behind : Open → Symbol → Open
-behind o s = record { parentheses = open_parentheses o.parentheses s; ifs = open_ifs o.ifs s }
 
 abbrev pub behind_all : Open → List Symbol → Open
 behind_all o [] = o
@@ -28,12 +18,13 @@ behind_all o (s ∷ ss) = behind_all (behind o s) ss
 abbrev pub too_deep : Open → Option Rule
 too_deep o = if nat_lt 64 (total o) then Some TooDeep else None
 
--- The rule that a symbol breaks behind what is open: X1 by a word that is left out, G2 by a parenthesis or an IF
--- with which more than 64 are open.
+-- The rule that a symbol breaks behind what is open: X1 by a word that is left out, G2 by a parenthesis, an IF, a
+-- CASE or a FOR with which more than 64 are open.
 abbrev pub fault_at : Open → Symbol → Option Rule
 fault_at o (left_out at) = Some LeftOutWord
 fault_at o (opening at) = too_deep (behind o (opening at))
-fault_at o (mark m) = if same_mark m If then too_deep (behind o (mark m)) else None
+fault_at o (iteration at) = too_deep (behind o (iteration at))
+fault_at o (mark m) = if same_mark m If || same_mark m Case then too_deep (behind o (mark m)) else None
 fault_at o s = None
 
 -- among tokens, behind what is open, one breaks a rule at its place

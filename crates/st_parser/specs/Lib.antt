@@ -5,6 +5,8 @@ pub mod Nesting
 pub mod Ends
 pub mod Fits
 pub mod Expressions
+pub mod Labels
+pub mod Iterations
 pub mod Statements
 pub mod Whole
 pub mod FirstFault

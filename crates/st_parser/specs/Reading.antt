@@ -6,7 +6,7 @@ use Rattle.st_tree.specs.declared.token.Operator.TheVariants.{Minus}
 use Rattle.st_tree.specs.declared.token.Mark.{Mark}
 use Rattle.st_tree.specs.declared.syntax.UnaryOperator.{UnaryOperator}
 use Rattle.st_tree.specs.declared.syntax.UnaryOperator.TheVariants as signs
-use Rattle.st_tree.specs.Syntax.{Symbol, name, number, negation, operator, mark, Named}
+use Rattle.st_tree.specs.Syntax.{Symbol, name, number, negation, operator, opening, mark, Named}
 use Rattle.st_tree.specs.SyntaxView.{symbols}
 use Rattle.st_tree.specs.Levels.{level_of}
 use Rattle.st_parser.specs.Marks.{same_mark}
@@ -43,6 +43,11 @@ numbered ts = None
 unfoldable pub minus : Read ℕ
 minus (operator Minus at ∷ ts) = Some (at, ts)
 minus ts = None
+
+-- a parenthesis that opens, by its place
+unfoldable pub opened : Read ℕ
+opened (opening at ∷ ts) = Some (at, ts)
+opened ts = None
 
 -- an operator of this level, and its place
 unfoldable pub operator_of : ℕ → Read (Operator × ℕ)

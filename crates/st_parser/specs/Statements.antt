@@ -1,13 +1,19 @@
 -- Reading statements.
-use Rattle.std.specs.Prelude.{◌≡◌, ◌≢◌, ℕ, zero, suc, List, ◌∷◌, Option, Some, None, if◌then◌else◌, Result, Ok, Err}
+use Rattle.std.specs.Prelude.{◌≡◌, ◌≢◌, ℕ, zero, suc, Bool, true, false, ◌&&◌, List, [], ◌∷◌, Option, Some, None, if◌then◌else◌, Result, Ok, Err}
 use Rattle.st_parser.specs.declared.fault.Stop.{Stop}
 use Rattle.st_parser.specs.declared.fault.Stop.TheVariants.{Memory}
+use Rattle.st_parser.specs.declared.statement.Opener.{Opener}
+use Rattle.st_parser.specs.declared.statement.Opener.TheVariants as openers
 use Rattle.st_tree.specs.declared.token.Tok.{Tok}
-use Rattle.st_tree.specs.declared.token.Mark.TheVariants.{Semicolon, Assign, If, Then, Elsif, Else, EndIf}
-use Rattle.st_tree.specs.Syntax.{Symbol, name, mark, Named, Tree, Stmt, empty, assign, branch, Stmts, no_stmts, stmt, Arms, no_arms, arm, Otherwise, no_else, else_stmts}
+use Rattle.st_tree.specs.declared.token.Mark.{Mark}
+use Rattle.st_tree.specs.declared.token.Mark.TheVariants.{Semicolon, Colon, Assign, If, Then, Elsif, Else, EndIf, Case, Of, EndCase, EndFor}
+use Rattle.st_tree.specs.Syntax.{Symbol, name, iteration, mark, Named, Tree, LabelData, Stmt, empty, assign, branch, cases, iterate, Stmts, no_stmts, stmt, Arms, no_arms, arm, Entries, no_entries, entry, Otherwise, no_else, else_stmts}
 use Rattle.st_parser.specs.Marks.{same_mark}
+use Rattle.st_parser.specs.Ends.{is_label, ends_entries}
 use Rattle.st_parser.specs.Reading.{Read, ◌>>=◌, after, ahead}
 use Rattle.st_parser.specs.Expressions.{path_from, expression}
+use Rattle.st_parser.specs.Labels.{labels}
+use Rattle.st_parser.specs.Iterations.{iteration_from}
 
 abbrev pub add_stmt : Stmts → Stmt → Stmts
 add_stmt no_stmts s = stmt s no_stmts
@@ -17,6 +23,10 @@ abbrev pub add_arm : Arms → Tree → Stmts → Arms
 add_arm no_arms e ss = arm e ss no_arms
 add_arm (arm x xs arms) e ss = arm x xs (add_arm arms e ss)
 
+abbrev pub add_entry : Entries → List LabelData → Stmts → Entries
+add_entry no_entries ls ss = entry ls ss no_entries
+add_entry (entry k xs es) ls ss = entry k xs (add_entry es ls ss)
+
 -- behind the first name of a target. The number bounds the turns of each loop.
 unfoldable pub assigned : ℕ → Read Tree → Named → Read Stmt
 assigned turns expr n ts = path_from turns n ts >>= λ p. after Assign p.1 >>= λ ts. expr ts >>= λ e. after Semicolon e.1 >>= λ rest. Some (assign p.0 e.0, rest)
@@ -25,10 +35,15 @@ assigned turns expr n ts = path_from turns n ts >>= λ p. after Assign p.1 >>= �
 abbrev pub Begun : Type 0
 Begun = Option (Option (Stmt × List Symbol))
 
-unfoldable pub begun : ℕ → Read Tree → Read Stmt → List Symbol → Begun
-begun turns expr conditional_of (name t at ∷ ts) = Some (assigned turns expr (record { text = t; at = at }) ts)
-begun turns expr conditional_of (mark m ∷ ts) = if same_mark m Semicolon then Some (Some (empty, ts)) else (if same_mark m If then Some (conditional_of ts) else None)
-begun turns expr conditional_of ts = None
+-- the truth value is whether labels may follow
+unfoldable pub begun : Bool → ℕ → Read Tree → (Opener → Read Stmt) → List Symbol → Begun
+begun labelled turns expr nested_of (name t at ∷ ts) = if labelled && is_label ts then None else Some (assigned turns expr (record { text = t; at = at }) ts)
+begun labelled turns expr nested_of (iteration at ∷ ts) = Some (nested_of (openers.For at) ts)
+begun labelled turns expr nested_of (mark m ∷ ts) =
+    if same_mark m Semicolon then Some (Some (empty, ts))
+    else (if same_mark m If then Some (nested_of openers.If ts)
+    else (if same_mark m Case then Some (nested_of openers.Case ts) else None))
+begun labelled turns expr nested_of ts = None
 
 -- what a function that begins a statement answers
 abbrev pub Begins : {X : Type 0} → (X → Stmt) → List Tok → Result (Option (X × ℕ)) Stop → Begun → Type 0
@@ -41,9 +56,9 @@ statements_step more_of ss ts None = Some (ss, ts)
 statements_step more_of ss ts (Some s) = s >>= λ s. more_of (add_stmt ss s.0) s.1
 
 -- the statements after those that were read
-unfoldable pub statements_from : ℕ → Read Tree → Read Stmt → ℕ → Stmts → Read Stmts
-statements_from turns expr conditional_of zero ss ts = Some (ss, ts)
-statements_from turns expr conditional_of (suc n) ss ts = statements_step (statements_from turns expr conditional_of n) ss ts (begun turns expr conditional_of ts)
+unfoldable pub statements_from : Bool → ℕ → Read Tree → (Opener → Read Stmt) → ℕ → Stmts → Read Stmts
+statements_from labelled turns expr nested_of zero ss ts = Some (ss, ts)
+statements_from labelled turns expr nested_of (suc n) ss ts = statements_step (statements_from labelled turns expr nested_of n) ss ts (begun labelled turns expr nested_of ts)
 
 module _ (turns : ℕ) (expr : Read Tree) (body : Read Stmts) where
   abbrev pub arms_step : (Arms → Read Arms) → Arms → List Symbol → Option (List Symbol) → Option (Arms × List Symbol)
@@ -55,22 +70,49 @@ module _ (turns : ℕ) (expr : Read Tree) (body : Read Stmts) where
   arms_from zero found ts = None
   arms_from (suc n) found ts = expr ts >>= λ e. after Then e.1 >>= λ r. body r >>= λ ss. arms_step (arms_from n) (add_arm found e.0 ss.0) ss.1 (after Elsif ss.1)
 
-  abbrev pub otherwise_or : List Symbol → Option (List Symbol) → Option (Otherwise × List Symbol)
-  otherwise_or ts (Some rest) = body rest >>= λ ss. after EndIf ss.1 >>= λ rest. Some (else_stmts ss.0, rest)
-  otherwise_or ts None = after EndIf ts >>= λ rest. Some (no_else, rest)
+  abbrev pub otherwise_or : Mark → List Symbol → Option (List Symbol) → Option (Otherwise × List Symbol)
+  otherwise_or closing ts (Some rest) = body rest >>= λ ss. after closing ss.1 >>= λ rest. Some (else_stmts ss.0, rest)
+  otherwise_or closing ts None = after closing ts >>= λ rest. Some (no_else, rest)
 
-  unfoldable pub otherwise : Read Otherwise
-  otherwise ts = otherwise_or ts (after Else ts)
+  -- ELSE and its statements, where there are any, and the word that closes
+  unfoldable pub otherwise : Mark → Read Otherwise
+  otherwise closing ts = otherwise_or closing ts (after Else ts)
 
   -- behind IF
   unfoldable pub branched : Read Stmt
-  branched ts = arms_from turns no_arms ts >>= λ a. otherwise a.1 >>= λ o. Some (branch a.0 o.0, o.1)
+  branched ts = arms_from turns no_arms ts >>= λ a. otherwise EndIf a.1 >>= λ o. Some (branch a.0 o.0, o.1)
 
--- the rest of an IF that may hold parentheses and IFs down to this depth, itself among them
-unfoldable pub conditional : ℕ → ℕ → Read Stmt
-conditional turns zero ts = None
-conditional turns (suc depth) ts = branched turns (expression turns depth) (λ ts. statements_from turns (expression turns depth) (conditional turns depth) turns no_stmts ts) ts
+  -- behind FOR, whose place is given
+  unfoldable pub repeated : ℕ → Read Stmt
+  repeated at ts = iteration_from expr at ts >>= λ i. body i.1 >>= λ ss. after EndFor ss.1 >>= λ rest. Some (iterate i.0 ss.0, rest)
 
--- statements in which parentheses and IFs nest no deeper than the second number
-unfoldable pub statements : ℕ → ℕ → Read Stmts
-statements turns depth ts = statements_from turns (expression turns depth) (conditional turns depth) turns no_stmts ts
+-- statements are read as where labels may follow, or as where none may
+module _ (turns : ℕ) (expr : Read Tree) (body : Bool → Read Stmts) where
+  abbrev pub entries_step : (Entries → Read Entries) → Entries → List Symbol → Bool → Option (Entries × List Symbol)
+  entries_step more_of found ts true = Some (found, ts)
+  entries_step more_of found ts false = more_of found ts
+
+  -- entries up to ELSE or END_CASE, after those that were read
+  unfoldable pub entries_from : ℕ → Entries → Read Entries
+  entries_from zero found ts = None
+  entries_from (suc n) found ts =
+      labels turns [] ts >>= λ ls. after Colon ls.1 >>= λ r. body true r >>= λ ss. entries_step (entries_from n) (add_entry found ls.0 ss.0) ss.1 (ends_entries ss.1)
+
+  -- behind CASE
+  unfoldable pub selected : Read Stmt
+  selected ts = expr ts >>= λ e. after Of e.1 >>= λ r. entries_from turns no_entries r >>= λ es. otherwise turns expr (body false) EndCase es.1 >>= λ o. Some (cases e.0 es.0 o.0, o.1)
+
+  -- behind IF, CASE or FOR
+  unfoldable pub opened : Opener → Read Stmt
+  opened openers.If ts = branched turns expr (body false) ts
+  opened openers.Case ts = selected ts
+  opened (openers.For at) ts = repeated turns expr (body false) at ts
+
+-- the rest of an IF, CASE or FOR that may hold parentheses and statements down to this depth, itself among them
+unfoldable pub nested : ℕ → ℕ → Opener → Read Stmt
+nested turns zero o ts = None
+nested turns (suc depth) o ts = opened turns (expression turns depth) (λ labelled ts. statements_from labelled turns (expression turns depth) (nested turns depth) turns no_stmts ts) o ts
+
+-- statements in which parentheses and statements nest no deeper than the second number
+unfoldable pub statements : ℕ → ℕ → Bool → Read Stmts
+statements turns depth labelled ts = statements_from labelled turns (expression turns depth) (nested turns depth) turns no_stmts ts

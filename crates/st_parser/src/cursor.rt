@@ -100,6 +100,18 @@ pub fn sign(toks: &[Tok<'_>], at: usize) -> Option<((UnaryOperator, usize), usiz
     }
 }
 
+/// The place of a parenthesis that opens, and the place behind it.
+#[tactic(auto, unfolding(crate::specs::Reading::opened))]
+pub fn opened(toks: &[Tok<'_>], at: usize) -> Option<(usize, usize)>
+    ensures { given (λ place. place) toks.now result ≡ spec.opened (ahead toks.now at) }
+{
+    let first = token(toks, at)?;
+    match first.terminal {
+        Terminal::Open => Some((first.at, at + 1)),
+        _ => None,
+    }
+}
+
 /// The place of a minus sign, and the place behind it.
 #[tactic(auto, unfolding(crate::specs::Reading::minus))]
 pub fn minus(toks: &[Tok<'_>], at: usize) -> Option<(usize, usize)>

@@ -115,7 +115,18 @@ fn declarations(
     Err(refuse(toks, end, at))
 }
 
-/// The section that a word begins, and the place behind the word.
+/// The section behind VAR, where CONSTANT may stand, and the place behind its words.
+#[tactic(auto, unfolding(crate::specs::Declarations::local))]
+fn local(toks: &[Tok<'_>], at: usize) -> (Section, usize)
+    ensures { (result.0, ahead toks.now result.1) ≡ spec.local (ahead toks.now at) }
+{
+    match after(Mark::Constant, toks, at) {
+        Some(next) => (Section::Constant, next),
+        None => (Section::Local, at),
+    }
+}
+
+/// The section that a word begins, and the place behind its words.
 #[tactic(auto, unfolding(crate::specs::Declarations::section_of, crate::specs::Marks::same_mark))]
 fn section_of(toks: &[Tok<'_>], at: usize) -> Option<(Section, usize)>
     ensures { given (λ s. s) toks.now result ≡ spec.section_of (ahead toks.now at) }
@@ -123,7 +134,8 @@ fn section_of(toks: &[Tok<'_>], at: usize) -> Option<(Section, usize)>
     let section = match token(toks, at)?.terminal {
         Terminal::Mark(Mark::VarInput) => Section::Input,
         Terminal::Mark(Mark::VarOutput) => Section::Output,
-        Terminal::Mark(Mark::Var) => Section::Local,
+        Terminal::Mark(Mark::VarTemp) => Section::Temporary,
+        Terminal::Mark(Mark::Var) => return Some(local(toks, at + 1)),
         _ => return None,
     };
     Some((section, at + 1))

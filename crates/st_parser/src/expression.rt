@@ -6,7 +6,8 @@ ghost use Rattle.st_tree.specs.Syntax as syntax;
 ghost use Rattle.st_parser.specs.Expressions as spec;
 ghost use Rattle.st_parser.specs.Reading.{Gives, ahead};
 
-use crate::cursor::{after, expect, named, operator_of, refuse, sign, token, upper};
+use crate::call::{arguments, call};
+use crate::cursor::{after, expect, named, opened, operator_of, refuse, sign, token, upper};
 use crate::fault::Stop;
 use crate::literal::constant;
 use crate::path::path_from;
@@ -16,21 +17,23 @@ use std::alloc::{AllocError, Global};
 /// The level of the loosest operators.
 const LOOSEST: u8 = 7;
 
-/// The rest of an expression that begins with a name: of a path, or of `type#value`.
-#[tactic(auto, unfolding(crate::specs::Expressions::referred))]
-fn referred(
+/// The rest of an expression that begins with a name and not with `type#`: of a call, or of a path.
+#[cycle(expression)]
+#[tactic(auto, unfolding(crate::specs::Expressions::called))]
+fn called(
     alloc: Global,
     name: Name,
     toks: &[Tok<'_>],
     end: usize,
     at: usize,
+    depth: usize,
 ) -> Result<(Expr, usize), Stop>
-    ensures { Gives tree_view toks.now result (spec.referred (length toks.now) (view.name_view name) (ahead toks.now at)) }
+    ensures { Gives tree_view toks.now result (spec.called (length toks.now) (spec.inside (length toks.now) depth) (view.name_view name) (ahead toks.now at)) }
 {
-    match after(Mark::Hash, toks, at) {
-        Some(at) => {
-            let (value, at) = named(alloc, toks, end, at)?;
-            Ok((Expr::Enumerator(name, value), at))
+    match opened(toks, at) {
+        Some((place, next)) => {
+            let (found, next) = arguments(alloc, toks, end, next, depth)?;
+            Ok((call(name, place, found), next))
         }
         None => {
             let (path, at) = path_from(alloc, name, toks, end, at)?;
@@ -39,7 +42,29 @@ fn referred(
     }
 }
 
-/// A literal, a variable, `type#value`, or an expression in parentheses.
+/// The rest of an expression that begins with a name: of `type#value`, of a call, or of a path.
+#[cycle(expression)]
+#[tactic(auto, unfolding(crate::specs::Expressions::referred))]
+fn referred(
+    alloc: Global,
+    name: Name,
+    toks: &[Tok<'_>],
+    end: usize,
+    at: usize,
+    depth: usize,
+) -> Result<(Expr, usize), Stop>
+    ensures { Gives tree_view toks.now result (spec.referred (length toks.now) (spec.inside (length toks.now) depth) (view.name_view name) (ahead toks.now at)) }
+{
+    match after(Mark::Hash, toks, at) {
+        Some(at) => {
+            let (value, at) = named(alloc, toks, end, at)?;
+            Ok((Expr::Enumerator(name, value), at))
+        }
+        None => called(alloc, name, toks, end, at, depth),
+    }
+}
+
+/// A literal, a variable, `type#value`, a call, or an expression in parentheses.
 #[cycle(expression)]
 #[tactic(auto, unfolding(crate::specs::Expressions::primary, crate::specs::Expressions::constant))]
 fn primary(
@@ -57,7 +82,7 @@ fn primary(
     match first.terminal {
         Terminal::Name => {
             let name = upper(alloc, first.slice, first.at)?;
-            referred(alloc, name, toks, end, at + 1)
+            referred(alloc, name, toks, end, at + 1, depth)
         }
         Terminal::Open => {
             let (value, next) = inside(alloc, toks, end, at + 1, depth)?;
@@ -156,7 +181,7 @@ fn levelled(
 
 /// An expression inside parentheses, which nest no deeper than `depth`.
 #[cycle(expression)]
-fn inside(
+pub fn inside(
     alloc: Global,
     toks: &[Tok<'_>],
     end: usize,

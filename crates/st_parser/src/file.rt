@@ -24,7 +24,7 @@ use std::alloc::Global;
 fn body(alloc: Global, toks: &[Tok<'_>], end: usize, at: usize) -> Result<(Body, usize), Stop>
     ensures { Gives view.body_view toks.now result (spec.body (length toks.now) DEPTH (ahead toks.now at)) }
 {
-    let (found, at) = statements(alloc, toks, end, at, DEPTH)?;
+    let (found, at) = statements(alloc, toks, end, at, DEPTH, false)?;
     Ok((Body::Statements(found), at))
 }
 

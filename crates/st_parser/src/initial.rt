@@ -1,4 +1,4 @@
-// Initial values: a literal, `-` and a literal, a name, or `type#value` (IEC 61131-3, 2.4.3.2).
+// Initial values, which labels are too: a literal, `-` and a literal, a name, or `type#value` (IEC 61131-3, 2.4.3.2).
 ghost use Rattle.st_tree.specs.SyntaxView as view;
 ghost use Rattle.st_parser.specs.Declarations as spec;
 ghost use Rattle.st_parser.specs.Reading.{Gives, ahead};
@@ -60,7 +60,7 @@ fn literal_value(
 
 /// An initial value.
 #[tactic(auto, unfolding(crate::specs::Declarations::initial_value))]
-fn initial_value(
+pub fn initial_value(
     alloc: Global,
     toks: &[Tok<'_>],
     end: usize,

@@ -1,16 +1,19 @@
 // From tokens to exactly the tree that prints them: expressions, statements and whole files, in both directions.
 #![tactic(auto)]
 
+mod call;
 pub mod cursor;
 mod declaration;
 pub mod expression;
 pub mod fault;
 mod file;
 mod initial;
+mod iteration;
 mod literal;
 mod nesting;
 mod parse;
 mod path;
+mod selection;
 mod statement;
 
 pub use file::{one_file, parse_file};

@@ -1,26 +1,28 @@
-// Words that are left out, and how deep parentheses and IFs nest.
+// Words that are left out, and how deep parentheses and statements nest.
 ghost use Rattle.std.specs.Prelude.{ℕ, List, ◌≡◌, ◌+◌, ◌≤◌, IfOk, IfErr, IfSome, IfNone, Some, None};
 ghost use Rattle.st_tree.specs.SyntaxView.{symbol, symbols};
-ghost use Rattle.st_parser.specs.Nesting.{Shallow};
-ghost use Rattle.st_parser.specs.FirstFault.{behind, total, fault_at, nothing_open, IsBroken, IsSound, IsFirstFault, AreFrom};
+ghost use Rattle.st_parser.specs.Nesting.{behind, total, nothing_open, Shallow};
+ghost use Rattle.st_parser.specs.FirstFault.{fault_at, IsBroken, IsSound, IsFirstFault, AreFrom};
 ghost use Rattle.st_tree.specs.declared.token.Tok.{Tok};
 ghost use Rattle.st_tree.specs.declared.rule.Refusal.{Refusal};
 ghost use Rattle.st_tree.specs.Rules.{IsFirst};
 
 use st_tree::{Mark, Refusal, Rule, Terminal, Tok};
 
-/// How many parentheses and IFs are open.
+/// How many parentheses, IFs, CASEs and FORs are open.
 #[derive(Clone, Copy)]
 pub struct Open {
     pub parentheses: u8,
     pub ifs: u8,
+    pub cases: u8,
+    pub iterations: u8,
 }
 
 /// The most that may be open at once.
 pub const MOST_OPEN: u8 = 64;
 
 /// What is open behind a token, or the rule that the token breaks.
-#[tactic(auto, unfolding(crate::specs::Marks::same_mark, crate::specs::Nesting::open_parentheses, crate::specs::Nesting::open_ifs))]
+#[tactic(auto, unfolding(crate::specs::Marks::same_mark, crate::specs::Nesting::open_parentheses, crate::specs::Nesting::open_ifs, crate::specs::Nesting::open_cases, crate::specs::Nesting::open_iterations))]
 fn step(held: Open, tok: Tok<'_>) -> Result<Open, Rule>
     requires { total held ≤ MOST_OPEN }
     ensures sound { IfOk result (λ o. fault_at held (symbol tok.entry) ≡ None) }
@@ -28,39 +30,37 @@ fn step(held: Open, tok: Tok<'_>) -> Result<Open, Rule>
     ensures few { IfOk result (λ o. total o ≤ MOST_OPEN) }
     ensures broken { IfErr result (λ r. fault_at held (symbol tok.entry) ≡ Some r) }
 {
-    let full = held.parentheses + held.ifs == MOST_OPEN;
+    let full = held.parentheses + held.ifs + held.cases + held.iterations == MOST_OPEN;
+    let mut next = held;
     match tok.terminal {
-        Terminal::LeftOut => Err(Rule::LeftOutWord),
-        Terminal::Open | Terminal::Mark(Mark::If) if full => Err(Rule::TooDeep),
-        Terminal::Open => Ok(Open {
-            parentheses: held.parentheses + 1,
-            ifs: held.ifs,
-        }),
-        Terminal::Mark(Mark::If) => Ok(Open {
-            parentheses: held.parentheses,
-            ifs: held.ifs + 1,
-        }),
-        Terminal::Mark(Mark::Close) => Ok(Open {
-            parentheses: held.parentheses.saturating_sub(1),
-            ifs: held.ifs,
-        }),
-        Terminal::Mark(Mark::EndIf) => Ok(Open {
-            parentheses: held.parentheses,
-            ifs: held.ifs.saturating_sub(1),
-        }),
-        _ => Ok(held),
+        Terminal::LeftOut => return Err(Rule::LeftOutWord),
+        Terminal::Open | Terminal::For | Terminal::Mark(Mark::If | Mark::Case) if full => {
+            return Err(Rule::TooDeep);
+        }
+        Terminal::Open => next.parentheses += 1,
+        Terminal::For => next.iterations += 1,
+        Terminal::Mark(Mark::If) => next.ifs += 1,
+        Terminal::Mark(Mark::Case) => next.cases += 1,
+        Terminal::Mark(Mark::Close) => next.parentheses = held.parentheses.saturating_sub(1),
+        Terminal::Mark(Mark::EndIf) => next.ifs = held.ifs.saturating_sub(1),
+        Terminal::Mark(Mark::EndCase) => next.cases = held.cases.saturating_sub(1),
+        Terminal::Mark(Mark::EndFor) => next.iterations = held.iterations.saturating_sub(1),
+        _ => {}
     }
+    Ok(next)
 }
 
-/// The first token that is a word left out (X1) or opens a 65th parenthesis or IF (G2).
+/// The first token that is a word left out (X1) or opens a 65th parenthesis, IF, CASE or FOR (G2).
 pub fn first_fault(toks: &[Tok<'_>]) -> Option<Refusal>
     ensures first { IfSome result (IsFirstFault toks.now) }
     ensures none { IfNone result (IsSound toks.now) }
-    ensures shallow { IfNone result (Shallow 0 0 (symbols toks.now)) }
+    ensures shallow { IfNone result (Shallow (symbols toks.now)) }
 {
     let mut held = Open {
         parentheses: 0,
         ifs: 0,
+        cases: 0,
+        iterations: 0,
     };
     for at in 0..toks.len() {
         match step(held, toks[at]) {

@@ -15,7 +15,7 @@ use crate::statement::statements;
 use st_tree::{Expr, Mark, ParseFault, Stmt, Terminal, Tok};
 use std::alloc::Global;
 
-/// How deep parentheses and IFs nest, together.
+/// How deep parentheses and statements nest, together.
 pub const DEPTH: usize = 64;
 
 /// Whether an expression may go on with the token at a place.
@@ -42,7 +42,12 @@ pub fn begins(toks: &[Tok<'_>], at: usize) -> bool
     };
     match first.terminal {
         Terminal::Name => true,
-        Terminal::Mark(mark) => same_mark(mark, Mark::Semicolon) || same_mark(mark, Mark::If),
+        Terminal::For => true,
+        Terminal::Mark(mark) => {
+            same_mark(mark, Mark::Semicolon)
+                || same_mark(mark, Mark::If)
+                || same_mark(mark, Mark::Case)
+        }
         _ => false,
     }
 }
@@ -59,7 +64,7 @@ pub fn parse_expr(
     ensures found { IfOk result (λ x. IsExpression (tree_view x.0) (ahead toks.now at) (ahead toks.now x.1)) }
     ensures rule { IfErr result IsNoTree }
     // Where no more than 64 parentheses and statements are open at once, a refusal comes only where there is no such tree.
-    ensures none { IfErr result (λ e. e ≢ Memory → Shallow 0 0 (ahead toks.now at) → (t : Tree) (rest : List Symbol) → IsExpression t (ahead toks.now at) rest → ⊥) }
+    ensures none { IfErr result (λ e. e ≢ Memory → Shallow (ahead toks.now at) → (t : Tree) (rest : List Symbol) → IsExpression t (ahead toks.now at) rest → ⊥) }
 {
     let (value, behind) = expression(alloc, toks, end, at, DEPTH)?;
     if goes_on(toks, behind) {
@@ -81,9 +86,9 @@ pub fn parse_statements(
     ensures found { IfOk result (λ x. AreStatements (stmts_view x.0.items) (ahead toks.now at) (ahead toks.now x.1)) }
     ensures rule { IfErr result IsNoTree }
     // Where no more than 64 parentheses and statements are open at once, a refusal comes only where there are no such ones.
-    ensures none { IfErr result (λ e. e ≢ Memory → Shallow 0 0 (ahead toks.now at) → (ss : Stmts) (rest : List Symbol) → AreStatements ss (ahead toks.now at) rest → ⊥) }
+    ensures none { IfErr result (λ e. e ≢ Memory → Shallow (ahead toks.now at) → (ss : Stmts) (rest : List Symbol) → AreStatements ss (ahead toks.now at) rest → ⊥) }
 {
-    let (found, behind) = statements(alloc, toks, end, at, DEPTH)?;
+    let (found, behind) = statements(alloc, toks, end, at, DEPTH, false)?;
     if begins(toks, behind) {
         return Err(refuse(toks, end, behind).into());
     }

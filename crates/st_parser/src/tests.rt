@@ -25,6 +25,7 @@ fn terminal(slice: &str) -> Terminal {
         ")" => Terminal::Mark(Mark::Close),
         ";" => Terminal::Mark(Mark::Semicolon),
         ":=" => Terminal::Mark(Mark::Assign),
+        "," => Terminal::Mark(Mark::Comma),
         "." => Terminal::Mark(Mark::Point),
         "#" => Terminal::Mark(Mark::Hash),
         "IF" => Terminal::Mark(Mark::If),
@@ -32,8 +33,18 @@ fn terminal(slice: &str) -> Terminal {
         "ELSIF" => Terminal::Mark(Mark::Elsif),
         "ELSE" => Terminal::Mark(Mark::Else),
         "END_IF" => Terminal::Mark(Mark::EndIf),
+        "CASE" => Terminal::Mark(Mark::Case),
+        "OF" => Terminal::Mark(Mark::Of),
+        ":" => Terminal::Mark(Mark::Colon),
+        ".." => Terminal::Mark(Mark::Range),
+        "END_CASE" => Terminal::Mark(Mark::EndCase),
+        "FOR" => Terminal::For,
+        "TO" => Terminal::Mark(Mark::To),
+        "BY" => Terminal::Mark(Mark::By),
+        "DO" => Terminal::Mark(Mark::Do),
+        "END_FOR" => Terminal::Mark(Mark::EndFor),
         "END_PROGRAM" => Terminal::Mark(Mark::EndProgram),
-        "CASE" => Terminal::LeftOut,
+        "WHILE" => Terminal::LeftOut,
         _ => Terminal::Name,
     }
 }
@@ -106,8 +117,10 @@ fn unary_operators_do_not_repeat(rt: HostRuntime) -> Result<(), Fail> {
 
 #[test]
 fn expressions_that_go_on_with_no_tree(rt: HostRuntime) -> Result<(), Fail> {
-    let call = [("f", 0), ("(", 1), ("1", 2), (")", 3)];
-    assert_eq!(rt; refused_expression(rt.alloc(), &call)?, no_tree(1));
+    let call = [("f", 0), ("(", 1), ("1", 2), (")", 3), ("(", 4)];
+    assert_eq!(rt; refused_expression(rt.alloc(), &call)?, no_tree(4));
+    let called_member = [("a", 0), (".", 1), ("f", 2), ("(", 3)];
+    assert_eq!(rt; refused_expression(rt.alloc(), &called_member)?, no_tree(3));
     let operand = [("1", 0), ("(", 1)];
     assert_eq!(rt; refused_expression(rt.alloc(), &operand)?, no_tree(1));
     let member = [("a", 0), (".", 1), ("b", 2), ("#", 3), ("c", 4)];
@@ -119,13 +132,77 @@ fn expressions_that_go_on_with_no_tree(rt: HostRuntime) -> Result<(), Fail> {
     Ok(())
 }
 
+// Behind `PROGRAM M `: by place behind by name, and by name behind by place. Then `f(1,)`.
+#[test]
+fn arguments_are_of_one_form(rt: HostRuntime) -> Result<(), Fail> {
+    let by_place = [
+        ("o", 10),
+        (":=", 12),
+        ("f", 15),
+        ("(", 16),
+        ("x", 17),
+        (":=", 19),
+        ("1", 22),
+        (",", 23),
+        ("1", 25),
+    ];
+    assert_eq!(rt; refused_statements(rt.alloc(), &by_place)?, no_tree(25));
+    let by_name = [
+        ("o", 10),
+        (":=", 12),
+        ("f", 15),
+        ("(", 16),
+        ("1", 17),
+        (",", 18),
+        ("x", 20),
+        (":=", 22),
+    ];
+    assert_eq!(rt; refused_statements(rt.alloc(), &by_name)?, no_tree(22));
+    let comma = [("f", 0), ("(", 1), ("1", 2), (",", 3), (")", 4)];
+    assert_eq!(rt; refused_expression(rt.alloc(), &comma)?, no_tree(4));
+    Ok(())
+}
+
+// g(x := 1, y := h())
+#[test]
+fn a_call_is_read(rt: HostRuntime) -> Result<(), Fail> {
+    let words = [
+        ("g", 0),
+        ("(", 1),
+        ("x", 2),
+        (":=", 4),
+        ("1", 7),
+        (",", 8),
+        ("y", 10),
+        (":=", 12),
+        ("h", 15),
+        ("(", 16),
+        (")", 17),
+        (")", 18),
+    ];
+    let toks = tokens(rt.alloc(), &words)?;
+    let (found, behind) = parse_expr(rt.alloc(), &toks, END, 0)
+        .ok()
+        .ok_or("an expression")?;
+    assert_eq!(rt; behind, 12);
+    let Expr::Call(function, 1, arguments) = &found else {
+        return Err("a call".into());
+    };
+    assert_eq!(rt; function.text.as_str(), "G");
+    assert_eq!(rt; arguments.len(), 2);
+    assert!(rt; matches!(&arguments[0].name, Some(name) if name.at == 2));
+    assert!(rt; matches!(&arguments[1].name, Some(name) if name.at == 10));
+    assert!(rt; matches!(&arguments[1].value, Expr::Call(_, 16, none) if none.is_empty()));
+    Ok(())
+}
+
 #[test]
 fn statements_that_go_on_with_no_tree(rt: HostRuntime) -> Result<(), Fail> {
     let then = [("IF", 0), ("a", 3), (";", 4)];
     assert_eq!(rt; refused_statements(rt.alloc(), &then)?, no_tree(4));
     let ended = [("IF", 0), ("a", 3), ("THEN", 5), (";", 10), ("ELSE", 12)];
     assert_eq!(rt; refused_statements(rt.alloc(), &ended)?, no_tree(END));
-    let left_out = [("IF", 0), ("a", 3), ("THEN", 5), ("CASE", 10)];
+    let left_out = [("IF", 0), ("a", 3), ("THEN", 5), ("WHILE", 10)];
     assert_eq!(rt; refused_statements(rt.alloc(), &left_out)?, no_tree(10));
     Ok(())
 }
@@ -249,5 +326,120 @@ fn an_if_is_read(rt: HostRuntime) -> Result<(), Fail> {
     assert!(rt; matches!(&arms[1].condition, Expr::Paren(26, _)));
     assert_eq!(rt; other.len(), 1);
     one_statements();
+    Ok(())
+}
+
+// Behind `CASE o OF 1: `, from 10 on.
+fn refused_in_an_entry(alloc: Global, behind: &[(&str, usize)]) -> Result<Option<Refusal>, Fail> {
+    let mut words = Vec::new(alloc);
+    for &word in &[("CASE", 10), ("o", 15), ("OF", 17), ("1", 20), (":", 21)] {
+        words.push(word)?;
+    }
+    for &word in behind {
+        words.push(word)?;
+    }
+    refused_statements(alloc, &words)
+}
+
+#[test]
+fn a_label_or_a_statement(rt: HostRuntime) -> Result<(), Fail> {
+    let target = [(";", 23), ("a", 25), (";", 26)];
+    assert_eq!(rt; refused_in_an_entry(rt.alloc(), &target)?, no_tree(26));
+    let nested = [("IF", 23), ("b", 26), ("THEN", 28), ("a", 33), (":", 34)];
+    assert_eq!(rt; refused_in_an_entry(rt.alloc(), &nested)?, no_tree(34));
+    let other = [("ELSE", 23), ("a", 28), (":", 29)];
+    assert_eq!(rt; refused_in_an_entry(rt.alloc(), &other)?, no_tree(29));
+    let comma = [(";", 23), ("a", 25), (",", 26), ("END_CASE", 28)];
+    assert_eq!(rt; refused_in_an_entry(rt.alloc(), &comma)?, no_tree(28));
+    let path = [(";", 23), ("a", 25), (".", 26), ("b", 27), (":", 28)];
+    assert_eq!(rt; refused_in_an_entry(rt.alloc(), &path)?, no_tree(28));
+    let minus = [(";", 23), ("-", 25), ("a", 26), (":", 27)];
+    assert_eq!(rt; refused_in_an_entry(rt.alloc(), &minus)?, no_tree(26));
+    Ok(())
+}
+
+// CASE o OF a: ; b, c..-1: E#g: ELSE ; END_CASE
+const CASE_WORDS: [(&str, usize); 20] = [
+    ("CASE", 10),
+    ("o", 15),
+    ("OF", 17),
+    ("a", 20),
+    (":", 21),
+    (";", 23),
+    ("b", 25),
+    (",", 26),
+    ("c", 28),
+    ("..", 29),
+    ("-", 31),
+    ("1", 32),
+    (":", 33),
+    ("E", 35),
+    ("#", 36),
+    ("g", 37),
+    (":", 38),
+    ("ELSE", 40),
+    (";", 45),
+    ("END_CASE", 47),
+];
+
+#[test]
+fn a_case_is_read(rt: HostRuntime) -> Result<(), Fail> {
+    let toks = tokens(rt.alloc(), &CASE_WORDS)?;
+    let (found, behind) = parse_statements(rt.alloc(), &toks, END, 0)
+        .ok()
+        .ok_or("statements")?;
+    assert_eq!(rt; behind, 20);
+    assert_eq!(rt; found.len(), 1);
+    let Stmt::Case(_, entries, Some(other)) = &found[0] else {
+        return Err("a CASE".into());
+    };
+    assert_eq!(rt; entries.len(), 3);
+    assert_eq!(rt; other.len(), 1);
+    let labels = &entries[1].labels;
+    assert_eq!(rt; labels.len(), 2);
+    assert!(rt; matches!(&labels[0].high, None));
+    assert!(rt;
+        matches!(
+            &labels[1].high,
+            Some(Expr::Unary(UnaryOperator::Minus, 31, _))
+        )
+    );
+    let last = &entries[2].labels;
+    assert_eq!(rt; last.len(), 1);
+    assert!(rt; matches!(&last[0].low, Expr::Enumerator(_, _)));
+    Ok(())
+}
+
+// FOR i := 1 TO 1 BY 1 DO ; END_FOR
+#[test]
+fn a_for_is_read(rt: HostRuntime) -> Result<(), Fail> {
+    let words = [
+        ("FOR", 10),
+        ("i", 14),
+        (":=", 16),
+        ("1", 19),
+        ("TO", 21),
+        ("1", 24),
+        ("BY", 26),
+        ("1", 29),
+        ("DO", 31),
+        (";", 34),
+        ("END_FOR", 36),
+    ];
+    let toks = tokens(rt.alloc(), &words)?;
+    let (found, behind) = parse_statements(rt.alloc(), &toks, END, 0)
+        .ok()
+        .ok_or("statements")?;
+    assert_eq!(rt; behind, 11);
+    assert_eq!(rt; found.len(), 1);
+    let Stmt::For(iteration, body) = &found[0] else {
+        return Err("a FOR".into());
+    };
+    assert_eq!(rt; iteration.at, 10);
+    assert_eq!(rt; iteration.control.at, 14);
+    assert!(rt; matches!(&iteration.step, Some(_)));
+    assert_eq!(rt; body.len(), 1);
+    let member = [("FOR", 10), ("i", 14), (".", 15), ("x", 16), (":=", 18)];
+    assert_eq!(rt; refused_statements(rt.alloc(), &member)?, no_tree(15));
     Ok(())
 }

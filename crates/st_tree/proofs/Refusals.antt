@@ -17,7 +17,7 @@ stays_behind a b c h k = grind (arith, nat_tests)
 -- the rule of a rank
 rule_at : ℕ → Rule
 rule_at n =
-    if n == 0 then rules_of.TooLong else (if n == 1 then rules_of.StrayByte else (if n == 2 then rules_of.OpenComment else (if n == 3 then rules_of.NumberForm else (if n == 4 then rules_of.NumberSize else (if n == 5 then rules_of.WordLength else (if n == 6 then rules_of.LeftOutWord else (if n == 7 then rules_of.TooDeep else (if n == 8 then rules_of.NoTree else (if n == 9 then rules_of.LineOrder else (if n == 10 then rules_of.NumberLimits else (if n == 11 then rules_of.NoSide else (if n == 12 then rules_of.DeclaredTwice else (if n == 13 then rules_of.UnknownName else (if n == 14 then rules_of.WrongKind else (if n == 15 then rules_of.NotOneProgram else (if n == 16 then rules_of.InputsDiffer else (if n == 17 then rules_of.InputCount else (if n == 18 then rules_of.OperandType else (if n == 19 then rules_of.ValueType else (if n == 20 then rules_of.OutsideType else (if n == 21 then rules_of.NotAssignable else (if n == 22 then rules_of.NotBool else (if n == 23 then rules_of.TooManyCells else rules_of.NoTrace)))))))))))))))))))))))
+    if n == 0 then rules_of.TooLong else (if n == 1 then rules_of.StrayByte else (if n == 2 then rules_of.OpenComment else (if n == 3 then rules_of.NumberForm else (if n == 4 then rules_of.NumberSize else (if n == 5 then rules_of.WordLength else (if n == 6 then rules_of.LeftOutWord else (if n == 7 then rules_of.TooDeep else (if n == 8 then rules_of.NoTree else (if n == 9 then rules_of.LineOrder else (if n == 10 then rules_of.NumberLimits else (if n == 11 then rules_of.NoSide else (if n == 12 then rules_of.DeclaredTwice else (if n == 13 then rules_of.UnknownName else (if n == 14 then rules_of.WrongKind else (if n == 15 then rules_of.NotOneProgram else (if n == 16 then rules_of.InputsDiffer else (if n == 17 then rules_of.InputCount else (if n == 18 then rules_of.OperandType else (if n == 19 then rules_of.ValueType else (if n == 20 then rules_of.OutsideType else (if n == 21 then rules_of.NotAssignable else (if n == 22 then rules_of.ArgumentCount else (if n == 23 then rules_of.Overlap else (if n == 24 then rules_of.NotConstant else (if n == 25 then rules_of.StepZero else (if n == 26 then rules_of.TooManyTurns else (if n == 27 then rules_of.OutsideControl else (if n == 28 then rules_of.NotBool else (if n == 29 then rules_of.TooManyCells else (if n == 30 then rules_of.TooManyCandidates else rules_of.NoTrace))))))))))))))))))))))))))))))
 
 rule_at-rank_of : (r : Rule) → rule_at (rank_of r) ≡ r
 unfolding rule_at
@@ -43,8 +43,15 @@ rule_at-rank_of rules_of.OperandType = refl
 rule_at-rank_of rules_of.ValueType = refl
 rule_at-rank_of rules_of.OutsideType = refl
 rule_at-rank_of rules_of.NotAssignable = refl
+rule_at-rank_of rules_of.ArgumentCount = refl
+rule_at-rank_of rules_of.Overlap = refl
+rule_at-rank_of rules_of.NotConstant = refl
+rule_at-rank_of rules_of.StepZero = refl
+rule_at-rank_of rules_of.TooManyTurns = refl
+rule_at-rank_of rules_of.OutsideControl = refl
 rule_at-rank_of rules_of.NotBool = refl
 rule_at-rank_of rules_of.TooManyCells = refl
+rule_at-rank_of rules_of.TooManyCandidates = refl
 rule_at-rank_of rules_of.NoTrace = refl
 
 same_rule : (r s : Rule) → rank_of r ≡ rank_of s → r ≡ s
@@ -71,6 +78,18 @@ first_of_two-assoc a b c true true h k = rw (h, k, comes_before-trans c b a k h)
 first_of_two-assoc a b c true false h k = rw (h, k) (rw h refl)
 first_of_two-assoc a b c false true h k = rw (h, k) refl
 first_of_two-assoc a b c false false h k = rw (h, k) (rw (h, stays_behind a b c h k) refl)
+
+first_of_two-swap : (a b : Refusal) (t u : Bool) → comes_before b a ≡ t → comes_before a b ≡ u → first_of_two a b ≡ first_of_two b a
+first_of_two-swap a b true true h k = absurd (grind (arith, nat_tests))
+first_of_two-swap a b true false h k = rw (h, k) refl
+first_of_two-swap a b false true h k = rw (h, k) refl
+first_of_two-swap a b false false h k = let e = ties a b k h in rw (h, k) (same_refusal a b (same_rule a.rule b.rule e.1) e.0)
+
+pub earlier-swap : (a b : Option Refusal) → earlier a b ≡ earlier b a
+earlier-swap None None = refl
+earlier-swap None (Some b) = refl
+earlier-swap (Some a) None = refl
+earlier-swap (Some a) (Some b) = ap (λ (r : Refusal). Some r) (first_of_two-swap a b (comes_before b a) (comes_before a b) refl refl)
 
 pub earlier-none : (a : Option Refusal) → earlier a None ≡ a
 earlier-none None = refl

@@ -1,10 +1,10 @@
 -- Which trees are levelled: operators of one level stand in one chain, and tighter ones inside it.
-use Rattle.std.specs.Prelude.{◌≡◌, ◌<◌, ℕ, List, [], ◌∷◌, Option, Some, None}
+use Rattle.std.specs.Prelude.{◌≡◌, ◌<◌, ℕ, Bool, true, false, List, [], ◌∷◌, Option, Some, None, is_some}
 use Rattle.st_tree.specs.declared.token.Operator.{Operator}
 use Rattle.st_tree.specs.declared.token.Operator.TheVariants as ops
 use Rattle.st_tree.specs.declared.syntax.UnaryOperator.TheVariants as signs
 use Rattle.st_tree.specs.declared.syntax.Literal.TheVariants as literals
-use Rattle.st_tree.specs.Syntax.{Tree, literal, path, enumerator, paren, unary, chain, Links, no_links, link, Stmt, empty, assign, branch, Stmts, no_stmts, stmt, Arms, no_arms, arm, Otherwise, no_else, else_stmts, DeclarationData, VariablesData, BodyData, statements, chart as chart_body, PouData, FileData}
+use Rattle.st_tree.specs.Syntax.{Tree, literal, path, enumerator, paren, unary, chain, call, Links, no_links, link, Arguments, no_arguments, argument, Stmt, empty, assign, branch, cases, iterate, Stmts, no_stmts, stmt, Arms, no_arms, arm, Entries, no_entries, entry, Otherwise, no_else, else_stmts, LabelData, IterationData, DeclarationData, VariablesData, BodyData, statements, chart as chart_body, PouData, FileData}
 
 -- how loosely an operator binds
 abbrev pub level_of : Operator → ℕ
@@ -35,6 +35,7 @@ level (enumerator t v) = 0
 level (paren at e) = 0
 level (unary o at e) = 0
 level (chain e ls) = links_level ls
+level (call n at args) = 0
 
 abbrev pub IsPrimary : Tree → Type 0
 IsPrimary (literal l) = Unit {0}
@@ -43,9 +44,15 @@ IsPrimary (enumerator t v) = Unit {0}
 IsPrimary (paren at e) = Unit {0}
 IsPrimary (unary o at e) = ⊥
 IsPrimary (chain e ls) = ⊥
+IsPrimary (call n at args) = Unit {0}
+
+-- whether the first argument is by name; it decides for all
+abbrev pub are_named : Arguments → Bool
+are_named no_arguments = false
+are_named (argument n e args) = is_some n
 
 -- A chain has at least one operator, all of its operators are of one level, and its operands are tighter; the
--- operand of a unary operator is a primary.
+-- operand of a unary operator is a primary; the arguments of a call are all by place or all by name.
 abbrev mutual
   pub IsLevelled : Tree → Type 0
   IsLevelled (literal l) = Unit {0}
@@ -55,18 +62,60 @@ abbrev mutual
   IsLevelled (unary o at e) = IsPrimary e × IsLevelled e
   IsLevelled (chain e no_links) = ⊥
   IsLevelled (chain e (link o at f ls)) = (level e < level_of o) × IsLevelled e × (level f < level_of o) × IsLevelled f × AreOfLevel (level_of o) ls
+  IsLevelled (call n at args) = AreOfForm (are_named args) args
 
   pub AreOfLevel : ℕ → Links → Type 0
   AreOfLevel k no_links = Unit {0}
   AreOfLevel k (link o at e ls) = (level_of o ≡ k) × (level e < k) × IsLevelled e × AreOfLevel k ls
 
--- statements of levelled expressions, each IF with at least one arm
+  pub AreOfForm : Bool → Arguments → Type 0
+  AreOfForm named no_arguments = Unit {0}
+  AreOfForm named (argument n e args) = (is_some n ≡ named) × IsLevelled e × AreOfForm named args
+
+-- what may be an initial value or a label: a literal, `-` and a literal, a name, or `type#value`
+abbrev pub IsConstant : Tree → Type 0
+IsConstant (literal l) = Unit {0}
+IsConstant (path p) = p.members ≡ []
+IsConstant (enumerator t v) = Unit {0}
+IsConstant (paren at e) = ⊥
+IsConstant (unary signs.Minus at (literal l)) = Unit {0}
+IsConstant (unary o at e) = ⊥
+IsConstant (chain e ls) = ⊥
+IsConstant (call n at args) = ⊥
+
+abbrev pub IsInitialFormed : Option Tree → Type 0
+IsInitialFormed None = Unit {0}
+IsInitialFormed (Some e) = IsConstant e
+
+-- a label's bounds are constants, and an entry of a CASE has at least one label
+abbrev pub IsLabelFormed : LabelData → Type 0
+IsLabelFormed l = IsConstant l.low × IsInitialFormed l.high
+
+abbrev pub AreLabelsFormed : List LabelData → Type 0
+AreLabelsFormed [] = Unit {0}
+AreLabelsFormed (l ∷ ls) = IsLabelFormed l × AreLabelsFormed ls
+
+abbrev pub AreLabels : List LabelData → Type 0
+AreLabels [] = ⊥
+AreLabels (l ∷ ls) = IsLabelFormed l × AreLabelsFormed ls
+
+abbrev pub IsStepLevelled : Option Tree → Type 0
+IsStepLevelled None = Unit {0}
+IsStepLevelled (Some e) = IsLevelled e
+
+abbrev pub IsIterationLevelled : IterationData → Type 0
+IsIterationLevelled i = IsLevelled i.first × IsLevelled i.last × IsStepLevelled i.step
+
+-- statements of levelled expressions, each IF with at least one arm, and each CASE with at least one entry
 abbrev mutual
   pub IsStmtLevelled : Stmt → Type 0
   IsStmtLevelled empty = Unit {0}
   IsStmtLevelled (assign p e) = IsLevelled e
   IsStmtLevelled (branch no_arms other) = ⊥
   IsStmtLevelled (branch (arm e ss arms) other) = IsLevelled e × AreStmtsLevelled ss × AreArmsLevelled arms × IsElseLevelled other
+  IsStmtLevelled (cases e no_entries other) = ⊥
+  IsStmtLevelled (cases e (entry ls ss es) other) = IsLevelled e × AreLabels ls × AreStmtsLevelled ss × AreEntriesLevelled es × IsElseLevelled other
+  IsStmtLevelled (iterate i ss) = IsIterationLevelled i × AreStmtsLevelled ss
 
   pub AreStmtsLevelled : Stmts → Type 0
   AreStmtsLevelled no_stmts = Unit {0}
@@ -76,23 +125,13 @@ abbrev mutual
   AreArmsLevelled no_arms = Unit {0}
   AreArmsLevelled (arm e ss arms) = IsLevelled e × AreStmtsLevelled ss × AreArmsLevelled arms
 
+  pub AreEntriesLevelled : Entries → Type 0
+  AreEntriesLevelled no_entries = Unit {0}
+  AreEntriesLevelled (entry ls ss es) = AreLabels ls × AreStmtsLevelled ss × AreEntriesLevelled es
+
   pub IsElseLevelled : Otherwise → Type 0
   IsElseLevelled no_else = Unit {0}
   IsElseLevelled (else_stmts ss) = AreStmtsLevelled ss
-
--- what may be an initial value: a literal, `-` and a literal, a name, or `type#value`
-abbrev pub IsConstant : Tree → Type 0
-IsConstant (literal l) = Unit {0}
-IsConstant (path p) = p.members ≡ []
-IsConstant (enumerator t v) = Unit {0}
-IsConstant (paren at e) = ⊥
-IsConstant (unary signs.Minus at (literal l)) = Unit {0}
-IsConstant (unary o at e) = ⊥
-IsConstant (chain e ls) = ⊥
-
-abbrev pub IsInitialFormed : Option Tree → Type 0
-IsInitialFormed None = Unit {0}
-IsInitialFormed (Some e) = IsConstant e
 
 abbrev pub AreDeclarationsFormed : List DeclarationData → Type 0
 AreDeclarationsFormed [] = Unit {0}

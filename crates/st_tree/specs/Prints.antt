@@ -1,5 +1,5 @@
 -- What a tree prints (the grammar of the profile, after IEC 61131-3, annex B).
-use Rattle.std.specs.Prelude.{ℕ, List, [], ◌∷◌, ◌++◌, Bool, Option, Some, None}
+use Rattle.std.specs.Prelude.{ℕ, List, [], ◌∷◌, ◌++◌, map, Bool, Option, Some, None}
 use Rattle.st_tree.specs.declared.token.Operator.TheVariants.{Minus}
 use Rattle.st_tree.specs.declared.token.Mark.{Mark}
 use Rattle.st_tree.specs.declared.token.Mark.TheVariants as marks
@@ -9,7 +9,7 @@ use Rattle.st_tree.specs.declared.syntax.UnaryOperator.{UnaryOperator}
 use Rattle.st_tree.specs.declared.syntax.UnaryOperator.TheVariants as signs
 use Rattle.st_tree.specs.declared.syntax.Section.{Section}
 use Rattle.st_tree.specs.declared.syntax.Section.TheVariants as sections
-use Rattle.st_tree.specs.Syntax.{Symbol, name, number, truth, elementary, negation, operator, opening, mark, Named, PathData, Tree, literal, path, enumerator, paren, unary, chain, Links, no_links, link, Stmt, empty, assign, branch, Stmts, no_stmts, stmt, Arms, no_arms, arm, Otherwise, no_else, else_stmts, TypeData, of_elementary, of_name, DeclarationData, VariablesData, BodyData, statements, chart as chart_body, PouData, FileData}
+use Rattle.st_tree.specs.Syntax.{Symbol, name, number, truth, elementary, negation, operator, opening, iteration, mark, Named, PathData, Tree, literal, path, enumerator, paren, unary, chain, call, Links, no_links, link, Arguments, no_arguments, argument, Stmt, empty, assign, branch, cases, iterate, Stmts, no_stmts, stmt, Arms, no_arms, arm, Entries, no_entries, entry, Otherwise, no_else, else_stmts, LabelData, IterationData, TypeData, of_elementary, of_name, DeclarationData, VariablesData, BodyData, statements, chart as chart_body, PouData, FileData}
 
 abbrev pub name_symbol : Named → Symbol
 name_symbol n = name n.text n.at
@@ -36,6 +36,11 @@ abbrev pub unary_symbol : UnaryOperator → ℕ → Symbol
 unary_symbol signs.Minus at = operator Minus at
 unary_symbol signs.Not at = negation at
 
+-- `name :=` before an argument by name
+abbrev pub print_argument_name : Option Named → List Symbol
+print_argument_name None = []
+print_argument_name (Some n) = name_symbol n ∷ mark marks.Assign ∷ []
+
 abbrev mutual
   pub print : Tree → List Symbol
   print (literal l) = print_literal l
@@ -44,16 +49,51 @@ abbrev mutual
   print (paren at e) = opening at ∷ (print e ++ mark marks.Close ∷ [])
   print (unary o at e) = unary_symbol o at ∷ print e
   print (chain e ls) = print e ++ print_links ls
+  print (call n at args) = name_symbol n ∷ opening at ∷ (print_arguments args ++ mark marks.Close ∷ [])
 
   pub print_links : Links → List Symbol
   print_links no_links = []
   print_links (link o at e ls) = operator o at ∷ (print e ++ print_links ls)
 
+  -- arguments with commas between them
+  pub print_arguments : Arguments → List Symbol
+  print_arguments no_arguments = []
+  print_arguments (argument n e args) = print_argument_name n ++ print e ++ print_more_arguments args
+
+  pub print_more_arguments : Arguments → List Symbol
+  print_more_arguments no_arguments = []
+  print_more_arguments (argument n e args) = mark marks.Comma ∷ (print_argument_name n ++ print e ++ print_more_arguments args)
+
+abbrev pub print_high : Option Tree → List Symbol
+print_high None = []
+print_high (Some e) = mark marks.Range ∷ print e
+
+abbrev pub print_label : LabelData → List Symbol
+print_label l = print l.low ++ print_high l.high
+
+-- labels with commas between them
+abbrev pub print_more_labels : List LabelData → List Symbol
+print_more_labels [] = []
+print_more_labels (l ∷ ls) = mark marks.Comma ∷ (print_label l ++ print_more_labels ls)
+
+abbrev pub print_labels : List LabelData → List Symbol
+print_labels [] = []
+print_labels (l ∷ ls) = print_label l ++ print_more_labels ls
+
+abbrev pub print_step : Option Tree → List Symbol
+print_step None = []
+print_step (Some e) = mark marks.By ∷ print e
+
+abbrev pub print_iteration : IterationData → List Symbol
+print_iteration i = iteration i.at ∷ name_symbol i.control ∷ mark marks.Assign ∷ (print i.first ++ mark marks.To ∷ (print i.last ++ print_step i.step ++ mark marks.Do ∷ []))
+
 abbrev mutual
   pub print_stmt : Stmt → List Symbol
   print_stmt empty = mark marks.Semicolon ∷ []
   print_stmt (assign p e) = print_path p ++ mark marks.Assign ∷ (print e ++ mark marks.Semicolon ∷ [])
-  print_stmt (branch arms other) = print_arms marks.If arms ++ print_otherwise other
+  print_stmt (branch arms other) = print_arms marks.If arms ++ print_otherwise marks.EndIf other
+  print_stmt (cases e es other) = mark marks.Case ∷ (print e ++ mark marks.Of ∷ (print_entries es ++ print_otherwise marks.EndCase other))
+  print_stmt (iterate i ss) = print_iteration i ++ (print_stmts ss ++ mark marks.EndFor ∷ [])
 
   pub print_stmts : Stmts → List Symbol
   print_stmts no_stmts = []
@@ -64,9 +104,14 @@ abbrev mutual
   print_arms lead no_arms = []
   print_arms lead (arm e ss arms) = mark lead ∷ (print e ++ mark marks.Then ∷ (print_stmts ss ++ print_arms marks.Elsif arms))
 
-  pub print_otherwise : Otherwise → List Symbol
-  print_otherwise no_else = mark marks.EndIf ∷ []
-  print_otherwise (else_stmts ss) = mark marks.Else ∷ (print_stmts ss ++ mark marks.EndIf ∷ [])
+  pub print_entries : Entries → List Symbol
+  print_entries no_entries = []
+  print_entries (entry ls ss es) = print_labels ls ++ mark marks.Colon ∷ (print_stmts ss ++ print_entries es)
+
+  -- ELSE and its statements, where there are any, and the word that closes
+  pub print_otherwise : Mark → Otherwise → List Symbol
+  print_otherwise closing no_else = mark closing ∷ []
+  print_otherwise closing (else_stmts ss) = mark marks.Else ∷ (print_stmts ss ++ mark closing ∷ [])
 
 -- `, name` for each name
 abbrev pub print_others : List Named → List Symbol
@@ -88,14 +133,16 @@ abbrev pub print_declarations : List DeclarationData → List Symbol
 print_declarations [] = []
 print_declarations (d ∷ ds) = print_declaration d ++ print_declarations ds
 
-abbrev pub section_mark : Section → Mark
-section_mark sections.Input = marks.VarInput
-section_mark sections.Output = marks.VarOutput
-section_mark sections.Local = marks.Var
+abbrev pub section_marks : Section → List Mark
+section_marks sections.Input = marks.VarInput ∷ []
+section_marks sections.Output = marks.VarOutput ∷ []
+section_marks sections.Local = marks.Var ∷ []
+section_marks sections.Temporary = marks.VarTemp ∷ []
+section_marks sections.Constant = marks.Var ∷ marks.Constant ∷ []
 
 abbrev pub print_variables : List VariablesData → List Symbol
 print_variables [] = []
-print_variables (v ∷ vs) = mark (section_mark v.section) ∷ (print_declarations v.declarations ++ mark marks.EndVar ∷ print_variables vs)
+print_variables (v ∷ vs) = map mark (section_marks v.section) ++ (print_declarations v.declarations ++ mark marks.EndVar ∷ print_variables vs)
 
 abbrev pub print_body : BodyData → List Symbol
 print_body (statements ss) = print_stmts ss

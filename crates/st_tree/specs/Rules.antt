@@ -28,8 +28,15 @@ name_of rules_of.OperandType = codes "Y1"
 name_of rules_of.ValueType = codes "Y2"
 name_of rules_of.OutsideType = codes "Y3"
 name_of rules_of.NotAssignable = codes "Y4"
+name_of rules_of.ArgumentCount = codes "Y5"
+name_of rules_of.Overlap = codes "K1"
+name_of rules_of.NotConstant = codes "F1"
+name_of rules_of.StepZero = codes "F2"
+name_of rules_of.TooManyTurns = codes "F3"
+name_of rules_of.OutsideControl = codes "F4"
 name_of rules_of.NotBool = codes "R4"
 name_of rules_of.TooManyCells = codes "M2"
+name_of rules_of.TooManyCandidates = codes "M4"
 name_of rules_of.NoTrace = codes "J1"
 
 -- the order of the rules at one place
@@ -56,9 +63,16 @@ rank_of rules_of.OperandType = 18
 rank_of rules_of.ValueType = 19
 rank_of rules_of.OutsideType = 20
 rank_of rules_of.NotAssignable = 21
-rank_of rules_of.NotBool = 22
-rank_of rules_of.TooManyCells = 23
-rank_of rules_of.NoTrace = 24
+rank_of rules_of.ArgumentCount = 22
+rank_of rules_of.Overlap = 23
+rank_of rules_of.NotConstant = 24
+rank_of rules_of.StepZero = 25
+rank_of rules_of.TooManyTurns = 26
+rank_of rules_of.OutsideControl = 27
+rank_of rules_of.NotBool = 28
+rank_of rules_of.TooManyCells = 29
+rank_of rules_of.TooManyCandidates = 30
+rank_of rules_of.NoTrace = 31
 
 -- one refusal comes before another of the same pass: by place, then by the order of the rules
 abbrev pub comes_before : Refusal → Refusal → Bool

@@ -16,6 +16,7 @@ pub data Symbol : Type 0 where
   negation : ℕ → Symbol
   operator : Operator → ℕ → Symbol
   opening : ℕ → Symbol
+  iteration : ℕ → Symbol
   mark : Mark → Symbol
   left_out : ℕ → Symbol
 
@@ -29,7 +30,7 @@ pub record PathData : Type 0 where
   pub first : Named
   pub members : List Named
 
--- expressions, and what joins operands of one level from left to right
+-- expressions, what joins operands of one level from left to right, and the arguments of a call, each by place or by name
 mutual
   pub data Tree : Type 0 where
     literal : Literal → Tree
@@ -38,17 +39,38 @@ mutual
     paren : ℕ → Tree → Tree
     unary : UnaryOperator → ℕ → Tree → Tree
     chain : Tree → Links → Tree
+    call : Named → ℕ → Arguments → Tree
 
   pub data Links : Type 0 where
     no_links : Links
     link : Operator → ℕ → Tree → Links → Links
 
--- Statements. An IF has an arm for IF and for each ELSIF, and then what stands behind ELSE.
+  pub data Arguments : Type 0 where
+    no_arguments : Arguments
+    argument : Option Named → Tree → Arguments → Arguments
+
+-- a label of a CASE: a constant, or a range from one to another
+pub record LabelData : Type 0 where
+  pub low : Tree
+  pub high : Option Tree
+
+-- what stands between FOR and DO, and the place of FOR
+pub record IterationData : Type 0 where
+  pub at : ℕ
+  pub control : Named
+  pub first : Tree
+  pub last : Tree
+  pub step : Option Tree
+
+-- Statements. An IF has an arm for IF and for each ELSIF, and then what stands behind ELSE; a CASE has
+-- entries, each with its labels.
 mutual
   pub data Stmt : Type 0 where
     empty : Stmt
     assign : PathData → Tree → Stmt
     branch : Arms → Otherwise → Stmt
+    cases : Tree → Entries → Otherwise → Stmt
+    iterate : IterationData → Stmts → Stmt
 
   pub data Stmts : Type 0 where
     no_stmts : Stmts
@@ -57,6 +79,10 @@ mutual
   pub data Arms : Type 0 where
     no_arms : Arms
     arm : Tree → Stmts → Arms → Arms
+
+  pub data Entries : Type 0 where
+    no_entries : Entries
+    entry : List LabelData → Stmts → Entries → Entries
 
   pub data Otherwise : Type 0 where
     no_else : Otherwise
@@ -74,7 +100,7 @@ pub record DeclarationData : Type 0 where
   pub kind : TypeData
   pub initial : Option Tree
 
--- from VAR, VAR_INPUT or VAR_OUTPUT to END_VAR
+-- from VAR or another such word to END_VAR
 pub record VariablesData : Type 0 where
   pub section : Section
   pub declarations : List DeclarationData

@@ -10,12 +10,16 @@ use Rattle.st_tree.specs.declared.syntax.Name.{Name}
 use Rattle.st_tree.specs.declared.syntax.Path.{Path}
 use Rattle.st_tree.specs.declared.syntax.Expr.{Expr}
 use Rattle.st_tree.specs.declared.syntax.Link.{Link}
-use Rattle.st_tree.specs.declared.syntax.Expr.TheOpen.{Expr-F, Link-F}
-use Rattle.st_tree.specs.declared.syntax.Expr.TheFolds.{fold-Expr, fold-Link}
+use Rattle.st_tree.specs.declared.syntax.Argument.{Argument}
+use Rattle.st_tree.specs.declared.syntax.Expr.TheOpen.{Expr-F, Link-F, Argument-F}
+use Rattle.st_tree.specs.declared.syntax.Expr.TheFolds.{fold-Expr, fold-Link, fold-Argument}
 use Rattle.st_tree.specs.declared.syntax.Stmt.{Stmt as StmtTree}
 use Rattle.st_tree.specs.declared.syntax.Arm.{Arm}
-use Rattle.st_tree.specs.declared.syntax.Stmt.TheOpen.{Stmt-F, Arm-F}
-use Rattle.st_tree.specs.declared.syntax.Stmt.TheFolds.{fold-Stmt, fold-Arm}
+use Rattle.st_tree.specs.declared.syntax.Entry.{Entry}
+use Rattle.st_tree.specs.declared.syntax.Label.{Label}
+use Rattle.st_tree.specs.declared.syntax.Iteration.{Iteration}
+use Rattle.st_tree.specs.declared.syntax.Stmt.TheOpen.{Stmt-F, Arm-F, Entry-F}
+use Rattle.st_tree.specs.declared.syntax.Stmt.TheFolds.{fold-Stmt, fold-Arm, fold-Entry}
 use Rattle.st_tree.specs.declared.syntax.TypeName.{TypeName}
 use Rattle.st_tree.specs.declared.syntax.TypeName.TheVariants as type_names
 use Rattle.st_tree.specs.declared.syntax.Declaration.{Declaration}
@@ -25,7 +29,7 @@ use Rattle.st_tree.specs.declared.syntax.Body.{Body}
 use Rattle.st_tree.specs.declared.syntax.Body.TheVariants as bodies
 use Rattle.st_tree.specs.declared.syntax.Pou.{Pou}
 use Rattle.st_tree.specs.declared.syntax.SourceFile.{SourceFile}
-use Rattle.st_tree.specs.Syntax.{Symbol, name, number, truth, elementary, negation, operator, opening, mark, left_out, Named, PathData, Tree, literal, path, enumerator, paren, unary, chain, Links, no_links, link, Stmt, empty, assign, branch, Stmts, no_stmts, stmt, Arms, no_arms, arm, Otherwise, no_else, else_stmts, TypeData, of_elementary, of_name, DeclarationData, VariablesData, BodyData, statements, chart as chart_body, PouData, FileData}
+use Rattle.st_tree.specs.Syntax.{Symbol, name, number, truth, elementary, negation, operator, opening, iteration, mark, left_out, Named, PathData, Tree, literal, path, enumerator, paren, unary, chain, call, Links, no_links, link, Arguments, no_arguments, argument, Stmt, empty, assign, branch, cases, iterate, Stmts, no_stmts, stmt, Arms, no_arms, arm, Entries, no_entries, entry, Otherwise, no_else, else_stmts, LabelData, IterationData, TypeData, of_elementary, of_name, DeclarationData, VariablesData, BodyData, statements, chart as chart_body, PouData, FileData}
 
 -- a text in upper case
 abbrev pub upper : List ℕ → List ℕ
@@ -39,6 +43,7 @@ symbol_of (terminals.Type kind) text at = elementary kind at
 symbol_of terminals.Not text at = negation at
 symbol_of (terminals.Operator o) text at = operator o at
 symbol_of terminals.Open text at = opening at
+symbol_of terminals.For text at = iteration at
 symbol_of (terminals.Mark m) text at = mark m
 symbol_of terminals.LeftOut text at = left_out at
 
@@ -65,25 +70,43 @@ abbrev pub links_of : List LinkData → Links
 links_of [] = no_links
 links_of (l ∷ ls) = link l.0 l.1 l.2 (links_of ls)
 
-abbrev pub expr_step : Expr-F Tree LinkData → Tree
+-- the name of an argument, if it has one, and its value
+abbrev pub ArgumentData : Type 0
+ArgumentData = Option Named × Tree
+
+abbrev pub arguments_of : List ArgumentData → Arguments
+arguments_of [] = no_arguments
+arguments_of (a ∷ args) = argument a.0 a.1 (arguments_of args)
+
+abbrev pub expr_step : Expr-F Tree ArgumentData LinkData → Tree
 expr_step (Expr-F.Literal l) = literal l
 expr_step (Expr-F.Path p) = path (path_view p)
 expr_step (Expr-F.Enumerator t v) = enumerator (name_view t) (name_view v)
 expr_step (Expr-F.Paren at e) = paren at e.value
 expr_step (Expr-F.Unary o at e) = unary o at e.value
 expr_step (Expr-F.Chain e ls) = chain e.value (links_of ls.items)
+expr_step (Expr-F.Call n at args) = call (name_view n) at (arguments_of args.items)
 
-abbrev pub link_step : Link-F Tree LinkData → LinkData
+abbrev pub link_step : Link-F Tree ArgumentData LinkData → LinkData
 link_step l = (l.operator, l.at, l.right)
 
+abbrev pub argument_step : Argument-F Tree ArgumentData LinkData → ArgumentData
+argument_step a = (option_map name_view a.name, a.value)
+
 abbrev pub tree_view : Expr → Tree
-tree_view = fold-Expr Tree LinkData expr_step link_step
+tree_view = fold-Expr Tree ArgumentData LinkData expr_step argument_step link_step
 
 abbrev pub link_view : Link → LinkData
-link_view = fold-Link Tree LinkData expr_step link_step
+link_view = fold-Link Tree ArgumentData LinkData expr_step argument_step link_step
+
+abbrev pub argument_view : Argument → ArgumentData
+argument_view = fold-Argument Tree ArgumentData LinkData expr_step argument_step link_step
 
 abbrev pub links_view : List Link → Links
 links_view ls = links_of (map link_view ls)
+
+abbrev pub arguments_view : List Argument → Arguments
+arguments_view args = arguments_of (map argument_view args)
 
 abbrev pub stmts_of : List Stmt → Stmts
 stmts_of [] = no_stmts
@@ -101,25 +124,58 @@ abbrev pub otherwise_of : Option (Vec Stmt Global) → Otherwise
 otherwise_of None = no_else
 otherwise_of (Some ss) = else_stmts (stmts_of ss.items)
 
-abbrev pub stmt_step : Stmt-F Stmt ArmData → Stmt
+-- an expression, where there is one
+abbrev pub initial_view : Option Expr → Option Tree
+initial_view None = None
+initial_view (Some e) = Some (tree_view e)
+
+abbrev pub label_view : Label → LabelData
+label_view l = record { low = tree_view l.low; high = initial_view l.high }
+
+abbrev pub labels_view : List Label → List LabelData
+labels_view ls = map label_view ls
+
+abbrev pub iteration_view : Iteration → IterationData
+iteration_view i = record { at = i.at; control = name_view i.control; first = tree_view i.first; last = tree_view i.last; step = initial_view i.step }
+
+-- the labels of an entry and its statements
+abbrev pub EntryData : Type 0
+EntryData = List LabelData × Stmts
+
+abbrev pub entries_of : List EntryData → Entries
+entries_of [] = no_entries
+entries_of (e ∷ es) = entry e.0 e.1 (entries_of es)
+
+abbrev pub stmt_step : Stmt-F Stmt ArmData EntryData → Stmt
 stmt_step Stmt-F.Empty = empty
 stmt_step (Stmt-F.Assign p e) = assign (path_view p) (tree_view e)
 stmt_step (Stmt-F.If arms other) = branch (arms_of arms.items) (otherwise_of other)
+stmt_step (Stmt-F.Case e es other) = cases (tree_view e) (entries_of es.items) (otherwise_of other)
+stmt_step (Stmt-F.For i ss) = iterate (iteration_view i.value) (stmts_of ss.items)
 
-abbrev pub arm_step : Arm-F Stmt ArmData → ArmData
+abbrev pub arm_step : Arm-F Stmt ArmData EntryData → ArmData
 arm_step a = (tree_view a.condition, stmts_of a.body.items)
 
+abbrev pub entry_step : Entry-F Stmt ArmData EntryData → EntryData
+entry_step e = (labels_view e.labels.items, stmts_of e.body.items)
+
 abbrev pub stmt_view : StmtTree → Stmt
-stmt_view = fold-Stmt Stmt ArmData stmt_step arm_step
+stmt_view = fold-Stmt Stmt ArmData EntryData stmt_step arm_step entry_step
 
 abbrev pub arm_view : Arm → ArmData
-arm_view = fold-Arm Stmt ArmData stmt_step arm_step
+arm_view = fold-Arm Stmt ArmData EntryData stmt_step arm_step entry_step
+
+abbrev pub entry_view : Entry → EntryData
+entry_view = fold-Entry Stmt ArmData EntryData stmt_step arm_step entry_step
 
 abbrev pub stmts_view : List StmtTree → Stmts
 stmts_view ss = stmts_of (map stmt_view ss)
 
 abbrev pub arms_view : List Arm → Arms
 arms_view arms = arms_of (map arm_view arms)
+
+abbrev pub entries_view : List Entry → Entries
+entries_view es = entries_of (map entry_view es)
 
 abbrev pub else_view : Option (Vec StmtTree Global) → Otherwise
 else_view None = no_else
@@ -128,10 +184,6 @@ else_view (Some ss) = else_stmts (stmts_view ss.items)
 abbrev pub type_view : TypeName → TypeData
 type_view (type_names.Elementary kind at) = of_elementary kind at
 type_view (type_names.Named n) = of_name (name_view n)
-
-abbrev pub initial_view : Option Expr → Option Tree
-initial_view None = None
-initial_view (Some e) = Some (tree_view e)
 
 abbrev pub declaration_view : Declaration → DeclarationData
 declaration_view d = record { first = name_view d.first; others = names_view d.others.items; kind = type_view d.kind; initial = initial_view d.initial }

@@ -23,20 +23,25 @@ mark_words =
     ∷ (codes "VAR", terminals.Mark marks.Var)
     ∷ (codes "VAR_INPUT", terminals.Mark marks.VarInput)
     ∷ (codes "VAR_OUTPUT", terminals.Mark marks.VarOutput)
+    ∷ (codes "VAR_TEMP", terminals.Mark marks.VarTemp)
+    ∷ (codes "CONSTANT", terminals.Mark marks.Constant)
     ∷ (codes "END_VAR", terminals.Mark marks.EndVar)
     ∷ (codes "IF", terminals.Mark marks.If)
     ∷ (codes "THEN", terminals.Mark marks.Then)
     ∷ (codes "ELSIF", terminals.Mark marks.Elsif)
     ∷ (codes "ELSE", terminals.Mark marks.Else)
     ∷ (codes "END_IF", terminals.Mark marks.EndIf)
+    ∷ (codes "CASE", terminals.Mark marks.Case)
+    ∷ (codes "END_CASE", terminals.Mark marks.EndCase)
     ∷ (codes "OF", terminals.Mark marks.Of)
     ∷ (codes "TO", terminals.Mark marks.To)
     ∷ (codes "BY", terminals.Mark marks.By)
     ∷ (codes "DO", terminals.Mark marks.Do)
+    ∷ (codes "END_FOR", terminals.Mark marks.EndFor)
     ∷ (codes "FROM", terminals.Mark marks.From)
     ∷ []
 
--- reserved words that are operators or values
+-- reserved words that are operators or values, and FOR
 abbrev pub operator_words : List Entry
 operator_words =
     (codes "AND", terminals.Operator operators.And)
@@ -44,6 +49,7 @@ operator_words =
     ∷ (codes "XOR", terminals.Operator operators.Xor)
     ∷ (codes "MOD", terminals.Operator operators.Mod)
     ∷ (codes "NOT", terminals.Not)
+    ∷ (codes "FOR", terminals.For)
     ∷ (codes "TRUE", terminals.Truth true)
     ∷ (codes "FALSE", terminals.Truth false)
     ∷ []
@@ -78,8 +84,7 @@ left_out_words =
 -- words of the language that are not let in yet
 abbrev pub later_words : List (List ℕ)
 later_words =
-    codes "TYPE" ∷ codes "END_TYPE" ∷ codes "CASE" ∷ codes "END_CASE" ∷ codes "FOR" ∷ codes "END_FOR"
-    ∷ codes "VAR_TEMP" ∷ codes "CONSTANT"
+    codes "TYPE" ∷ codes "END_TYPE"
     ∷ codes "FUNCTION" ∷ codes "END_FUNCTION" ∷ codes "FUNCTION_BLOCK" ∷ codes "END_FUNCTION_BLOCK"
     ∷ codes "INITIAL_STEP" ∷ codes "STEP" ∷ codes "END_STEP" ∷ codes "TRANSITION" ∷ codes "END_TRANSITION"
     ∷ codes "ACTION" ∷ codes "END_ACTION"

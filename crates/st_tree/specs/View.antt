@@ -1,5 +1,6 @@
 -- The data that programs stand for.
-use Rattle.std.specs.Prelude.{List, [], ◌∷◌, map, string_bytes}
+use Rattle.std.specs.Prelude.{ℕ, String, List, [], ◌∷◌, map, string_bytes}
+use Rattle.std.specs.declared.alloc.Global.{Global}
 use Rattle.st_tree.specs.declared.elementary.Elementary.{Elementary}
 use Rattle.st_tree.specs.declared.token.Operator.{Operator}
 use Rattle.st_tree.specs.declared.typed.TypedExpr.{TypedExpr}
@@ -8,11 +9,13 @@ use Rattle.st_tree.specs.declared.typed.TypedExpr.TheFolds.{fold-TypedExpr, fold
 use Rattle.st_tree.specs.declared.typed.Operand.{Operand}
 use Rattle.st_tree.specs.declared.typed.TypedStmt.{TypedStmt}
 use Rattle.st_tree.specs.declared.typed.TypedArm.{TypedArm}
-use Rattle.st_tree.specs.declared.typed.TypedStmt.TheOpen.{TypedStmt-F, TypedArm-F}
-use Rattle.st_tree.specs.declared.typed.TypedStmt.TheFolds.{fold-TypedStmt, fold-TypedArm}
+use Rattle.st_tree.specs.declared.typed.TypedEntry.{TypedEntry}
+use Rattle.st_tree.specs.declared.typed.Range.{Range}
+use Rattle.st_tree.specs.declared.typed.TypedStmt.TheOpen.{TypedStmt-F, TypedArm-F, TypedEntry-F}
+use Rattle.st_tree.specs.declared.typed.TypedStmt.TheFolds.{fold-TypedStmt, fold-TypedArm, fold-TypedEntry}
 use Rattle.st_tree.specs.declared.typed.Cell.{Cell}
 use Rattle.st_tree.specs.declared.typed.Program.{Program}
-use Rattle.st_tree.specs.Tree.{Expression, number, cell, unary, chain, Operands, no_operands, operand, Statement, assign, choice, Statements, no_statements, statement, Choices, no_choices, choose, CellData, ProgramData}
+use Rattle.st_tree.specs.Tree.{Expression, number, cell, unary, chain, call, Operands, no_operands, operand, Expressions, no_expressions, expression, Statement, assign, choice, cases, repeat, Statements, no_statements, statement, Choices, no_choices, choose, Entries, no_entries, entry, CellData, ProgramData}
 
 -- an operator, the type of its operands, and its right operand
 abbrev pub OperandData : Type 0
@@ -22,11 +25,16 @@ abbrev pub operands_of : List OperandData → Operands
 operands_of [] = no_operands
 operands_of (o ∷ os) = operand o.0 o.1 o.2 (operands_of os)
 
+abbrev pub expressions_of : List Expression → Expressions
+expressions_of [] = no_expressions
+expressions_of (e ∷ es) = expression e (expressions_of es)
+
 abbrev pub expr_step : TypedExpr-F Expression OperandData → Expression
 expr_step (TypedExpr-F.Number value) = number value
 expr_step (TypedExpr-F.Cell place) = cell place
 expr_step (TypedExpr-F.Unary o kind e) = unary o kind e.value
 expr_step (TypedExpr-F.Chain first rest) = chain first.value (operands_of rest.items)
+expr_step (TypedExpr-F.Call f kind es) = call f kind (expressions_of es.items)
 
 abbrev pub operand_step : Operand-F Expression OperandData → OperandData
 operand_step o = (o.operator, o.kind, o.right)
@@ -43,6 +51,9 @@ operands_view os = operands_of (map operand_view os)
 abbrev pub exprs_view : List TypedExpr → List Expression
 exprs_view es = map expr_view es
 
+abbrev pub arguments_view : List TypedExpr → Expressions
+arguments_view es = expressions_of (exprs_view es)
+
 abbrev pub statements_of : List Statement → Statements
 statements_of [] = no_statements
 statements_of (s ∷ ss) = statement s (statements_of ss)
@@ -55,18 +66,34 @@ abbrev pub choices_of : List ChoiceData → Choices
 choices_of [] = no_choices
 choices_of (c ∷ cs) = choose c.0 c.1 (choices_of cs)
 
-abbrev pub stmt_step : TypedStmt-F Statement ChoiceData → Statement
+-- the values of an entry's labels and its statements
+abbrev pub EntryData : Type 0
+EntryData = List Range × Statements
+
+abbrev pub entries_of : List EntryData → Entries
+entries_of [] = no_entries
+entries_of (e ∷ es) = entry e.0 e.1 (entries_of es)
+
+abbrev pub stmt_step : TypedStmt-F Statement ChoiceData EntryData → Statement
 stmt_step (TypedStmt-F.Assign target e) = assign target (expr_view e)
 stmt_step (TypedStmt-F.If arms other) = choice (choices_of arms.items) (statements_of other.items)
+stmt_step (TypedStmt-F.Case e es other) = cases (expr_view e) (entries_of es.items) (statements_of other.items)
+stmt_step (TypedStmt-F.For turns ss) = repeat turns (statements_of ss.items)
 
-abbrev pub arm_step : TypedArm-F Statement ChoiceData → ChoiceData
+abbrev pub arm_step : TypedArm-F Statement ChoiceData EntryData → ChoiceData
 arm_step a = (expr_view a.condition, statements_of a.body.items)
 
+abbrev pub entry_step : TypedEntry-F Statement ChoiceData EntryData → EntryData
+entry_step e = (e.labels.items, statements_of e.body.items)
+
 abbrev pub stmt_view : TypedStmt → Statement
-stmt_view = fold-TypedStmt Statement ChoiceData stmt_step arm_step
+stmt_view = fold-TypedStmt Statement ChoiceData EntryData stmt_step arm_step entry_step
 
 abbrev pub arm_view : TypedArm → ChoiceData
-arm_view = fold-TypedArm Statement ChoiceData stmt_step arm_step
+arm_view = fold-TypedArm Statement ChoiceData EntryData stmt_step arm_step entry_step
+
+abbrev pub entry_view : TypedEntry → EntryData
+entry_view = fold-TypedEntry Statement ChoiceData EntryData stmt_step arm_step entry_step
 
 abbrev pub stmts_view : List TypedStmt → Statements
 stmts_view ss = statements_of (map stmt_view ss)
@@ -74,11 +101,20 @@ stmts_view ss = statements_of (map stmt_view ss)
 abbrev pub choices_view : List TypedArm → Choices
 choices_view arms = choices_of (map arm_view arms)
 
+abbrev pub entries_view : List TypedEntry → Entries
+entries_view es = entries_of (map entry_view es)
+
 abbrev pub cell_view : Cell → CellData
 cell_view c = record { path = string_bytes c.path; part = c.part; kind = c.kind; range = c.range; initial = c.initial }
 
 abbrev pub cells_view : List Cell → List CellData
 cells_view cs = map cell_view cs
 
+abbrev pub text_view : String Global → List ℕ
+text_view s = string_bytes s
+
+abbrev pub texts_view : List (String Global) → List (List ℕ)
+texts_view ss = map text_view ss
+
 abbrev pub program_view : Program → ProgramData
-program_view p = record { name = string_bytes p.name; cells = cells_view p.cells.items; body = stmts_view p.body.items }
+program_view p = record { name = string_bytes p.name; cells = cells_view p.cells.items; constants = texts_view p.constants.items; body = stmts_view p.body.items }

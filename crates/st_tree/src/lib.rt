@@ -4,6 +4,7 @@
 mod cells;
 mod chart_reader;
 mod elementary;
+mod function;
 mod parse_fault;
 mod rule;
 mod syntax;
@@ -14,11 +15,14 @@ mod typed_copies;
 
 pub use chart_reader::{ChartReader, NoCharts};
 pub use elementary::Elementary;
+pub use function::{Function, Shift, StandardFunction};
 pub use parse_fault::ParseFault;
 pub use rule::{Refusal, Rule};
 pub use syntax::{
-    Arm, Body, Chart, Declaration, Expr, Link, Literal, Name, Path, Pou, Section, SourceFile, Stmt,
-    TypeName, UnaryOperator, Variables,
+    Argument, Arm, Body, Chart, Declaration, Entry, Expr, Iteration, Label, Link, Literal, Name,
+    Path, Pou, Section, SourceFile, Stmt, TypeName, UnaryOperator, Variables,
 };
 pub use token::{Kind, Mark, Operator, Terminal, Tok};
-pub use typed::{Cell, Operand, Part, Program, Range, TypedArm, TypedExpr, TypedStmt};
+pub use typed::{
+    Cell, Operand, Part, Program, Range, Turns, TypedArm, TypedEntry, TypedExpr, TypedStmt,
+};

@@ -51,10 +51,25 @@ pub enum Rule {
     OutsideType,
     /// Y4: a target may not be assigned. Its place is the target's.
     NotAssignable,
+    /// Y5: a call has a wrong number of arguments. Its place is the called name's.
+    ArgumentCount,
+    /// K1: a label of a CASE has a value of an earlier label. Its place is that of the label's first token.
+    Overlap,
+    /// F1: a bound or the step of a FOR is not constant. Its place is that of its first token.
+    NotConstant,
+    /// F2: the step of a FOR is 0. Its place is the FOR's.
+    StepZero,
+    /// F3: a FOR has more than 4,096 turns. Its place is the FOR's.
+    TooManyTurns,
+    /// F4: a value of a FOR's control variable is outside its type, the one that ends the FOR included. Its
+    /// place is the FOR's.
+    OutsideControl,
     /// R4: a clause is not BOOL. Its place is its first token's.
     NotBool,
     /// M2: a program has more than 4,096 cells. Its place is 0.
     TooManyCells,
+    /// M4: a relation has more than 4,096 candidates. Its place is 0.
+    TooManyCandidates,
     /// J1: a trace is no JSON text of its shape. Its place is 0.
     NoTrace,
 }
@@ -87,8 +102,15 @@ impl Rule {
             Rule::ValueType => "Y2",
             Rule::OutsideType => "Y3",
             Rule::NotAssignable => "Y4",
+            Rule::ArgumentCount => "Y5",
+            Rule::Overlap => "K1",
+            Rule::NotConstant => "F1",
+            Rule::StepZero => "F2",
+            Rule::TooManyTurns => "F3",
+            Rule::OutsideControl => "F4",
             Rule::NotBool => "R4",
             Rule::TooManyCells => "M2",
+            Rule::TooManyCandidates => "M4",
             Rule::NoTrace => "J1",
         }
     }

@@ -53,7 +53,8 @@ pub enum UnaryOperator {
 }
 
 /// An expression (IEC 61131-3, 3.3.1): a literal; a variable; `type#value`; an expression in parentheses; a
-/// unary operator and its operand; or operators of one level, joined from left to right.
+/// unary operator and its operand; operators of one level, joined from left to right; or a call of a function, with
+/// the place of its parenthesis and its arguments.
 #[derive(Drop)]
 #[cycle(expr)]
 pub enum Expr {
@@ -63,6 +64,7 @@ pub enum Expr {
     Paren(usize, Box<Expr>),
     Unary(UnaryOperator, usize, Box<Expr>),
     Chain(Box<Expr>, Vec<Link>),
+    Call(Name, usize, Vec<Argument>),
 }
 
 /// An operator, its place, and what stands to its right.
@@ -74,13 +76,24 @@ pub struct Link {
     pub right: Expr,
 }
 
-/// A statement (IEC 61131-3, 3.3.2). An IF has an arm for IF and for each ELSIF, and what stands behind ELSE.
+/// An argument of a call (IEC 61131-3, 2.5.1.1): by place, or by name. All of a call are of one form.
+#[derive(Drop)]
+#[cycle(expr)]
+pub struct Argument {
+    pub name: Option<Name>,
+    pub value: Expr,
+}
+
+/// A statement (IEC 61131-3, 3.3.2). An IF has an arm for IF and for each ELSIF, and what stands behind ELSE; a
+/// CASE its selector, its entries, and what stands behind ELSE; a FOR its values and its body.
 #[derive(Drop)]
 #[cycle(stmt)]
 pub enum Stmt {
     Empty,
     Assign(Path, Expr),
     If(Vec<Arm>, Option<Vec<Stmt>>),
+    Case(Expr, Vec<Entry>, Option<Vec<Stmt>>),
+    For(Box<Iteration>, Vec<Stmt>),
 }
 
 /// A condition, and the statements behind its THEN.
@@ -89,6 +102,32 @@ pub enum Stmt {
 pub struct Arm {
     pub condition: Expr,
     pub body: Vec<Stmt>,
+}
+
+/// A label of a CASE: a constant, or a range from one to another.
+#[derive(Drop)]
+pub struct Label {
+    pub low: Expr,
+    pub high: Option<Expr>,
+}
+
+/// The labels of a CASE's entry, and the statements behind them.
+#[derive(Drop)]
+#[cycle(stmt)]
+pub struct Entry {
+    pub labels: Vec<Label>,
+    pub body: Vec<Stmt>,
+}
+
+/// What stands between FOR and DO: the control variable, its first value, the one that is not passed, and the
+/// step behind BY. `at` is the place of FOR.
+#[derive(Drop)]
+pub struct Iteration {
+    pub at: usize,
+    pub control: Name,
+    pub first: Expr,
+    pub last: Expr,
+    pub step: Option<Expr>,
 }
 
 /// A type where a variable is declared: an elementary one, or one by name.
@@ -107,15 +146,17 @@ pub struct Declaration {
     pub initial: Option<Expr>,
 }
 
-/// What variables are for: VAR_INPUT, VAR_OUTPUT or VAR.
+/// What variables are for: VAR_INPUT, VAR_OUTPUT, VAR, VAR_TEMP or VAR CONSTANT.
 #[derive(Clone, Copy, Debug, PartialEq, Eq)]
 pub enum Section {
     Input,
     Output,
     Local,
+    Temporary,
+    Constant,
 }
 
-/// A list of declarations, from VAR, VAR_INPUT or VAR_OUTPUT to END_VAR.
+/// A list of declarations, from VAR or another such word to END_VAR.
 #[derive(Drop)]
 pub struct Variables {
     pub section: Section,

@@ -1,9 +1,10 @@
 // Copies of trees of a text: each stands for the same data.
-ghost use Rattle.std.specs.Prelude.{◌≡◌, map, IfOk};
-ghost use Rattle.st_tree.specs.SyntaxView.{name_view, names_view, path_view, tree_view, link_view, links_view, stmt_view, stmts_view, arm_view, arms_view, else_view, type_view, initial_view, declaration_view, declarations_view, variables_view, all_variables_view, body_view, pou_view, pous_view, file_view};
+ghost use Rattle.std.specs.Prelude.{◌≡◌, map, option_map, IfOk};
+ghost use Rattle.st_tree.specs.SyntaxView.{name_view, names_view, path_view, tree_view, link_view, links_view, argument_view, arguments_view, stmt_view, stmts_view, arm_view, arms_view, label_view, labels_view, entry_view, entries_view, iteration_view, else_view, type_view, initial_view, declaration_view, declarations_view, variables_view, all_variables_view, body_view, pou_view, pous_view, file_view};
 
 use crate::syntax::{
-    Arm, Body, Declaration, Expr, Link, Name, Path, Pou, SourceFile, Stmt, TypeName, Variables,
+    Argument, Arm, Body, Declaration, Entry, Expr, Iteration, Label, Link, Name, Path, Pou,
+    SourceFile, Stmt, TypeName, Variables,
 };
 use std::alloc::{AllocError, Global};
 
@@ -28,6 +29,15 @@ fn copy_names(alloc: Global, names: &[Name]) -> Result<Vec<Name>, AllocError>
         copies.push(name.copy(alloc)?)?;
     }
     Ok(copies)
+}
+
+fn copy_name(alloc: Global, name: &Option<Name>) -> Result<Option<Name>, AllocError>
+    ensures { IfOk result (λ n. option_map name_view n ≡ option_map name_view name.now) }
+{
+    match name {
+        None => Ok(None),
+        Some(name) => Ok(Some(name.copy(alloc)?)),
+    }
 }
 
 impl Path {
@@ -68,6 +78,11 @@ impl Expr {
                 let links = copy_links(alloc, links)?;
                 Ok(Expr::Chain(Box::new(alloc, first)?, links))
             }
+            Expr::Call(function, at, arguments) => {
+                let function = function.copy(alloc)?;
+                let arguments = copy_arguments(alloc, arguments)?;
+                Ok(Expr::Call(function, *at, arguments))
+            }
         }
     }
 }
@@ -84,6 +99,19 @@ fn copy_links(alloc: Global, links: &[Link]) -> Result<Vec<Link>, AllocError>
             at: link.at,
             right,
         })?;
+    }
+    Ok(copies)
+}
+
+#[cycle(copy_expr)]
+fn copy_arguments(alloc: Global, arguments: &[Argument]) -> Result<Vec<Argument>, AllocError>
+    ensures { IfOk result (λ v. map argument_view v.items ≡ map argument_view arguments.now) }
+{
+    let mut copies = Vec::new(alloc);
+    for argument in arguments {
+        let name = copy_name(alloc, &argument.name)?;
+        let value = argument.value.copy(alloc)?;
+        copies.push(Argument { name, value })?;
     }
     Ok(copies)
 }
@@ -111,6 +139,22 @@ impl Stmt {
                     }
                 }
             }
+            Stmt::Case(selector, entries, otherwise) => {
+                let selector = selector.copy(alloc)?;
+                let entries = copy_entries(alloc, entries)?;
+                match otherwise {
+                    None => Ok(Stmt::Case(selector, entries, None)),
+                    Some(stmts) => {
+                        let stmts = copy_stmts(alloc, stmts)?;
+                        Ok(Stmt::Case(selector, entries, Some(stmts)))
+                    }
+                }
+            }
+            Stmt::For(iteration, body) => {
+                let iteration = Box::new(alloc, iteration.copy(alloc)?)?;
+                let body = copy_stmts(alloc, body)?;
+                Ok(Stmt::For(iteration, body))
+            }
         }
     }
 }
@@ -124,6 +168,59 @@ fn copy_stmts(alloc: Global, stmts: &[Stmt]) -> Result<Vec<Stmt>, AllocError>
         copies.push(stmt.copy(alloc)?)?;
     }
     Ok(copies)
+}
+
+#[cycle(copy_stmt)]
+fn copy_entries(alloc: Global, entries: &[Entry]) -> Result<Vec<Entry>, AllocError>
+    ensures { IfOk result (λ v. map entry_view v.items ≡ map entry_view entries.now) }
+{
+    let mut copies = Vec::new(alloc);
+    for entry in entries {
+        let labels = copy_labels(alloc, &entry.labels)?;
+        let body = copy_stmts(alloc, &entry.body)?;
+        copies.push(Entry { labels, body })?;
+    }
+    Ok(copies)
+}
+
+fn copy_labels(alloc: Global, labels: &[Label]) -> Result<Vec<Label>, AllocError>
+    ensures { IfOk result (λ v. labels_view v.items ≡ labels_view labels.now) }
+{
+    let mut copies = Vec::new(alloc);
+    for label in labels {
+        copies.push(label.copy(alloc)?)?;
+    }
+    Ok(copies)
+}
+
+impl Label {
+    /// The same label.
+    pub fn copy(&self, alloc: Global) -> Result<Label, AllocError>
+        ensures { IfOk result (λ l. label_view l ≡ label_view self.now) }
+    {
+        let low = self.low.copy(alloc)?;
+        let high = copy_initial(alloc, &self.high)?;
+        Ok(Label { low, high })
+    }
+}
+
+impl Iteration {
+    /// The same values of a FOR.
+    pub fn copy(&self, alloc: Global) -> Result<Iteration, AllocError>
+        ensures { IfOk result (λ i. iteration_view i ≡ iteration_view self.now) }
+    {
+        let control = self.control.copy(alloc)?;
+        let first = self.first.copy(alloc)?;
+        let last = self.last.copy(alloc)?;
+        let step = copy_initial(alloc, &self.step)?;
+        Ok(Iteration {
+            at: self.at,
+            control,
+            first,
+            last,
+            step,
+        })
+    }
 }
 
 #[cycle(copy_stmt)]

@@ -37,16 +37,21 @@ pub enum Mark {
     Var,
     VarInput,
     VarOutput,
+    VarTemp,
+    Constant,
     EndVar,
     If,
     Then,
     Elsif,
     Else,
     EndIf,
+    Case,
+    EndCase,
     Of,
     To,
     By,
     Do,
+    EndFor,
     From,
 }
 
@@ -59,7 +64,7 @@ pub enum Kind {
 }
 
 /// What a token is for the grammar (IEC 61131-3, annexes B and C): a name; a number, by its value; a truth
-/// value; an elementary type; NOT; a binary operator, `-` among them; `(`; another word or sign that is let
+/// value; an elementary type; NOT; a binary operator, `-` among them; `(`; FOR; another word or sign that is let
 /// in; or a word that is left out.
 #[derive(Clone, Copy, Debug, PartialEq, Eq)]
 pub enum Terminal {
@@ -70,6 +75,7 @@ pub enum Terminal {
     Not,
     Operator(Operator),
     Open,
+    For,
     Mark(Mark),
     LeftOut,
 }

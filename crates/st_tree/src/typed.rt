@@ -1,9 +1,11 @@
 // Programs whose names are cells and whose operators have types.
 use crate::elementary::Elementary;
+use crate::function::Function;
 use crate::syntax::UnaryOperator;
 use crate::token::Operator;
 
-/// An expression over the cells of a state, each by its place. An operator has the type of its operands.
+/// An expression over the cells of a state, each by its place. An operator has the type of its operands, and a
+/// call that of its result.
 #[derive(Drop)]
 #[cycle(typed_expr)]
 pub enum TypedExpr {
@@ -11,6 +13,7 @@ pub enum TypedExpr {
     Cell(usize),
     Unary(UnaryOperator, Elementary, Box<TypedExpr>),
     Chain(Box<TypedExpr>, Vec<Operand>),
+    Call(Function, Elementary, Vec<TypedExpr>),
 }
 
 /// An operator, the type of its operands, and what stands to its right.
@@ -28,6 +31,8 @@ pub struct Operand {
 pub enum TypedStmt {
     Assign(usize, TypedExpr),
     If(Vec<TypedArm>, Vec<TypedStmt>),
+    Case(TypedExpr, Vec<TypedEntry>, Vec<TypedStmt>),
+    For(Turns, Vec<TypedStmt>),
 }
 
 /// A condition, and the statements that run where it is the first that is TRUE.
@@ -36,6 +41,24 @@ pub enum TypedStmt {
 pub struct TypedArm {
     pub condition: TypedExpr,
     pub body: Vec<TypedStmt>,
+}
+
+/// The values of an entry of a CASE, and the statements that run where it is the first that has the selector's.
+#[derive(Drop)]
+#[cycle(typed_stmt)]
+pub struct TypedEntry {
+    pub labels: Vec<Range>,
+    pub body: Vec<TypedStmt>,
+}
+
+/// The turns of a FOR: how many there are, the cell of the control variable, its first value, and what is added
+/// to it behind each turn.
+#[derive(Clone, Copy, Debug, PartialEq, Eq)]
+pub struct Turns {
+    pub count: u16,
+    pub control: usize,
+    pub first: i64,
+    pub step: i64,
 }
 
 /// What part a cell plays in its program.
@@ -64,11 +87,12 @@ pub struct Cell {
     pub initial: i64,
 }
 
-/// A PROGRAM (IEC 61131-3, 2.5.3): its name, its cells, FAULT first and then the variables as declared,
-/// and its body.
+/// A PROGRAM (IEC 61131-3, 2.5.3): its name, its cells, FAULT first and then the variables as declared, the
+/// names of its constants, which have no cells, and its body.
 #[derive(Drop)]
 pub struct Program {
     pub name: String,
     pub cells: Vec<Cell>,
+    pub constants: Vec<String>,
     pub body: Vec<TypedStmt>,
 }

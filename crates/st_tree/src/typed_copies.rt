@@ -1,8 +1,8 @@
 // Copies of typed programs.
 ghost use Rattle.std.specs.Prelude.{◌≡◌, map, IfOk};
-ghost use Rattle.st_tree.specs.View.{expr_view, operand_view, stmt_view, arm_view, cell_view, program_view};
+ghost use Rattle.st_tree.specs.View.{expr_view, operand_view, stmt_view, arm_view, entry_view, cell_view, texts_view, program_view};
 
-use crate::typed::{Cell, Operand, Program, TypedArm, TypedExpr, TypedStmt};
+use crate::typed::{Cell, Operand, Program, Range, TypedArm, TypedEntry, TypedExpr, TypedStmt};
 use std::alloc::{AllocError, Global};
 
 impl TypedExpr {
@@ -22,6 +22,10 @@ impl TypedExpr {
                 let first = first.copy(alloc)?;
                 let operands = copy_operands(operands, alloc)?;
                 Ok(TypedExpr::Chain(Box::new(alloc, first)?, operands))
+            }
+            TypedExpr::Call(function, kind, operands) => {
+                let operands = copy_expressions(operands, alloc)?;
+                Ok(TypedExpr::Call(*function, *kind, operands))
             }
         }
     }
@@ -43,6 +47,18 @@ fn copy_operands(operands: &[Operand], alloc: Global) -> Result<Vec<Operand>, Al
     Ok(copies)
 }
 
+#[cycle(copy_typed_expr)]
+fn copy_expressions(list: &[TypedExpr], alloc: Global) -> Result<Vec<TypedExpr>, AllocError>
+    ensures { IfOk result (λ copies. map expr_view copies.items ≡ map expr_view list.now) }
+{
+    let mut copies = Vec::new(alloc);
+    for expr in list {
+        let copy = expr.copy(alloc)?;
+        copies.push(copy)?;
+    }
+    Ok(copies)
+}
+
 impl TypedStmt {
     /// An equal statement.
     #[cycle(copy_typed_stmt)]
@@ -55,6 +71,15 @@ impl TypedStmt {
                 let arms = copy_arms(arms, alloc)?;
                 let other = copy_statements(other, alloc)?;
                 Ok(TypedStmt::If(arms, other))
+            }
+            TypedStmt::Case(selector, entries, other) => {
+                let selector = selector.copy(alloc)?;
+                let entries = copy_entries(entries, alloc)?;
+                let other = copy_statements(other, alloc)?;
+                Ok(TypedStmt::Case(selector, entries, other))
+            }
+            TypedStmt::For(turns, body) => {
+                Ok(TypedStmt::For(*turns, copy_statements(body, alloc)?))
             }
         }
     }
@@ -69,6 +94,29 @@ fn copy_arms(arms: &[TypedArm], alloc: Global) -> Result<Vec<TypedArm>, AllocErr
         let condition = arm.condition.copy(alloc)?;
         let body = copy_statements(&arm.body, alloc)?;
         copies.push(TypedArm { condition, body })?;
+    }
+    Ok(copies)
+}
+
+#[cycle(copy_typed_stmt)]
+fn copy_entries(entries: &[TypedEntry], alloc: Global) -> Result<Vec<TypedEntry>, AllocError>
+    ensures { IfOk result (λ copies. map entry_view copies.items ≡ map entry_view entries.now) }
+{
+    let mut copies = Vec::new(alloc);
+    for entry in entries {
+        let labels = copy_labels(&entry.labels, alloc)?;
+        let body = copy_statements(&entry.body, alloc)?;
+        copies.push(TypedEntry { labels, body })?;
+    }
+    Ok(copies)
+}
+
+fn copy_labels(labels: &[Range], alloc: Global) -> Result<Vec<Range>, AllocError>
+    ensures { IfOk result (λ copies. copies.items ≡ labels.now) }
+{
+    let mut copies = Vec::new(alloc);
+    for label in labels {
+        copies.push(*label)?;
     }
     Ok(copies)
 }
@@ -111,6 +159,16 @@ fn copy_cells(cells: &[Cell], alloc: Global) -> Result<Vec<Cell>, AllocError>
     Ok(copies)
 }
 
+fn copy_texts(texts: &[String], alloc: Global) -> Result<Vec<String>, AllocError>
+    ensures { IfOk result (λ copies. texts_view copies.items ≡ texts_view texts.now) }
+{
+    let mut copies = Vec::new(alloc);
+    for text in texts {
+        copies.push(String::from_str(alloc, text)?)?;
+    }
+    Ok(copies)
+}
+
 impl Program {
     /// An equal program.
     pub fn copy(&self, alloc: Global) -> Result<Program, AllocError>
@@ -119,6 +177,7 @@ impl Program {
         Ok(Program {
             name: String::from_str(alloc, &self.name)?,
             cells: copy_cells(&self.cells, alloc)?,
+            constants: copy_texts(&self.constants, alloc)?,
             body: copy_statements(&self.body, alloc)?,
         })
     }

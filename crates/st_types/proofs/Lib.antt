@@ -1,6 +1,10 @@
 pub mod Ranges
 pub mod Judging
+pub mod Apart
+pub mod Counting
+pub mod Labelling
 pub mod TypedLemmas
 pub mod SideLemmas
 pub mod NamedLemmas
 pub mod ReadyLemmas
+pub mod BeginningLemmas

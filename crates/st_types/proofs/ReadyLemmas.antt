@@ -12,17 +12,21 @@ use Rattle.st_tree.specs.declared.elementary.Elementary.{Elementary}
 use Rattle.st_tree.specs.declared.elementary.Elementary.TheVariants as types
 use Rattle.st_tree.specs.declared.rule.Rule.TheVariants.{ValueType, OutsideType}
 use Rattle.st_tree.specs.declared.rule.Refusal.{Refusal}
+use Rattle.st_tree.specs.declared.function.StandardFunction.{StandardFunction}
 use Rattle.st_tree.specs.declared.syntax.Literal.{Literal}
 use Rattle.st_tree.specs.declared.syntax.UnaryOperator.{UnaryOperator}
 use Rattle.st_tree.specs.Types.{width_of, is_signed, least_of, greatest_of, wrap_to}
-use Rattle.st_tree.specs.Syntax.{Tree, literal, path, enumerator, paren, unary, chain, PouData}
+use Rattle.st_tree.specs.Syntax.{Named, Tree, literal, path, enumerator, paren, unary, chain, call, Arguments, PouData}
+use Rattle.st_tree.specs.Tree.{Expressions}
 use Rattle.st_tree.specs.declared.typed.Program.{Program}
 use Rattle.st_tree.specs.View.{program_view}
+use Rattle.st_names.specs.Library.{standard_function}
 use Rattle.st_names.specs.Scopes.{Variable, variables_of}
-use Rattle.st_types.specs.Typing.{no_scope, type_of, is_same, is_literal_of, literal_value, negated, place_of_literal}
+use Rattle.st_types.specs.Typing.{Scope, no_scope, type_of, is_same, is_literal_of, literal_value, negated, place_of_literal}
 use Rattle.st_types.specs.Judged.{Judgement, sound, breaks, tested, negative_literal, judged_unary, judged}
-use Rattle.st_types.specs.Programs.{kind_of, judged_value, judged_variable, judged_variables, broken_types}
-use Rattle.st_types.specs.Typed.{typed_signed, typed, value_of_number, initial_of, cell_for, typed_program}
+use Rattle.st_types.specs.Programs.{kind_of, has_cell, judged_value, judged_variable, judged_variables, broken_types}
+use Rattle.st_types.specs.Typed.{typed_signed, typed_result, typed_operands, typed, value_of_number, initial_of}
+use Rattle.st_types.specs.TypedPrograms.{cell_for, cells_of, typed_program}
 use Rattle.st_types.specs.Ready.{StartsInRange, IsReady}
 
 some_bits : (t : Elementary) → 0 < width_of t
@@ -61,6 +65,14 @@ signed_fits : (t : Elementary) (o : UnaryOperator) (l : Option Literal) (e : Tre
 signed_fits t o None e = zero_fits t
 signed_fits t o (Some l) e = wrapped_fits t (negated true (literal_value l))
 
+-- a call is no number
+call_zero : (wanted : Option Elementary) (f : Option StandardFunction) (args : Arguments) (operands : StandardFunction → Elementary → Expressions) → pos 0 ≡ value_of_number (typed_result no_scope wanted f args operands)
+call_zero wanted None args operands = refl
+call_zero wanted (Some f) args operands = refl
+
+no_number : (wanted : Option Elementary) (n : Named) (at : ℕ) (args : Arguments) → pos 0 ≡ value_of_number (typed no_scope wanted (call n at args))
+no_number wanted n at args = call_zero wanted (standard_function n.text) args (λ f t. typed_operands no_scope f t 0 args)
+
 -- an initial value is a value of its own type
 own_fits : (wanted : Option Elementary) (e : Tree) → FitsIn (type_of no_scope wanted e) (value_of_number (typed no_scope wanted e))
 own_fits wanted (literal l) = wrapped_fits (type_of no_scope wanted (literal l)) (negated false (literal_value l))
@@ -69,6 +81,7 @@ own_fits wanted (enumerator t v) = zero_fits (type_of no_scope wanted (enumerato
 own_fits wanted (paren at e) = own_fits wanted e
 own_fits wanted (unary o at e) = signed_fits (type_of no_scope wanted e) o (negative_literal o e) e
 own_fits wanted (chain e ls) = zero_fits (type_of no_scope wanted (chain e ls))
+own_fits wanted (call n at args) = subst (FitsIn (type_of no_scope wanted (call n at args))) (no_number wanted n at args) (zero_fits (type_of no_scope wanted (call n at args)))
 
 -- one that breaks no rule is whole, or it stands for 0
 WholeOrZero : Judgement → ℤ → Type 0
@@ -93,6 +106,7 @@ whole_or_zero wanted (enumerator t v) none = inr refl
 whole_or_zero wanted (paren at e) none = whole_or_zero wanted e none
 whole_or_zero wanted (unary o at e) none = signed_whole (type_of no_scope wanted e) o at (negative_literal o e) e none
 whole_or_zero wanted (chain e ls) none = inr refl
+whole_or_zero wanted (call n at args) none = inr (sym (no_number wanted n at args))
 
 nil_left : (xs ys : List Refusal) → xs ++ ys ≡ [] → xs ≡ []
 nil_left [] ys h = refl
@@ -129,11 +143,18 @@ initial_fits : (t : Elementary) (at : ℕ) (o : Option Tree) → (judged_value t
 initial_fits t at None none = zero_fits t
 initial_fits t at (Some e) none = value_fits t at e none
 
-all_fit : (vs : List Variable) → (judged_variables vs).broken ≡ [] → AllByRecursion StartsInRange (map cell_for vs)
+one_more : (b : Bool) (v : Variable) (vs : List Variable) → StartsInRange (cell_for v) → AllByRecursion StartsInRange (cells_of vs)
+    → AllByRecursion StartsInRange (if b then cell_for v ∷ cells_of vs else cells_of vs)
+one_more true v vs here behind = (here, behind)
+one_more false v vs here behind = behind
+
+all_fit : (vs : List Variable) → (judged_variables vs).broken ≡ [] → AllByRecursion StartsInRange (cells_of vs)
 unfolding FitsIn
 all_fit [] none = tt
 all_fit (v ∷ vs) none =
-    (initial_fits (kind_of v) v.name.at v.initial (nil_left (judged_variable v).broken _ none), all_fit vs (nil_right (judged_variable v).broken _ none))
+    one_more (has_cell v.section) v vs
+    (initial_fits (kind_of v) v.name.at v.initial (nil_left (judged_variable v).broken _ none))
+    (all_fit vs (nil_right (judged_variable v).broken _ none))
 
 pub typed_program-ready : (p : PouData) → broken_types p ≡ [] → IsReady (typed_program p)
 unfolding FitsIn

@@ -1,17 +1,19 @@
--- The rules on types. A construct one of whose parts breaks a rule, or which uses a name whose declaration does,
+-- The rules on the types of expressions. A construct one of whose parts breaks a rule, or which uses a name whose declaration does,
 -- breaks none itself.
-use Rattle.std.specs.Prelude.{ℕ, List, [], ◌∷◌, ◌++◌, Bool, true, false, not, ◌&&◌, Option, Some, None, if◌then◌else◌}
+use Rattle.std.specs.Prelude.{ℕ, ◌+◌, List, [], ◌∷◌, ◌++◌, Bool, true, false, not, ◌&&◌, Option, Some, None, if◌then◌else◌}
 use Rattle.st_tree.specs.declared.elementary.Elementary.{Elementary}
 use Rattle.st_tree.specs.declared.elementary.Elementary.TheVariants as types
 use Rattle.st_tree.specs.declared.rule.Rule.{Rule}
-use Rattle.st_tree.specs.declared.rule.Rule.TheVariants.{OperandType, ValueType, OutsideType, NotAssignable, NotBool}
+use Rattle.st_tree.specs.declared.function.StandardFunction.{StandardFunction}
+use Rattle.st_names.specs.Library.{standard_function}
+use Rattle.st_tree.specs.declared.rule.Rule.TheVariants.{OperandType, ArgumentCount, OutsideType, NotBool}
 use Rattle.st_tree.specs.declared.rule.Refusal.{Refusal}
 use Rattle.st_tree.specs.declared.syntax.Literal.{Literal}
 use Rattle.st_tree.specs.declared.syntax.UnaryOperator.{UnaryOperator}
 use Rattle.st_tree.specs.declared.syntax.UnaryOperator.TheVariants as signs
 use Rattle.st_tree.specs.Types.{is_integer}
-use Rattle.st_tree.specs.Syntax.{PathData, Tree, literal, path, enumerator, paren, unary, chain, Links, no_links, link, Stmt, empty, assign, branch, Stmts, no_stmts, stmt, Arms, no_arms, arm, Otherwise, no_else, else_stmts}
-use Rattle.st_types.specs.Typing.{Meaning, Scope, kind_at, or_dint, is_same, type_of, operand_type, next_type, takes, is_literal_of, is_number, place_of_literal, place_of}
+use Rattle.st_tree.specs.Syntax.{Tree, literal, path, enumerator, paren, unary, chain, call, Links, no_links, link, Arguments, no_arguments, argument}
+use Rattle.st_types.specs.Typing.{Meaning, Scope, is_same, type_of, operand_type, next_type, takes, Parameter, fixed, common, amount, parameter_of, common_type, takes_operands, takes_count, count_of, is_amount, is_literal_of, is_number, place_of_literal, place_of}
 
 -- what is broken in a construct, and whether it is whole
 pub record Judgement : Type 0 where
@@ -57,6 +59,38 @@ abbrev pub judged_unary : Elementary → UnaryOperator → ℕ → Option Litera
 judged_unary t o at None operand = tested operand (takes_sign o t) OperandType at
 judged_unary t o at (Some l) operand = judged_literal t true at l
 
+-- the type that is wanted of an argument where the operands are of a type
+abbrev pub wanted_at : Parameter → Elementary → Option Elementary
+wanted_at (fixed k) t = Some k
+wanted_at common t = Some t
+wanted_at amount t = None
+
+-- an argument is of the type that is wanted
+abbrev pub fits_at : Scope → Parameter → Elementary → Tree → Bool
+fits_at scope (fixed k) t e = is_same (type_of scope (Some k) e) k
+fits_at scope common t e = is_same (type_of scope (Some t) e) t
+fits_at scope amount t e = true
+
+-- the arguments from a place on are of the types that are wanted
+abbrev pub fit_from : Scope → StandardFunction → Elementary → ℕ → Arguments → Bool
+fit_from scope f t place no_arguments = true
+fit_from scope f t place (argument n e args) = fits_at scope (parameter_of f place) t e && fit_from scope f t (place + 1) args
+
+-- the amount of a shift is a number from 0 to 64
+abbrev pub judged_amount : Scope → Parameter → Tree → Judgement → Judgement
+judged_amount scope (fixed k) e j = j
+judged_amount scope common e j = j
+judged_amount scope amount e j = tested j (is_amount scope e) OutsideType (place_of e)
+
+-- A call has as many arguments as its function takes, each of the type that is wanted at its place. Where there are more or
+-- fewer, each is judged alone.
+abbrev pub judged_call : Scope → Option Elementary → ℕ → Option StandardFunction → Arguments → Judgement → (StandardFunction → Elementary → Judgement) → Judgement
+judged_call scope wanted at None args alone of_operands = silent
+judged_call scope wanted at (Some f) args alone of_operands =
+    let t = common_type scope wanted f args in
+    if takes_count f (count_of args) then tested (of_operands f t) (takes_operands f t && fit_from scope f t 0 args) OperandType at
+    else tested alone false ArgumentCount at
+
 -- An operator's operands are of one type that it takes. Operators of one level are judged from left to right: what stands to
 -- the left of one is its left operand.
 abbrev mutual
@@ -69,6 +103,8 @@ abbrev mutual
   judged scope wanted (chain e ls) =
       let t = operand_type scope wanted e ls in
       judged_links scope t (judged scope (Some t) e) ls
+  judged scope wanted (call n at args) =
+      judged_call scope wanted n.at (standard_function n.text) args (judged_alone scope args) (λ f t. judged_arguments scope f t 0 args)
 
   -- operators behind a left operand that was judged
   pub judged_links : Scope → Elementary → Judgement → Links → Judgement
@@ -76,41 +112,20 @@ abbrev mutual
   judged_links scope t left (link o at e ls) =
       judged_links scope (next_type o t) (tested (also left (judged scope (Some t) e)) (takes o t && is_same (type_of scope (Some t) e) t) OperandType at) ls
 
+  -- arguments from a place on, where the operands are of a type
+  pub judged_arguments : Scope → StandardFunction → Elementary → ℕ → Arguments → Judgement
+  judged_arguments scope f t place no_arguments = sound
+  judged_arguments scope f t place (argument n e args) =
+      also (judged_amount scope (parameter_of f place) e (judged scope (wanted_at (parameter_of f place) t) e)) (judged_arguments scope f t (place + 1) args)
+
+  -- arguments each alone
+  pub judged_alone : Scope → Arguments → Judgement
+  judged_alone scope no_arguments = sound
+  judged_alone scope (argument n e args) = also (judged scope None e) (judged_alone scope args)
+
 -- a condition is BOOL
 abbrev pub judged_condition : Scope → Rule → Tree → Judgement
 judged_condition scope rule e = tested (judged scope None e) (is_same (type_of scope None e) types.Bool) rule (place_of e)
-
--- an own input is no target
-abbrev pub is_assignable : Option Meaning → Bool
-is_assignable None = false
-is_assignable (Some m) = m.assignable
-
-abbrev pub judged_target : Option Meaning → ℕ → Judgement
-judged_target m at = tested (judged_meaning m) (is_assignable m) NotAssignable at
-
--- an assignment's value is of its target's type
-abbrev pub judged_assign : Scope → PathData → Tree → Judgement
-judged_assign scope p e =
-    let wanted = kind_at (scope p) in
-    tested (also (judged_target (scope p) p.first.at) (judged scope wanted e)) (is_same (type_of scope wanted e) (or_dint wanted)) ValueType p.first.at
-
-abbrev mutual
-  pub judged_stmt : Scope → Stmt → Judgement
-  judged_stmt scope empty = sound
-  judged_stmt scope (assign p e) = judged_assign scope p e
-  judged_stmt scope (branch arms other) = also (judged_arms scope arms) (judged_else scope other)
-
-  pub judged_stmts : Scope → Stmts → Judgement
-  judged_stmts scope no_stmts = sound
-  judged_stmts scope (stmt s ss) = also (judged_stmt scope s) (judged_stmts scope ss)
-
-  pub judged_arms : Scope → Arms → Judgement
-  judged_arms scope no_arms = sound
-  judged_arms scope (arm e ss arms) = also (judged_condition scope OperandType e) (also (judged_stmts scope ss) (judged_arms scope arms))
-
-  pub judged_else : Scope → Otherwise → Judgement
-  judged_else scope no_else = sound
-  judged_else scope (else_stmts ss) = judged_stmts scope ss
 
 -- a clause is a BOOL expression
 abbrev pub judged_clause : Scope → Tree → Judgement

@@ -1,14 +1,19 @@
 -- What judging a construct tells: whether it is whole, and the first of what is broken in it.
-use Rattle.std.specs.Prelude.{ℕ, List, [], ◌∷◌, Bool, not, ◌&&◌, Some, if◌then◌else◌}
+use Rattle.std.specs.Prelude.{ℕ, ◌+◌, List, [], ◌∷◌, ◌++◌, Bool, false, not, ◌&&◌, Option, Some, None, if◌then◌else◌}
 use Rattle.st_tree.specs.declared.elementary.Elementary.{Elementary}
 use Rattle.st_tree.specs.declared.rule.Rule.{Rule}
-use Rattle.st_tree.specs.declared.rule.Rule.TheVariants.{OperandType}
+use Rattle.st_tree.specs.declared.rule.Rule.TheVariants.{OperandType, ValueType, OutsideType}
+use Rattle.st_tree.specs.declared.function.StandardFunction.{StandardFunction}
+use Rattle.st_tree.specs.declared.typed.Range.{Range}
 use Rattle.st_tree.specs.Rules.{earlier, first_in}
 use Rattle.st_names.specs.Scopes.{Variable}
+use Rattle.st_names.specs.Broken.{alone}
 use Rattle.st_types.specs.declared.outcome.Outcome.{Outcome}
-use Rattle.st_tree.specs.Syntax.{Links, no_links, link, Stmt, empty, assign, branch, Stmts, no_stmts, stmt, Arms, no_arms, arm, Otherwise, no_else, else_stmts}
-use Rattle.st_types.specs.Typing.{Scope, type_of, is_same, takes, next_type}
-use Rattle.st_types.specs.Judged.{Judgement, breaks, judged, judged_condition, judged_assign}
+use Rattle.st_tree.specs.Syntax.{Tree, Links, no_links, link, Arguments, no_arguments, argument, Stmt, empty, assign, branch, cases, iterate, Stmts, no_stmts, stmt, Arms, no_arms, arm, Entries, no_entries, entry, Otherwise, no_else, else_stmts, LabelData, IterationData}
+use Rattle.st_types.specs.Typing.{Scope, kind_at, or_dint, type_of, is_same, takes, next_type, Parameter, fixed, common, amount, parameter_of, is_amount, place_of, Meaning}
+use Rattle.st_types.specs.Judged.{Judgement, also, breaks, tested, wanted_at, judged, judged_condition}
+use Rattle.st_types.specs.Labels.{judged_label, seen_with}
+use Rattle.st_types.specs.JudgedStatements.{judged_assign, judged_control, judged_bound, judged_step, is_typed, step_is_typed, turns_rule, with_control, judged_selector, judged_labels_if}
 use Rattle.st_types.specs.Programs.{judged_variable}
 
 unfoldable pub outcome_of : Judgement → Outcome
@@ -28,24 +33,80 @@ links_outcome scope t left no_links = left
 links_outcome scope t left (link o at e ls) =
     links_outcome scope (next_type o t) (tried (both left (outcome_of (judged scope (Some t) e))) (takes o t && is_same (type_of scope (Some t) e) t) OperandType at) ls
 
--- of statements behind what was judged so far
+-- of an argument that was judged
+abbrev pub amount_outcome : Scope → Parameter → Tree → Outcome → Outcome
+amount_outcome scope (fixed k) e o = o
+amount_outcome scope common e o = o
+amount_outcome scope amount e o = tried o (is_amount scope e) OutsideType (place_of e)
+
+-- of arguments from a place on, behind what was judged so far
+abbrev pub arguments_outcome : Scope → StandardFunction → Elementary → ℕ → Outcome → Arguments → Outcome
+arguments_outcome scope f t place o no_arguments = o
+arguments_outcome scope f t place o (argument n e args) =
+    arguments_outcome scope f t (place + 1) (both o (amount_outcome scope (parameter_of f place) e (outcome_of (judged scope (wanted_at (parameter_of f place) t) e)))) args
+
+-- of arguments each alone, behind what was judged so far
+abbrev pub alone_outcome : Scope → Outcome → Arguments → Outcome
+alone_outcome scope o no_arguments = o
+alone_outcome scope o (argument n e args) = alone_outcome scope (both o (outcome_of (judged scope None e))) args
+
+-- of a construct with whole parts that breaks a rule where there is one
+abbrev pub ruled : Outcome → Option Rule → ℕ → Outcome
+ruled parts None at = parts
+ruled parts (Some rule) at = tried parts false rule at
+
+-- of labels behind what was judged so far, where some were seen
+abbrev pub labels_outcome : Elementary → List Range → Outcome → List LabelData → Outcome
+labels_outcome t seen o [] = o
+labels_outcome t seen o (l ∷ ls) = labels_outcome t (seen_with t seen l) (both o (outcome_of (judged_label t seen l))) ls
+
+-- the labels of entries, in their order
+abbrev pub all_labels : Entries → List LabelData
+all_labels no_entries = []
+all_labels (entry ls ss es) = ls ++ all_labels es
+
+-- a selector, and the labels of a CASE
+abbrev pub judged_selection : Scope → Tree → Entries → Judgement
+judged_selection scope e es =
+    also (judged_selector scope e) (judged_labels_if (judged_selector scope e).whole (type_of scope None e) [] (all_labels es))
+
+-- what stands between FOR and DO, by what the control variable's name stands for
+abbrev pub judged_turns : Scope → List ℕ → Option Meaning → IterationData → Judgement
+judged_turns scope controls m i =
+    let t = or_dint (kind_at m) in
+    tested
+    (also (judged_control controls m i.control.at) (also (judged_bound scope t i.first) (also (judged_bound scope t i.last) (judged_step scope t i.step))))
+    (is_typed scope t i.first && is_typed scope t i.last && step_is_typed scope t i.step) ValueType i.control.at
+
+-- of statements behind what was judged so far, inside FORs with these control variables
 abbrev mutual
-  pub stmt_outcome : Scope → Outcome → Stmt → Outcome
-  stmt_outcome scope o empty = o
-  stmt_outcome scope o (assign p e) = both o (outcome_of (judged_assign scope p e))
-  stmt_outcome scope o (branch arms other) = else_outcome scope (arms_outcome scope o arms) other
+  pub stmt_outcome : Scope → List ℕ → Outcome → Stmt → Outcome
+  stmt_outcome scope controls o empty = o
+  stmt_outcome scope controls o (assign p e) = both o (outcome_of (judged_assign scope controls p e))
+  stmt_outcome scope controls o (branch arms other) = else_outcome scope controls (arms_outcome scope controls o arms) other
+  stmt_outcome scope controls o (cases e es other) =
+      else_outcome scope controls (bodies_outcome scope controls (both o (outcome_of (judged_selection scope e es))) es) other
+  stmt_outcome scope controls o (iterate i ss) =
+      let m = scope (alone i.control) in
+      both o (ruled (stmts_outcome scope (with_control controls m) (outcome_of (judged_turns scope controls m i)) ss) (turns_rule scope i) i.at)
 
-  pub stmts_outcome : Scope → Outcome → Stmts → Outcome
-  stmts_outcome scope o no_stmts = o
-  stmts_outcome scope o (stmt s ss) = stmts_outcome scope (stmt_outcome scope o s) ss
+  pub stmts_outcome : Scope → List ℕ → Outcome → Stmts → Outcome
+  stmts_outcome scope controls o no_stmts = o
+  stmts_outcome scope controls o (stmt s ss) = stmts_outcome scope controls (stmt_outcome scope controls o s) ss
 
-  pub arms_outcome : Scope → Outcome → Arms → Outcome
-  arms_outcome scope o no_arms = o
-  arms_outcome scope o (arm e ss arms) = arms_outcome scope (stmts_outcome scope (both o (outcome_of (judged_condition scope OperandType e))) ss) arms
+  pub arms_outcome : Scope → List ℕ → Outcome → Arms → Outcome
+  arms_outcome scope controls o no_arms = o
+  arms_outcome scope controls o (arm e ss arms) =
+      arms_outcome scope controls (stmts_outcome scope controls (both o (outcome_of (judged_condition scope OperandType e))) ss) arms
 
-  pub else_outcome : Scope → Outcome → Otherwise → Outcome
-  else_outcome scope o no_else = o
-  else_outcome scope o (else_stmts ss) = stmts_outcome scope o ss
+  -- of the statements of entries
+  pub bodies_outcome : Scope → List ℕ → Outcome → Entries → Outcome
+  bodies_outcome scope controls o no_entries = o
+  bodies_outcome scope controls o (entry ls ss es) = bodies_outcome scope controls (stmts_outcome scope controls o ss) es
+
+  pub else_outcome : Scope → List ℕ → Outcome → Otherwise → Outcome
+  else_outcome scope controls o no_else = o
+  else_outcome scope controls o (else_stmts ss) = stmts_outcome scope controls o ss
 
 -- of declarations behind what was judged so far
 abbrev pub variables_outcome : Outcome → List Variable → Outcome

@@ -1,15 +1,20 @@
 -- The types of expressions (IEC 61131-3, 3.3.1).
-use Rattle.std.specs.Prelude.{ℕ, Bool, true, false, not, Option, Some, None, if◌then◌else◌, ℤ, pos, neg_ℤ}
+use Rattle.std.specs.Prelude.{ℕ, ◌+◌, ◌==◌, ◌&&◌, nat_le, unsigned_abs, int_le, Bool, true, false, not, Option, Some, None, if◌then◌else◌, ℤ, pos, neg_ℤ}
 use denote.Enum.Bare.{sameb}
 use Rattle.st_tree.specs.contracts.elementary.Elementary.{the_type}
 use Rattle.st_tree.specs.declared.elementary.Elementary.{Elementary}
 use Rattle.st_tree.specs.declared.elementary.Elementary.TheVariants as types
 use Rattle.st_tree.specs.declared.token.Operator.{Operator}
 use Rattle.st_tree.specs.declared.token.Operator.TheVariants as ops
+use Rattle.st_tree.specs.declared.function.StandardFunction.{StandardFunction}
+use Rattle.st_tree.specs.declared.function.StandardFunction.TheVariants as functions
 use Rattle.st_tree.specs.declared.syntax.Literal.{Literal}
 use Rattle.st_tree.specs.declared.syntax.Literal.TheVariants as literals
+use Rattle.st_tree.specs.declared.syntax.UnaryOperator.{UnaryOperator}
+use Rattle.st_tree.specs.declared.syntax.UnaryOperator.TheVariants as signs
 use Rattle.st_tree.specs.Types.{is_integer, range_of, in_range}
-use Rattle.st_tree.specs.Syntax.{PathData, Tree, literal, path, enumerator, paren, unary, chain, Links, no_links, link}
+use Rattle.st_tree.specs.Syntax.{PathData, Tree, literal, path, enumerator, paren, unary, chain, call, Links, no_links, link, Arguments, no_arguments, argument}
+use Rattle.st_names.specs.Library.{standard_function}
 pub use Rattle.st_types.specs.declared.scope.Meaning.{Meaning}
 
 abbrev pub is_same : Elementary → Elementary → Bool
@@ -52,7 +57,46 @@ abbrev pub compares : Links → Bool
 compares no_links = false
 compares (link o at e ls) = is_comparison o
 
--- The own type of a comparison is BOOL, and that of any other operator expression is that of its leftmost operand that has one.
+-- What a standard function takes at a place: a value of a type of its own, of the one type that its operands and
+-- its result share, or the amount of a shift.
+pub data Parameter : Type 0 where
+  fixed : Elementary → Parameter
+  common : Parameter
+  amount : Parameter
+
+-- the parameters of a function, by their places from 0
+abbrev pub parameter_of : StandardFunction → ℕ → Parameter
+parameter_of (functions.Conversion from to) place = fixed from
+parameter_of functions.Absolute place = common
+parameter_of functions.Minimum place = common
+parameter_of functions.Maximum place = common
+parameter_of functions.Limit place = common
+parameter_of functions.Select place = if place == 0 then fixed types.Bool else common
+parameter_of (functions.Shift s) place = if place == 1 then amount else common
+
+-- the type of a conversion's result; that of any other function is the one type of its operands
+abbrev pub result_of : StandardFunction → Option Elementary
+result_of (functions.Conversion from to) = Some to
+result_of functions.Absolute = None
+result_of functions.Minimum = None
+result_of functions.Maximum = None
+result_of functions.Limit = None
+result_of functions.Select = None
+result_of (functions.Shift s) = None
+
+-- the own type of an argument, where it is an operand of the one type
+abbrev pub own_if_common : Parameter → Option Elementary → Option Elementary
+own_if_common (fixed t) own_type = None
+own_if_common common own_type = own_type
+own_if_common amount own_type = None
+
+-- the own type of a call, where that of its operands is known by its function
+abbrev pub own_of_call : Option StandardFunction → (StandardFunction → Option Elementary) → Option Elementary
+own_of_call None of_operands = None
+own_of_call (Some f) of_operands = or_else (result_of f) (of_operands f)
+
+-- The own type of a comparison is BOOL, that of any other operator expression is that of its leftmost operand that has one, and
+-- that of a call is the type of its result, or that of its leftmost operand of the one type that has one.
 abbrev mutual
   pub own : Scope → Tree → Option Elementary
   own scope (literal l) = own_of_literal l
@@ -61,11 +105,18 @@ abbrev mutual
   own scope (paren at e) = own scope e
   own scope (unary o at e) = own scope e
   own scope (chain e ls) = if compares ls then Some types.Bool else or_else (own scope e) (own_of_links scope ls)
+  own scope (call n at args) = own_of_call (standard_function n.text) (λ f. own_of_arguments scope f 0 args)
 
   -- of the leftmost operand that has one
   pub own_of_links : Scope → Links → Option Elementary
   own_of_links scope no_links = None
   own_of_links scope (link o at e ls) = or_else (own scope e) (own_of_links scope ls)
+
+  -- of the leftmost operand of the one type that has one, among arguments from a place on
+  pub own_of_arguments : Scope → StandardFunction → ℕ → Arguments → Option Elementary
+  own_of_arguments scope f place no_arguments = None
+  own_of_arguments scope f place (argument n e args) =
+      or_else (own_if_common (parameter_of f place) (own scope e)) (own_of_arguments scope f (place + 1) args)
 
 -- an untyped literal takes the type that is wanted, else DINT
 abbrev pub or_dint : Option Elementary → Elementary
@@ -75,6 +126,10 @@ or_dint (Some t) = t
 -- the type of an expression where a type is wanted, or none
 abbrev pub type_of : Scope → Option Elementary → Tree → Elementary
 type_of scope wanted e = or_dint (or_else (own scope e) wanted)
+
+-- the one type of a call's operands: that of the leftmost that has one, else the wanted one
+abbrev pub common_type : Scope → Option Elementary → StandardFunction → Arguments → Elementary
+common_type scope wanted f args = or_dint (or_else (own_of_arguments scope f 0 args) wanted)
 
 abbrev pub own_of_first : Scope → Links → Option Elementary
 own_of_first scope no_links = None
@@ -102,6 +157,34 @@ takes ops.Times t = is_integer t
 takes ops.Divide t = is_integer t
 takes ops.Mod t = is_integer t
 takes _ t = true
+
+-- a bit string of more than one bit
+abbrev pub is_bit_string : Elementary → Bool
+is_bit_string t = not (is_integer t) && not (is_same t types.Bool)
+
+-- which types the operands of a function may be of
+abbrev pub takes_operands : StandardFunction → Elementary → Bool
+takes_operands (functions.Conversion from to) t = true
+takes_operands functions.Absolute t = is_integer t
+takes_operands functions.Minimum t = not (is_same t types.Bool)
+takes_operands functions.Maximum t = not (is_same t types.Bool)
+takes_operands functions.Limit t = not (is_same t types.Bool)
+takes_operands functions.Select t = true
+takes_operands (functions.Shift s) t = is_bit_string t
+
+-- how many arguments a function takes
+abbrev pub takes_count : StandardFunction → ℕ → Bool
+takes_count (functions.Conversion from to) count = count == 1
+takes_count functions.Absolute count = count == 1
+takes_count functions.Minimum count = nat_le 2 count
+takes_count functions.Maximum count = nat_le 2 count
+takes_count functions.Limit count = count == 3
+takes_count functions.Select count = count == 3
+takes_count (functions.Shift s) count = count == 2
+
+abbrev pub count_of : Arguments → ℕ
+count_of no_arguments = 0
+count_of (argument n e args) = count_of args + 1
 
 abbrev pub negated : Bool → ℤ → ℤ
 negated minus v = if minus then neg_ℤ v else v
@@ -147,3 +230,30 @@ place_of (enumerator t v) = t.at
 place_of (paren at e) = at
 place_of (unary o at e) = at
 place_of (chain e ls) = place_of e
+place_of (call n at args) = n.at
+
+-- the value of a number, with a minus sign before it or not
+abbrev pub signed_number : UnaryOperator → Tree → Option ℤ
+signed_number signs.Minus (literal l) = if is_number l then Some (negated true (literal_value l)) else None
+signed_number o e = None
+
+abbrev pub number_in : Tree → Option ℤ
+number_in (literal l) = if is_number l then Some (literal_value l) else None
+number_in (path p) = None
+number_in (enumerator t v) = None
+number_in (paren at e) = None
+number_in (unary o at e) = signed_number o e
+number_in (chain e ls) = None
+number_in (call n at args) = None
+
+abbrev pub is_amount_value : Option ℤ → Bool
+is_amount_value None = false
+is_amount_value (Some v) = int_le (pos 0) v && int_le v (pos 64)
+
+-- the amount of a shift is a number from 0 to 64, that is no BOOL
+abbrev pub is_amount : Scope → Tree → Bool
+is_amount scope e = is_amount_value (number_in e) && not (is_same (type_of scope None e) types.Bool)
+
+abbrev pub amount_value : Option ℤ → ℕ
+amount_value None = 0
+amount_value (Some v) = if is_amount_value (Some v) then unsigned_abs v else 0

@@ -4,6 +4,7 @@ ghost use Rattle.st_tree.specs.SyntaxView.{tree_view, links_view};
 ghost use Rattle.st_types.specs.Judged.{judged_literal, judged_meaning, takes_sign, negative_literal, judged, judged_condition};
 ghost use Rattle.st_types.specs.Outcomes.{outcome_of, links_outcome};
 
+use crate::calls::judge_call;
 use crate::kinds::{is_integer, next_type, operand_type, place_of, takes, type_of};
 use crate::literals::{is_literal_of, is_number, place_of_literal};
 use crate::outcome::Outcome;
@@ -80,6 +81,7 @@ pub(crate) fn judge_expr<S: Scope>(scope: &S, wanted: Option<Elementary>, expr: 
             let left = judge_expr(scope, Some(kind), first);
             judge_links(scope, kind, left, links)
         }
+        Expr::Call(name, _, arguments) => judge_call(scope, wanted, name, arguments),
     }
 }
 

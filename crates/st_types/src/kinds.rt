@@ -1,12 +1,15 @@
 // The types of expressions (IEC 61131-3, 3.3.1).
 ghost use Rattle.std.specs.Prelude.{◌≡◌};
-ghost use Rattle.st_tree.specs.SyntaxView.{tree_view, links_view};
-ghost use Rattle.st_types.specs.Typing.{kind_at, is_comparison, compares, own, own_of_links, or_dint, type_of, own_of_first, operand_type, next_type, takes, place_of};
+ghost use Rattle.st_tree.specs.SyntaxView.{name_view, tree_view, links_view, arguments_view};
+ghost use Rattle.st_types.specs.Typing.{kind_at, is_comparison, compares, own, own_of_links, own_of_call, own_of_arguments, or_dint, type_of, own_of_first, operand_type, next_type, takes, place_of};
 ghost use Rattle.st_tree.specs.Types.{is_integer};
+ghost use Rattle.st_names.specs.Library.{standard_function};
 
 use crate::literals::{own_of_literal, place_of_literal};
+use crate::parameters::{Parameter, parameter_of, result_of};
 use crate::scope::{Meaning, Scope};
-use st_tree::{Elementary, Expr, Link, Operator};
+use st_names::standard_function;
+use st_tree::{Argument, Elementary, Expr, Link, Name, Operator, StandardFunction};
 
 /// The type of what a path stands for.
 pub(crate) fn kind_at(meaning: Option<Meaning>) -> Option<Elementary>
@@ -72,6 +75,7 @@ pub(crate) fn own<S: Scope>(scope: &S, expr: &Expr) -> Option<Elementary>
                 None => own_of_links(scope, links),
             }
         }
+        Expr::Call(name, _, arguments) => own_of_call(scope, name, arguments),
     }
 }
 
@@ -83,6 +87,40 @@ fn own_of_links<S: Scope>(scope: &S, links: &[Link]) -> Option<Elementary>
     for link in links {
         if let Some(kind) = own(scope, &link.right) {
             return Some(kind);
+        }
+    }
+    None
+}
+
+// The own type of a call, where it has one.
+#[cycle(own)]
+fn own_of_call<S: Scope>(scope: &S, name: &Name, arguments: &[Argument]) -> Option<Elementary>
+    ensures { result ≡ own_of_call (standard_function (name_view name.now).text) (λ f. own_of_arguments (S.means scope.now) f 0 (arguments_view arguments.now)) }
+{
+    let function = standard_function(name.text.as_str())?;
+    match result_of(function) {
+        Some(kind) => Some(kind),
+        None => own_of_arguments(scope, function, arguments),
+    }
+}
+
+/// The own type of the leftmost operand of the one type that has one.
+#[cycle(own)]
+pub(crate) fn own_of_arguments<S: Scope>(
+    scope: &S,
+    function: StandardFunction,
+    arguments: &[Argument],
+) -> Option<Elementary>
+    ensures { result ≡ own_of_arguments (S.means scope.now) function 0 (arguments_view arguments.now) }
+{
+    for (place, argument) in arguments.iter().enumerate() {
+        match parameter_of(function, place) {
+            Parameter::Common => {
+                if let Some(kind) = own(scope, &argument.value) {
+                    return Some(kind);
+                }
+            }
+            Parameter::Fixed(_) | Parameter::Amount => {}
         }
     }
     None
@@ -164,5 +202,6 @@ pub(crate) fn place_of(expr: &Expr) -> usize
         Expr::Paren(at, _) => *at,
         Expr::Unary(_, at, _) => *at,
         Expr::Chain(first, _) => place_of(first),
+        Expr::Call(name, _, _) => name.at,
     }
 }

@@ -1,33 +1,82 @@
-// What bound names stand for.
-ghost use Rattle.std.specs.Prelude.{◌≡◌, option_map};
-ghost use Rattle.st_types.specs.Programs.{may_be_assigned};
-ghost use Rattle.st_types.specs.Bodies.{meant};
+// What the variables of a program stand for.
+ghost use Rattle.std.specs.Prelude.{◌≡◌, ◌+◌, ◌<◌, ◌^◌, option_map, IfOk};
+ghost use Rattle.st_names.specs.ScopeView.{variable_view, variables_view};
+ghost use Rattle.st_types.specs.Meanings.{fault_meaning, all_meanings, meant};
+ghost use Rattle.st_types.specs.Programs.{place_at, meaning_of};
 
-use crate::scope::Meaning;
-use st_names::Bound;
-use st_tree::Section;
+use crate::scope::{Meaning, Place};
+use crate::sections::{has_cell, may_be_assigned};
+use crate::variables::{cell_behind, initial_of, judge_variable, kind_of};
+use st_names::{Bound, Declared};
+use st_tree::Elementary;
+use std::alloc::{AllocError, Global};
 
-// An own input may not be assigned.
-fn may_be_assigned(section: Section) -> bool
-    ensures { result ≡ may_be_assigned section }
+// What FAULT stands for.
+fn fault_meaning() -> Meaning
+    ensures { result ≡ fault_meaning }
 {
-    match section {
-        Section::Input => false,
-        Section::Output | Section::Local => true,
+    Meaning {
+        place: Place::Cell(0),
+        kind: Elementary::Bool,
+        whole: true,
+        assignable: false,
     }
 }
 
-/// What a bound name stands for, where it is known which cells' declarations are whole.
-pub(crate) fn meant(wholes: &[bool], bound: Option<Bound>) -> Option<Meaning>
-    ensures { result ≡ option_map (meant wholes.now) bound }
+// A constant's place is the value that it begins with.
+fn place_at(alloc: Global, cell: usize, variable: &Declared<'_>) -> Result<Place, AllocError>
+    ensures { IfOk result (λ place. place ≡ place_at cell (variable_view variable.now)) }
+{
+    if has_cell(variable.section) {
+        return Ok(Place::Cell(cell));
+    }
+    let kind = kind_of(&variable.declaration.kind);
+    let value = initial_of(alloc, kind, &variable.declaration.initial)?;
+    Ok(Place::Value(value))
+}
+
+// What a variable stands for, whose cell, where it has one, is at a place.
+#[tactic(auto, unfolding(crate::specs::Outcomes::outcome_of))]
+fn meaning_of(alloc: Global, cell: usize, variable: &Declared<'_>) -> Result<Meaning, AllocError>
+    ensures { IfOk result (λ meaning. meaning ≡ meaning_of cell (variable_view variable.now)) }
+{
+    let place = place_at(alloc, cell, variable)?;
+    Ok(Meaning {
+        place,
+        kind: kind_of(&variable.declaration.kind),
+        whole: judge_variable(variable).whole,
+        assignable: may_be_assigned(variable.section),
+    })
+}
+
+/// What FAULT and the variables of a program stand for, by their numbers.
+pub(crate) fn all_meanings(
+    alloc: Global,
+    variables: &[Declared<'_>],
+) -> Result<Vec<Meaning>, AllocError>
+    ensures { IfOk result (λ list. list.items ≡ all_meanings (variables_view variables.now)) }
+{
+    let mut list = Vec::new(alloc);
+    list.push(fault_meaning())?;
+    let mut cell = 1;
+    for variable in variables.iter() {
+        list.push(meaning_of(alloc, cell, variable)?)?;
+        cell = cell_behind(cell, variable);
+    }
+    Ok(list)
+}
+
+/// What a bound name stands for, where it is known what each number stands for.
+pub(crate) fn meant(meanings: &[Meaning], bound: Option<Bound>) -> Option<Meaning>
+    ensures { result ≡ option_map (meant meanings.now) bound }
 {
     match bound {
         None => None,
-        Some(bound) => Some(Meaning {
-            cell: bound.cell,
-            kind: bound.kind,
-            whole: wholes.get(bound.cell).copied().unwrap_or(false),
-            assignable: may_be_assigned(bound.section),
-        }),
+        Some(bound) => Some(
+            meanings
+                .get(bound.number)
+                .copied()
+                .unwrap_or(fault_meaning()),
+        ),
     }
 }

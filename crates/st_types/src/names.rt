@@ -1,20 +1,20 @@
 // The names of a program.
-ghost use Rattle.std.specs.Prelude.{◌≡◌, ◌∷◌, true, map};
+ghost use Rattle.std.specs.Prelude.{◌≡◌};
 ghost use Rattle.st_tree.specs.SyntaxView.{pou_view};
 ghost use Rattle.st_names.specs.Bound.{variables_in_pou};
-ghost use Rattle.st_types.specs.Wholes.{is_sound};
+ghost use Rattle.st_types.specs.Meanings.{all_meanings};
 
 use crate::meanings::meant;
 use crate::scope::{Meaning, Scope};
 use st_names::Resolved;
 use st_tree::Path;
 
-/// A program whose names are bound, and which of its cells' declarations break no rule.
+/// A program whose names are bound, and what its variables stand for, by their numbers.
 #[derive(Drop)]
 pub(crate) struct ProgramScope<'p> {
     pub names: &'p Resolved,
-    pub wholes: Vec<bool>,
-    ghost judged: { wholes.items ≡ true ∷ map is_sound (variables_in_pou (pou_view names.now.program)) },
+    pub meanings: Vec<Meaning>,
+    ghost known: { meanings.items ≡ all_meanings (variables_in_pou (pou_view names.now.program)) },
 }
 
 impl Scope for ProgramScope<'_> {
@@ -24,6 +24,6 @@ impl Scope for ProgramScope<'_> {
 
     fn meaning(&self, path: &Path) -> Option<Meaning> {
         let bound = self.names.variable(path.first.text.as_str());
-        meant(&self.wholes, bound)
+        meant(&self.meanings, bound)
     }
 }

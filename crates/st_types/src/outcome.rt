@@ -12,7 +12,7 @@ pub struct Outcome {
 impl Outcome {
     ghost use Rattle.std.specs.Prelude.{◌≡◌};
     ghost use Rattle.st_types.specs.Judged.{sound, silent, breaks};
-    ghost use Rattle.st_types.specs.Outcomes.{outcome_of, both, tried};
+    ghost use Rattle.st_types.specs.Outcomes.{outcome_of, both, tried, ruled};
 
     /// A construct that breaks no rule.
     pub fn sound() -> Outcome
@@ -62,6 +62,16 @@ impl Outcome {
             self.also(Outcome::breaks(rule, at))
         } else {
             self
+        }
+    }
+
+    /// A construct with these parts, which breaks a rule where they are whole and there is one.
+    pub(crate) fn ruled(self, rule: Option<Rule>, at: usize) -> Outcome
+        ensures { result ≡ ruled self rule at }
+    {
+        match rule {
+            None => self,
+            Some(rule) => self.tested(false, rule, at),
         }
     }
 }

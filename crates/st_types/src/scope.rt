@@ -1,11 +1,18 @@
 // What paths stand for.
 use st_tree::{Elementary, Path};
 
-/// What a path stands for: the place of its cell, its type, whether its declaration breaks no rule, and whether it
+/// Where the value of a path is: in a cell, by its place, or fixed, as that of a constant.
+#[derive(Clone, Copy, Debug, PartialEq, Eq)]
+pub enum Place {
+    Cell(usize),
+    Value(i64),
+}
+
+/// What a path stands for: where its value is, its type, whether its declaration breaks no rule, and whether it
 /// may be assigned.
 #[derive(Clone, Copy, Debug, PartialEq, Eq)]
 pub struct Meaning {
-    pub cell: usize,
+    pub place: Place,
     pub kind: Elementary,
     pub whole: bool,
     pub assignable: bool,

@@ -5,7 +5,7 @@ ghost use Rattle.st_tree.specs.View.{cell_view, cells_view};
 ghost use Rattle.st_types.specs.Programs.{joined, cell_among};
 ghost use Rattle.st_types.specs.Sides.{meaning_at, Finds};
 
-use crate::scope::Meaning;
+use crate::scope::{Meaning, Place};
 use indexmap::IndexMap;
 use st_tree::{Cell, Name};
 use std::alloc::{AllocError, Global};
@@ -18,7 +18,7 @@ fn meaning_at(cell: &Cell, place: usize) -> Meaning
     ensures { result ≡ meaning_at place (cell_view cell.now) }
 {
     Meaning {
-        cell: place,
+        place: Place::Cell(place),
         kind: cell.kind,
         whole: true,
         assignable: false,

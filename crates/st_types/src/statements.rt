@@ -1,40 +1,34 @@
-// Judging statements.
-ghost use Rattle.std.specs.Prelude.{◌≡◌};
-ghost use Rattle.st_tree.specs.SyntaxView.{path_view, tree_view, stmt_view, stmts_view, arms_view, else_view};
-ghost use Rattle.st_types.specs.Judged.{is_assignable, judged_target, judged_assign, judged_stmts};
-ghost use Rattle.st_types.specs.Outcomes.{outcome_of, stmt_outcome, stmts_outcome, arms_outcome, else_outcome};
+// Judging statements, inside FORs whose control variables are the cells `controls`.
+ghost use Rattle.std.specs.Prelude.{◌≡◌, [], IfOk};
+ghost use Rattle.st_tree.specs.SyntaxView.{path_view, tree_view, stmt_view, stmts_view, arms_view, entries_view, else_view};
+ghost use Rattle.st_types.specs.JudgedStatements.{judged_target, judged_assign, judged_stmts};
+ghost use Rattle.st_types.specs.Outcomes.{outcome_of, stmt_outcome, stmts_outcome, arms_outcome, bodies_outcome, else_outcome};
 
 use crate::expressions::{judge_condition, judge_expr, judge_meaning};
+use crate::iteration::{control_of, is_assignable, judge_turns, turns_rule, with_control};
 use crate::kinds::{kind_at, or_dint, type_of};
 use crate::outcome::Outcome;
 use crate::scope::{Meaning, Scope};
-use st_tree::{Arm, Expr, Path, Rule, Stmt};
+use crate::selection::judge_selection;
+use st_tree::{Arm, Entry, Expr, Path, Rule, Stmt};
+use std::alloc::{AllocError, Global};
 
-fn is_assignable(meaning: Option<Meaning>) -> bool
-    ensures { result ≡ is_assignable meaning }
-{
-    match meaning {
-        None => false,
-        Some(meaning) => meaning.assignable,
-    }
-}
-
-// An own input is no target.
+// An own input, a constant and a control variable inside its loop are no targets.
 #[tactic(auto, using(crate::proofs::Judging::judging))]
-fn judge_target(meaning: Option<Meaning>, at: usize) -> Outcome
-    ensures { result ≡ outcome_of (judged_target meaning at) }
+fn judge_target(controls: &[usize], meaning: Option<Meaning>, at: usize) -> Outcome
+    ensures { result ≡ outcome_of (judged_target controls.now meaning at) }
 {
-    judge_meaning(meaning).tested(is_assignable(meaning), Rule::NotAssignable, at)
+    judge_meaning(meaning).tested(is_assignable(controls, meaning), Rule::NotAssignable, at)
 }
 
 // An assignment's value is of its target's type.
 #[tactic(auto, using(crate::proofs::Judging::judging))]
-fn judge_assign<S: Scope>(scope: &S, path: &Path, value: &Expr) -> Outcome
-    ensures { result ≡ outcome_of (judged_assign (S.means scope.now) (path_view path.now) (tree_view value.now)) }
+fn judge_assign<S: Scope>(scope: &S, controls: &[usize], path: &Path, value: &Expr) -> Outcome
+    ensures { result ≡ outcome_of (judged_assign (S.means scope.now) controls.now (path_view path.now) (tree_view value.now)) }
 {
     let meaning = scope.meaning(path);
     let wanted = kind_at(meaning);
-    let target = judge_target(meaning, path.first.at);
+    let target = judge_target(controls, meaning, path.first.at);
     let fits = type_of(scope, wanted, value) == or_dint(wanted);
     target
         .also(judge_expr(scope, wanted, value))
@@ -42,57 +36,116 @@ fn judge_assign<S: Scope>(scope: &S, path: &Path, value: &Expr) -> Outcome
 }
 
 #[cycle(judge_stmts)]
-fn judge_stmt<S: Scope>(scope: &S, so_far: Outcome, stmt: &Stmt) -> Outcome
-    ensures { result ≡ stmt_outcome (S.means scope.now) so_far (stmt_view stmt.now) }
+fn judge_stmt<S: Scope>(
+    alloc: Global,
+    scope: &S,
+    controls: &[usize],
+    so_far: Outcome,
+    stmt: &Stmt,
+) -> Result<Outcome, AllocError>
+    ensures { IfOk result (λ o. o ≡ stmt_outcome (S.means scope.now) controls.now so_far (stmt_view stmt.now)) }
 {
     match stmt {
-        Stmt::Empty => so_far,
-        Stmt::Assign(path, value) => so_far.also(judge_assign(scope, path, value)),
+        Stmt::Empty => Ok(so_far),
+        Stmt::Assign(path, value) => Ok(so_far.also(judge_assign(scope, controls, path, value))),
         Stmt::If(arms, other) => {
-            let judged = judge_arms(scope, so_far, arms);
-            judge_else(scope, judged, other)
+            let judged = judge_arms(alloc, scope, controls, so_far, arms)?;
+            judge_else(alloc, scope, controls, judged, other)
+        }
+        Stmt::Case(selector, entries, other) => {
+            let selection = judge_selection(alloc, scope, selector, entries)?;
+            let judged = judge_bodies(alloc, scope, controls, so_far.also(selection), entries)?;
+            judge_else(alloc, scope, controls, judged, other)
+        }
+        Stmt::For(iteration, body) => {
+            let meaning = control_of(alloc, scope, &iteration.control)?;
+            let turns = judge_turns(alloc, scope, controls, meaning, iteration)?;
+            let inner = with_control(alloc, controls, meaning)?;
+            let parts = judge_all(alloc, scope, &inner, turns, body)?;
+            let rule = turns_rule(alloc, scope, meaning, iteration)?;
+            Ok(so_far.also(parts.ruled(rule, iteration.at)))
         }
     }
 }
 
 // Statements behind what was judged so far.
 #[cycle(judge_stmts)]
-fn judge_all<S: Scope>(scope: &S, so_far: Outcome, stmts: &[Stmt]) -> Outcome
-    ensures { result ≡ stmts_outcome (S.means scope.now) so_far (stmts_view stmts.now) }
+fn judge_all<S: Scope>(
+    alloc: Global,
+    scope: &S,
+    controls: &[usize],
+    so_far: Outcome,
+    stmts: &[Stmt],
+) -> Result<Outcome, AllocError>
+    ensures { IfOk result (λ o. o ≡ stmts_outcome (S.means scope.now) controls.now so_far (stmts_view stmts.now)) }
 {
     let mut judged = so_far;
     for stmt in stmts {
-        judged = judge_stmt(scope, judged, stmt);
+        judged = judge_stmt(alloc, scope, controls, judged, stmt)?;
     }
-    judged
+    Ok(judged)
 }
 
 #[cycle(judge_stmts)]
-fn judge_arms<S: Scope>(scope: &S, so_far: Outcome, arms: &[Arm]) -> Outcome
-    ensures { result ≡ arms_outcome (S.means scope.now) so_far (arms_view arms.now) }
+fn judge_arms<S: Scope>(
+    alloc: Global,
+    scope: &S,
+    controls: &[usize],
+    so_far: Outcome,
+    arms: &[Arm],
+) -> Result<Outcome, AllocError>
+    ensures { IfOk result (λ o. o ≡ arms_outcome (S.means scope.now) controls.now so_far (arms_view arms.now)) }
 {
     let mut judged = so_far;
     for arm in arms {
         let condition = judge_condition(scope, Rule::OperandType, &arm.condition);
-        judged = judge_all(scope, judged.also(condition), &arm.body);
+        judged = judge_all(alloc, scope, controls, judged.also(condition), &arm.body)?;
     }
-    judged
+    Ok(judged)
+}
+
+// The statements of the entries of a CASE.
+#[cycle(judge_stmts)]
+fn judge_bodies<S: Scope>(
+    alloc: Global,
+    scope: &S,
+    controls: &[usize],
+    so_far: Outcome,
+    entries: &[Entry],
+) -> Result<Outcome, AllocError>
+    ensures { IfOk result (λ o. o ≡ bodies_outcome (S.means scope.now) controls.now so_far (entries_view entries.now)) }
+{
+    let mut judged = so_far;
+    for entry in entries {
+        judged = judge_all(alloc, scope, controls, judged, &entry.body)?;
+    }
+    Ok(judged)
 }
 
 #[cycle(judge_stmts)]
-fn judge_else<S: Scope>(scope: &S, so_far: Outcome, other: &Option<Vec<Stmt>>) -> Outcome
-    ensures { result ≡ else_outcome (S.means scope.now) so_far (else_view other.now) }
+fn judge_else<S: Scope>(
+    alloc: Global,
+    scope: &S,
+    controls: &[usize],
+    so_far: Outcome,
+    other: &Option<Vec<Stmt>>,
+) -> Result<Outcome, AllocError>
+    ensures { IfOk result (λ o. o ≡ else_outcome (S.means scope.now) controls.now so_far (else_view other.now)) }
 {
     match other {
-        None => so_far,
-        Some(other) => judge_all(scope, so_far, other),
+        None => Ok(so_far),
+        Some(other) => judge_all(alloc, scope, controls, so_far, other),
     }
 }
 
-/// Whether statements are whole, and what they break first.
+/// Whether statements are whole, and what they break first. Fails where memory runs out.
 #[tactic(auto, using(crate::proofs::Judging::judging))]
-pub(crate) fn judge_stmts<S: Scope>(scope: &S, stmts: &[Stmt]) -> Outcome
-    ensures { result ≡ outcome_of (judged_stmts (S.means scope.now) (stmts_view stmts.now)) }
+pub(crate) fn judge_stmts<S: Scope>(
+    alloc: Global,
+    scope: &S,
+    stmts: &[Stmt],
+) -> Result<Outcome, AllocError>
+    ensures { IfOk result (λ o. o ≡ outcome_of (judged_stmts (S.means scope.now) [] (stmts_view stmts.now))) }
 {
-    judge_all(scope, Outcome::sound(), stmts)
+    judge_all(alloc, scope, &[], Outcome::sound(), stmts)
 }

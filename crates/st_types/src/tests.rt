@@ -12,7 +12,7 @@ const OLD: &str = "PROGRAM M VAR_INPUT a : BOOL; END_VAR VAR n : INT; END_VAR EN
 const NEW: &str =
     "PROGRAM M VAR s : SINT := -3; END_VAR ; IF s = 1 THEN s := s + 1; END_IF END_PROGRAM";
 
-const REFUSED: [(&str, Rule, usize); 12] = [
+const REFUSED: [(&str, Rule, usize); 13] = [
     (
         "PROGRAM M VAR b : BOOL; END_VAR b := b + 1; END_PROGRAM",
         Rule::OperandType,
@@ -73,6 +73,11 @@ const REFUSED: [(&str, Rule, usize); 12] = [
         Rule::NotAssignable,
         55,
     ),
+    (
+        "PROGRAM M VAR CONSTANT k : INT := 3; END_VAR k := 4; END_PROGRAM",
+        Rule::NotAssignable,
+        45,
+    ),
 ];
 
 fn resolved(alloc: Global, text: &str) -> Result<Resolved, Fail> {
@@ -122,7 +127,35 @@ fn a_typed_program(rt: HostRuntime) -> Result<(), Fail> {
             assert_eq!(rt; arms[0].body.len(), 1);
             assert!(rt; matches!(&arms[0].body[0], TypedStmt::Assign(1, _)));
         }
-        TypedStmt::Assign(_, _) => assert!(rt; false, "an assignment"),
+        _ => assert!(rt; false, "no IF"),
+    }
+    Ok(())
+}
+
+const SECTIONS: &str =
+    "PROGRAM M VAR_INPUT a : BOOL; END_VAR VAR CONSTANT k : INT := 3; END_VAR VAR_TEMP t : INT := 5; u : BOOL; END_VAR VAR b : INT; END_VAR b := k; END_PROGRAM";
+
+// A constant has no cell, and the body begins with the VAR_TEMP variables.
+#[test]
+fn constants_and_temporary_variables(rt: HostRuntime) -> Result<(), Fail> {
+    let program = program(rt.alloc(), SECTIONS)?;
+    let paths = ["FAULT", "A", "T", "U", "B"];
+    assert_eq!(rt; program.cells.len(), paths.len());
+    for (cell, path) in program.cells.iter().zip(paths) {
+        assert_eq!(rt; cell.path.as_str(), path);
+    }
+    assert_eq!(rt; program.constants.len(), 1);
+    assert_eq!(rt; program.constants[0].as_str(), "K");
+    let assigned = [(2, 5), (3, 0), (4, 3)];
+    assert_eq!(rt; program.body.len(), assigned.len());
+    for (stmt, (place, value)) in program.body.iter().zip(assigned) {
+        match stmt {
+            TypedStmt::Assign(cell, TypedExpr::Number(number)) => {
+                assert_eq!(rt; *cell, place);
+                assert_eq!(rt; *number, value);
+            }
+            _ => assert!(rt; false, "no assignment of a number"),
+        }
     }
     Ok(())
 }

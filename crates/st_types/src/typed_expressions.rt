@@ -2,13 +2,15 @@
 ghost use Rattle.std.specs.Prelude.{◌≡◌, map, IfOk};
 ghost use Rattle.st_tree.specs.SyntaxView.{tree_view, links_view};
 ghost use Rattle.st_tree.specs.View.{expr_view, operands_view};
-ghost use Rattle.st_types.specs.Typed.{number_of, cell_of, typed, typed_links};
+ghost use Rattle.st_types.specs.Typed.{number_of, read_of, meaning_read, typed, typed_links, value_of_number};
+ghost use Rattle.st_types.specs.TypedStatements.{place_cell, cell_of};
 
 use crate::expressions::negative_literal;
 use crate::kinds::{next_type, operand_type, type_of};
 use crate::literals::{literal_value, negated};
 use crate::numbers::wrapped;
-use crate::scope::{Meaning, Scope};
+use crate::scope::{Meaning, Place, Scope};
+use crate::typed_calls::type_call;
 use st_tree::{Elementary, Expr, Link, Literal, Operand, TypedExpr};
 use std::alloc::{AllocError, Global};
 
@@ -19,13 +21,55 @@ fn number_of(kind: Elementary, minus: bool, literal: Literal) -> TypedExpr
     TypedExpr::Number(wrapped(negated(minus, literal_value(literal)), kind))
 }
 
+// A cell is read, and a constant is its value.
+fn read_of(place: Place) -> TypedExpr
+    ensures { expr_view result ≡ read_of place }
+{
+    match place {
+        Place::Cell(cell) => TypedExpr::Cell(cell),
+        Place::Value(value) => TypedExpr::Number(value),
+    }
+}
+
+// What a path reads.
+fn meaning_read(meaning: Option<Meaning>) -> TypedExpr
+    ensures { expr_view result ≡ meaning_read meaning }
+{
+    match meaning {
+        None => TypedExpr::Cell(0),
+        Some(meaning) => read_of(meaning.place),
+    }
+}
+
+fn place_cell(place: Place) -> usize
+    ensures { result ≡ place_cell place }
+{
+    match place {
+        Place::Cell(cell) => cell,
+        Place::Value(_) => 0,
+    }
+}
+
 /// The cell that a path stands for.
 pub(crate) fn cell_of(meaning: Option<Meaning>) -> usize
     ensures { result ≡ cell_of meaning }
 {
     match meaning {
         None => 0,
-        Some(meaning) => meaning.cell,
+        Some(meaning) => place_cell(meaning.place),
+    }
+}
+
+/// The number that a typed expression is, or 0 where it is none.
+pub(crate) fn value_of_number(number: &TypedExpr) -> i64
+    ensures { result ≡ value_of_number (expr_view number.now) }
+{
+    match number {
+        TypedExpr::Number(value) => *value,
+        TypedExpr::Cell(_) => 0,
+        TypedExpr::Unary(_, _, _) => 0,
+        TypedExpr::Chain(_, _) => 0,
+        TypedExpr::Call(_, _, _) => 0,
     }
 }
 
@@ -44,7 +88,7 @@ pub(crate) fn type_expr<S: Scope>(
             let kind = type_of(scope, wanted, expr);
             Ok(number_of(kind, false, *literal))
         }
-        Expr::Path(path) => Ok(TypedExpr::Cell(cell_of(scope.meaning(path)))),
+        Expr::Path(path) => Ok(meaning_read(scope.meaning(path))),
         Expr::Enumerator(_, _) => Ok(TypedExpr::Number(0)),
         Expr::Paren(_, inner) => type_expr(alloc, scope, wanted, inner),
         Expr::Unary(operator, _, operand) => {
@@ -63,6 +107,7 @@ pub(crate) fn type_expr<S: Scope>(
             let operands = type_links(alloc, scope, kind, links)?;
             Ok(TypedExpr::Chain(Box::new(alloc, first)?, operands))
         }
+        Expr::Call(name, _, arguments) => type_call(alloc, scope, wanted, name, arguments),
     }
 }
 

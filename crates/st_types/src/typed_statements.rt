@@ -1,14 +1,16 @@
 // Typed statements.
 ghost use Rattle.std.specs.Prelude.{◌≡◌, option_map, IfOk};
-ghost use Rattle.st_tree.specs.SyntaxView.{stmt_view, stmts_view, arms_view, else_view};
-ghost use Rattle.st_tree.specs.View.{stmt_view as typed_view, stmts_view as typed_stmts_view, choices_view};
-ghost use Rattle.st_types.specs.Typed.{typed_stmts, typed_arms, typed_else};
+ghost use Rattle.st_tree.specs.SyntaxView.{stmt_view, stmts_view, arms_view, entries_view, else_view};
+ghost use Rattle.st_tree.specs.View.{stmt_view as typed_view, stmts_view as typed_stmts_view, choices_view, entries_view as typed_entries_view};
+ghost use Rattle.st_types.specs.TypedStatements.{typed_stmts, typed_arms, typed_entries, typed_else};
 ghost use Rattle.st_types.specs.TypedLists.{statement_of};
 
-use crate::kinds::kind_at;
+use crate::iteration::turns_of;
+use crate::kinds::{kind_at, type_of};
+use crate::labels::label_ranges;
 use crate::scope::Scope;
 use crate::typed_expressions::{cell_of, type_expr};
-use st_tree::{Arm, Stmt, TypedArm, TypedStmt};
+use st_tree::{Arm, Elementary, Entry, Stmt, TypedArm, TypedEntry, TypedStmt};
 use std::alloc::{AllocError, Global};
 
 // The typed statement that a statement stands for; an empty one leaves nothing.
@@ -31,6 +33,18 @@ fn type_stmt<S: Scope>(
             let arms = type_arms(alloc, scope, arms)?;
             let other = type_else(alloc, scope, other)?;
             Ok(Some(TypedStmt::If(arms, other)))
+        }
+        Stmt::Case(selector, entries, other) => {
+            let kind = type_of(scope, None, selector);
+            let selector = type_expr(alloc, scope, None, selector)?;
+            let entries = type_entries(alloc, scope, kind, entries)?;
+            let other = type_else(alloc, scope, other)?;
+            Ok(Some(TypedStmt::Case(selector, entries, other)))
+        }
+        Stmt::For(iteration, body) => {
+            let turns = turns_of(alloc, scope, iteration)?;
+            let body = type_stmts(alloc, scope, body)?;
+            Ok(Some(TypedStmt::For(turns, body)))
         }
     }
 }
@@ -62,6 +76,24 @@ fn type_arms<S: Scope>(alloc: Global, scope: &S, arms: &[Arm]) -> Result<Vec<Typ
         let condition = type_expr(alloc, scope, None, &arm.condition)?;
         let body = type_stmts(alloc, scope, &arm.body)?;
         list.push(TypedArm { condition, body })?;
+    }
+    Ok(list)
+}
+
+#[cycle(type_stmts)]
+fn type_entries<S: Scope>(
+    alloc: Global,
+    scope: &S,
+    kind: Elementary,
+    entries: &[Entry],
+) -> Result<Vec<TypedEntry>, AllocError>
+    ensures { IfOk result (λ list. typed_entries_view list.items ≡ typed_entries (S.means scope.now) kind (entries_view entries.now)) }
+{
+    let mut list = Vec::new(alloc);
+    for entry in entries {
+        let labels = label_ranges(alloc, kind, &entry.labels)?;
+        let body = type_stmts(alloc, scope, &entry.body)?;
+        list.push(TypedEntry { labels, body })?;
     }
     Ok(list)
 }

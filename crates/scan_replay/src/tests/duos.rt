@@ -3,7 +3,7 @@ use super::asked::are_comparable;
 use super::trees::{A, B, Q, assigns, at, binary, number};
 use crate::states::state_fits;
 use crate::{Duo, Side};
-use scan_model::{InputLine, Relation};
+use scan_model::{Candidate, InputLine, Relation};
 use st_tree::{Elementary, Operator, Program, Range, TypedExpr};
 use std::alloc::{AllocError, Global};
 
@@ -41,7 +41,14 @@ fn relation(alloc: Global, environment: Vec<TypedExpr>) -> Result<Relation, Allo
         environment,
         equal_faults: false,
         relates: vec![in alloc; same]?,
+        invariants: Vec::new(alloc),
+        candidates: vec![in alloc; candidate(alloc, at(Q))?, candidate(alloc, at(NEW + Q))?]?,
     })
+}
+
+fn candidate(alloc: Global, clause: TypedExpr) -> Result<Candidate, AllocError> {
+    let name = String::from_str(alloc, "RELATE 1")?;
+    Ok(Candidate { name, clause })
 }
 
 // Whether a row is allowed and then leaves a related pair, and NEW's Q; none where it is not allowed, or memory
@@ -184,5 +191,34 @@ fn pairs_are_set_and_reset(rt: HostRuntime) -> Result<(), AllocError> {
     let relation = relation(alloc, Vec::new(alloc))?;
     let seen = set_and_reset(alloc, &old, &new, &relation, &[0, 0, 0, 1, 0], &[0; 5])?;
     assert_eq!(rt; seen, Some([(1, false), (0, true)]));
+    Ok(())
+}
+
+// Whether the candidates of the numbers 0 to 2 hold on a pair that is set.
+fn candidates_that_hold(
+    alloc: Global,
+    program: &Program,
+    relation: &Relation,
+    states: [&[i64]; 2],
+) -> Result<Option<[bool; 3]>, AllocError> {
+    if !are_comparable(alloc, program, program, relation)? {
+        return Ok(None);
+    }
+    if !state_fits(&program.cells, states[0]) || !state_fits(&program.cells, states[1]) {
+        return Ok(None);
+    }
+    let mut duo = Duo::new(alloc, program, program, relation)?;
+    duo.set_pair(states[0], states[1]);
+    Ok(Some([duo.holds(0), duo.holds(1), duo.holds(2)]))
+}
+
+// The candidates are OLD's Q and NEW's Q; there is no third.
+#[test]
+fn a_candidate_is_that_of_its_number(rt: HostRuntime) -> Result<(), AllocError> {
+    let alloc = rt.alloc();
+    let program = copies_input(alloc)?;
+    let relation = relation(alloc, Vec::new(alloc))?;
+    let held = candidates_that_hold(alloc, &program, &relation, [&[0; 5], &[0, 0, 0, 1, 0]])?;
+    assert_eq!(rt; held, Some([false, true, false]));
     Ok(())
 }

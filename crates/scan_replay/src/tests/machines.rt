@@ -10,7 +10,7 @@ const SINT: Range = Range {
     high: 127,
 };
 
-const INT: Range = Range {
+pub const INT: Range = Range {
     low: -32768,
     high: 32767,
 };
@@ -22,8 +22,8 @@ const DINT: Range = Range {
 
 const BYTE: Range = Range { low: 0, high: 255 };
 
-// FAULT, Q and R behind one scan of a row; none where it does not fit, or memory is used up.
-fn ran(alloc: Global, program: &Program, row: [i64; 2]) -> Option<[i64; 3]> {
+/// FAULT, Q and R behind one scan of a row; none where it does not fit, or memory is used up.
+pub fn ran(alloc: Global, program: &Program, row: [i64; 2]) -> Option<[i64; 3]> {
     ran_from(alloc, program, [0; 5], row)
 }
 

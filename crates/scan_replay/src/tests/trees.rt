@@ -34,6 +34,7 @@ pub fn program(
     Ok(Program {
         name: String::from_str(alloc, "M")?,
         cells,
+        constants: Vec::new(alloc),
         body,
     })
 }

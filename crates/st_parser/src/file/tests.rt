@@ -217,3 +217,40 @@ fn a_program_is_read(rt: HostRuntime) -> Result<(), Fail> {
     assert!(rt; matches!(&pou.body, Body::Statements(found) if found.len() == 1));
     Ok(())
 }
+
+// `PROGRAM M VAR CONSTANT x : INT; END_VAR VAR_TEMP END_VAR END_PROGRAM`
+#[test]
+fn constants_and_temporaries(rt: HostRuntime) -> Result<(), Fail> {
+    let toks = [
+        mark(Mark::Program, 0),
+        name("M", 8),
+        mark(Mark::Var, 10),
+        mark(Mark::Constant, 14),
+        name("x", 23),
+        mark(Mark::Colon, 25),
+        token(Terminal::Type(Elementary::Int), 27),
+        mark(Mark::Semicolon, 30),
+        mark(Mark::EndVar, 32),
+        mark(Mark::VarTemp, 40),
+        mark(Mark::EndVar, 49),
+        mark(Mark::EndProgram, 57),
+    ];
+    let file = parse_file(rt.alloc(), &toks, 68, &NoCharts)?;
+    assert_eq!(rt; file.pous.len(), 1);
+    let variables = &file.pous[0].variables;
+    assert_eq!(rt; variables.len(), 2);
+    assert_eq!(rt; variables[0].section, Section::Constant);
+    assert_eq!(rt; variables[1].section, Section::Temporary);
+    // `PROGRAM M VAR_TEMP CONSTANT`
+    let toks = [
+        mark(Mark::Program, 0),
+        name("M", 8),
+        mark(Mark::VarTemp, 10),
+        mark(Mark::Constant, 19),
+    ];
+    assert_eq!(rt;
+        refused(parse_file(rt.alloc(), &toks, 27, &NoCharts)),
+        no_tree(19)
+    );
+    Ok(())
+}

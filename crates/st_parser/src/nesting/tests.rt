@@ -52,6 +52,27 @@ fn closing_counts_by_kind(rt: HostRuntime) {
 }
 
 #[test]
+fn four_kinds_are_counted(rt: HostRuntime) {
+    // CASE, FOR and IF count with `(`, each closed by its own word
+    let mut toks = opening(64);
+    toks[0] = token(Terminal::Mark(Mark::Case), 10);
+    toks[1] = token(Terminal::For, 11);
+    toks[64] = token(Terminal::Mark(Mark::EndIf), 74);
+    toks[65] = token(Terminal::Mark(Mark::EndFor), 75);
+    toks[66] = token(Terminal::Mark(Mark::EndFor), 76);
+    toks[67] = token(Terminal::Mark(Mark::EndCase), 77);
+    toks[68] = token(Terminal::Mark(Mark::Case), 78);
+    assert_eq!(rt; first_fault(&toks), None);
+    toks[69] = token(Terminal::For, 79);
+    assert_eq!(rt; first_fault(&toks), None);
+    toks[67] = token(Terminal::Mark(Mark::EndIf), 77);
+    assert_eq!(rt; first_fault(&toks), refused(Rule::TooDeep, 79));
+    toks[65] = token(Terminal::Mark(Mark::EndCase), 75);
+    toks[66] = token(Terminal::Mark(Mark::EndCase), 76);
+    assert_eq!(rt; first_fault(&toks), refused(Rule::TooDeep, 79));
+}
+
+#[test]
 fn the_lesser_place_is_first(rt: HostRuntime) {
     let mut toks = opening(70);
     toks[66] = token(Terminal::LeftOut, 76);

@@ -1,5 +1,5 @@
 use Rattle.std.proofs.Common.{◌≡◌, take, map}
-use Rattle.st_tree.specs.View.{arm_view, stmt_view}
+use Rattle.st_tree.specs.View.{arm_view, stmt_view, entry_view}
 use Rattle.st_tree.proofs.+copy_typed_stmt.Given as goal
 
 abbrev pub invariant-typed_copies::copy_arms-loop-arm : goal.invariant-typed_copies::copy_arms-loop-arm
@@ -9,3 +9,7 @@ invariant-typed_copies::copy_arms-loop-arm l =
 abbrev pub invariant-typed_copies::copy_statements-loop-stmt : goal.invariant-typed_copies::copy_statements-loop-stmt
 invariant-typed_copies::copy_statements-loop-stmt l =
     map stmt_view l.copies.items ≡ map stmt_view (take l.stmt-index l.list)
+
+abbrev pub invariant-typed_copies::copy_entries-loop-entry : goal.invariant-typed_copies::copy_entries-loop-entry
+invariant-typed_copies::copy_entries-loop-entry l =
+    map entry_view l.copies.items ≡ map entry_view (take l.entry-index l.entries)

@@ -16,11 +16,11 @@ loop-place-preserved c =
     let left = view-drop variable_view c.args.variables.now i x (omega arith) c.index-variables-place.is in
     let key : string_bytes c.in_ok-clone.field-0 ≡ string_bytes x.name.now.text = grind (arith, common_steps) in
     let known = c.slot_at-known.ensures ∙ ap (get_by_text c.loop-place.slots) c.as_str.ensures.value in
-    let cell : i + 1 ≡ length (variables_view (take i c.args.variables.now)) + 1 = ap (λ n. n + 1) (sym (length-map (take i c.args.variables.now) variable_view ∙ length-take-le i c.args.variables.now (omega arith))) in
+    let number : i + 1 ≡ length (variables_view (take i c.args.variables.now)) + 1 = ap (λ n. n + 1) (sym (length-map (take i c.args.variables.now) variable_view ∙ length-take-le i c.args.variables.now (omega arith))) in
     let before = variables_view (take i c.args.variables.now) in
     let rest = variables_view (drop (i + 1) c.args.variables.now) in
     let held = c.loop-place.invariant.held in
     record {
-      held = rw more (held_push c.loop-place.slots c.insert.new.self c.in_ok-clone.field-0 before (variable_view x) c.entered-slot.result c.slot_at-known.result (i + 1) held c.in_ok-insert.ensures.updates key known cell c.entered-slot.ensures);
+      held = rw more (held_push c.loop-place.slots c.insert.new.self c.in_ok-clone.field-0 before (variable_view x) c.entered-slot.result c.slot_at-known.result (i + 1) held c.in_ok-insert.ensures.updates key known number c.entered-slot.ensures);
       twice = rw more (twice_push c.loop-place.first c.earlier.result c.declared_twice.result before rest (variable_view x) c.slot_at-known.result (known ∙ held (string_bytes x.name.now.text)) c.declared_twice.ensures c.earlier.ensures) ∙ rw left at c.loop-place.invariant.twice;
     }

@@ -1,7 +1,7 @@
 use Rattle.std.proofs.Common.{◌≡◌, drop}
 use Rattle.st_tree.specs.Rules.{earlier, first_in}
-use Rattle.st_tree.specs.SyntaxView.{stmts_view, arms_view}
-use Rattle.st_names.specs.Broken.{in_stmts, in_arms}
+use Rattle.st_tree.specs.SyntaxView.{stmts_view, arms_view, entries_view}
+use Rattle.st_names.specs.Broken.{in_stmts, in_arms, in_entries}
 use Rattle.st_names.specs.NamesView.{file_in, variables_in}
 use Rattle.st_names.proofs.walk.+walk_stmts.Given as goal
 
@@ -14,3 +14,8 @@ abbrev pub invariant-walk_stmts-loop-stmt : goal.invariant-walk_stmts-loop-stmt
 invariant-walk_stmts-loop-stmt l =
     earlier l.first (first_in (in_stmts (file_in l.names) (variables_in l.names) (stmts_view (drop l.stmt-index l.stmts))))
     ≡ earlier l.fn.first (first_in (in_stmts (file_in l.names) (variables_in l.names) (stmts_view l.stmts)))
+
+abbrev pub invariant-walk_entries-loop-entry : goal.invariant-walk_entries-loop-entry
+invariant-walk_entries-loop-entry l =
+    earlier l.first (first_in (in_entries (file_in l.names) (variables_in l.names) (entries_view (drop l.entry-index l.entries))))
+    ≡ earlier l.fn.first (first_in (in_entries (file_in l.names) (variables_in l.names) (entries_view l.entries)))

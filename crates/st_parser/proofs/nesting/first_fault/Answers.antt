@@ -1,6 +1,6 @@
 use Rattle.std.proofs.Common.{drop, ◌+◌, ap, refl, arith, sym, ◌∙◌}
 use Rattle.st_parser.proofs.FirstFaults.{fault_from, fault_here, none_here, fault_end, none_broken, first_broken, shallow}
-use Rattle.st_parser.specs.FirstFault.{nothing_open}
+use Rattle.st_parser.specs.Nesting.{nothing_open}
 use Rattle.st_parser.proofs.nesting.first_fault.Goals as goal
 
 pub returns-in-Err-clause-first : goal.returns-in-Err-clause-first

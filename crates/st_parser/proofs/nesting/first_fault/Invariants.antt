@@ -1,5 +1,5 @@
 use Rattle.std.proofs.Common.{◌≡◌, ◌≤◌, drop}
-use Rattle.st_parser.specs.FirstFault.{nothing_open, total}
+use Rattle.st_parser.specs.Nesting.{nothing_open, total}
 use Rattle.st_parser.proofs.FirstFaults.{fault_from}
 use Rattle.st_parser.proofs.nesting.first_fault.Given as goal
 

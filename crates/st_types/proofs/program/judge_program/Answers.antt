@@ -9,4 +9,4 @@ pub returns : goal.returns
 returns c =
     let p = pou_view c.args.scope.now.names.now.program in
     let vs = variables_in_pou p in
-    first_of_program vs (variables_view c.args.variables.now) (judged_body (scope_of vs) p.body) c.sound.result c.judge_variables-declared.result c.judge_body.result c.also.result c.sound.ensures c.requires c.judge_variables-declared.ensures c.judge_body.ensures c.also.ensures
+    first_of_program vs (variables_view c.args.variables.now) (judged_body (scope_of vs) p.body) c.sound.result c.judge_variables-declared.result c.in_ok-body.body c.also.result c.sound.ensures c.requires c.judge_variables-declared.ensures c.in_ok-body.ensures c.also.ensures

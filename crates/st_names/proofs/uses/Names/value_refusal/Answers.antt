@@ -20,8 +20,8 @@ returns c =
     let before = variables_view (take place names.variables.items) in
     let rest = variables_view (drop place names.variables.items) in
     let all : before ++ rest ≡ variables_in names = sym (map-append variable_view (take place names.variables.items) (drop place names.variables.items)) ∙ ap variables_view (take-append-drop place names.variables.items) in
-    let cell : place ≡ length before = sym (length-map (take place names.variables.items) variable_view ∙ length-take-le place names.variables.items (omega arith)) in
+    let number : place ≡ length before = sym (length-map (take place names.variables.items) variable_view ∙ length-take-le place names.variables.items (omega arith)) in
     let slot = c.slot_at-slot.ensures ∙ ap (get_by_text names.slots) c.as_str.ensures.value ∙ names.held n.text ∙ ap (λ vs. slot_named vs n.text) (sym all) in
     c.used_value.ensures ∙ ap (λ s. first_in (used_value (file_in names) place s n)) slot
-    ∙ ap first_in (used_value-named (file_in names) before rest place n cell)
+    ∙ ap first_in (used_value-named (file_in names) before rest place n number)
     ∙ ap (λ vs. first_in (in_value (file_in names) vs before (variable_named n.text vs) n)) all

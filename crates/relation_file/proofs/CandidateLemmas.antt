@@ -1,0 +1,76 @@
+-- Candidates one by one.
+use Rattle.std.proofs.Common.{◌≡◌, ℕ, suc, ◌+◌, ◌<◌, ◌-◌, ◌^◌, Bool, true, false, ◌&&◌, ◌==◌, List, [], ◌∷◌, ◌++◌, length, map, drop, option_map, Option, Some, None, refl, sym, ap, ◌∙◌, arith, append_assoc}
+use Rattle.std.specs.Str.{bytes_eq}
+use Rattle.std.specs.Prelude.{IfSome}
+use Rattle.std.proofs.lemmas.List.{map_push, length-map}
+use Rattle.std.proofs.lemmas.Grind.{common_steps}
+use Rattle.st_tree.specs.declared.typed.TypedExpr.{TypedExpr}
+use Rattle.st_tree.specs.declared.typed.Cell.{Cell}
+use Rattle.st_tree.specs.declared.typed.Program.{Program}
+use Rattle.st_tree.specs.Tree.{Expression, CellData}
+use Rattle.st_tree.specs.View.{exprs_view, cells_view, program_view}
+use Rattle.scan_model.specs.declared.relation.Candidate.{Candidate}
+use Rattle.scan_model.specs.Pairs.{CandidateData, candidate_view, candidates_view}
+use Rattle.scan_model.specs.Candidates.{same_as, same_cells, relate_clauses}
+use Rattle.relation_file.specs.declared.places.Placed.{Placed}
+use Rattle.relation_file.specs.Inputs.{cell_named}
+use Rattle.relation_file.specs.Relations.{before}
+use Rattle.relation_file.specs.Candidates.{same_found, relate_name_of}
+use Rattle.relation_file.proofs.BelongsLemmas.{is_cell}
+
+-- one more candidate, before those that are left
+pub pushed : (found more : List Candidate) (c : Candidate) (y : CandidateData) (rest all : List CandidateData) → more ≡ found ++ c ∷ [] → candidate_view c ≡ y
+    → candidates_view found ++ y ∷ rest ≡ all → candidates_view more ++ rest ≡ all
+pushed found more c y rest all is seen left =
+    ap (λ cs. candidates_view cs ++ rest) is ∙ ap (λ ds. ds ++ rest) (map_push candidate_view found c) ∙ append_assoc (candidates_view found) (candidate_view c ∷ []) rest
+    ∙ ap (λ d. candidates_view found ++ d ∷ rest) seen ∙ left
+
+-- the cell of NEW that a scan of its cells finds is that of the path
+same_next : (c d : CellData) (place behind n : ℕ) (ds : List CellData) (b : Bool) → bytes_eq d.path c.path ≡ b
+    → same_as c place (behind + n + 1) ds ≡ same_found c place behind (cell_named c.path (n + 1) ds)
+    → same_as c place (behind + n) (d ∷ ds) ≡ same_found c place behind (cell_named c.path n (d ∷ ds))
+same_next c d place behind n ds true e later = rw e refl
+same_next c d place behind n ds false e later = rw e later
+
+same_as-found : (c : CellData) (place behind n : ℕ) (ds : List CellData) → same_as c place (behind + n) ds ≡ same_found c place behind (cell_named c.path n ds)
+same_as-found c place behind n [] = refl
+same_as-found c place behind n (d ∷ ds) =
+    let next : behind + n + 1 ≡ behind + (n + 1) = omega arith in
+    same_next c d place behind n ds (bytes_eq d.path c.path) refl (ap (λ k. same_as c place k ds) next ∙ same_as-found c place behind (n + 1) ds)
+
+-- `SAME P` of one more cell
+pub same_more : (found more : List Candidate) (same : Option Candidate) (other : Option Placed) (c : CellData) (place behind : ℕ) (new cs : List CellData) (all : List CandidateData)
+    → other ≡ cell_named c.path 0 new
+    → ((rest : List CandidateData) → before (option_map candidate_view same) rest ≡ same_found c place behind other ++ rest)
+    → ((rest : List CandidateData) → candidates_view more ++ rest ≡ candidates_view found ++ before (option_map candidate_view same) rest)
+    → candidates_view found ++ same_cells place behind new (c ∷ cs) ≡ all → candidates_view more ++ same_cells (place + 1) behind new cs ≡ all
+same_more found more same other c place behind new cs all known made added left =
+    let rest = same_cells (place + 1) behind new cs in
+    let nothing : behind ≡ behind + 0 = omega arith in
+    let is : same_as c place behind new ≡ same_found c place behind other =
+    ap (λ n. same_as c place n new) nothing ∙ same_as-found c place behind 0 new ∙ ap (same_found c place behind) (sym known)
+    in
+    added rest ∙ ap (λ ds. candidates_view found ++ ds) (made rest ∙ ap (λ ds. ds ++ rest) (sym is)) ∙ left
+
+-- the cells of NEW have room behind those of OLD
+length-cells : (cells : List Cell) → length (cells_view cells) ≡ length cells
+length-cells cells = simp length-map
+
+pub room_behind : (new : Program) (text : List ℕ) (behind : ℕ) (o : Option Placed) → o ≡ cell_named text 0 (program_view new).cells → behind + length new.cells.items < 2 ^ 64
+    → IfSome o (λ d. behind + d.place < 2 ^ 64)
+room_behind new text behind None is fits = tt
+room_behind new text behind (Some d) is fits =
+    let within = (is_cell (program_view new) text d (sym is)).0 in
+    omega (arith, within, fits, length-cells new.cells.items)
+
+-- a RELATE clause, and whether it is the last
+pub relate_more : (added : Bool) (n : ℕ) (e : Expression) (es : List Expression) (i len : ℕ) → i + 1 + length es ≡ len
+    → relate_clauses added n (e ∷ es) ≡ record { name = relate_name_of (added && (i + 1 == len)) n; clause = e } ∷ relate_clauses added (n + 1) es
+relate_more true n e [] i len is = let h : (i + 1 == len) ≡ true = search (arith) in rw h refl
+relate_more false n e [] i len is = refl
+relate_more true n e (f ∷ es) i len is = let h : (i + 1 == len) ≡ false = search (arith) in rw h refl
+relate_more false n e (f ∷ es) i len is = refl
+
+-- how many clauses stand behind one
+pub left_behind : (clauses : List TypedExpr) (i : ℕ) → i < length clauses → i + 1 + length (exprs_view (drop (i + 1) clauses)) ≡ length clauses
+left_behind clauses i below = grind (arith, common_steps, length-map)

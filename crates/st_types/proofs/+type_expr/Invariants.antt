@@ -1,0 +1,13 @@
+use Rattle.std.proofs.Common.{◌≡◌, ◌++◌, drop, map}
+use Rattle.st_tree.specs.SyntaxView.{links_view, arguments_view}
+use Rattle.st_tree.specs.View.{expr_view, operand_view}
+use Rattle.st_types.specs.TypedLists.{operand_list, expression_list}
+use Rattle.st_types.proofs.+type_expr.Given as goal
+
+abbrev pub invariant-typed_expressions::type_links-loop-link : goal.invariant-typed_expressions::type_links-loop-link
+invariant-typed_expressions::type_links-loop-link g l =
+    map operand_view l.operands.items ++ operand_list (g.S.Scope.means l.scope) l.kind (links_view (drop l.link-index l.links)) ≡ operand_list (g.S.Scope.means l.scope) l.initial.kind (links_view l.links)
+
+abbrev pub invariant-typed_calls::type_operands-loop-place : goal.invariant-typed_calls::type_operands-loop-place
+invariant-typed_calls::type_operands-loop-place g l =
+    map expr_view l.operands.items ++ expression_list (g.S.Scope.means l.scope) l.function l.kind l.place (arguments_view (drop l.place l.arguments)) ≡ expression_list (g.S.Scope.means l.scope) l.function l.kind 0 (arguments_view l.arguments)

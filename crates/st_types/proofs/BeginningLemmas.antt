@@ -1,0 +1,18 @@
+-- A body behind the assignments that it begins with.
+use Rattle.std.proofs.Common.{◌≡◌, ℕ, List, [], ◌∷◌, ◌++◌, Bool, true, false, if◌then◌else◌, refl, ap}
+use Rattle.st_tree.specs.Tree.{Statement, Statements, statement}
+use Rattle.st_tree.specs.View.{statements_of}
+use Rattle.st_names.specs.Scopes.{Variable}
+use Rattle.st_types.specs.Programs.{cell_behind}
+use Rattle.st_types.specs.TypedPrograms.{is_temporary, begun}
+use Rattle.st_types.specs.Beginnings.{beginning, beginnings}
+
+one_more : (b : Bool) (s : Statement) (list ss : List Statement) (all : Statements) → statements_of (list ++ ss) ≡ all
+    → statements_of ((if b then s ∷ list else list) ++ ss) ≡ (if b then statement s all else all)
+one_more true s list ss all behind = ap (statement s) behind
+one_more false s list ss all behind = behind
+
+pub begun-list : (cell : ℕ) (vs : List Variable) (ss : List Statement) → statements_of (beginnings cell vs ++ ss) ≡ begun cell vs (statements_of ss)
+begun-list cell [] ss = refl
+begun-list cell (v ∷ vs) ss =
+    one_more (is_temporary v.section) (beginning cell v) (beginnings (cell_behind cell v) vs) ss (begun (cell_behind cell v) vs (statements_of ss)) (begun-list (cell_behind cell v) vs ss)

@@ -1,0 +1,26 @@
+use Rattle.std.proofs.Common.{◌≡◌, ◌∙◌, ◌+◌, [], ap, arith, drop}
+use Rattle.std.proofs.lemmas.Grind.{common_steps}
+use Rattle.st_tree.specs.declared.syntax.Entry.{out-Entry}
+use Rattle.st_tree.specs.Syntax.{entry}
+use Rattle.st_tree.specs.SyntaxView.{labels_view, stmts_view, entries_view}
+use Rattle.st_names.proofs.Outs.{entry_view-out}
+use Rattle.st_types.specs.declared.outcome.Outcome.{Outcome}
+use Rattle.st_types.specs.Labels.{seen_behind}
+use Rattle.st_types.specs.Outcomes.{labels_outcome, all_labels}
+use Rattle.st_types.proofs.Judging.{labels_outcome-all}
+use Rattle.st_types.proofs.Labelling.{labels_step}
+use Rattle.st_types.proofs.labels.judge_labels.Goals as goal
+
+pub loop-entry-preserved : goal.loop-entry-preserved
+loop-entry-preserved c =
+    let now = c.loop-entry.invariant.0 in
+    let ls = labels_view c.deref.result.now in
+    let rest = entries_view (drop (c.loop-entry.entry-index + 1) c.args.entries.now) in
+    let split : entries_view (drop c.loop-entry.entry-index c.args.entries.now) ≡ entry ls (stmts_view (out-Entry c.entry-item.result).body.items) rest = grind (arith, common_steps, entry_view-out) in
+    let step = c.in_ok-judged.ensures now c.loop-entry.invariant.1 in
+    (seen_behind c.args.kind now ls, step.1, labels_step c.args.kind now c.loop-entry.judged c.in_ok-judged.judged _ ls _ _ rest split step.0 c.loop-entry.invariant.2)
+
+pub returns : goal.returns
+returns c =
+    let all : c.loop-entry.judged ≡ labels_outcome c.args.kind [] c.sound-judged.result (all_labels (entries_view c.args.entries.now)) = grind (arith, common_steps, c.loop-entry.invariant.2) in
+    all ∙ ap (λ (o : Outcome). labels_outcome c.args.kind [] o (all_labels (entries_view c.args.entries.now))) c.sound-judged.ensures ∙ labels_outcome-all c.args.kind (all_labels (entries_view c.args.entries.now))

@@ -1,0 +1,19 @@
+use Rattle.std.proofs.Common.{◌≡◌, [], Bool, true, false, not, ap, ◌∙◌}
+use Rattle.st_tree.specs.SyntaxView.{tree_view, entries_view}
+use Rattle.st_types.specs.Labels.{judged_labels}
+use Rattle.st_types.specs.Outcomes.{outcome_of, all_labels}
+use Rattle.st_types.proofs.Judging.{outcome_of-selection, outcome_of-unselected}
+use Rattle.st_types.proofs.selection.judge_selection.Goals as goal
+
+turned : (b c : Bool) → not b ≡ c → b ≡ not c
+turned true c h = ap not h
+turned false c h = ap not h
+
+pub returns-then-not-judged : goal.returns-then-not-judged
+returns-then-not-judged g c =
+    outcome_of-unselected (g.S.Scope.means c.args.scope.now) (tree_view c.args.selector.now) (entries_view c.args.entries.now) c.judge_selector-judged.result c.judge_selector-judged.ensures (turned c.judge_selector-judged.result.whole true c.if-not-judged.true)
+
+pub returns : goal.returns
+returns g c =
+    outcome_of-selection (g.S.Scope.means c.args.scope.now) (tree_view c.args.selector.now) (entries_view c.args.entries.now) c.judge_selector-judged.result c.in_ok-labels.labels c.also.result c.judge_selector-judged.ensures (turned c.judge_selector-judged.result.whole false c.if-not-judged.false)
+    (c.in_ok-labels.ensures ∙ ap (λ t. outcome_of (judged_labels t [] (all_labels (entries_view c.args.entries.now)))) c.type_of.ensures) c.also.ensures

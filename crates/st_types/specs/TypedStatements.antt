@@ -1,0 +1,56 @@
+-- The typed statements that statements stand for.
+use Rattle.std.specs.Prelude.{ℕ, map, Option, Some, None}
+use Rattle.st_tree.specs.declared.elementary.Elementary.{Elementary}
+use Rattle.st_tree.specs.declared.typed.Turns.{Turns}
+use Rattle.st_tree.specs.Syntax.{empty, assign, branch, cases, iterate, Stmts, no_stmts, stmt, Arms, no_arms, arm, Entries, no_entries, entry, Otherwise, no_else, else_stmts, IterationData}
+use Rattle.st_tree.specs.Tree.{assign as typed_assign, choice, cases as typed_cases, repeat, Statements, no_statements, statement, Choices, no_choices, choose, Entries as TypedEntries, no_entries as no_typed_entries, entry as typed_entry}
+use Rattle.st_names.specs.Broken.{alone}
+use Rattle.st_types.specs.declared.scope.Place.{Place}
+use Rattle.st_types.specs.declared.scope.Place.TheVariants as places
+use Rattle.st_types.specs.Typing.{Meaning, Scope, kind_at, or_dint, type_of}
+use Rattle.st_types.specs.Typed.{typed}
+use Rattle.st_types.specs.Constants.{turn_count}
+use Rattle.st_types.specs.Labels.{label_range}
+use Rattle.st_types.specs.JudgedStatements.{bound_value, step_value}
+
+abbrev pub place_cell : Place → ℕ
+place_cell (places.Cell c) = c
+place_cell (places.Value v) = 0
+
+abbrev pub cell_of : Option Meaning → ℕ
+cell_of None = 0
+cell_of (Some m) = place_cell m.place
+
+abbrev pub turns_of : Scope → IterationData → Turns
+turns_of scope i =
+    let m = scope (alone i.control) in
+    let t = or_dint (kind_at m) in
+    record {
+      count = turn_count (bound_value scope t i.first) (bound_value scope t i.last) (step_value scope t i.step);
+      control = cell_of m;
+      first = bound_value scope t i.first;
+      step = step_value scope t i.step;
+    }
+
+-- empty statements leave nothing
+abbrev mutual
+  pub typed_stmts : Scope → Stmts → Statements
+  typed_stmts scope no_stmts = no_statements
+  typed_stmts scope (stmt empty ss) = typed_stmts scope ss
+  typed_stmts scope (stmt (assign p e) ss) = statement (typed_assign (cell_of (scope p)) (typed scope (kind_at (scope p)) e)) (typed_stmts scope ss)
+  typed_stmts scope (stmt (branch arms other) ss) = statement (choice (typed_arms scope arms) (typed_else scope other)) (typed_stmts scope ss)
+  typed_stmts scope (stmt (cases e es other) ss) =
+      statement (typed_cases (typed scope None e) (typed_entries scope (type_of scope None e) es) (typed_else scope other)) (typed_stmts scope ss)
+  typed_stmts scope (stmt (iterate i body) ss) = statement (repeat (turns_of scope i) (typed_stmts scope body)) (typed_stmts scope ss)
+
+  pub typed_arms : Scope → Arms → Choices
+  typed_arms scope no_arms = no_choices
+  typed_arms scope (arm e ss arms) = choose (typed scope None e) (typed_stmts scope ss) (typed_arms scope arms)
+
+  pub typed_entries : Scope → Elementary → Entries → TypedEntries
+  typed_entries scope t no_entries = no_typed_entries
+  typed_entries scope t (entry ls ss es) = typed_entry (map (label_range t) ls) (typed_stmts scope ss) (typed_entries scope t es)
+
+  pub typed_else : Scope → Otherwise → Statements
+  typed_else scope no_else = no_statements
+  typed_else scope (else_stmts ss) = typed_stmts scope ss

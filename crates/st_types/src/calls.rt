@@ -1,0 +1,148 @@
+// Judging calls of standard functions (IEC 61131-3, 2.5.1.5).
+ghost use Rattle.std.specs.Prelude.{◌≡◌, ◌&&◌};
+ghost use Rattle.st_names.specs.Library.{standard_function};
+ghost use Rattle.st_tree.specs.SyntaxView.{name_view, tree_view, arguments_view};
+ghost use Rattle.st_types.specs.Typing.{common_type, takes_operands, takes_count, count_of};
+ghost use Rattle.st_types.specs.Judged.{sound, fits_at, fit_from, judged_call, judged_arguments, judged_alone};
+ghost use Rattle.st_types.specs.Outcomes.{outcome_of, amount_outcome, arguments_outcome, alone_outcome};
+ghost use Rattle.st_types.specs.Parameters.{parameter_view};
+
+use crate::amounts::is_amount;
+use crate::expressions::judge_expr;
+use crate::kinds::{or_dint, own_of_arguments, place_of, type_of};
+use crate::outcome::Outcome;
+use crate::parameters::{Parameter, parameter_of, takes_count, takes_operands, wanted_at};
+use crate::scope::Scope;
+use st_names::standard_function;
+use st_tree::{Argument, Elementary, Expr, Name, Rule, StandardFunction};
+
+/// The one type of a call's operands.
+pub(crate) fn common_type<S: Scope>(
+    scope: &S,
+    wanted: Option<Elementary>,
+    function: StandardFunction,
+    arguments: &[Argument],
+) -> Elementary
+    ensures { result ≡ common_type (S.means scope.now) wanted function (arguments_view arguments.now) }
+{
+    or_dint(own_of_arguments(scope, function, arguments).or(wanted))
+}
+
+// Whether an argument is of the type that is wanted where the operands are of a type.
+fn fits_at<S: Scope>(scope: &S, parameter: Parameter, kind: Elementary, argument: &Expr) -> bool
+    ensures { result ≡ fits_at (S.means scope.now) (parameter_view parameter) kind (tree_view argument.now) }
+{
+    match parameter {
+        Parameter::Fixed(own) => type_of(scope, Some(own), argument) == own,
+        Parameter::Common => type_of(scope, Some(kind), argument) == kind,
+        Parameter::Amount => true,
+    }
+}
+
+// Whether all arguments are of the types that are wanted.
+fn all_fit<S: Scope>(
+    scope: &S,
+    function: StandardFunction,
+    kind: Elementary,
+    arguments: &[Argument],
+) -> bool
+    ensures { result ≡ fit_from (S.means scope.now) function kind 0 (arguments_view arguments.now) }
+{
+    for (place, argument) in arguments.iter().enumerate() {
+        let parameter = parameter_of(function, place);
+        if !fits_at(scope, parameter, kind, &argument.value) {
+            return false;
+        }
+    }
+    true
+}
+
+// Whether a function takes operands of a type, and all arguments are of the types that are wanted.
+fn are_operands<S: Scope>(
+    scope: &S,
+    function: StandardFunction,
+    kind: Elementary,
+    arguments: &[Argument],
+) -> bool
+    ensures { result ≡ takes_operands function kind && fit_from (S.means scope.now) function kind 0 (arguments_view arguments.now) }
+{
+    takes_operands(function, kind) && all_fit(scope, function, kind, arguments)
+}
+
+// Whether a function takes as many arguments as there are.
+#[tactic(auto, using(crate::proofs::Judging::count_of_arguments))]
+fn takes_all(function: StandardFunction, arguments: &[Argument]) -> bool
+    ensures { result ≡ takes_count function (count_of (arguments_view arguments.now)) }
+{
+    takes_count(function, arguments.len())
+}
+
+// The amount of a shift is a number from 0 to 64.
+fn judge_amount<S: Scope>(
+    scope: &S,
+    parameter: Parameter,
+    argument: &Expr,
+    judged: Outcome,
+) -> Outcome
+    ensures { result ≡ amount_outcome (S.means scope.now) (parameter_view parameter) (tree_view argument.now) judged }
+{
+    match parameter {
+        Parameter::Fixed(_) | Parameter::Common => judged,
+        Parameter::Amount => {
+            let fits = is_amount(scope, argument);
+            judged.tested(fits, Rule::OutsideType, place_of(argument))
+        }
+    }
+}
+
+/// Whether a call is whole where a type is wanted, or none, and what it breaks first.
+#[cycle(judge_expr)]
+pub(crate) fn judge_call<S: Scope>(
+    scope: &S,
+    wanted: Option<Elementary>,
+    name: &Name,
+    arguments: &[Argument],
+) -> Outcome
+    ensures { result ≡ outcome_of (judged_call (S.means scope.now) wanted (name_view name.now).at (standard_function (name_view name.now).text) (arguments_view arguments.now) (judged_alone (S.means scope.now) (arguments_view arguments.now)) (λ f t. judged_arguments (S.means scope.now) f t 0 (arguments_view arguments.now))) }
+{
+    let Some(function) = standard_function(name.text.as_str()) else {
+        return Outcome::silent();
+    };
+    if !takes_all(function, arguments) {
+        return judge_alone(scope, arguments).tested(false, Rule::ArgumentCount, name.at);
+    }
+    let kind = common_type(scope, wanted, function, arguments);
+    let fits = are_operands(scope, function, kind, arguments);
+    judge_arguments(scope, function, kind, arguments).tested(fits, Rule::OperandType, name.at)
+}
+
+// Arguments where the operands are of a type.
+#[cycle(judge_expr)]
+fn judge_arguments<S: Scope>(
+    scope: &S,
+    function: StandardFunction,
+    kind: Elementary,
+    arguments: &[Argument],
+) -> Outcome
+    ensures { result ≡ arguments_outcome (S.means scope.now) function kind 0 (outcome_of sound) (arguments_view arguments.now) }
+{
+    let mut judged = Outcome::sound();
+    for (place, argument) in arguments.iter().enumerate() {
+        let parameter = parameter_of(function, place);
+        let value = judge_expr(scope, wanted_at(parameter, kind), &argument.value);
+        judged = judged.also(judge_amount(scope, parameter, &argument.value, value));
+    }
+    judged
+}
+
+// Arguments each alone, where a function does not take so many.
+#[cycle(judge_expr)]
+fn judge_alone<S: Scope>(scope: &S, arguments: &[Argument]) -> Outcome
+    ensures { result ≡ alone_outcome (S.means scope.now) (outcome_of sound) (arguments_view arguments.now) }
+{
+    let mut judged = Outcome::sound();
+    for argument in arguments {
+        judged = judged.also(judge_expr(scope, None, &argument.value));
+    }
+    judged
+}
