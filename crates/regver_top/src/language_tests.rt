@@ -42,7 +42,7 @@ const OVERFLOW: &str =
     "PROGRAM M VAR_INPUT x : INT; END_VAR VAR_OUTPUT y, z : INT; END_VAR y := x + 1; z := 7 / x; END_PROGRAM";
 
 // Programs, and the line that says what each breaks first; one that breaks nothing leaves the relation, an empty text.
-const READ: [(&str, &str); 129] = [
+const FIRST_TEXTS: [(&str, &str); 33] = [
     (
         "PROGRAM M END_PROGRAM PROGRAM M END_PROGRAM",
         "REFUSED OLD N5 at 0\n",
@@ -160,6 +160,9 @@ const READ: [(&str, &str); 129] = [
         "REFUSED OLD N1 at 14\n",
     ),
     ("PROGRAM CTU END_PROGRAM", "REFUSED OLD N1 at 8\n"),
+];
+
+const SECOND_TEXTS: [(&str, &str); 33] = [
     (
         "PROGRAM M VAR i : INT; END_VAR i := INT_TO_INT(i); END_PROGRAM",
         "REFUSED OLD N2 at 36\n",
@@ -292,6 +295,9 @@ const READ: [(&str, &str); 129] = [
         "PROGRAM M VAR i : INT; END_VAR FOR i := 1 TO 1 / 0 DO END_FOR END_PROGRAM",
         "REFUSED OLD F1 at 45\n",
     ),
+];
+
+const THIRD_TEXTS: [(&str, &str); 33] = [
     (
         "PROGRAM M VAR CONSTANT k : INT := 3; END_VAR VAR i : INT; END_VAR FOR i := -k TO k * 2 BY k DO END_FOR END_PROGRAM",
         "REFUSED REL R1 at 0\n",
@@ -424,6 +430,9 @@ const READ: [(&str, &str); 129] = [
         "PROGRAM M VAR x : INT; END_VAR CASE x OF END_CASE END_PROGRAM",
         "REFUSED OLD G1 at 41\n",
     ),
+];
+
+const FOURTH_TEXTS: [(&str, &str); 30] = [
     (
         "PROGRAM M VAR x : INT; END_VAR CASE x OF 1: ; END_PROGRAM",
         "REFUSED OLD G1 at 46\n",
@@ -768,8 +777,35 @@ const REPLAYED: [(&str, &str, &str, &str, &str, u8); 27] = [
 
 // Both programs are the text; one that breaks nothing is followed by an empty relation, which lacks its first line.
 #[test]
-fn texts_and_what_they_break(rt: HostRuntime) -> Result<(), Fail> {
-    for (text, line) in READ {
+fn first_texts_and_what_they_break(rt: HostRuntime) -> Result<(), Fail> {
+    for (text, line) in FIRST_TEXTS {
+        replays(&rt, (text, text, "", "[]", line, 6))?;
+    }
+    Ok(())
+}
+
+// Both programs are the text; one that breaks nothing is followed by an empty relation, which lacks its first line.
+#[test]
+fn second_texts_and_what_they_break(rt: HostRuntime) -> Result<(), Fail> {
+    for (text, line) in SECOND_TEXTS {
+        replays(&rt, (text, text, "", "[]", line, 6))?;
+    }
+    Ok(())
+}
+
+// Both programs are the text; one that breaks nothing is followed by an empty relation, which lacks its first line.
+#[test]
+fn third_texts_and_what_they_break(rt: HostRuntime) -> Result<(), Fail> {
+    for (text, line) in THIRD_TEXTS {
+        replays(&rt, (text, text, "", "[]", line, 6))?;
+    }
+    Ok(())
+}
+
+// Both programs are the text; one that breaks nothing is followed by an empty relation, which lacks its first line.
+#[test]
+fn fourth_texts_and_what_they_break(rt: HostRuntime) -> Result<(), Fail> {
+    for (text, line) in FOURTH_TEXTS {
         replays(&rt, (text, text, "", "[]", line, 6))?;
     }
     Ok(())
