@@ -15,6 +15,7 @@ use Rattle.st_tree.specs.Tree.{ProgramData}
 use Rattle.st_lexer.specs.Parts as lexer
 use Rattle.st_lexer.specs.Lexing.{lexemes_of}
 use Rattle.st_parser.specs.FirstFault as nesting
+use Rattle.st_names.specs.FileScope.{pous_of}
 use Rattle.st_names.specs.Broken.{broken_names}
 use Rattle.st_types.specs.Programs.{broken_types, has_room}
 use Rattle.st_types.specs.TypedPrograms.{typed_program}
@@ -53,19 +54,22 @@ pub data HasNoTree (text : List ℕ) (r : Refusal) : Type 0 where
   by_nesting : (toks : List Tok) → HasTokens text toks → nesting.IsFirstFault toks r → HasNoTree text r
   by_grammar : (toks : List Tok) → HasTokens text toks → nesting.IsSound toks → IsUnprinted toks → r.rule ≡ NoTree → HasNoTree text r
 
--- A text states a program: its file breaks no rule on names, is one PROGRAM, breaks no rule on types, and has room for its cells.
+-- A text states a program: its file breaks no rule on names, has one PROGRAM, breaks no rule on types, and has room for its cells.
 pub record IsProgram (text : List ℕ) (p : ProgramData) : Type 0 where
+  pub file : FileData
   pub pou : PouData
-  pub tree : HasTree text (pou ∷ [])
-  pub names : broken_names (pou ∷ []) ≡ []
-  pub typing : broken_types pou ≡ []
+  pub tree : HasTree text file
+  pub names : broken_names file ≡ []
+  pub only : pous_of file ≡ pou ∷ []
+  pub typing : broken_types file pou ≡ []
   pub room : has_room pou ≡ true
-  pub program : p ≡ typed_program pou
+  pub program : p ≡ typed_program file pou
 
 -- a text states no program, and this is the first rule that it breaks
 pub data IsNoProgram (text : List ℕ) (r : Refusal) : Type 0 where
   by_tree : HasNoTree text r → IsNoProgram text r
   by_names : (f : FileData) → HasTree text f → IsFirst (λ x. IsAmong x (broken_names f)) r → IsNoProgram text r
-  by_types : (pou : PouData) → HasTree text (pou ∷ []) → broken_names (pou ∷ []) ≡ [] → IsFirst (λ x. IsAmong x (broken_types pou)) r → IsNoProgram text r
-  by_room : (pou : PouData) → HasTree text (pou ∷ []) → broken_names (pou ∷ []) ≡ [] → broken_types pou ≡ [] → has_room pou ≡ false
+  by_types : (f : FileData) → (pou : PouData) → HasTree text f → broken_names f ≡ [] → pous_of f ≡ pou ∷ [] → IsFirst (λ x. IsAmong x (broken_types f pou)) r
+      → IsNoProgram text r
+  by_room : (f : FileData) → (pou : PouData) → HasTree text f → broken_names f ≡ [] → pous_of f ≡ pou ∷ [] → broken_types f pou ≡ [] → has_room pou ≡ false
       → r ≡ record { rule = TooManyCells; at = 0 } → IsNoProgram text r

@@ -18,6 +18,8 @@ mod status;
 mod tests;
 mod top;
 mod trace;
+#[cfg(test)]
+mod type_tests;
 
 pub use laws::one_report;
 pub use status::Status;

@@ -10,7 +10,8 @@ use Rattle.st_tree.specs.declared.rule.Refusal.{Refusal}
 use Rattle.st_tree.specs.declared.typed.Range.{Range}
 use Rattle.st_tree.specs.Syntax.{Named}
 use Rattle.st_tree.specs.Tree.{CellData, ProgramData}
-use Rattle.st_types.specs.Typing.{is_same}
+use Rattle.st_tree.specs.DataTypes.{is_same_type}
+use Rattle.st_tree.specs.Enumerations.{paired_type}
 use Rattle.scan_model.specs.declared.side.Side.TheVariants as sides
 use Rattle.scan_model.specs.declared.relation.InputLine.{InputLine}
 use Rattle.scan_model.specs.Scans.{ranges_of, range_at}
@@ -18,7 +19,7 @@ use Rattle.scan_model.specs.Pairs.{RelationData, IsCellOf, NamesCells, BelongsTo
 use Rattle.relation_lines.specs.Lines.{ContentData, setting, faults, paired, single, clause, LineData}
 use Rattle.relation_file.specs.declared.places.Placed.{Placed}
 use Rattle.relation_file.specs.Refusals.{unless, or_own}
-use Rattle.relation_file.specs.Inputs.{placed, cell_named, are_alike, is_same_range}
+use Rattle.relation_file.specs.Inputs.{placed, cell_named, are_alike, is_same_flag, is_same_range}
 use Rattle.relation_file.specs.Broken.{broken_name, broken_parts, broken_line, broken_behind, broken_lines}
 use Rattle.relation_file.specs.Relations.{before, both_line, single_line, input_of, inputs_in, relation_of}
 
@@ -91,11 +92,11 @@ module _ (old new : ProgramData) where
   IfLine None = Unit {0}
   IfLine (Some l) = NamesCells old new l
 
-  both_belong : (a b : Named) (p q : Option Placed) → cell_named a.text 0 old.cells ≡ p → cell_named b.text 0 new.cells ≡ q → are_alike p q ≡ true → IfLine (both_line p q)
+  both_belong : (a b : Named) (p q : Option Placed) → cell_named a.text 0 old.cells ≡ p → cell_named b.text 0 new.cells ≡ q → are_alike (paired_type old.types new.types) p q ≡ true → IfLine (both_line p q)
   both_belong a b None q f g h = tt
   both_belong a b (Some p) None f g h = tt
   both_belong a b (Some p) (Some q) f g h =
-      let e = both_true (is_same p.kind q.kind) (is_same_range p.range q.range) h in
+      let e = both_true (is_same_type p.kind (paired_type old.types new.types q.kind) && is_same_flag p.limited q.limited) (is_same_range p.range q.range) h in
       (is_cell old a.text p f, subst (IsCellOf new q.place) (sym (same_range p.range q.range e.1)) (is_cell new b.text q g))
 
   single_old : (a : Named) (p : Option Placed) → cell_named a.text 0 old.cells ≡ p → IfLine (single_line sides.Old p)
@@ -110,7 +111,7 @@ module _ (old new : ProgramData) where
   input_belongs above (setting s value at) h = tt
   input_belongs above (faults equal at) h = tt
   input_belongs above (paired a at b) h =
-      let alike = are_alike (cell_named a.text 0 old.cells) (cell_named b.text 0 new.cells) in
+      let alike = are_alike (paired_type old.types new.types) (cell_named a.text 0 old.cells) (cell_named b.text 0 new.cells) in
       let none = or_nothing (broken_name old new sides.Old above a ++ broken_name old new sides.New above b) (unless alike InputsDiffer a.at) h in
       both_belong a b _ _ refl refl (holds alike InputsDiffer a.at none.1)
   input_belongs above (single sides.Old at a) h = single_old a _ refl

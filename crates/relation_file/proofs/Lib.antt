@@ -6,3 +6,4 @@ pub mod SeenLemmas
 pub mod BelongsLemmas
 pub mod PassLemmas
 pub mod CandidateLemmas
+pub mod PairLemmas

@@ -4,6 +4,7 @@ use Rattle.std.specs.Prelude.{ℕ, List, [], ◌∷◌, ◌++◌, not, ◌&&◌}
 use Rattle.st_tree.specs.declared.rule.Rule.TheVariants.{LineOrder, NumberLimits, InputsDiffer, InputCount}
 use Rattle.st_tree.specs.declared.rule.Refusal.{Refusal}
 use Rattle.st_tree.specs.Syntax.{Named}
+use Rattle.st_tree.specs.Enumerations.{paired_type}
 use Rattle.st_tree.specs.Tree.{ProgramData}
 use Rattle.scan_model.specs.declared.side.Side.{Side}
 use Rattle.scan_model.specs.declared.side.Side.TheVariants as sides
@@ -27,7 +28,7 @@ module _ (old new : ProgramData) where
   -- P1, at the first name, where two inputs that break nothing are not alike
   abbrev pub broken_pair : List LineData → Named → Named → List Refusal
   broken_pair before a b =
-      or_own (broken_name sides.Old before a ++ broken_name sides.New before b) (unless (are_alike (cell_named a.text 0 old.cells) (cell_named b.text 0 new.cells)) InputsDiffer a.at)
+      or_own (broken_name sides.Old before a ++ broken_name sides.New before b) (unless (are_alike (paired_type old.types new.types) (cell_named a.text 0 old.cells) (cell_named b.text 0 new.cells)) InputsDiffer a.at)
 
   -- what the parts of a line break: R2 its number, N2, N4, P2 and P1 its inputs, R3 and N2 the names of its clause
   abbrev pub broken_parts : List LineData → ContentData → List Refusal
@@ -35,7 +36,7 @@ module _ (old new : ProgramData) where
   broken_parts before (faults equal at) = []
   broken_parts before (paired a at b) = broken_pair before a b
   broken_parts before (single side at a) = broken_name side before a
-  broken_parts before (clause c e) = broken_names (pair_scope old.cells new.cells) e
+  broken_parts before (clause c e) = broken_names (pair_scope old new) e
 
   -- R1, at the line's first word, where a line whose parts break nothing stands out of order
   abbrev pub broken_line : List LineData → LineData → List Refusal
@@ -64,7 +65,7 @@ module _ (old new : ProgramData) where
   broken_content (faults equal at) = []
   broken_content (paired a at b) = []
   broken_content (single s at a) = []
-  broken_content (clause c e) = (judged_clause (pair_scope old.cells new.cells) e).broken
+  broken_content (clause c e) = (judged_clause (pair_scope old new) e).broken
 
   abbrev pub broken_clauses : List LineData → List Refusal
   broken_clauses [] = []

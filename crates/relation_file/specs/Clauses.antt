@@ -6,7 +6,7 @@ use Rattle.st_tree.specs.declared.rule.Refusal.{Refusal}
 use Rattle.st_tree.specs.Syntax.{Named, PathData, Tree, literal, path, enumerator, paren, unary, chain, call, Links, no_links, link, Arguments, no_arguments, argument}
 use Rattle.st_names.specs.Library.{is_function}
 use Rattle.st_types.specs.declared.scope.Meaning.{Meaning}
-use Rattle.st_types.specs.Typing.{Scope}
+use Rattle.st_types.specs.Typing.{Scope, by_path}
 use Rattle.relation_file.specs.Refusals.{breaks}
 
 abbrev pub is_side : List ℕ → Bool
@@ -22,7 +22,7 @@ unknown_unless at (Some m) = []
 -- A path has `old` or `new` before it (R3), and names a cell (N2, at the name behind).
 abbrev pub broken_members : Scope → PathData → List Named → List Refusal
 broken_members scope p [] = no_side p.first.at
-broken_members scope p (n ∷ ns) = if is_side p.first.text then unknown_unless n.at (scope p) else no_side p.first.at
+broken_members scope p (n ∷ ns) = if is_side p.first.text then unknown_unless n.at (scope (by_path p)) else no_side p.first.at
 
 abbrev pub broken_path : Scope → PathData → List Refusal
 broken_path scope p = broken_members scope p p.members

@@ -6,10 +6,11 @@ use Rattle.std.specs.Str.{bytes_eq}
 use Rattle.st_tree.specs.declared.rule.Rule.TheVariants.{UnknownName, WrongKind, InputCount}
 use Rattle.st_tree.specs.declared.rule.Refusal.{Refusal}
 use Rattle.st_tree.specs.declared.typed.Range.{Range}
+use Rattle.st_tree.specs.declared.data_type.DataType.{DataType}
+use Rattle.st_tree.specs.DataTypes.{is_same_type}
 use Rattle.st_tree.specs.Cells.{is_input}
 use Rattle.st_tree.specs.Syntax.{Named}
 use Rattle.st_tree.specs.Tree.{CellData, ProgramData}
-use Rattle.st_types.specs.Typing.{is_same}
 use Rattle.scan_model.specs.declared.side.Side.{Side}
 use Rattle.scan_model.specs.declared.side.Side.TheVariants as sides
 use Rattle.relation_file.specs.Refusals.{breaks, unless}
@@ -18,7 +19,7 @@ use Rattle.relation_lines.specs.Lines.{ContentData, setting, faults, paired, sin
 
 -- what is known of a cell at a place
 abbrev pub placed : ℕ → CellData → Placed
-placed place c = record { place = place; part = c.part; kind = c.kind; range = c.range }
+placed place c = record { place = place; part = c.part; kind = c.kind; range = c.range; limited = c.limited }
 
 -- the first cell of a path, among those that begin at a place
 abbrev pub cell_named : List ℕ → ℕ → List CellData → Option Placed
@@ -63,10 +64,14 @@ broken_input before p n = broken_at_cell (is_among before n.text) (is_among p.co
 abbrev pub is_same_range : Range → Range → Bool
 is_same_range r s = int_eq r.low s.low && int_eq r.high s.high
 
--- two inputs are of one type with the same bounds
-abbrev pub are_alike : Option Placed → Option Placed → Bool
-are_alike (Some a) (Some b) = is_same a.kind b.kind && is_same_range a.range b.range
-are_alike _ _ = false
+abbrev pub is_same_flag : Bool → Bool → Bool
+is_same_flag true b = b
+is_same_flag false b = not b
+
+-- two inputs, one of OLD and one of NEW, are of one type with the same bounds; a whole type has none
+abbrev pub are_alike : (DataType → DataType) → Option Placed → Option Placed → Bool
+are_alike of_pair (Some a) (Some b) = is_same_type a.kind (of_pair b.kind) && is_same_flag a.limited b.limited && is_same_range a.range b.range
+are_alike of_pair _ _ = false
 
 -- each input is named
 abbrev pub is_listed : (List ℕ → Bool) → CellData → Bool

@@ -93,7 +93,7 @@ module _ (old new : ProgramData) where
   clause_of wanted (faults equal at) = None
   clause_of wanted (paired a at b) = None
   clause_of wanted (single s at a) = None
-  clause_of wanted (clause c e) = if is_condition wanted c then Some (typed (pair_scope old.cells new.cells) None e) else None
+  clause_of wanted (clause c e) = if is_condition wanted c then Some (typed (pair_scope old new) None e) else None
 
   abbrev pub clauses_in : Condition → List LineData → List Expression
   clauses_in wanted [] = []

@@ -1,6 +1,8 @@
 // The candidates of a relation: clauses that may hold after every scan, each with its printed name.
 ghost use Rattle.std.specs.Prelude.{◌≡◌, ◌+◌, ◌<◌, ◌^◌, ◌++◌, ◌==◌, ◌&&◌, List, codes, decimal, length, option_map, string_bytes, IfOk, IfSome, OnOk};
 ghost use Rattle.std.specs.Fmt.{signed_decimal};
+ghost use Rattle.st_tree.specs.Enumerations.{paired_type};
+ghost use Rattle.st_types.specs.PairedTypes.{paired_in};
 ghost use Rattle.st_tree.specs.Tree.{number, cell};
 ghost use Rattle.st_tree.specs.View.{expr_view, exprs_view, cell_view, cells_view, program_view};
 ghost use Rattle.scan_model.specs.Pairs.{CandidateData, candidate_view, candidates_view, relation_view};
@@ -12,14 +14,15 @@ ghost use Rattle.relation_file.specs.Candidates.{same_found, relate_name_of};
 use crate::pair::Pair;
 use crate::places::{Cells, Placed};
 use scan_model::{Candidate, Relation};
-use st_tree::{Cell, Elementary, Operand, Operator, TypedExpr};
+use st_tree::{Cell, DataType, Operand, Operator, TypedExpr};
+use st_types::PairedTypes;
 use std::alloc::{AllocError, Global};
 
 // The cell at a place has the value of another.
 fn is_equal_cell(
     alloc: Global,
     place: usize,
-    kind: Elementary,
+    kind: DataType,
     other: usize,
 ) -> Result<TypedExpr, AllocError>
     ensures { IfOk result (λ e. expr_view e ≡ is_equal place kind (cell other)) }
@@ -27,7 +30,7 @@ fn is_equal_cell(
     let mut operands = Vec::new(alloc);
     operands.push(Operand {
         operator: Operator::Equal,
-        kind,
+        kind: kind.carrier(),
         right: TypedExpr::Cell(other),
     })?;
     Ok(TypedExpr::Chain(Box::new(alloc, TypedExpr::Cell(place))?, operands))
@@ -37,7 +40,7 @@ fn is_equal_cell(
 fn is_equal_number(
     alloc: Global,
     place: usize,
-    kind: Elementary,
+    kind: DataType,
     value: i64,
 ) -> Result<TypedExpr, AllocError>
     ensures { IfOk result (λ e. expr_view e ≡ is_equal place kind (number value)) }
@@ -45,7 +48,7 @@ fn is_equal_number(
     let mut operands = Vec::new(alloc);
     operands.push(Operand {
         operator: Operator::Equal,
-        kind,
+        kind: kind.carrier(),
         right: TypedExpr::Number(value),
     })?;
     Ok(TypedExpr::Chain(Box::new(alloc, TypedExpr::Cell(place))?, operands))
@@ -78,16 +81,17 @@ fn add_invariants(
 // `SAME P` of a cell of OLD, where NEW, whose cells stand behind so many of OLD, has a cell of this path and type.
 fn same(
     alloc: Global,
+    types: &PairedTypes<'_>,
     cell: &Cell,
     place: usize,
     behind: usize,
     other: Option<Placed>,
 ) -> Result<Option<Candidate>, AllocError>
     requires { IfSome other (λ d. behind + d.place < 2 ^ 64) }
-    ensures { IfOk result (λ same. (rest : List CandidateData) → before (option_map candidate_view same) rest ≡ same_found (cell_view cell.now) place behind other ++ rest) }
+    ensures { IfOk result (λ same. (rest : List CandidateData) → before (option_map candidate_view same) rest ≡ same_found (paired_in types.now) (cell_view cell.now) place behind other ++ rest) }
 {
     match other {
-        Some(other) if cell.kind == other.kind => {
+        Some(other) if cell.kind.is_same(types.paired(other.kind)) => {
             let path = cell.path.as_str();
             let name = format!(in alloc; "SAME {path}")?;
             let clause = is_equal_cell(alloc, place, cell.kind, behind + other.place)?;
@@ -110,19 +114,33 @@ fn add(candidate: Option<Candidate>, found: &mut Vec<Candidate>) -> Result<(), A
 // `SAME P` of each cell of OLD.
 fn add_same(
     alloc: Global,
+    types: &PairedTypes<'_>,
     old: &[Cell],
     new: &Cells<'_>,
     found: &mut Vec<Candidate>,
 ) -> Result<(), AllocError>
     requires { length old.now + length new.now.program.now.cells.items < 2 ^ 64 }
-    ensures { OnOk result (candidates_view found.new.items ≡ candidates_view found.old.items ++ same_cells 0 (length old.now) (program_view new.now.program.now).cells (cells_view old.now)) }
+    ensures { OnOk result (candidates_view found.new.items ≡ candidates_view found.old.items ++ same_cells (paired_in types.now) 0 (length old.now) (program_view new.now.program.now).cells (cells_view old.now)) }
 {
     for (place, cell) in old.iter().enumerate() {
         let other = new.find(cell.path.as_str());
-        let candidate = same(alloc, cell, place, old.len(), other)?;
+        let candidate = same(alloc, types, cell, place, old.len(), other)?;
         add(candidate, found)?;
     }
     Ok(())
+}
+
+// `SAME P` of each cell of OLD of a pair.
+fn add_same_of(alloc: Global, pair: &Pair<'_>, found: &mut Vec<Candidate>) -> Result<(), AllocError>
+    ensures { OnOk result (candidates_view found.new.items ≡ candidates_view found.old.items ++ same_cells (paired_type (old_of pair.now).types (new_of pair.now).types) 0 (length (old_of pair.now).cells) (new_of pair.now).cells (old_of pair.now).cells) }
+{
+    add_same(
+        alloc,
+        &pair.types,
+        pair.old.program.cells(),
+        &pair.new,
+        found,
+    )
 }
 
 // The name of a RELATE clause, or of the one on FAULT.
@@ -238,7 +256,7 @@ pub(crate) fn candidates_of(
     let new = pair.new.program.cells();
     let mut found = Vec::new(alloc);
     add_invariants(alloc, &relation.invariants, &mut found)?;
-    add_same(alloc, old, &pair.new, &mut found)?;
+    add_same_of(alloc, pair, &mut found)?;
     add_relates(alloc, relation.equal_faults, &relation.relates, &mut found)?;
     add_initial_values(alloc, "OLD", 0, old, &mut found)?;
     add_initial_values(alloc, "NEW", old.len(), new, &mut found)?;

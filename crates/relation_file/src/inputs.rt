@@ -2,11 +2,12 @@
 ghost use Rattle.std.specs.Prelude.{◌≡◌, List};
 ghost use Rattle.st_tree.specs.Rules.{first_in};
 ghost use Rattle.st_tree.specs.Cells.{is_input as plays_input};
+ghost use Rattle.st_tree.specs.Enumerations.{paired_type};
 ghost use Rattle.st_tree.specs.SyntaxView.{name_view};
 ghost use Rattle.st_tree.specs.View.{cell_view, cells_view};
 ghost use Rattle.indexmap.specs.IndexSet.{contains_text};
 ghost use Rattle.relation_lines.specs.Lines.{LineData};
-ghost use Rattle.relation_file.specs.Inputs.{broken_at_cell, are_alike, is_same_range, is_listed, all_listed};
+ghost use Rattle.relation_file.specs.Inputs.{broken_at_cell, are_alike, is_same_flag, is_same_range, is_listed, all_listed};
 ghost use Rattle.relation_file.specs.Broken.{broken_name, broken_pair};
 ghost use Rattle.relation_file.specs.PairView.{old_of, new_of};
 ghost use Rattle.relation_file.specs.Seen.{Recalls};
@@ -79,12 +80,22 @@ fn is_same_range(range: Range, other: Range) -> bool
     range.low == other.low && range.high == other.high
 }
 
+fn is_same_flag(flag: bool, other: bool) -> bool
+    ensures { result ≡ is_same_flag flag other }
+{
+    flag == other
+}
+
 // Whether two inputs are of one type with the same bounds.
-fn are_alike(old: Option<Placed>, new: Option<Placed>) -> bool
-    ensures { result ≡ are_alike old new }
+fn are_alike(pair: &Pair<'_>, old: Option<Placed>, new: Option<Placed>) -> bool
+    ensures { result ≡ are_alike (paired_type (old_of pair.now).types (new_of pair.now).types) old new }
 {
     match (old, new) {
-        (Some(old), Some(new)) => old.kind == new.kind && is_same_range(old.range, new.range),
+        (Some(old), Some(new)) => {
+            old.kind.is_same(pair.paired(new.kind))
+                && is_same_flag(old.limited, new.limited)
+                && is_same_range(old.range, new.range)
+        }
         (_, _) => false,
     }
 }
@@ -94,6 +105,7 @@ pub(crate) fn pair_refusal(pair: &Pair<'_>, seen: &Seen, old: &Name, new: &Name)
     ensures { (before : List LineData) → Recalls seen.now before → result ≡ first_in (broken_pair (old_of pair.now) (new_of pair.now) before (name_view old.now) (name_view new.now)) }
 {
     let alike = are_alike(
+        pair,
         pair.old.find(old.text.as_str()),
         pair.new.find(new.text.as_str()),
     );

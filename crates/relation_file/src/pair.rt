@@ -1,21 +1,25 @@
 // The programs of a comparison.
 ghost use Rattle.std.specs.Prelude.{◌≡◌, IfOk};
 ghost use Rattle.st_tree.specs.View.{program_view};
+ghost use Rattle.st_tree.specs.Enumerations.{paired_type};
+ghost use Rattle.st_types.specs.PairedTypes.{paired_in};
 ghost use Rattle.st_types.specs.Pairs.{pair_means};
 ghost use Rattle.st_types.specs.Programs.{pair_scope};
 
 use crate::places::Cells;
-use st_tree::Program;
-use st_types::PairScope;
+use st_tree::{DataType, Program};
+use st_types::{PairScope, PairedTypes};
 use std::alloc::{AllocError, Global};
 
-/// OLD and NEW, with their cells by paths, and by the paths of clauses.
+/// OLD and NEW, with their cells by paths, and by the paths of clauses, and the data types of NEW as those of the pair.
 #[derive(Drop)]
 pub(crate) struct Pair<'p> {
     pub old: Cells<'p>,
     pub new: Cells<'p>,
     pub scope: PairScope<'p>,
-    ghost scoped: { pair_means scope ≡ pair_scope (program_view old.program.now).cells (program_view new.program.now).cells },
+    pub types: PairedTypes<'p>,
+    ghost scoped: { pair_means scope ≡ pair_scope (program_view old.program.now) (program_view new.program.now) },
+    ghost paired: { paired_in types ≡ paired_type (program_view old.program.now).types (program_view new.program.now).types },
 }
 
 impl<'p> Pair<'p> {
@@ -31,6 +35,14 @@ impl<'p> Pair<'p> {
             old: Cells::new(alloc, old)?,
             new: Cells::new(alloc, new)?,
             scope: PairScope::new(alloc, old, new)?,
+            types: PairedTypes::new(alloc, old, new)?,
         })
+    }
+
+    /// What a data type of NEW is in the pair.
+    pub(crate) fn paired(&self, kind: DataType) -> DataType
+        ensures { result ≡ paired_type (program_view self.now.old.program.now).types (program_view self.now.new.program.now).types kind }
+    {
+        self.types.paired(kind)
     }
 }

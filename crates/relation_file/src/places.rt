@@ -5,16 +5,17 @@ ghost use Rattle.relation_file.specs.Inputs.{placed, cell_named, is_among};
 ghost use Rattle.relation_file.specs.Places.{Finds, HasNames};
 
 use indexmap::{IndexMap, IndexSet};
-use st_tree::{Cell, Elementary, Part, Program, Range};
+use st_tree::{Cell, DataType, Part, Program, Range};
 use std::alloc::{AllocError, Global};
 
-/// What is known of a cell: its place, the part that it plays, its type and its range.
+/// What is known of a cell: its place, the part that it plays, its type, its range, and whether its type is a subrange.
 #[derive(Clone, Copy, Debug, PartialEq, Eq)]
 pub struct Placed {
     pub place: usize,
     pub part: Part,
-    pub kind: Elementary,
+    pub kind: DataType,
     pub range: Range,
+    pub limited: bool,
 }
 
 // Cells by their paths.
@@ -31,6 +32,7 @@ fn known(place: usize, cell: &Cell) -> Placed
         part: cell.part,
         kind: cell.kind,
         range: cell.range,
+        limited: cell.limited,
     }
 }
 

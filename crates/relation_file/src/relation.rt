@@ -1,6 +1,9 @@
 // The relation that lines state.
-ghost use Rattle.std.specs.Prelude.{◌≡◌, option_map, IfOk};
+ghost use Rattle.std.specs.Prelude.{◌≡◌, None, option_map, IfOk};
+ghost use Rattle.st_tree.specs.SyntaxView.{tree_view};
 ghost use Rattle.st_tree.specs.View.{expr_view, exprs_view};
+ghost use Rattle.st_types.specs.Programs.{pair_scope};
+ghost use Rattle.st_types.specs.Typed.{typed};
 ghost use Rattle.scan_model.specs.Pairs.{relation_view};
 ghost use Rattle.relation_lines.specs.View.{content_view, lines_view};
 ghost use Rattle.relation_file.specs.Relations.{number_of, setting_in, asks_equal_faults, faults_are_equal, both_line, single_line, equal_faults, input_of, inputs_in, clause_of, clauses_in, clauses_of, relation_of};
@@ -11,7 +14,7 @@ use crate::pair::Pair;
 use crate::places::Placed;
 use relation_lines::{Condition, Content, Line, Setting};
 use scan_model::{InputLine, Relation, Side};
-use st_tree::{Elementary, Operand, Operator, TypedExpr};
+use st_tree::{Elementary, Expr, Operand, Operator, TypedExpr};
 use st_types::typed_clause;
 use std::alloc::{AllocError, Global};
 
@@ -117,6 +120,13 @@ fn inputs_in(alloc: Global, pair: &Pair<'_>, lines: &[Line]) -> Result<Vec<Input
     Ok(inputs)
 }
 
+// The typed expression of a clause.
+fn typed_in(alloc: Global, pair: &Pair<'_>, clause: &Expr) -> Result<TypedExpr, AllocError>
+    ensures { IfOk result (λ e. expr_view e ≡ typed (pair_scope (old_of pair.now) (new_of pair.now)) None (tree_view clause.now)) }
+{
+    typed_clause(alloc, &pair.scope, clause)
+}
+
 // The clause of a line, where it is of this kind.
 fn clause_of(
     alloc: Global,
@@ -128,7 +138,7 @@ fn clause_of(
 {
     match content {
         Content::Clause(condition, clause) if *condition == wanted => {
-            Ok(Some(typed_clause(alloc, &pair.scope, clause)?))
+            Ok(Some(typed_in(alloc, pair, clause)?))
         }
         _ => Ok(None),
     }

@@ -2,29 +2,30 @@
 use Rattle.std.specs.Prelude.{ℕ, ◌+◌, List, [], ◌∷◌, ◌++◌, length, codes, decimal, Bool, pos, if◌then◌else◌, slice_index_or}
 use Rattle.std.specs.Fmt.{signed_decimal}
 use Rattle.std.specs.Str.{bytes_eq}
-use denote.Enum.Bare.{sameb}
-use Rattle.st_tree.specs.contracts.elementary.Elementary.{the_type}
-use Rattle.st_tree.specs.declared.elementary.Elementary.{Elementary}
+use Rattle.st_tree.specs.declared.data_type.DataType.{DataType}
+use Rattle.st_tree.specs.DataTypes.{carrier, is_same_type}
+use Rattle.st_tree.specs.Enumerations.{paired_type}
 use Rattle.st_tree.specs.declared.token.Operator.TheVariants.{Equal}
 use Rattle.st_tree.specs.Tree.{Expression, number, cell, chain, no_operands, operand, CellData, ProgramData}
 use Rattle.scan_model.specs.Pairs.{CandidateData, RelationData, Pair, holds}
 
 -- a cell of the pair has the value of an expression of its type
-abbrev pub is_equal : ℕ → Elementary → Expression → Expression
-is_equal place kind e = chain (cell place) (operand Equal kind e no_operands)
+abbrev pub is_equal : ℕ → DataType → Expression → Expression
+is_equal place kind e = chain (cell place) (operand Equal (carrier kind) e no_operands)
 
 -- `SAME P`: the cells of one path in OLD, at a place, and in NEW, whose cells stand from `behind` on, where they are of one
--- type. Bounds are left aside.
+-- type; a type of NEW is taken as that of the pair. Bounds are left aside.
 abbrev pub same_if : CellData → ℕ → ℕ → Bool → List CandidateData
 same_if c place other alike = if alike then record { name = codes "SAME " ++ c.path; clause = is_equal place c.kind (cell other) } ∷ [] else []
 
-abbrev pub same_as : CellData → ℕ → ℕ → List CellData → List CandidateData
-same_as c place behind [] = []
-same_as c place behind (d ∷ ds) = if bytes_eq d.path c.path then same_if c place behind (sameb the_type c.kind d.kind) else same_as c place (behind + 1) ds
+abbrev pub same_as : (DataType → DataType) → CellData → ℕ → ℕ → List CellData → List CandidateData
+same_as paired c place behind [] = []
+same_as paired c place behind (d ∷ ds) =
+    if bytes_eq d.path c.path then same_if c place behind (is_same_type c.kind (paired d.kind)) else same_as paired c place (behind + 1) ds
 
-abbrev pub same_cells : ℕ → ℕ → List CellData → List CellData → List CandidateData
-same_cells place behind new [] = []
-same_cells place behind new (c ∷ cs) = same_as c place behind new ++ same_cells (place + 1) behind new cs
+abbrev pub same_cells : (DataType → DataType) → ℕ → ℕ → List CellData → List CellData → List CandidateData
+same_cells paired place behind new [] = []
+same_cells paired place behind new (c ∷ cs) = same_as paired c place behind new ++ same_cells paired (place + 1) behind new cs
 
 abbrev pub relate_name : ℕ → List ℕ
 relate_name n = codes "RELATE " ++ decimal n
@@ -50,7 +51,7 @@ invariant_clauses n (e ∷ es) = record { name = codes "INVARIANT " ++ decimal n
 -- the candidates in their order
 abbrev pub candidates_of : ProgramData → ProgramData → RelationData → List CandidateData
 candidates_of old new rel =
-    invariant_clauses 1 rel.invariants ++ same_cells 0 (length old.cells) new.cells old.cells ++ relate_clauses rel.equal_faults 1 rel.relates
+    invariant_clauses 1 rel.invariants ++ same_cells (paired_type old.types new.types) 0 (length old.cells) new.cells old.cells ++ relate_clauses rel.equal_faults 1 rel.relates
     ++ initial_values (codes "OLD") 0 old.cells ++ initial_values (codes "NEW") (length old.cells) new.cells
 
 -- the clause of a candidate by its number, from 0; where there is no candidate, one that never holds

@@ -1,6 +1,7 @@
 -- States and rows whose values lie in their cells' ranges, and the programs that scans are run of.
 use Rattle.std.specs.Prelude.{◌≡◌, ◌≤ℤ◌, ℕ, Bool, true, false, ◌&&◌, List, [], ◌∷◌, slice_set, ℤ}
 use Rattle.st_tree.specs.declared.elementary.Elementary.TheVariants as types
+use Rattle.st_tree.specs.declared.data_type.DataType.TheVariants.{Elementary}
 use Rattle.st_tree.specs.declared.typed.Part.TheVariants as parts
 use Rattle.st_tree.specs.declared.typed.Range.{Range}
 use Rattle.st_tree.specs.Types.{range_of, in_range}
@@ -18,7 +19,7 @@ IsInRange (r ∷ rs) (v ∷ vs) = (r.low ≤ℤ v) × (v ≤ℤ r.high) × IsInR
 -- the first cell is FAULT, a BOOL
 abbrev pub BeginsWithFault : List CellData → Type 0
 BeginsWithFault [] = ⊥
-BeginsWithFault (c ∷ cs) = (c.part ≡ parts.Fault) × (c.kind ≡ types.Bool) × (c.range ≡ range_of types.Bool)
+BeginsWithFault (c ∷ cs) = (c.part ≡ parts.Fault) × (c.kind ≡ Elementary types.Bool) × (c.range ≡ range_of types.Bool)
 
 -- what scans ask of a program
 pub record IsProgram (p : ProgramData) : Type 0 where

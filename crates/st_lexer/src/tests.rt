@@ -65,7 +65,7 @@ fn tokens_in_order(rt: HostRuntime) -> Result<(), Fail> {
 #[test]
 fn terminals_in_any_case(rt: HostRuntime) -> Result<(), Fail> {
     let text =
-        "If end_Program ifs AND & xor Not tRUE Usint wstring For Var_Temp :=<>..(#-16#1F".as_bytes();
+        "If end_Program ifs AND & xor Not tRUE Usint wstring For Var_Temp tYPE End_Type step :=<>..(#-16#1F".as_bytes();
     let tokens = lex(rt.alloc(), text).ok().ok_or("tokens")?;
     let rows = [
         Terminal::Mark(Mark::If),
@@ -80,6 +80,9 @@ fn terminals_in_any_case(rt: HostRuntime) -> Result<(), Fail> {
         Terminal::LeftOut,
         Terminal::For,
         Terminal::Mark(Mark::VarTemp),
+        Terminal::Mark(Mark::Type),
+        Terminal::Mark(Mark::EndType),
+        Terminal::LeftOut,
         Terminal::Mark(Mark::Assign),
         Terminal::Operator(Operator::NotEqual),
         Terminal::Mark(Mark::Range),

@@ -30,6 +30,7 @@ static WORDS_OF_3: [(&str, Terminal); 8] = [
 ];
 
 static WORDS_OF_4: [(&str, Terminal); 19] = [
+    ("TYPE", Terminal::Mark(Mark::Type)),
     ("THEN", Terminal::Mark(Mark::Then)),
     ("ELSE", Terminal::Mark(Mark::Else)),
     ("CASE", Terminal::Mark(Mark::Case)),
@@ -47,7 +48,6 @@ static WORDS_OF_4: [(&str, Terminal); 19] = [
     ("LINT", Terminal::LeftOut),
     ("EXIT", Terminal::LeftOut),
     ("TASK", Terminal::LeftOut),
-    ("TYPE", Terminal::LeftOut),
     ("STEP", Terminal::LeftOut),
 ];
 
@@ -84,11 +84,11 @@ static WORDS_OF_7: [(&str, Terminal); 4] = [
 ];
 
 static WORDS_OF_8: [(&str, Terminal); 7] = [
+    ("END_TYPE", Terminal::Mark(Mark::EndType)),
     ("VAR_TEMP", Terminal::Mark(Mark::VarTemp)),
     ("CONSTANT", Terminal::Mark(Mark::Constant)),
     ("END_CASE", Terminal::Mark(Mark::EndCase)),
     ("RESOURCE", Terminal::LeftOut),
-    ("END_TYPE", Terminal::LeftOut),
     ("FUNCTION", Terminal::LeftOut),
     ("END_STEP", Terminal::LeftOut),
 ];

@@ -1,8 +1,13 @@
 pub mod Steps
 pub mod Outs
 pub mod CountLemmas
+pub mod TableLemmas
+pub mod NameLemmas
+pub mod ValueLemmas
+pub mod ShapeLemmas
+pub mod EndLemmas
+pub mod CircularLemmas
 pub mod SlotLemmas
 pub mod SlotSteps
 pub mod UseLemmas
 pub mod Kept
-pub mod OnePou

@@ -9,7 +9,8 @@ use Rattle.st_tree.specs.Rules.{earlier, first_in}
 use Rattle.st_names.specs.declared.slots.Slot.{Slot}
 use Rattle.st_names.specs.Broken.{twice, variables_twice}
 use Rattle.st_names.specs.Scopes.{Variable, is_of_name, is_fault}
-use Rattle.st_names.specs.Slots.{found, slot_named, entered, Holds}
+use Rattle.st_names.specs.Slots.{found, slot_named, entered}
+use Rattle.st_names.specs.Table.{Holds}
 use Rattle.st_names.proofs.Steps.{earlier_on}
 use Rattle.st_names.proofs.SlotLemmas.{same_name, found-any, slot_named-push}
 

@@ -16,6 +16,10 @@ module _ {A B : Type 0} (view : A → B) (xs : List A) (i : ℕ) (x : A) where
 pub earlier_on : (a : Option Refusal) (xs ys : List Refusal) → earlier (earlier a (first_in xs)) (first_in ys) ≡ earlier a (first_in (xs ++ ys))
 earlier_on a xs ys = earlier-assoc a (first_in xs) (first_in ys) ∙ ap (earlier a) (sym (first_in-append xs ys))
 
+-- what one list has first, and what another has before it
+pub both_of : (xs ys : List Refusal) → earlier (first_in xs) (first_in ys) ≡ first_in (xs ++ ys)
+both_of xs ys = sym (first_in-append xs ys)
+
 -- the first so far, then what one list has before it, then what another has
 pub then_on : (a b d : Option Refusal) (xs ys : List Refusal) → b ≡ earlier a (first_in xs) → d ≡ earlier b (first_in ys) → d ≡ earlier a (first_in (xs ++ ys))
 then_on a b d xs ys before behind = behind ∙ ap (λ o. earlier o (first_in ys)) before ∙ earlier_on a xs ys

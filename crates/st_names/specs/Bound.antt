@@ -1,5 +1,5 @@
 -- What the names of a PROGRAM are bound to, and what a file's answer is.
-use Rattle.std.specs.Prelude.{ℕ, List, Bool, Option, option_map, option_and_then}
+use Rattle.std.specs.Prelude.{ℕ, List, Bool, Option, option_map}
 use Rattle.std.specs.List.{list_all}
 use Rattle.st_tree.specs.Rules.{IsAmong, IsFirst}
 use Rattle.st_tree.specs.Syntax.{PouData, FileData}
@@ -7,22 +7,23 @@ use Rattle.st_names.specs.declared.bound.Bound.{Bound}
 use Rattle.st_names.specs.declared.fault.NameFault.{NameFault}
 use Rattle.st_names.specs.declared.fault.NameFault.TheVariants.{Refused, Memory}
 use Rattle.st_names.specs.Broken.{broken_names}
-use Rattle.st_names.specs.Scopes.{Variable, variables_of, is_elementary}
-use Rattle.st_names.specs.Slots.{found, elementary_of}
+use Rattle.st_names.specs.Scopes.{Variable, variables_of, is_typed}
+use Rattle.st_names.specs.Slots.{found}
 
-abbrev pub bound_of : ℕ × Variable → Option Bound
-bound_of f = option_map (λ kind. record { number = f.0; section = f.1.section; kind = kind }) (elementary_of f.1.kind)
+abbrev pub bound_of : ℕ × Variable → Bound
+bound_of f = record { number = f.0; section = f.1.section }
 
--- a name is bound to the first variable of that name, if its type is elementary
+-- a name is bound to the first variable of that name
 abbrev pub bound_named : List Variable → List ℕ → Option Bound
-bound_named vs text = option_and_then bound_of (found text 1 vs)
+bound_named vs text = option_map bound_of (found text 1 vs)
 
 -- the variables of a PROGRAM
 abbrev pub variables_in_pou : PouData → List Variable
 variables_in_pou p = variables_of p.variables
 
-abbrev pub are_elementary : List Variable → Bool
-are_elementary vs = list_all (λ v. is_elementary v.kind) vs
+-- each type by name is a type of the file
+abbrev pub are_typed : FileData → List Variable → Bool
+are_typed f vs = list_all (λ v. is_typed f v.kind) vs
 
 -- a file is refused by the first rule on names that it breaks
 abbrev pub IsFaultOf : FileData → NameFault → Type 0

@@ -1,9 +1,14 @@
 pub mod Library
+pub mod FileScope
+pub mod Types
 pub mod Scopes
 pub mod Broken
 pub mod ScopeView
+pub mod FileView
+pub mod Table
+pub mod Ends
 pub mod Slots
-pub mod Counts
 pub mod Uses
 pub mod NamesView
 pub mod Bound
+pub mod Bindings

@@ -1,10 +1,10 @@
--- The scopes of a file (IEC 61131-3, 2.4 and 2.5): the names that it declares, and those that a POU declares.
-use Rattle.std.specs.Prelude.{ℕ, ◌+◌, List, [], ◌∷◌, ◌++◌, map, codes, count_by, Bool, true, false, not, ◌&&◌, ◌||◌, nat_lt, Option, Some, None, if◌then◌else◌}
-use Rattle.std.specs.List.{list_any}
+-- The scope of a POU (IEC 61131-3, 2.4): the variables that it declares.
+use Rattle.std.specs.Prelude.{ℕ, List, [], ◌∷◌, ◌++◌, map, codes, count_by, Bool, true, false, not, ◌&&◌, ◌||◌, nat_lt, Option, Some, None, is_some, if◌then◌else◌}
 use Rattle.std.specs.Str.{bytes_eq}
 use Rattle.st_tree.specs.declared.syntax.Section.{Section}
-use Rattle.st_tree.specs.Syntax.{Named, Tree, literal, path, enumerator, paren, unary, chain, call, TypeData, of_elementary, of_name, DeclarationData, VariablesData, PouData, FileData}
-use Rattle.st_names.specs.Library.{is_library}
+use Rattle.st_tree.specs.Syntax.{Named, Tree, literal, path, enumerator, paren, unary, chain, call, TypeData, of_elementary, of_subrange, of_name, DeclarationData, VariablesData, FileData}
+use Rattle.st_names.specs.FileScope.{standing, is_value}
+use Rattle.st_names.specs.Types.{has_enumerator, is_whole_type_name}
 
 -- a variable of a POU, as it is declared
 pub record Variable : Type 0 where
@@ -41,33 +41,39 @@ is_fault text = bytes_eq text (codes "FAULT")
 abbrev pub is_doubled : List Variable → List ℕ → Bool
 is_doubled vs text = is_fault text || nat_lt 1 (count_by (is_of_name text) vs)
 
-abbrev pub is_pou_of_name : List ℕ → PouData → Bool
-is_pou_of_name text p = bytes_eq p.name.text text
+-- a type by name is a type of the file; the bounds of a subrange are left aside
+abbrev pub is_typed : FileData → TypeData → Bool
+is_typed f (of_elementary kind at) = true
+is_typed f (of_subrange kind at b) = true
+is_typed f (of_name n) = is_whole_type_name f n
 
--- a name that the file's scope has
-abbrev pub is_known : FileData → List ℕ → Bool
-is_known f text = is_library text || list_any (is_pou_of_name text) f
+-- In a POU a variable hides a value of its name, and FAULT has no name in a text.
+abbrev pub is_value_name : FileData → List Variable → List ℕ → Bool
+is_value_name f vs text = not (is_some (variable_named text vs)) && not (is_fault text) && is_value (standing f text)
 
--- a name that the file's scope has twice
-abbrev pub is_doubled_in_file : FileData → List ℕ → Bool
-is_doubled_in_file f text = nat_lt 1 (count_by (is_pou_of_name text) f + (if is_library text then 1 else 0))
+-- a constant names nothing but values
+abbrev pub is_constant : FileData → List Variable → Tree → Bool
+is_constant f vs (literal l) = true
+is_constant f vs (path p) = is_value_name f vs p.first.text
+is_constant f vs (enumerator t v) = has_enumerator f t v
+is_constant f vs (paren at e) = false
+is_constant f vs (unary o at e) = true
+is_constant f vs (chain e ls) = false
+is_constant f vs (call n at args) = false
 
--- a type by name leads to no type, as long as no file declares one
-abbrev pub is_elementary : TypeData → Bool
-is_elementary (of_elementary kind at) = true
-is_elementary (of_name n) = false
+abbrev pub are_bounds_constant : FileData → List Variable → TypeData → Bool
+are_bounds_constant f vs (of_elementary kind at) = true
+are_bounds_constant f vs (of_subrange kind at b) = is_constant f vs b.low && is_constant f vs b.high
+are_bounds_constant f vs (of_name n) = true
 
--- An initial value by name is that of no variable; there are no other values by name so far.
-abbrev pub is_without_names : Option Tree → Bool
-is_without_names None = true
-is_without_names (Some (literal l)) = true
-is_without_names (Some (path p)) = false
-is_without_names (Some (enumerator t v)) = false
-is_without_names (Some (paren at e)) = false
-is_without_names (Some (unary o at e)) = true
-is_without_names (Some (chain e ls)) = false
-is_without_names (Some (call n at args)) = false
+abbrev pub is_initial_constant : FileData → List Variable → Option Tree → Bool
+is_initial_constant f vs None = true
+is_initial_constant f vs (Some e) = is_constant f vs e
+
+-- the bounds of a declaration and its initial value name nothing but values
+abbrev pub has_constants : FileData → List Variable → Variable → Bool
+has_constants f vs v = are_bounds_constant f vs v.kind && is_initial_constant f vs v.initial
 
 -- A declaration breaks no rule: its name is declared once, and its type and its initial value are whole.
-abbrev pub is_whole : List Variable → Variable → Bool
-is_whole vs v = not (is_doubled vs v.name.text) && is_elementary v.kind && is_without_names v.initial
+abbrev pub is_whole : FileData → List Variable → Variable → Bool
+is_whole f vs v = not (is_doubled vs v.name.text) && is_typed f v.kind && has_constants f vs v

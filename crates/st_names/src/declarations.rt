@@ -4,7 +4,7 @@ ghost use Rattle.st_tree.specs.Rules.{earlier, first_in};
 ghost use Rattle.st_names.specs.Broken.{in_declarations};
 ghost use Rattle.st_names.specs.NamesView.{file_in, variables_in};
 
-use crate::uses::Names;
+use crate::program_names::Names;
 use st_tree::Refusal;
 
 /// Keeps what the types and initial values of declarations break, where it comes first.
@@ -14,7 +14,7 @@ pub fn walk_declarations(names: &Names<'_>, first: &mut Option<Refusal>)
 {
     for (place, variable) in names.variables.iter().enumerate() {
         let declaration = variable.declaration;
-        *first = Refusal::earlier(*first, names.type_refusal(&declaration.kind));
+        *first = Refusal::earlier(*first, names.type_refusal(place, &declaration.kind));
         *first = Refusal::earlier(*first, names.initial_refusal(place, &declaration.initial));
     }
 }

@@ -1,10 +1,12 @@
 // The variables of a program in declared order.
 ghost use Rattle.std.specs.Prelude.{◌≡◌, ◌++◌, map, OnOk, IfOk};
-ghost use Rattle.st_tree.specs.SyntaxView.{declaration_view, declarations_view, all_variables_view};
+ghost use Rattle.st_tree.specs.SyntaxView.{file_view, declaration_view, declarations_view, all_variables_view};
 ghost use Rattle.st_names.specs.Scopes.{declared_by, declared_in, variables_of};
-ghost use Rattle.st_names.specs.ScopeView.{variables_view};
+ghost use Rattle.st_names.specs.FileScope.{types_of};
+ghost use Rattle.st_names.specs.ScopeView.{variables_view, types_view};
 
-use st_tree::{Declaration, Name, Section, Variables};
+use crate::names::list_declarations;
+use st_tree::{Declaration, Name, Section, SourceFile, TypeDeclaration, Variables};
 use std::alloc::{AllocError, Global};
 
 /// A variable as it is declared: one of the names of a declaration in a section.
@@ -65,4 +67,12 @@ pub fn declared_variables<'a>(
         append_section(&mut list, section.section, &section.declarations)?;
     }
     Ok(list)
+}
+
+/// The types that a file declares, in its order.
+pub fn declared_types(alloc: Global, file: &SourceFile) -> Result<Vec<&TypeDeclaration>, AllocError>
+    ensures { IfOk result (λ list. types_view list.items ≡ types_of (file_view file.now)) }
+{
+    let list = list_declarations(alloc, file)?;
+    Ok(list.types)
 }

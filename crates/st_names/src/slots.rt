@@ -2,50 +2,29 @@
 ghost use Rattle.std.specs.Prelude.{◌≡◌, [], OnOk, IfOk, is_some, if◌then◌else◌};
 ghost use Rattle.std.specs.HashMap.{get_by_text};
 ghost use Rattle.st_tree.specs.Rules.{earlier, first_in};
-ghost use Rattle.st_tree.specs.SyntaxView.{type_view, initial_view, name_view};
+ghost use Rattle.st_tree.specs.SyntaxView.{name_view};
 ghost use Rattle.st_names.specs.Broken.{twice, variables_twice};
-ghost use Rattle.st_names.specs.Scopes.{is_fault, is_without_names};
+ghost use Rattle.st_names.specs.Scopes.{is_fault};
 ghost use Rattle.st_names.specs.ScopeView.{variable_view, variables_view};
-ghost use Rattle.st_names.specs.Slots.{elementary_of, slot_named, entered, Holds};
+ghost use Rattle.st_names.specs.Slots.{slot_named, entered};
+ghost use Rattle.st_names.specs.Table.{Holds};
 
 use crate::declared::Declared;
 use indexmap::IndexMap;
-use st_tree::{Elementary, Expr, Name, Refusal, Rule, Section, TypeName};
+use st_tree::{Name, Refusal, Rule, Section};
 use std::alloc::{AllocError, Global};
 
-/// What is known of a name: the number in declared order, the section and the type of the first variable of that name, whether its
-/// initial value names nothing, and whether the name is declared twice. A type by name is none.
+/// What is known of a name: the number in declared order, from 1, and the section of the first variable of that name, and
+/// whether the name is declared twice.
 #[derive(Clone, Copy, Debug, PartialEq, Eq)]
 pub struct Slot {
     pub number: usize,
     pub section: Section,
-    pub kind: Option<Elementary>,
-    pub is_plain: bool,
     pub is_doubled: bool,
 }
 
 /// The slots of a PROGRAM, by name.
 pub type Slots = IndexMap<String, Slot>;
-
-// The elementary type that a type is.
-fn elementary_of(kind: &TypeName) -> Option<Elementary>
-    ensures { result ≡ elementary_of (type_view kind.now) }
-{
-    match kind {
-        TypeName::Elementary(kind, _) => Some(*kind),
-        TypeName::Named(_) => None,
-    }
-}
-
-// Whether an initial value names nothing.
-fn is_without_names(initial: &Option<Expr>) -> bool
-    ensures { result ≡ is_without_names (initial_view initial.now) }
-{
-    matches!(
-        initial,
-        None | Some(Expr::Literal(_)) | Some(Expr::Unary(_, _, _))
-    )
-}
 
 // The slot of a name once a variable is declared by it.
 fn entered(variable: &Declared<'_>, number: usize, known: Option<Slot>) -> Slot
@@ -60,8 +39,6 @@ fn entered(variable: &Declared<'_>, number: usize, known: Option<Slot>) -> Slot
     Slot {
         number,
         section: variable.section,
-        kind: elementary_of(&variable.declaration.kind),
-        is_plain: is_without_names(&variable.declaration.initial),
         is_doubled: variable.name.text.as_str() == "FAULT",
     }
 }

@@ -88,12 +88,13 @@ const REFUSED: [(&str, Rule, usize); 18] = [
 ];
 
 // The tree of a text.
-fn tree_of(alloc: Global, text: &str) -> Result<SourceFile, Fail> {
+pub fn tree_of(alloc: Global, text: &str) -> Result<SourceFile, Fail> {
     let toks = lex(alloc, text.as_bytes())?;
     Ok(parse_file(alloc, &toks, text.len(), &NoCharts)?)
 }
 
-fn refusal(alloc: Global, text: &str) -> Result<Option<Refusal>, Fail> {
+// The first rule on names that a text breaks.
+pub fn refusal(alloc: Global, text: &str) -> Result<Option<Refusal>, Fail> {
     match resolve(alloc, tree_of(alloc, text)?) {
         Err(NameFault::Refused(refusal)) => Ok(Some(refusal)),
         _ => Ok(None),
@@ -112,18 +113,14 @@ fn first_broken_rules(rt: HostRuntime) -> Result<(), Fail> {
 #[test]
 fn names_of_a_program(rt: HostRuntime) -> Result<(), Fail> {
     let resolved = resolve(rt.alloc(), tree_of(rt.alloc(), MOTOR)?)?;
-    assert_eq!(rt; resolved.program.name.text.as_str(), "M");
+    assert_eq!(rt; resolved.program().name.text.as_str(), "M");
     let rows = [
-        ("A", 1, Section::Input, Elementary::Bool),
-        ("C", 3, Section::Local, Elementary::Int),
-        ("D", 4, Section::Output, Elementary::Word),
+        ("A", 1, Section::Input),
+        ("C", 3, Section::Local),
+        ("D", 4, Section::Output),
     ];
-    for (name, number, section, kind) in rows {
-        let want = Some(Bound {
-            number,
-            section,
-            kind,
-        });
+    for (name, number, section) in rows {
+        let want = Some(Bound { number, section });
         assert_eq!(rt; resolved.variable(name), want, "{name}");
     }
     for name in ["c", "M", "FAULT", ""] {
@@ -135,8 +132,8 @@ fn names_of_a_program(rt: HostRuntime) -> Result<(), Fail> {
 #[test]
 fn variables_in_declared_order(rt: HostRuntime) -> Result<(), Fail> {
     let file = tree_of(rt.alloc(), MOTOR)?;
-    assert_eq!(rt; file.pous.len(), 1);
-    let variables = declared_variables(rt.alloc(), &file.pous[0].variables)?;
+    let resolved = resolve(rt.alloc(), file)?;
+    let variables = declared_variables(rt.alloc(), &resolved.program().variables)?;
     let rows = [
         ("A", 20, Section::Input, false),
         ("B", 42, Section::Local, true),

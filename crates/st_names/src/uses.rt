@@ -1,102 +1,84 @@
 // What the uses of names break in a PROGRAM.
-ghost use Rattle.std.specs.Prelude.{◌≡◌, ◌≤◌, length, take, Some, option_map, if◌then◌else◌};
+ghost use Rattle.std.specs.Prelude.{◌≡◌, ◌≤◌, ◌++◌, length, take, None, option_map};
 ghost use Rattle.st_tree.specs.Rules.{first_in};
-ghost use Rattle.st_tree.specs.SyntaxView.{name_view, names_view, path_view, pous_view, tree_view, type_view, initial_view};
-ghost use Rattle.st_names.specs.Broken.{misused, too_deep, in_file, in_path, in_called, in_argument_name, in_type, in_value, in_initial, alone};
+ghost use Rattle.st_tree.specs.SyntaxView.{name_view, names_view, path_view, tree_view, type_view, initial_view, file_view};
+ghost use Rattle.st_names.specs.Broken.{in_target, in_path, in_enumerator, in_called, is_known_function, in_argument_name, in_type, in_value, in_constant, in_initial, alone};
+ghost use Rattle.st_names.specs.FileScope.{standing};
 ghost use Rattle.st_names.specs.Library.{is_function};
-ghost use Rattle.st_names.specs.Scopes.{is_fault, variable_named};
+ghost use Rattle.st_names.specs.Scopes.{variable_named};
 ghost use Rattle.st_names.specs.ScopeView.{variables_view};
-ghost use Rattle.st_names.specs.Slots.{slot_named, Holds};
-ghost use Rattle.st_names.specs.Uses.{is_whole_slot, used_path, used_value};
+ghost use Rattle.st_names.specs.Uses.{target_by, path_by, value_by};
 
-use crate::declared::Declared;
+use crate::file_scope::FileScope;
 use crate::library::standard_function;
-use crate::pous::FileNames;
-use crate::slots::{Slot, Slots, slot_at};
-use st_tree::{Expr, Name, Path, Refusal, Rule, TypeName};
+use crate::program_names::Names;
+use crate::refusals::{misused, too_deep, unknown};
+use crate::standing::is_value;
+use st_tree::{Bounds, Expr, Name, Path, Refusal, TypeName};
 
-/// The names of a PROGRAM, and those of the file around it.
-#[derive(Drop)]
-pub struct Names<'a> {
-    pub file: &'a FileNames<'a>,
-    pub variables: Vec<Declared<'a>>,
-    pub slots: Slots,
-    ghost held: { Holds slots (slot_named (variables_view variables.items)) },
-}
-
-// Whether a declaration breaks no rule.
-fn is_whole(slot: Slot) -> bool
-    ensures { result ≡ is_whole_slot slot }
-{
-    !slot.is_doubled && slot.kind.is_some() && slot.is_plain
-}
-
-// N4 at a name.
-fn misused(name: &Name) -> Option<Refusal>
-    ensures { result ≡ first_in (misused (name_view name.now)) }
-{
-    Some(Refusal {
-        rule: Rule::WrongKind,
-        at: name.at,
-    })
-}
-
-// N4 at the first name behind a variable.
-fn too_deep(members: &[Name]) -> Option<Refusal>
-    ensures { result ≡ first_in (too_deep (names_view members.now)) }
-{
-    match members.first() {
-        Some(name) => misused(name),
-        None => None,
-    }
-}
-
-// What a name breaks that is none of a variable.
-fn outside(file: &FileNames<'_>, name: &Name) -> Option<Refusal>
-    ensures { result ≡ first_in (if is_fault (name_view name.now).text then misused (name_view name.now) else in_file (pous_view file.now.pous.now) (name_view name.now)) }
-{
-    if name.text.as_str() == "FAULT" {
-        return misused(name);
-    }
-    file.refusal_at(name)
-}
-
-// What the path of a name and of those behind it breaks.
-fn used_path(
-    file: &FileNames<'_>,
-    slot: Option<Slot>,
-    name: &Name,
+// What a target breaks, of whose first name this is known.
+fn target_by(
+    file: &FileScope<'_>,
+    is_whole: Option<bool>,
+    first: &Name,
     members: &[Name],
 ) -> Option<Refusal>
-    ensures { result ≡ first_in (used_path (pous_view file.now.pous.now) slot (record { first = name_view name.now; members = names_view members.now })) }
+    ensures { result ≡ first_in (target_by (file_view file.now.types.names.file.now) is_whole (record { first = name_view first.now; members = names_view members.now })) }
 {
-    match slot {
-        Some(slot) if is_whole(slot) => too_deep(members),
-        Some(_) => None,
-        None => outside(file, name),
+    match is_whole {
+        Some(true) => too_deep(members),
+        Some(false) => None,
+        None => {
+            if first.text.as_str() == "FAULT" {
+                return misused(first);
+            }
+            file.refusal_at(None, first)
+        }
     }
 }
 
-// What a name breaks where a value is wanted, behind so many variables.
-fn used_value(
-    file: &FileNames<'_>,
-    place: usize,
-    slot: Option<Slot>,
-    name: &Name,
+// What a path breaks that is read, of whose first name this is known.
+fn path_by(
+    file: &FileScope<'_>,
+    is_whole: Option<bool>,
+    first: &Name,
+    members: &[Name],
 ) -> Option<Refusal>
-    ensures { result ≡ first_in (used_value (pous_view file.now.pous.now) place slot (name_view name.now)) }
+    ensures { result ≡ first_in (path_by (file_view file.now.types.names.file.now) is_whole (record { first = name_view first.now; members = names_view members.now })) }
 {
-    let Some(slot) = slot else {
-        return outside(file, name);
-    };
-    if !slot.is_doubled && slot.kind.is_some() && (slot.is_plain || place < slot.number) {
-        return misused(name);
+    match is_whole {
+        Some(true) => too_deep(members),
+        Some(false) => None,
+        None => {
+            if first.text.as_str() == "FAULT" {
+                return misused(first);
+            }
+            if is_value(file.types.names.standing(first)) {
+                return too_deep(members);
+            }
+            file.refusal_at(None, first)
+        }
     }
-    None
 }
 
-/// Whether a name is that of a standard function.
-pub fn is_function(name: &Name) -> bool
+// What a name breaks where a value is wanted, of which this is known.
+fn value_by(file: &FileScope<'_>, is_misused: Option<bool>, name: &Name) -> Option<Refusal>
+    ensures { result ≡ first_in (value_by (file_view file.now.types.names.file.now) is_misused (name_view name.now)) }
+{
+    match is_misused {
+        Some(true) => misused(name),
+        Some(false) => None,
+        None => {
+            if name.text.as_str() == "FAULT" {
+                return misused(name);
+            }
+            file.value_name_refusal(None, name)
+        }
+    }
+}
+
+// Whether a name is that of a standard function.
+fn is_function(name: &Name) -> bool
     ensures { result ≡ is_function (name_view name.now).text }
 {
     standard_function(name.text.as_str()).is_some()
@@ -108,10 +90,7 @@ pub fn argument_name_refusal(known: bool, name: &Option<Name>) -> Option<Refusal
     ensures { result ≡ first_in (in_argument_name known (option_map name_view name.now)) }
 {
     match name {
-        Some(name) if known => Some(Refusal {
-            rule: Rule::UnknownName,
-            at: name.at,
-        }),
+        Some(name) if known => unknown(name),
         _ => None,
     }
 }
@@ -119,20 +98,41 @@ pub fn argument_name_refusal(known: bool, name: &Option<Name>) -> Option<Refusal
 impl Names<'_> {
     ghost use Rattle.st_names.specs.NamesView.{file_in, variables_in};
 
-    /// What a path breaks.
+    /// What a path breaks that is read.
     pub fn path_refusal(&self, path: &Path) -> Option<Refusal>
-        ensures { result ≡ first_in (in_path (file_in self.now) (variables_in self.now) (variable_named (path_view path.now).first.text (variables_in self.now)) (path_view path.now)) }
+        ensures { result ≡ first_in (in_path (file_in self.now) (variables_in self.now) (variable_named (name_view path.now.first).text (variables_in self.now)) (path_view path.now)) }
     {
-        let slot = slot_at(&self.slots, path.first.text.as_str());
-        used_path(self.file, slot, &path.first, &path.members)
+        let is_whole = self.is_whole(&path.first);
+        path_by(self.file, is_whole, &path.first, &path.members)
+    }
+
+    /// What the path of a target breaks.
+    pub fn target_refusal(&self, path: &Path) -> Option<Refusal>
+        ensures { result ≡ first_in (in_target (file_in self.now) (variables_in self.now) (variable_named (name_view path.now.first).text (variables_in self.now)) (path_view path.now)) }
+    {
+        let is_whole = self.is_whole(&path.first);
+        target_by(self.file, is_whole, &path.first, &path.members)
     }
 
     /// What the control variable of a FOR breaks.
     pub fn control_refusal(&self, name: &Name) -> Option<Refusal>
-        ensures { result ≡ first_in (in_path (file_in self.now) (variables_in self.now) (variable_named (name_view name.now).text (variables_in self.now)) (alone (name_view name.now))) }
+        ensures { result ≡ first_in (in_target (file_in self.now) (variables_in self.now) (variable_named (name_view name.now).text (variables_in self.now)) (alone (name_view name.now))) }
     {
-        let slot = slot_at(&self.slots, name.text.as_str());
-        used_path(self.file, slot, name, &[])
+        target_by(self.file, self.is_whole(name), name, &[])
+    }
+
+    /// What `kind#value` breaks.
+    pub fn enumerator_refusal(&self, kind: &Name, value: &Name) -> Option<Refusal>
+        ensures { result ≡ first_in (in_enumerator (file_in self.now) None (name_view kind.now) (name_view value.now) (standing (file_in self.now) (name_view kind.now).text)) }
+    {
+        self.file.enumerator_refusal(None, kind, value)
+    }
+
+    /// Whether a name is that of a function that is known.
+    pub fn is_known_function(&self, name: &Name) -> bool
+        ensures { result ≡ is_known_function (file_in self.now) (name_view name.now).text }
+    {
+        is_function(name) && !self.file.types.names.is_doubled(name)
     }
 
     /// What the name of a called function breaks.
@@ -142,17 +142,7 @@ impl Names<'_> {
         if is_function(name) {
             return None;
         }
-        self.file.refusal_at(name)
-    }
-
-    /// What the type of a declaration breaks.
-    pub fn type_refusal(&self, kind: &TypeName) -> Option<Refusal>
-        ensures { result ≡ first_in (in_type (file_in self.now) (type_view kind.now)) }
-    {
-        match kind {
-            TypeName::Elementary(_, _) => None,
-            TypeName::Named(name) => self.file.refusal_at(name),
-        }
+        self.file.refusal_at(None, name)
     }
 
     /// What a name breaks as a value behind so many variables.
@@ -160,18 +150,17 @@ impl Names<'_> {
         requires { place ≤ length self.now.variables.items }
         ensures { result ≡ first_in (in_value (file_in self.now) (variables_in self.now) (variables_view (take place self.now.variables.items)) (variable_named (name_view name.now).text (variables_in self.now)) (name_view name.now)) }
     {
-        let slot = slot_at(&self.slots, name.text.as_str());
-        used_value(self.file, place, slot, name)
+        value_by(self.file, self.is_misused(place, name), name)
     }
 
     /// What a constant breaks behind so many variables.
     pub fn constant_refusal(&self, place: usize, constant: &Expr) -> Option<Refusal>
         requires { place ≤ length self.now.variables.items }
-        ensures { result ≡ first_in (in_initial (file_in self.now) (variables_in self.now) (variables_view (take place self.now.variables.items)) (Some (tree_view constant.now))) }
+        ensures { result ≡ first_in (in_constant (file_in self.now) (variables_in self.now) (variables_view (take place self.now.variables.items)) (tree_view constant.now)) }
     {
         match constant {
             Expr::Path(path) => self.value_refusal(place, &path.first),
-            Expr::Enumerator(name, _) => self.file.refusal_at(name),
+            Expr::Enumerator(kind, value) => self.enumerator_refusal(kind, value),
             _ => None,
         }
     }
@@ -184,6 +173,28 @@ impl Names<'_> {
         match initial {
             Some(value) => self.constant_refusal(place, value),
             None => None,
+        }
+    }
+
+    // What the bounds of a declaration break behind so many variables.
+    #[tactic(auto, using(crate::proofs::Steps::both_of))]
+    fn bounds_refusal(&self, place: usize, bounds: &Bounds) -> Option<Refusal>
+        requires { place ≤ length self.now.variables.items }
+        ensures { let before = variables_view (take place self.now.variables.items) in result ≡ first_in (in_constant (file_in self.now) (variables_in self.now) before (tree_view bounds.now.low) ++ in_constant (file_in self.now) (variables_in self.now) before (tree_view bounds.now.high)) }
+    {
+        let low = self.constant_refusal(place, &bounds.low);
+        Refusal::earlier(low, self.constant_refusal(place, &bounds.high))
+    }
+
+    /// What the type of a declaration breaks that stands behind so many variables.
+    pub fn type_refusal(&self, place: usize, kind: &TypeName) -> Option<Refusal>
+        requires { place ≤ length self.now.variables.items }
+        ensures { result ≡ first_in (in_type (file_in self.now) (variables_in self.now) (variables_view (take place self.now.variables.items)) (type_view kind.now)) }
+    {
+        match kind {
+            TypeName::Elementary(_, _) => None,
+            TypeName::Subrange(_, _, bounds) => { self.bounds_refusal(place, bounds) }
+            TypeName::Named(name) => self.file.types.names.type_name_refusal(name),
         }
     }
 }

@@ -5,7 +5,8 @@ ghost use Rattle.st_tree.specs.SyntaxView.{tree_view, links_view, initial_view, 
 ghost use Rattle.st_names.specs.Broken.{in_tree, in_links, in_labels, in_step, in_iteration, in_arguments, in_stmt, in_stmts, in_arms, in_entries};
 ghost use Rattle.st_names.specs.NamesView.{file_in, variables_in};
 
-use crate::uses::{Names, argument_name_refusal, is_function};
+use crate::program_names::Names;
+use crate::uses::argument_name_refusal;
 use st_tree::{Argument, Arm, Entry, Expr, Iteration, Label, Link, Refusal, Stmt};
 
 /// Keeps what an expression breaks, where it comes first.
@@ -17,8 +18,8 @@ pub fn walk_expr(names: &Names<'_>, expr: &Expr, first: &mut Option<Refusal>)
     match expr {
         Expr::Literal(_) => {}
         Expr::Path(path) => *first = Refusal::earlier(*first, names.path_refusal(path)),
-        Expr::Enumerator(name, _) => {
-            *first = Refusal::earlier(*first, names.file.refusal_at(name));
+        Expr::Enumerator(kind, value) => {
+            *first = Refusal::earlier(*first, names.enumerator_refusal(kind, value));
         }
         Expr::Paren(_, inner) => walk_expr(names, inner, first),
         Expr::Unary(_, _, inner) => walk_expr(names, inner, first),
@@ -28,7 +29,7 @@ pub fn walk_expr(names: &Names<'_>, expr: &Expr, first: &mut Option<Refusal>)
         }
         Expr::Call(function, _, arguments) => {
             *first = Refusal::earlier(*first, names.called_refusal(function));
-            walk_arguments(names, is_function(function), arguments, first);
+            walk_arguments(names, names.is_known_function(function), arguments, first);
         }
     }
 }
@@ -113,7 +114,7 @@ fn walk_stmt(names: &Names<'_>, stmt: &Stmt, first: &mut Option<Refusal>)
     match stmt {
         Stmt::Empty => {}
         Stmt::Assign(target, value) => {
-            *first = Refusal::earlier(*first, names.path_refusal(target));
+            *first = Refusal::earlier(*first, names.target_refusal(target));
             walk_expr(names, value, first);
         }
         Stmt::If(arms, other) => {

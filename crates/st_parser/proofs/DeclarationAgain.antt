@@ -1,20 +1,21 @@
 -- What declarations print is read as those declarations.
 use Rattle.std.proofs.Common.{◌≡◌, ℕ, zero, suc, ◌<◌, ◌≤◌, List, [], ◌∷◌, ◌++◌, map, length, Option, Some, None, refl, sym, ap, ◌∙◌, append_assoc, arith, length-append}
 use Rattle.std.proofs.lemmas.List.{append-nil, length-map}
-use Rattle.st_tree.specs.declared.token.Mark.TheVariants.{Colon, Semicolon, Hash, Constant, EndVar}
+use Rattle.st_tree.specs.declared.elementary.Elementary.{Elementary}
+use Rattle.st_tree.specs.declared.token.Mark.TheVariants.{Close, Comma, Colon, Semicolon, Range, Hash, Constant, EndVar}
 use Rattle.st_tree.specs.declared.syntax.UnaryOperator.TheVariants as signs
 use Rattle.st_tree.specs.declared.syntax.Literal.{Literal}
 use Rattle.st_tree.specs.declared.syntax.Literal.TheVariants as literals
 use Rattle.st_tree.specs.declared.syntax.Section.{Section}
 use Rattle.st_tree.specs.declared.syntax.Section.TheVariants as sections
-use Rattle.st_tree.specs.Syntax.{Symbol, mark, Named, Tree, literal, path, enumerator, paren, unary, chain, call, TypeData, of_elementary, of_name, DeclarationData, VariablesData}
-use Rattle.st_tree.specs.Prints.{name_symbol, print_members, print_literal, print, print_others, type_symbol, print_initial, print_declaration, print_declarations, section_marks, print_variables}
-use Rattle.st_tree.specs.Levels.{IsConstant, IsInitialFormed, AreDeclarationsFormed, AreVariablesFormed}
+use Rattle.st_tree.specs.Syntax.{Symbol, mark, Named, Tree, literal, path, enumerator, paren, unary, chain, call, BoundsData, TypeData, of_elementary, of_subrange, of_name, DeclarationData, VariablesData}
+use Rattle.st_tree.specs.Prints.{name_symbol, print_members, print_literal, print, print_others, print_bounds, print_type, print_initial, print_declaration, print_declarations, section_marks, print_variables}
+use Rattle.st_tree.specs.Levels.{IsConstant, IsInitialFormed, IsTypeFormed, AreDeclarationsFormed, AreVariablesFormed}
 use Rattle.st_parser.specs.Marks.{same_mark}
-use Rattle.st_parser.specs.Reading.{after, named, minus}
-use Rattle.st_parser.specs.Declarations.{named_value, literal_value, initial_value, initial, type_of, others, local, section_of, declared, declaration, declarations, variables}
+use Rattle.st_parser.specs.Reading.{after, named, minus, opened}
+use Rattle.st_parser.specs.Declarations.{named_value, literal_value, initial_value, initial, bounds, ranged, type_of, others, local, section_of, declared, declaration, declarations, variables}
 use Rattle.st_parser.proofs.Again.{constant_again}
-use Rattle.st_parser.proofs.DeclarationSound.{declaration_shape}
+use Rattle.st_parser.proofs.DeclarationSound.{bounds_shape, declaration_shape}
 
 -- ---- initial values
 
@@ -64,46 +65,91 @@ unfolding initial after same_mark
 initial_again None rest is = refl
 initial_again (Some e) rest is = rw (value_again e (mark Semicolon ∷ rest) is (no_hash rest)) refl
 
+-- ---- a type
+
+no_hash_range : (rest : List Symbol) → after Hash (mark Range ∷ rest) ≡ None
+unfolding after same_mark
+no_hash_range rest = refl
+
+no_hash_close : (rest : List Symbol) → after Hash (mark Close ∷ rest) ≡ None
+unfolding after same_mark
+no_hash_close rest = refl
+
+pub after_range : (rest : List Symbol) → after Range (mark Range ∷ rest) ≡ Some rest
+unfolding after same_mark
+after_range rest = refl
+
+pub after_close : (rest : List Symbol) → after Close (mark Close ∷ rest) ≡ Some rest
+unfolding after same_mark
+after_close rest = refl
+
+bounds_again : (b : BoundsData) (rest : List Symbol) → IsConstant b.low → IsConstant b.high → bounds b.at (print b.low ++ mark Range ∷ (print b.high ++ mark Close ∷ rest)) ≡ Some (b, rest)
+unfolding bounds
+bounds_again b rest low high =
+    let last : List Symbol = print b.high ++ mark Close ∷ rest in
+    rw (value_again b.low (mark Range ∷ last) low (no_hash_range last), after_range last, value_again b.high (mark Close ∷ rest) high (no_hash_close rest), after_close rest) refl
+
+subrange_again : (kind : Elementary) (at : ℕ) (b : BoundsData) (rest : List Symbol) → IsConstant b.low → IsConstant b.high → ranged kind at (print_bounds b ++ rest) ≡ Some (of_subrange kind at b, rest)
+unfolding ranged opened
+subrange_again kind at b rest low high = ap (ranged kind at) (bounds_shape b rest) ∙ rw (bounds_again b rest low high) refl
+
+elementary_again : (kind : Elementary) (at : ℕ) (rest : List Symbol) → opened rest ≡ None → ranged kind at rest ≡ Some (of_elementary kind at, rest)
+unfolding ranged
+elementary_again kind at rest none = rw none refl
+
+-- a type is read up to what is no parenthesis
+pub type_again : (k : TypeData) (rest : List Symbol) → IsTypeFormed k → opened rest ≡ None → type_of (print_type k ++ rest) ≡ Some (k, rest)
+unfolding type_of
+type_again (of_elementary kind at) rest is none = elementary_again kind at rest none
+type_again (of_subrange kind at b) rest is none = subrange_again kind at b rest is.0 is.1
+type_again (of_name n) rest is none = refl
+
 -- ---- a declaration
 
-type_again : (k : TypeData) (rest : List Symbol) → type_of (type_symbol k ∷ rest) ≡ Some (k, rest)
-unfolding type_of
-type_again (of_elementary kind at) rest = refl
-type_again (of_name n) rest = refl
-
-others_again : (n : ℕ) (before ns : List Named) (rest : List Symbol) → length (print_others ns ++ mark Colon ∷ rest) ≤ n → others n before (print_others ns ++ mark Colon ∷ rest) ≡ Some (before ++ ns, mark Colon ∷ rest)
+pub others_again : (n : ℕ) (before ns : List Named) (rest : List Symbol) → after Comma rest ≡ None → length (print_others ns ++ rest) ≤ n → others n before (print_others ns ++ rest) ≡ Some (before ++ ns, rest)
 unfolding others after named same_mark
-others_again zero before ns rest le = absurd (omega (arith, length-append (print_others ns) (mark Colon ∷ rest)))
-others_again (suc n) before [] rest le = ap (λ (ns : List Named). Some (ns, mark Colon ∷ rest)) (sym (append-nil before))
-others_again (suc n) before (x ∷ ns) rest le =
-    others_again n (before ++ x ∷ []) ns rest (omega arith) ∙ ap (λ (ms : List Named). Some (ms, mark Colon ∷ rest)) (append_assoc before (x ∷ []) ns)
+others_again zero before [] rest none le = ap (λ (ns : List Named). Some (ns, rest)) (sym (append-nil before))
+others_again zero before (x ∷ ns) rest none le = absurd (omega arith)
+others_again (suc n) before [] rest none le = rw none (ap (λ (ns : List Named). Some (ns, rest)) (sym (append-nil before)))
+others_again (suc n) before (x ∷ ns) rest none le =
+    others_again n (before ++ x ∷ []) ns rest none (omega arith) ∙ ap (λ (ms : List Named). Some (ms, rest)) (append_assoc before (x ∷ []) ns)
 
-after_colon : (rest : List Symbol) → after Colon (mark Colon ∷ rest) ≡ Some rest
+no_comma : (rest : List Symbol) → after Comma (mark Colon ∷ rest) ≡ None
+unfolding after same_mark
+no_comma rest = refl
+
+not_opened : (i : Option Tree) (rest : List Symbol) → opened (print_initial i ++ mark Semicolon ∷ rest) ≡ None
+unfolding opened
+not_opened None rest = refl
+not_opened (Some e) rest = refl
+
+pub after_colon : (rest : List Symbol) → after Colon (mark Colon ∷ rest) ≡ Some rest
 unfolding after same_mark
 after_colon rest = refl
 
-after_semicolon : (rest : List Symbol) → after Semicolon (mark Semicolon ∷ rest) ≡ Some rest
+pub after_semicolon : (rest : List Symbol) → after Semicolon (mark Semicolon ∷ rest) ≡ Some rest
 unfolding after same_mark
 after_semicolon rest = refl
 
-step_named : (n : Named) (ts : List Symbol) → named (name_symbol n ∷ ts) ≡ Some (n, ts)
+pub step_named : (n : Named) (ts : List Symbol) → named (name_symbol n ∷ ts) ≡ Some (n, ts)
 unfolding named
 step_named n ts = refl
 
 module _ (turns : ℕ) where
-  declared_again : (d : DeclarationData) (rest : List Symbol) → IsInitialFormed d.initial
-      → declared turns d.first d.others (mark Colon ∷ type_symbol d.kind ∷ (print_initial d.initial ++ mark Semicolon ∷ rest)) ≡ Some (d, rest)
+  declared_again : (d : DeclarationData) (rest : List Symbol) → IsTypeFormed d.kind → IsInitialFormed d.initial
+      → declared turns d.first d.others (mark Colon ∷ (print_type d.kind ++ (print_initial d.initial ++ mark Semicolon ∷ rest))) ≡ Some (d, rest)
   unfolding declared
-  declared_again d rest is =
-      rw (after_colon (type_symbol d.kind ∷ (print_initial d.initial ++ mark Semicolon ∷ rest)), type_again d.kind (print_initial d.initial ++ mark Semicolon ∷ rest), initial_again d.initial rest is, after_semicolon rest) refl
+  declared_again d rest formed is =
+      let last : List Symbol = print_initial d.initial ++ mark Semicolon ∷ rest in
+      rw (after_colon (print_type d.kind ++ last), type_again d.kind last formed (not_opened d.initial rest), initial_again d.initial rest is, after_semicolon rest) refl
 
-  pub declaration_again : (d : DeclarationData) (rest : List Symbol) → IsInitialFormed d.initial → length (print_declaration d ++ rest) ≤ turns → declaration turns (print_declaration d ++ rest) ≡ Some (d, rest)
+  pub declaration_again : (d : DeclarationData) (rest : List Symbol) → IsTypeFormed d.kind → IsInitialFormed d.initial → length (print_declaration d ++ rest) ≤ turns → declaration turns (print_declaration d ++ rest) ≡ Some (d, rest)
   unfolding declaration
-  declaration_again d rest is len =
-      let tail : List Symbol = type_symbol d.kind ∷ (print_initial d.initial ++ mark Semicolon ∷ rest) in
+  declaration_again d rest formed is len =
+      let tail : List Symbol = print_type d.kind ++ (print_initial d.initial ++ mark Semicolon ∷ rest) in
       let shape : print_declaration d ++ rest ≡ name_symbol d.first ∷ (print_others d.others ++ mark Colon ∷ tail) = declaration_shape d rest in
       let enough : length (print_others d.others ++ mark Colon ∷ tail) ≤ turns = omega (arith, ap length shape) in
-      ap (declaration turns) shape ∙ rw (step_named d.first (print_others d.others ++ mark Colon ∷ tail), others_again turns [] d.others tail enough) (declared_again d rest is)
+      ap (declaration turns) shape ∙ rw (step_named d.first (print_others d.others ++ mark Colon ∷ tail), others_again turns [] d.others (mark Colon ∷ tail) (no_comma tail) enough) (declared_again d rest formed is)
 
   -- ---- the declarations of a section
 
@@ -129,8 +175,8 @@ module _ (turns : ℕ) where
       let whole : length (print_declaration d ++ tail) ≤ turns = omega (arith, ap length shape) in
       let less : length tail ≤ n = omega (arith, ap length shape, length-append (print_declaration d) tail, some_symbols d) in
       let fewer : length tail ≤ turns = omega (arith, length-append (print_declaration d) tail) in
-      rw (shape, no_end d tail, declaration_again d tail is.0 whole)
-      (declarations_again n (before ++ d ∷ []) ds rest is.1 less fewer ∙ ap (λ (x : List DeclarationData). Some (x, rest)) (append_assoc before (d ∷ []) ds))
+      rw (shape, no_end d tail, declaration_again d tail is.0 is.1 whole)
+      (declarations_again n (before ++ d ∷ []) ds rest is.2 less fewer ∙ ap (λ (x : List DeclarationData). Some (x, rest)) (append_assoc before (d ∷ []) ds))
 
   -- ---- sections
 

@@ -1,21 +1,22 @@
 -- What is read of declarations prints the symbols that were taken.
 use Rattle.std.proofs.Common.{◌≡◌, ℕ, zero, suc, Bool, true, false, cond, List, [], ◌∷◌, ◌++◌, map, Option, Some, None, refl, sym, ap, subst, ◌∙◌, append_assoc}
 use Rattle.std.proofs.lemmas.List.{append-nil}
+use Rattle.st_tree.specs.declared.elementary.Elementary.{Elementary}
 use Rattle.st_tree.specs.declared.token.Mark.{Mark}
-use Rattle.st_tree.specs.declared.token.Mark.TheVariants.{Comma, Colon, Semicolon, Assign, Hash, Var, VarInput, VarOutput, VarTemp, Constant, EndVar}
+use Rattle.st_tree.specs.declared.token.Mark.TheVariants.{Close, Comma, Colon, Semicolon, Assign, Range, Hash, Var, VarInput, VarOutput, VarTemp, Constant, EndVar}
 use Rattle.st_tree.specs.declared.token.Operator.TheVariants as ops
 use Rattle.st_tree.specs.declared.syntax.UnaryOperator.TheVariants as signs
 use Rattle.st_tree.specs.declared.syntax.Literal.{Literal}
 use Rattle.st_tree.specs.declared.syntax.Section.{Section}
 use Rattle.st_tree.specs.declared.syntax.Section.TheVariants as sections
-use Rattle.st_tree.specs.Syntax.{Symbol, name, elementary, operator, mark, Named, Tree, literal, path, enumerator, unary, TypeData, of_elementary, of_name, DeclarationData, VariablesData}
-use Rattle.st_tree.specs.Prints.{name_symbol, print, print_others, type_symbol, print_initial, print_declaration, print_declarations, section_marks, print_variables}
-use Rattle.st_tree.specs.Levels.{IsConstant, IsInitialFormed, AreDeclarationsFormed, AreVariablesFormed}
+use Rattle.st_tree.specs.Syntax.{Symbol, name, elementary, operator, opening, mark, Named, Tree, literal, path, enumerator, unary, BoundsData, TypeData, of_elementary, of_subrange, of_name, DeclarationData, VariablesData}
+use Rattle.st_tree.specs.Prints.{name_symbol, print, print_others, print_bounds, print_type, print_initial, print_declaration, print_declarations, section_marks, print_variables}
+use Rattle.st_tree.specs.Levels.{IsConstant, IsInitialFormed, IsTypeFormed, AreDeclarationsFormed, AreVariablesFormed}
 use Rattle.st_parser.specs.Marks.{same_mark}
-use Rattle.st_parser.specs.Reading.{after, named, minus}
+use Rattle.st_parser.specs.Reading.{after, named, minus, opened}
 use Rattle.st_parser.specs.Expressions.{constant}
-use Rattle.st_parser.specs.Declarations.{named_or, named_value, literal_or, literal_value, initial_value, initial_or, initial, type_of, others_step, others, local_or, local, section_of, declared, declaration, declarations_step, declarations, variables_step, variables}
-use Rattle.st_parser.proofs.Steps.{bind_some, some_is, same_mark-is, after_is, named_is, minus_is}
+use Rattle.st_parser.specs.Declarations.{named_or, named_value, literal_or, literal_value, initial_value, initial_or, initial, bounds, ranged_or, ranged, type_of, others_step, others, local_or, local, section_of, declared, declaration, declarations_step, declarations, variables_step, variables}
+use Rattle.st_parser.proofs.Steps.{bind_some, some_is, same_mark-is, after_is, named_is, minus_is, opened_is}
 use Rattle.st_parser.proofs.Sound.{constant_is}
 
 -- ---- initial values
@@ -74,15 +75,63 @@ initial_is : (ts : List Symbol) (y : Option Tree × List Symbol) → initial ts 
 unfolding initial
 initial_is ts y e = initial_go ts y (after Assign ts) refl e
 
--- ---- a declaration
+-- ---- a type
 
-type_is : (ts : List Symbol) (y : TypeData × List Symbol) → type_of ts ≡ Some y → ts ≡ type_symbol y.0 ∷ y.1
+abbrev BoundsAre : ℕ → List Symbol → BoundsData × List Symbol → Type 0
+BoundsAre at ts y = (opening at ∷ ts ≡ print_bounds y.0 ++ y.1) × IsConstant y.0.low × IsConstant y.0.high
+
+-- how the symbols of bounds stand before others
+pub bounds_shape : (b : BoundsData) (rest : List Symbol) → print_bounds b ++ rest ≡ opening b.at ∷ (print b.low ++ mark Range ∷ (print b.high ++ mark Close ∷ rest))
+bounds_shape b rest =
+    ap (λ (x : List Symbol). opening b.at ∷ x) (
+    append_assoc (print b.low) (mark Range ∷ (print b.high ++ mark Close ∷ [])) rest
+    ∙ ap (λ (x : List Symbol). print b.low ++ mark Range ∷ x) (append_assoc (print b.high) (mark Close ∷ []) rest))
+
+bounds_are : (at : ℕ) (ts : List Symbol) (y : BoundsData × List Symbol) → bounds at ts ≡ Some y → BoundsAre at ts y
+unfolding bounds
+bounds_are at ts y e =
+    let a = bind_some (initial_value ts) _ y e in
+    let b = bind_some (after Range a.0.1) _ y a.2 in
+    let c = bind_some (initial_value b.0) _ y b.2 in
+    let d = bind_some (after Close c.0.1) _ y c.2 in
+    let low = initial_value_is ts a.0 a.1 in
+    let high = initial_value_is b.0 c.0 c.1 in
+    let found : BoundsData = record { at = at; low = a.0.0; high = c.0.0 } in
+    let last : b.0 ≡ print c.0.0 ++ mark Close ∷ d.0 = high.0 ∙ ap (λ (x : List Symbol). print c.0.0 ++ x) (after_is Close c.0.1 d.0 d.1) in
+    let printed : ts ≡ print a.0.0 ++ mark Range ∷ (print c.0.0 ++ mark Close ∷ d.0) =
+    low.0 ∙ ap (λ (x : List Symbol). print a.0.0 ++ x) (after_is Range a.0.1 b.0 b.1 ∙ ap (λ (x : List Symbol). mark Range ∷ x) last) in
+    let whole : BoundsAre at ts (found, d.0) = (ap (λ (x : List Symbol). opening at ∷ x) printed ∙ sym (bounds_shape found d.0), low.1, high.1) in
+    subst (BoundsAre at ts) (some_is (found, d.0) y d.2) whole
+
+abbrev pub TypeIs : List Symbol → TypeData × List Symbol → Type 0
+TypeIs ts y = (ts ≡ print_type y.0 ++ y.1) × IsTypeFormed y.0
+
+ranged_go : (kind : Elementary) (at : ℕ) (ts : List Symbol) (y : TypeData × List Symbol) (o : Option (ℕ × List Symbol)) → opened ts ≡ o → ranged_or kind at ts o ≡ Some y → TypeIs (elementary kind at ∷ ts) y
+ranged_go kind at ts y None is e =
+    let whole : TypeIs (elementary kind at ∷ ts) (of_elementary kind at, ts) = (refl, tt) in
+    subst (TypeIs (elementary kind at ∷ ts)) (some_is (of_elementary kind at, ts) y e) whole
+ranged_go kind at ts y (Some o) is e =
+    let a = bind_some (bounds o.0 o.1) (λ (b : BoundsData × List Symbol). Some (of_subrange kind at b.0, b.1)) y e in
+    let b = bounds_are o.0 o.1 a.0 a.1 in
+    let printed : elementary kind at ∷ ts ≡ elementary kind at ∷ (print_bounds a.0.0 ++ a.0.1) = ap (λ (x : List Symbol). elementary kind at ∷ x) (opened_is ts o.0 o.1 is ∙ b.0) in
+    let whole : TypeIs (elementary kind at ∷ ts) (of_subrange kind at a.0.0, a.0.1) = (printed, (b.1, b.2)) in
+    subst (TypeIs (elementary kind at ∷ ts)) (some_is (of_subrange kind at a.0.0, a.0.1) y a.2) whole
+
+ranged_is : (kind : Elementary) (at : ℕ) (ts : List Symbol) (y : TypeData × List Symbol) → ranged kind at ts ≡ Some y → TypeIs (elementary kind at ∷ ts) y
+unfolding ranged
+ranged_is kind at ts y e = ranged_go kind at ts y (opened ts) refl e
+
+pub type_is : (ts : List Symbol) (y : TypeData × List Symbol) → type_of ts ≡ Some y → TypeIs ts y
 unfolding type_of
-type_is (elementary kind at ∷ ts) y e = ap (λ (x : TypeData × List Symbol). type_symbol x.0 ∷ x.1) (some_is (of_elementary kind at, ts) y e)
-type_is (name t at ∷ ts) y e = ap (λ (x : TypeData × List Symbol). type_symbol x.0 ∷ x.1) (some_is (of_name (record { text = t; at = at }), ts) y e)
+type_is (elementary kind at ∷ ts) y e = ranged_is kind at ts y e
+type_is (name t at ∷ ts) y e =
+    let whole : TypeIs (name t at ∷ ts) (of_name (record { text = t; at = at }), ts) = (refl, tt) in
+    subst (TypeIs (name t at ∷ ts)) (some_is (of_name (record { text = t; at = at }), ts) y e) whole
 type_is ts y e = absurd cc
 
-abbrev OthersAre : List Named → List Symbol → List Named × List Symbol → Type 0
+-- ---- a declaration
+
+abbrev pub OthersAre : List Named → List Symbol → List Named × List Symbol → Type 0
 OthersAre before ts y = (extra : List Named) × (y.0 ≡ before ++ extra) × (ts ≡ print_others extra ++ y.1)
 
 others_stop : (before : List Named) (ts : List Symbol) (y : List Named × List Symbol) → (let o : Option (List Named × List Symbol) = Some (before, ts) in o) ≡ Some y → OthersAre before ts y
@@ -101,21 +150,23 @@ others_go n before ts y (Some r) is e below =
       after_is Comma ts r is ∙ ap (λ (x : List Symbol). mark Comma ∷ x) (named_is r a.0.0 a.0.1 a.1 ∙ ap (λ (x : List Symbol). name_symbol a.0.0 ∷ x) b.2),
     )
 
-others_are : (n : ℕ) (before : List Named) (ts : List Symbol) (y : List Named × List Symbol) → others n before ts ≡ Some y → OthersAre before ts y
+pub others_are : (n : ℕ) (before : List Named) (ts : List Symbol) (y : List Named × List Symbol) → others n before ts ≡ Some y → OthersAre before ts y
 unfolding others
 others_are zero before ts y e = others_stop before ts y e
 others_are (suc n) before ts y e = others_go n before ts y (after Comma ts) refl e (λ before ts e. others_are n before ts y e)
 
 abbrev DeclarationIs : List Symbol → DeclarationData × List Symbol → Type 0
-DeclarationIs ts y = (ts ≡ print_declaration y.0 ++ y.1) × IsInitialFormed y.0.initial
+DeclarationIs ts y = (ts ≡ print_declaration y.0 ++ y.1) × IsTypeFormed y.0.kind × IsInitialFormed y.0.initial
 
 -- how a declaration's symbols stand before others
 pub declaration_shape : (d : DeclarationData) (rest : List Symbol)
-    → print_declaration d ++ rest ≡ name_symbol d.first ∷ (print_others d.others ++ mark Colon ∷ type_symbol d.kind ∷ (print_initial d.initial ++ mark Semicolon ∷ rest))
+    → print_declaration d ++ rest ≡ name_symbol d.first ∷ (print_others d.others ++ mark Colon ∷ (print_type d.kind ++ (print_initial d.initial ++ mark Semicolon ∷ rest)))
 declaration_shape d rest =
+    let kind : List Symbol = print_type d.kind in
+    let value : List Symbol = print_initial d.initial in
     ap (λ (x : List Symbol). name_symbol d.first ∷ x) (
-    append_assoc (print_others d.others) (mark Colon ∷ type_symbol d.kind ∷ (print_initial d.initial ++ mark Semicolon ∷ [])) rest
-    ∙ ap (λ (x : List Symbol). print_others d.others ++ mark Colon ∷ type_symbol d.kind ∷ x) (append_assoc (print_initial d.initial) (mark Semicolon ∷ []) rest))
+    append_assoc (print_others d.others) (mark Colon ∷ (kind ++ value ++ mark Semicolon ∷ [])) rest
+    ∙ ap (λ (x : List Symbol). print_others d.others ++ mark Colon ∷ x) (append_assoc (kind ++ value) (mark Semicolon ∷ []) rest ∙ append_assoc kind value (mark Semicolon ∷ rest)))
 
 module _ (turns : ℕ) where
   declared_is : (n : Named) (ns : List Named) (ts : List Symbol) (y : DeclarationData × List Symbol) → declared turns n ns ts ≡ Some y → DeclarationIs (name_symbol n ∷ (print_others ns ++ ts)) y
@@ -127,9 +178,10 @@ module _ (turns : ℕ) where
       let d = bind_some (after Semicolon c.0.1) _ y c.2 in
       let i = initial_is b.0.1 c.0 c.1 in
       let found : DeclarationData = record { first = n; others = ns; kind = b.0.0; initial = c.0.0 } in
-      let printed = after_is Colon ts a.0 a.1 ∙ ap (λ (x : List Symbol). mark Colon ∷ x) (type_is a.0 b.0 b.1 ∙ ap (λ (x : List Symbol). type_symbol b.0.0 ∷ x) (i.0 ∙ ap (λ (x : List Symbol). print_initial c.0.0 ++ x) (after_is Semicolon c.0.1 d.0 d.1))) in
+      let k = type_is a.0 b.0 b.1 in
+      let printed = after_is Colon ts a.0 a.1 ∙ ap (λ (x : List Symbol). mark Colon ∷ x) (k.0 ∙ ap (λ (x : List Symbol). print_type b.0.0 ++ x) (i.0 ∙ ap (λ (x : List Symbol). print_initial c.0.0 ++ x) (after_is Semicolon c.0.1 d.0 d.1))) in
       let whole : DeclarationIs (name_symbol n ∷ (print_others ns ++ ts)) (found, d.0) =
-      (ap (λ (x : List Symbol). name_symbol n ∷ (print_others ns ++ x)) printed ∙ sym (declaration_shape found d.0), i.1) in
+      (ap (λ (x : List Symbol). name_symbol n ∷ (print_others ns ++ x)) printed ∙ sym (declaration_shape found d.0), k.1, i.1) in
       subst (DeclarationIs (name_symbol n ∷ (print_others ns ++ ts))) (some_is (found, d.0) y d.2) whole
 
   declaration_is : (ts : List Symbol) (y : DeclarationData × List Symbol) → declaration turns ts ≡ Some y → DeclarationIs ts y
@@ -141,7 +193,7 @@ module _ (turns : ℕ) where
       let d = declared_is a.0.0 b.0.0 b.0.1 y b.2 in
       let same : ts ≡ name_symbol a.0.0 ∷ (print_others b.0.0 ++ b.0.1) =
       named_is ts a.0.0 a.0.1 a.1 ∙ ap (λ (x : List Symbol). name_symbol a.0.0 ∷ x) (o.2 ∙ ap (λ (x : List Named). print_others x ++ b.0.1) (sym o.1)) in
-      (same ∙ d.0, d.1)
+      (same ∙ d.0, d.1, d.2)
 
   -- ---- the declarations of a section
 
@@ -160,7 +212,7 @@ module _ (turns : ℕ) where
         a.0.0 ∷ b.0,
         b.1 ∙ append_assoc before (a.0.0 ∷ []) b.0,
         d.0 ∙ ap (λ (x : List Symbol). print_declaration a.0.0 ++ x) b.2 ∙ sym (append_assoc (print_declaration a.0.0) (print_declarations b.0) (mark EndVar ∷ y.1)),
-        (d.1, b.3),
+        (d.1, d.2, b.3),
       )
 
   declarations_are : (n : ℕ) (before : List DeclarationData) (ts : List Symbol) (y : List DeclarationData × List Symbol) → declarations turns n before ts ≡ Some y → DeclarationsAre before ts y

@@ -3,10 +3,10 @@ use Rattle.std.proofs.Common.{◌≡◌, ◌≢◌, ℕ, ◌-◌, ◌≤◌, Lis
 use Rattle.std.proofs.lemmas.List.{length-map}
 use Rattle.st_tree.specs.declared.token.Tok.{Tok}
 use Rattle.st_tree.specs.declared.token.Mark.TheVariants.{Program, EndProgram}
-use Rattle.st_tree.specs.Syntax.{Symbol, mark, BodyData, statements as statement_body, chart as chart_body, FileData}
+use Rattle.st_tree.specs.Syntax.{Symbol, mark, BodyData, statements as statement_body, chart as chart_body, ItemData, types as types_item, pou as pou_item, FileData}
 use Rattle.st_tree.specs.SyntaxView as view
-use Rattle.st_tree.specs.Prints.{name_symbol, print_variables, print_body, print_file}
-use Rattle.st_tree.specs.Levels.{IsBodyLevelled, IsFileLevelled}
+use Rattle.st_tree.specs.Prints.{name_symbol, print_variables, print_body, print_item, print_file}
+use Rattle.st_tree.specs.Levels.{IsBodyLevelled, IsItemLevelled, IsFileLevelled}
 use Rattle.st_parser.specs.declared.fault.Stop.{Stop}
 use Rattle.st_parser.specs.declared.fault.Stop.TheVariants as stops
 use Rattle.st_parser.specs.Faults.{fault_of}
@@ -19,7 +19,7 @@ use Rattle.st_parser.specs.WholeFile.{IsFile, IsFileFault}
 use Rattle.st_parser.proofs.Steps.{some_is}
 use Rattle.st_parser.proofs.Nests.{nests-behind, nests-length}
 use Rattle.st_parser.proofs.Nested.{stmts_nested, stmts_levelled}
-use Rattle.st_parser.proofs.FileSound.{BodyFits, FileFits, pou_shape, file_is}
+use Rattle.st_parser.proofs.FileSound.{BodyFits, ItemFits, FileFits, pou_shape, file_is}
 use Rattle.st_parser.proofs.FileAgain.{file_again}
 
 -- ---- a levelled file fits what its symbols nest within
@@ -30,22 +30,31 @@ body_fits limit (statement_body ss) rest levelled h =
     subst (StmtsFit ss) all (stmts_nested limit ss nothing_open rest levelled h).0
 body_fits limit (chart_body c) rest levelled h = absurd c
 
+-- types fit any depth
+item_fits : (limit : ℕ) (i : ItemData) (rest : List Symbol) → IsItemLevelled i → NestsWithin limit nothing_open (print_item i ++ rest) → ItemFits i limit
+item_fits limit (types_item ds) rest levelled h = levelled
+item_fits limit (pou_item p) rest levelled h =
+    let front : List Symbol = mark Program ∷ name_symbol p.name ∷ print_variables p.variables in
+    let last : List Symbol = mark EndProgram ∷ rest in
+    let inner = nests-behind limit front (print_body p.body ++ last) nothing_open (subst (NestsWithin limit nothing_open) (pou_shape p rest) h) in
+    (levelled.0, body_fits limit p.body last levelled.1 inner)
+
 file_fits : (limit : ℕ) (f : FileData) → IsFileLevelled f → NestsWithin limit nothing_open (print_file f) → FileFits f limit
 file_fits limit [] levelled h = tt
-file_fits limit (p ∷ ps) levelled h =
-    let behind : List Symbol = mark EndProgram ∷ print_file ps in
-    let front : List Symbol = mark Program ∷ name_symbol p.name ∷ print_variables p.variables in
-    let inner = nests-behind limit front (print_body p.body ++ behind) nothing_open (subst (NestsWithin limit nothing_open) (pou_shape p (print_file ps)) h) in
-    let last = nests-behind limit (mark EndProgram ∷ []) (print_file ps) nothing_open (nests-behind limit (print_body p.body) behind nothing_open inner) in
-    ((levelled.0, body_fits limit p.body behind levelled.1 inner), file_fits limit ps levelled.2 last)
+file_fits limit (i ∷ is) levelled h =
+    (item_fits limit i (print_file is) levelled.0 h, file_fits limit is levelled.1 (nests-behind limit (print_item i) (print_file is) nothing_open h))
 
 body_levelled : (b : BodyData) (d : ℕ) → BodyFits b d → IsBodyLevelled b
 body_levelled (statement_body ss) d fits = stmts_levelled ss d fits
 body_levelled (chart_body c) d fits = absurd c
 
+item_levelled : (i : ItemData) (d : ℕ) → ItemFits i d → IsItemLevelled i
+item_levelled (types_item ds) d fits = fits
+item_levelled (pou_item p) d fits = (fits.0, body_levelled p.body d fits.1)
+
 file_levelled : (f : FileData) (d : ℕ) → FileFits f d → IsFileLevelled f
 file_levelled [] d fits = tt
-file_levelled (p ∷ ps) d fits = (fits.0.0, body_levelled p.body d fits.0.1, file_levelled ps d fits.1)
+file_levelled (i ∷ is) d fits = (item_levelled i d fits.0, file_levelled is d fits.1)
 
 -- ---- what is read, and what is not
 

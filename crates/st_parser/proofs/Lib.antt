@@ -11,6 +11,8 @@ pub mod ArgumentsAgain
 pub mod Again
 pub mod DeclarationSound
 pub mod DeclarationAgain
+pub mod TypesSound
+pub mod TypesAgain
 pub mod Selections
 pub mod Iterations
 pub mod StatementSound

@@ -14,7 +14,7 @@ use Rattle.st_parser.specs.Declarations.{initial_value}
 use Rattle.st_parser.specs.Labels.{high_or, high, label, labels_step, labels}
 use Rattle.st_parser.proofs.Steps.{bind_some, some_is, after_is}
 use Rattle.st_parser.proofs.DeclarationSound.{initial_value_is}
-use Rattle.st_parser.proofs.DeclarationAgain.{value_again}
+use Rattle.st_parser.proofs.DeclarationAgain.{value_again, after_range}
 
 -- ---- what is read
 
@@ -86,10 +86,6 @@ labels_is n ts y e =
     subst (λ (ls : List LabelData). (ts ≡ print_labels ls ++ y.1) × AreLabels ls) (sym a.2) (printed, formed)
 
 -- ---- what is printed
-
-after_range : (rest : List Symbol) → after Range (mark Range ∷ rest) ≡ Some rest
-unfolding after same_mark
-after_range rest = refl
 
 after_comma : (rest : List Symbol) → after Comma (mark Comma ∷ rest) ≡ Some rest
 unfolding after same_mark

@@ -1,12 +1,13 @@
--- Reading declarations of variables, and sections of them.
+-- Reading declarations of variables, the types that are spelled there, and sections of declarations.
 use Rattle.std.specs.Prelude.{ℕ, zero, suc, List, [], ◌∷◌, ◌++◌, Option, Some, None, if◌then◌else◌}
-use Rattle.st_tree.specs.declared.token.Mark.TheVariants.{Comma, Colon, Semicolon, Assign, Hash, Var, VarInput, VarOutput, VarTemp, Constant, EndVar}
+use Rattle.st_tree.specs.declared.elementary.Elementary.{Elementary}
+use Rattle.st_tree.specs.declared.token.Mark.TheVariants.{Close, Comma, Colon, Semicolon, Assign, Range, Hash, Var, VarInput, VarOutput, VarTemp, Constant, EndVar}
 use Rattle.st_tree.specs.declared.syntax.UnaryOperator.TheVariants as signs
 use Rattle.st_tree.specs.declared.syntax.Section.{Section}
 use Rattle.st_tree.specs.declared.syntax.Section.TheVariants as sections
-use Rattle.st_tree.specs.Syntax.{Symbol, name, elementary, mark, Named, Tree, literal, path, enumerator, unary, TypeData, of_elementary, of_name, DeclarationData, VariablesData}
+use Rattle.st_tree.specs.Syntax.{Symbol, name, elementary, mark, Named, Tree, literal, path, enumerator, unary, BoundsData, TypeData, of_elementary, of_subrange, of_name, DeclarationData, VariablesData}
 use Rattle.st_parser.specs.Marks.{same_mark}
-use Rattle.st_parser.specs.Reading.{Read, ◌>>=◌, after, named, minus}
+use Rattle.st_parser.specs.Reading.{Read, ◌>>=◌, after, named, minus, opened}
 use Rattle.st_parser.specs.Expressions.{constant}
 
 -- an initial value that is a name, or `type#value`
@@ -38,9 +39,23 @@ initial_or ts None = Some (None, ts)
 unfoldable pub initial : Read (Option Tree)
 initial ts = initial_or ts (after Assign ts)
 
--- a type: an elementary one, or one by name
+-- the bounds of a subrange, behind the parenthesis, whose place is given
+unfoldable pub bounds : ℕ → Read BoundsData
+bounds at ts =
+    initial_value ts >>= λ low. after Range low.1 >>= λ ts. initial_value ts >>= λ high. after Close high.1 >>= λ rest.
+    Some (record { at = at; low = low.0; high = high.0 }, rest)
+
+abbrev pub ranged_or : Elementary → ℕ → List Symbol → Option (ℕ × List Symbol) → Option (TypeData × List Symbol)
+ranged_or kind at ts (Some o) = bounds o.0 o.1 >>= λ b. Some (of_subrange kind at b.0, b.1)
+ranged_or kind at ts None = Some (of_elementary kind at, ts)
+
+-- behind an elementary type, whose place is given: a subrange of it, or itself
+unfoldable pub ranged : Elementary → ℕ → Read TypeData
+ranged kind at ts = ranged_or kind at ts (opened ts)
+
+-- a type: an elementary one, a subrange of one, or one by name
 unfoldable pub type_of : Read TypeData
-type_of (elementary kind at ∷ ts) = Some (of_elementary kind at, ts)
+type_of (elementary kind at ∷ ts) = ranged kind at ts
 type_of (name t at ∷ ts) = Some (of_name (record { text = t; at = at }), ts)
 type_of ts = None
 

@@ -4,11 +4,13 @@ use Rattle.st_tree.specs.declared.syntax.SourceFile.{SourceFile}
 use Rattle.st_tree.specs.SyntaxView.{file_view}
 use Rattle.st_parser.specs.declared.fault.Stop.{Stop}
 use Rattle.st_parser.specs.declared.fault.Stop.TheVariants.{Memory}
+use Rattle.st_tree.specs.declared.token.Mark.TheVariants as marks
 use Rattle.st_tree.specs.declared.token.Mark.TheVariants.{Program, EndProgram}
-use Rattle.st_tree.specs.Syntax.{Symbol, BodyData, statements as statement_body, PouData, FileData}
+use Rattle.st_tree.specs.Syntax.{Symbol, BodyData, statements as statement_body, PouData, ItemData, types as types_item, pou as pou_item, FileData}
 use Rattle.st_parser.specs.Reading.{Read, ◌>>=◌, after, named}
 use Rattle.st_parser.specs.Statements.{statements}
 use Rattle.st_parser.specs.Declarations.{variables}
+use Rattle.st_parser.specs.Types.{types}
 
 -- The first number bounds the turns of each loop: that of the tokens is always enough. The second is how deep parentheses and statements nest.
 module _ (turns depth : ℕ) where
@@ -22,22 +24,31 @@ module _ (turns depth : ℕ) where
       named ts >>= λ n. variables turns turns [] n.1 >>= λ vs. body vs.1 >>= λ b. after EndProgram b.1 >>= λ rest.
       Some (record { name = n.0; variables = vs.0; body = b.0 }, rest)
 
-  abbrev pub programs_step : (FileData → Read FileData) → FileData → List Symbol → Option (List Symbol) → Option (FileData × List Symbol)
-  programs_step more_of ps ts None = Some (ps, ts)
-  programs_step more_of ps ts (Some rest) = program rest >>= λ p. more_of (ps ++ p.0 ∷ []) p.1
+  abbrev pub item_or : Option (List Symbol) → Option (List Symbol) → Option (Option (ItemData × List Symbol))
+  item_or (Some rest) p = Some (types turns turns [] rest >>= λ ds. Some (types_item ds.0, ds.1))
+  item_or None (Some rest) = Some (program rest >>= λ p. Some (pou_item p.0, p.1))
+  item_or None None = None
 
-  -- the programs, after those that were read
-  unfoldable pub programs : ℕ → FileData → Read FileData
-  programs zero ps ts = Some (ps, ts)
-  programs (suc n) ps ts = programs_step (programs n) ps ts (after Program ts)
+  -- types behind TYPE, or a program behind PROGRAM, which is read or not; or None where neither word stands
+  unfoldable pub item : List Symbol → Option (Option (ItemData × List Symbol))
+  item ts = item_or (after marks.Type ts) (after Program ts)
+
+  abbrev pub items_step : (FileData → Read FileData) → FileData → List Symbol → Option (Option (ItemData × List Symbol)) → Option (FileData × List Symbol)
+  items_step more_of found ts None = Some (found, ts)
+  items_step more_of found ts (Some i) = i >>= λ i. more_of (found ++ i.0 ∷ []) i.1
+
+  -- the items, after those that were read
+  unfoldable pub items : ℕ → FileData → Read FileData
+  items zero found ts = Some (found, ts)
+  items (suc n) found ts = items_step (items n) found ts (item ts)
 
   abbrev pub ended : FileData → List Symbol → Option FileData
-  ended ps [] = Some ps
-  ended ps (s ∷ ts) = None
+  ended found [] = Some found
+  ended found (s ∷ ts) = None
 
-  -- programs, and nothing behind them
+  -- items, and nothing behind them
   unfoldable pub file : List Symbol → Option FileData
-  file ts = programs turns [] ts >>= λ ps. ended ps.0 ps.1
+  file ts = items turns [] ts >>= λ f. ended f.0 f.1
 
 -- what a function that reads a whole file answers
 abbrev pub GivesFile : Result SourceFile Stop → Option FileData → Type 0

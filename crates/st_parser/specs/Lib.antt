@@ -11,6 +11,7 @@ pub mod Statements
 pub mod Whole
 pub mod FirstFault
 pub mod Declarations
+pub mod Types
 pub mod Files
 pub mod WholeFile
 pub mod Same

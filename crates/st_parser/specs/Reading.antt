@@ -73,3 +73,9 @@ GivesPlace toks (Err e) read = e ≢ Memory → read ≡ None
 -- the same where memory cannot run out
 abbrev pub given : {X Y : Type 0} → (X → Y) → List Tok → Option (X × ℕ) → Option (Y × List Symbol)
 given view toks o = option_map (λ x. (view x.0, ahead toks x.1)) o
+
+-- the same where nothing may begin in front: then there is nothing to read
+abbrev pub Begins : {X Y : Type 0} → (X → Y) → List Tok → Result (Option (X × ℕ)) Stop → Option (Option (Y × List Symbol)) → Type 0
+Begins view toks (Ok None) begun = begun ≡ None
+Begins view toks (Ok (Some x)) begun = begun ≡ Some (Some (view x.0, ahead toks x.1))
+Begins view toks (Err e) begun = e ≢ Memory → begun ≡ Some None

@@ -1,16 +1,13 @@
 -- Reading statements.
-use Rattle.std.specs.Prelude.{◌≡◌, ◌≢◌, ℕ, zero, suc, Bool, true, false, ◌&&◌, List, [], ◌∷◌, Option, Some, None, if◌then◌else◌, Result, Ok, Err}
-use Rattle.st_parser.specs.declared.fault.Stop.{Stop}
-use Rattle.st_parser.specs.declared.fault.Stop.TheVariants.{Memory}
+use Rattle.std.specs.Prelude.{ℕ, zero, suc, Bool, true, false, ◌&&◌, List, [], ◌∷◌, Option, Some, None, if◌then◌else◌}
 use Rattle.st_parser.specs.declared.statement.Opener.{Opener}
 use Rattle.st_parser.specs.declared.statement.Opener.TheVariants as openers
-use Rattle.st_tree.specs.declared.token.Tok.{Tok}
 use Rattle.st_tree.specs.declared.token.Mark.{Mark}
 use Rattle.st_tree.specs.declared.token.Mark.TheVariants.{Semicolon, Colon, Assign, If, Then, Elsif, Else, EndIf, Case, Of, EndCase, EndFor}
 use Rattle.st_tree.specs.Syntax.{Symbol, name, iteration, mark, Named, Tree, LabelData, Stmt, empty, assign, branch, cases, iterate, Stmts, no_stmts, stmt, Arms, no_arms, arm, Entries, no_entries, entry, Otherwise, no_else, else_stmts}
 use Rattle.st_parser.specs.Marks.{same_mark}
 use Rattle.st_parser.specs.Ends.{is_label, ends_entries}
-use Rattle.st_parser.specs.Reading.{Read, ◌>>=◌, after, ahead}
+use Rattle.st_parser.specs.Reading.{Read, ◌>>=◌, after}
 use Rattle.st_parser.specs.Expressions.{path_from, expression}
 use Rattle.st_parser.specs.Labels.{labels}
 use Rattle.st_parser.specs.Iterations.{iteration_from}
@@ -44,12 +41,6 @@ begun labelled turns expr nested_of (mark m ∷ ts) =
     else (if same_mark m If then Some (nested_of openers.If ts)
     else (if same_mark m Case then Some (nested_of openers.Case ts) else None))
 begun labelled turns expr nested_of ts = None
-
--- what a function that begins a statement answers
-abbrev pub Begins : {X : Type 0} → (X → Stmt) → List Tok → Result (Option (X × ℕ)) Stop → Begun → Type 0
-Begins view toks (Ok None) begun = begun ≡ None
-Begins view toks (Ok (Some x)) begun = begun ≡ Some (Some (view x.0, ahead toks x.1))
-Begins view toks (Err e) begun = e ≢ Memory → begun ≡ Some None
 
 abbrev pub statements_step : (Stmts → Read Stmts) → Stmts → List Symbol → Begun → Option (Stmts × List Symbol)
 statements_step more_of ss ts None = Some (ss, ts)

@@ -1,18 +1,65 @@
-// Declarations of variables (IEC 61131-3, 2.4.3).
+// Declarations of variables (IEC 61131-3, 2.4.3), and the types that are spelled there.
 ghost use Rattle.std.specs.Prelude.{◌≡◌, [], length};
 ghost use Rattle.st_tree.specs.SyntaxView as view;
 ghost use Rattle.st_parser.specs.Declarations as spec;
 ghost use Rattle.st_parser.specs.Reading.{Gives, ahead, given};
 
-use crate::cursor::{after, expect, named, refuse, token, upper};
+use crate::cursor::{after, expect, named, opened, refuse, token, upper};
 use crate::fault::Stop;
-use crate::initial::initial;
-use st_tree::{Declaration, Mark, Name, Section, Terminal, Tok, TypeName, Variables};
+use crate::initial::{initial, initial_value};
+use st_tree::{
+    Bounds, Declaration, Elementary, Mark, Name, Section, Terminal, Tok, TypeName, Variables,
+};
 use std::alloc::Global;
 
-/// A type: an elementary one, or one by name.
+/// The bounds of a subrange, from the place behind its parenthesis, which stands at `place` in the text.
+#[tactic(auto, unfolding(crate::specs::Declarations::bounds))]
+fn bounds(
+    alloc: Global,
+    place: usize,
+    toks: &[Tok<'_>],
+    end: usize,
+    at: usize,
+) -> Result<(Bounds, usize), Stop>
+    ensures { Gives view.bounds_view toks.now result (spec.bounds place (ahead toks.now at)) }
+{
+    let (low, at) = initial_value(alloc, toks, end, at)?;
+    let at = expect(Mark::Range, toks, end, at)?;
+    let (high, at) = initial_value(alloc, toks, end, at)?;
+    let at = expect(Mark::Close, toks, end, at)?;
+    let found = Bounds {
+        at: place,
+        low,
+        high,
+    };
+    Ok((found, at))
+}
+
+/// A type from the place behind an elementary one, which stands at `place` in the text: a subrange of it, or itself.
+#[tactic(auto, unfolding(crate::specs::Declarations::ranged))]
+fn ranged(
+    alloc: Global,
+    kind: Elementary,
+    place: usize,
+    toks: &[Tok<'_>],
+    end: usize,
+    at: usize,
+) -> Result<(TypeName, usize), Stop>
+    ensures { Gives view.type_view toks.now result (spec.ranged kind place (ahead toks.now at)) }
+{
+    match opened(toks, at) {
+        Some((parenthesis, at)) => {
+            let (found, at) = bounds(alloc, parenthesis, toks, end, at)?;
+            let found = Box::new(alloc, found)?;
+            Ok((TypeName::Subrange(kind, place, found), at))
+        }
+        None => Ok((TypeName::Elementary(kind, place), at)),
+    }
+}
+
+/// A type: an elementary one, a subrange of one, or one by name.
 #[tactic(auto, unfolding(crate::specs::Declarations::type_of))]
-fn type_name(
+pub fn type_name(
     alloc: Global,
     toks: &[Tok<'_>],
     end: usize,
@@ -24,7 +71,7 @@ fn type_name(
         return Err(refuse(toks, end, at));
     };
     match first.terminal {
-        Terminal::Type(kind) => Ok((TypeName::Elementary(kind, first.at), at + 1)),
+        Terminal::Type(kind) => ranged(alloc, kind, first.at, toks, end, at + 1),
         Terminal::Name => {
             let name = upper(alloc, first.slice, first.at)?;
             Ok((TypeName::Named(name), at + 1))
@@ -34,7 +81,7 @@ fn type_name(
 }
 
 /// The names behind commas.
-fn others(
+pub fn others(
     alloc: Global,
     toks: &[Tok<'_>],
     end: usize,

@@ -8,7 +8,7 @@ ghost use Rattle.st_tree.specs.Levels.{IsFileLevelled};
 ghost use Rattle.st_parser.specs.Files as spec;
 ghost use Rattle.st_parser.specs.Files.{GivesFile};
 ghost use Rattle.st_parser.specs.WholeFile.{IsFile, IsFileFault};
-ghost use Rattle.st_parser.specs.Reading.{Gives, ahead};
+ghost use Rattle.st_parser.specs.Reading.{Begins, Gives, ahead};
 
 use crate::cursor::{after, expect, named, token};
 use crate::declaration::variables;
@@ -16,7 +16,8 @@ use crate::fault::Stop;
 use crate::nesting::first_fault;
 use crate::parse::DEPTH;
 use crate::statement::statements;
-use st_tree::{Body, ChartReader, Mark, ParseFault, Pou, SourceFile, Tok};
+use crate::types::types;
+use st_tree::{Body, ChartReader, Item, Mark, ParseFault, Pou, SourceFile, Tok};
 use std::alloc::Global;
 
 /// What a program does: so far statements, since the words of charts are left out.
@@ -45,21 +46,41 @@ fn program(alloc: Global, toks: &[Tok<'_>], end: usize, at: usize) -> Result<(Po
     Ok((found, at))
 }
 
-/// The programs that follow.
-fn programs(
+/// What the word at a place begins, types or a program, or None where it is neither TYPE nor PROGRAM.
+#[tactic(auto, unfolding(crate::specs::Files::item))]
+fn item(
+    alloc: Global,
+    toks: &[Tok<'_>],
+    end: usize,
+    at: usize,
+) -> Result<Option<(Item, usize)>, Stop>
+    ensures { Begins view.item_view toks.now result (spec.item (length toks.now) DEPTH (ahead toks.now at)) }
+{
+    if let Some(at) = after(Mark::Type, toks, at) {
+        let (found, at) = types(alloc, toks, end, at)?;
+        return Ok(Some((Item::Types(found), at)));
+    }
+    let Some(at) = after(Mark::Program, toks, at) else {
+        return Ok(None);
+    };
+    let (found, at) = program(alloc, toks, end, at)?;
+    Ok(Some((Item::Pou(found), at)))
+}
+
+/// The types and programs that follow.
+fn items(
     alloc: Global,
     toks: &[Tok<'_>],
     end: usize,
     mut at: usize,
-) -> Result<(Vec<Pou>, usize), Stop>
-    ensures { Gives (λ v. view.pous_view v.items) toks.now result (spec.programs (length toks.now) DEPTH (length toks.now) [] (ahead toks.now at)) }
+) -> Result<(Vec<Item>, usize), Stop>
+    ensures { Gives (λ v. view.items_view v.items) toks.now result (spec.items (length toks.now) DEPTH (length toks.now) [] (ahead toks.now at)) }
 {
     let mut found = Vec::new(alloc);
     for _turn in 0..toks.len() {
-        let Some(next) = after(Mark::Program, toks, at) else {
+        let Some((next, behind)) = item(alloc, toks, end, at)? else {
             return Ok((found, at));
         };
-        let (next, behind) = program(alloc, toks, end, next)?;
         found.push(next)?;
         at = behind;
     }
@@ -71,10 +92,10 @@ fn programs(
 fn whole(alloc: Global, toks: &[Tok<'_>], end: usize) -> Result<SourceFile, Stop>
     ensures { GivesFile result (spec.file (length toks.now) DEPTH (ahead toks.now 0)) }
 {
-    let (pous, at) = programs(alloc, toks, end, 0)?;
+    let (items, at) = items(alloc, toks, end, 0)?;
     match token(toks, at) {
         Some(next) => Err(Stop::NoTree(next.at)),
-        None => Ok(SourceFile { pous }),
+        None => Ok(SourceFile { items }),
     }
 }
 

@@ -1,4 +1,5 @@
-// From tokens to exactly the tree that prints them: expressions, statements and whole files, in both directions.
+// From tokens to exactly the tree that prints them, in both directions: expressions, statements, and whole files of
+// types and programs.
 #![tactic(auto)]
 
 mod call;
@@ -15,6 +16,7 @@ mod parse;
 mod path;
 mod selection;
 mod statement;
+mod types;
 
 pub use file::{one_file, parse_file};
 pub use nesting::{first_by_place, first_fault};

@@ -2,7 +2,7 @@
 ghost use Rattle.std.specs.Prelude.{◌≡◌, true, false, length, IfOk};
 ghost use Rattle.st_tree.specs.SyntaxView as view;
 ghost use Rattle.st_tree.specs.Syntax as syntax;
-ghost use Rattle.st_parser.specs.Reading.{Gives, ahead};
+ghost use Rattle.st_parser.specs.Reading.{Begins, Gives, ahead};
 ghost use Rattle.st_parser.specs.Expressions.{expression};
 ghost use Rattle.st_parser.specs.Statements as spec;
 
@@ -54,7 +54,7 @@ fn begun(
     depth: usize,
     labelled: bool,
 ) -> Result<Option<(Stmt, usize)>, Stop>
-    ensures { spec.Begins view.stmt_view toks.now result (spec.begun labelled (length toks.now) (expression (length toks.now) depth) (spec.nested (length toks.now) depth) (ahead toks.now at)) }
+    ensures { Begins view.stmt_view toks.now result (spec.begun labelled (length toks.now) (expression (length toks.now) depth) (spec.nested (length toks.now) depth) (ahead toks.now at)) }
 {
     let Some(first) = token(toks, at) else {
         return Ok(None);

@@ -12,9 +12,13 @@ const END: usize = 99;
 
 fn terminal(slice: &str) -> Terminal {
     match slice {
+        "0" => Terminal::Number(0),
         "1" => Terminal::Number(1),
+        "3" => Terminal::Number(3),
+        "5" => Terminal::Number(5),
         "TRUE" => Terminal::Truth(true),
         "SINT" => Terminal::Type(Elementary::Sint),
+        "INT" => Terminal::Type(Elementary::Int),
         "NOT" => Terminal::Not,
         "OR" => Terminal::Operator(Operator::Or),
         "=" => Terminal::Operator(Operator::Equal),
@@ -43,17 +47,22 @@ fn terminal(slice: &str) -> Terminal {
         "BY" => Terminal::Mark(Mark::By),
         "DO" => Terminal::Mark(Mark::Do),
         "END_FOR" => Terminal::Mark(Mark::EndFor),
+        "PROGRAM" => Terminal::Mark(Mark::Program),
         "END_PROGRAM" => Terminal::Mark(Mark::EndProgram),
+        "VAR" => Terminal::Mark(Mark::Var),
+        "END_VAR" => Terminal::Mark(Mark::EndVar),
+        "TYPE" => Terminal::Mark(Mark::Type),
+        "END_TYPE" => Terminal::Mark(Mark::EndType),
         "WHILE" => Terminal::LeftOut,
         _ => Terminal::Name,
     }
 }
 
-fn tokens<'a>(alloc: Global, words: &[(&'a str, usize)]) -> Result<Vec<Tok<'a>>, AllocError> {
+pub fn tokens<'a>(alloc: Global, words: &[(&'a str, usize)]) -> Result<Vec<Tok<'a>>, AllocError> {
     let mut found = Vec::new(alloc);
     for &(slice, at) in words {
         let kind = match slice {
-            "1" => Kind::Number,
+            "0" | "1" | "3" | "5" => Kind::Number,
             _ => Kind::Word,
         };
         found.push(Tok {
@@ -66,7 +75,7 @@ fn tokens<'a>(alloc: Global, words: &[(&'a str, usize)]) -> Result<Vec<Tok<'a>>,
     Ok(found)
 }
 
-fn no_tree(at: usize) -> Option<Refusal> {
+pub fn no_tree(at: usize) -> Option<Refusal> {
     Some(Refusal {
         rule: Rule::NoTree,
         at,

@@ -4,7 +4,7 @@ use Rattle.st_tree.specs.declared.token.Operator.{Operator}
 use Rattle.st_tree.specs.declared.token.Operator.TheVariants as ops
 use Rattle.st_tree.specs.declared.syntax.UnaryOperator.TheVariants as signs
 use Rattle.st_tree.specs.declared.syntax.Literal.TheVariants as literals
-use Rattle.st_tree.specs.Syntax.{Tree, literal, path, enumerator, paren, unary, chain, call, Links, no_links, link, Arguments, no_arguments, argument, Stmt, empty, assign, branch, cases, iterate, Stmts, no_stmts, stmt, Arms, no_arms, arm, Entries, no_entries, entry, Otherwise, no_else, else_stmts, LabelData, IterationData, DeclarationData, VariablesData, BodyData, statements, chart as chart_body, PouData, FileData}
+use Rattle.st_tree.specs.Syntax.{Tree, literal, path, enumerator, paren, unary, chain, call, Links, no_links, link, Arguments, no_arguments, argument, Stmt, empty, assign, branch, cases, iterate, Stmts, no_stmts, stmt, Arms, no_arms, arm, Entries, no_entries, entry, Otherwise, no_else, else_stmts, LabelData, IterationData, TypeData, of_elementary, of_subrange, of_name, SpecificationData, of_type, of_values, TypeDeclarationData, DeclarationData, VariablesData, BodyData, statements, chart as chart_body, PouData, ItemData, types, pou, FileData}
 
 -- how loosely an operator binds
 abbrev pub level_of : Operator → ℕ
@@ -133,9 +133,23 @@ abbrev mutual
   IsElseLevelled no_else = Unit {0}
   IsElseLevelled (else_stmts ss) = AreStmtsLevelled ss
 
+-- the bounds of a subrange are constants
+abbrev pub IsTypeFormed : TypeData → Type 0
+IsTypeFormed (of_elementary kind at) = Unit {0}
+IsTypeFormed (of_subrange kind at b) = IsConstant b.low × IsConstant b.high
+IsTypeFormed (of_name n) = Unit {0}
+
 abbrev pub AreDeclarationsFormed : List DeclarationData → Type 0
 AreDeclarationsFormed [] = Unit {0}
-AreDeclarationsFormed (d ∷ ds) = IsInitialFormed d.initial × AreDeclarationsFormed ds
+AreDeclarationsFormed (d ∷ ds) = IsTypeFormed d.kind × IsInitialFormed d.initial × AreDeclarationsFormed ds
+
+abbrev pub IsSpecificationFormed : SpecificationData → Type 0
+IsSpecificationFormed (of_type t) = IsTypeFormed t
+IsSpecificationFormed (of_values at first others) = Unit {0}
+
+abbrev pub AreTypesFormed : List TypeDeclarationData → Type 0
+AreTypesFormed [] = Unit {0}
+AreTypesFormed (d ∷ ds) = IsSpecificationFormed d.specification × AreTypesFormed ds
 
 abbrev pub AreVariablesFormed : List VariablesData → Type 0
 AreVariablesFormed [] = Unit {0}
@@ -145,6 +159,10 @@ abbrev pub IsBodyLevelled : BodyData → Type 0
 IsBodyLevelled (statements ss) = AreStmtsLevelled ss
 IsBodyLevelled (chart_body c) = ⊥
 
+abbrev pub IsItemLevelled : ItemData → Type 0
+IsItemLevelled (types ds) = AreTypesFormed ds
+IsItemLevelled (pou p) = AreVariablesFormed p.variables × IsBodyLevelled p.body
+
 abbrev pub IsFileLevelled : FileData → Type 0
 IsFileLevelled [] = Unit {0}
-IsFileLevelled (p ∷ ps) = AreVariablesFormed p.variables × IsBodyLevelled p.body × IsFileLevelled ps
+IsFileLevelled (i ∷ is) = IsItemLevelled i × IsFileLevelled is

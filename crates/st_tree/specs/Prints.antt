@@ -9,7 +9,7 @@ use Rattle.st_tree.specs.declared.syntax.UnaryOperator.{UnaryOperator}
 use Rattle.st_tree.specs.declared.syntax.UnaryOperator.TheVariants as signs
 use Rattle.st_tree.specs.declared.syntax.Section.{Section}
 use Rattle.st_tree.specs.declared.syntax.Section.TheVariants as sections
-use Rattle.st_tree.specs.Syntax.{Symbol, name, number, truth, elementary, negation, operator, opening, iteration, mark, Named, PathData, Tree, literal, path, enumerator, paren, unary, chain, call, Links, no_links, link, Arguments, no_arguments, argument, Stmt, empty, assign, branch, cases, iterate, Stmts, no_stmts, stmt, Arms, no_arms, arm, Entries, no_entries, entry, Otherwise, no_else, else_stmts, LabelData, IterationData, TypeData, of_elementary, of_name, DeclarationData, VariablesData, BodyData, statements, chart as chart_body, PouData, FileData}
+use Rattle.st_tree.specs.Syntax.{Symbol, name, number, truth, elementary, negation, operator, opening, iteration, mark, Named, PathData, Tree, literal, path, enumerator, paren, unary, chain, call, Links, no_links, link, Arguments, no_arguments, argument, Stmt, empty, assign, branch, cases, iterate, Stmts, no_stmts, stmt, Arms, no_arms, arm, Entries, no_entries, entry, Otherwise, no_else, else_stmts, LabelData, IterationData, BoundsData, TypeData, of_elementary, of_subrange, of_name, SpecificationData, of_type, of_values, TypeDeclarationData, DeclarationData, VariablesData, BodyData, statements, chart as chart_body, PouData, ItemData, types, pou, FileData}
 
 abbrev pub name_symbol : Named → Symbol
 name_symbol n = name n.text n.at
@@ -118,16 +118,20 @@ abbrev pub print_others : List Named → List Symbol
 print_others [] = []
 print_others (n ∷ ns) = mark marks.Comma ∷ name_symbol n ∷ print_others ns
 
-abbrev pub type_symbol : TypeData → Symbol
-type_symbol (of_elementary kind at) = elementary kind at
-type_symbol (of_name n) = name_symbol n
+abbrev pub print_bounds : BoundsData → List Symbol
+print_bounds b = opening b.at ∷ (print b.low ++ mark marks.Range ∷ (print b.high ++ mark marks.Close ∷ []))
+
+abbrev pub print_type : TypeData → List Symbol
+print_type (of_elementary kind at) = elementary kind at ∷ []
+print_type (of_subrange kind at b) = elementary kind at ∷ print_bounds b
+print_type (of_name n) = name_symbol n ∷ []
 
 abbrev pub print_initial : Option Tree → List Symbol
 print_initial None = []
 print_initial (Some e) = mark marks.Assign ∷ print e
 
 abbrev pub print_declaration : DeclarationData → List Symbol
-print_declaration d = name_symbol d.first ∷ (print_others d.others ++ mark marks.Colon ∷ type_symbol d.kind ∷ (print_initial d.initial ++ mark marks.Semicolon ∷ []))
+print_declaration d = name_symbol d.first ∷ (print_others d.others ++ mark marks.Colon ∷ (print_type d.kind ++ print_initial d.initial ++ mark marks.Semicolon ∷ []))
 
 abbrev pub print_declarations : List DeclarationData → List Symbol
 print_declarations [] = []
@@ -151,6 +155,18 @@ print_body (chart_body c) = absurd c
 abbrev pub print_pou : PouData → List Symbol
 print_pou p = mark marks.Program ∷ name_symbol p.name ∷ (print_variables p.variables ++ (print_body p.body ++ mark marks.EndProgram ∷ []))
 
+abbrev pub print_specification : SpecificationData → List Symbol
+print_specification (of_type t) = print_type t
+print_specification (of_values at first others) = opening at ∷ name_symbol first ∷ (print_others others ++ mark marks.Close ∷ [])
+
+abbrev pub print_types : List TypeDeclarationData → List Symbol
+print_types [] = []
+print_types (d ∷ ds) = name_symbol d.name ∷ mark marks.Colon ∷ (print_specification d.specification ++ mark marks.Semicolon ∷ print_types ds)
+
+abbrev pub print_item : ItemData → List Symbol
+print_item (types ds) = mark marks.Type ∷ (print_types ds ++ mark marks.EndType ∷ [])
+print_item (pou p) = print_pou p
+
 abbrev pub print_file : FileData → List Symbol
 print_file [] = []
-print_file (p ∷ ps) = print_pou p ++ print_file ps
+print_file (i ∷ is) = print_item i ++ print_file is

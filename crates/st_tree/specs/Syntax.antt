@@ -88,10 +88,27 @@ mutual
     no_else : Otherwise
     else_stmts : Stmts → Otherwise
 
+-- the bounds of a subrange, and the place of the parenthesis before them
+pub record BoundsData : Type 0 where
+  pub at : ℕ
+  pub low : Tree
+  pub high : Tree
+
 -- the type of a declared variable
 pub data TypeData : Type 0 where
   of_elementary : Elementary → ℕ → TypeData
+  of_subrange : Elementary → ℕ → BoundsData → TypeData
   of_name : Named → TypeData
+
+-- what a declared type is: a type as that of a variable, or an enumeration, with the place of its parenthesis, its first value
+-- and the others
+pub data SpecificationData : Type 0 where
+  of_type : TypeData → SpecificationData
+  of_values : ℕ → Named → List Named → SpecificationData
+
+pub record TypeDeclarationData : Type 0 where
+  pub name : Named
+  pub specification : SpecificationData
 
 -- variables of one type, and the value that they begin with
 pub record DeclarationData : Type 0 where
@@ -115,6 +132,11 @@ pub record PouData : Type 0 where
   pub variables : List VariablesData
   pub body : BodyData
 
+-- what a file declares in one place: types, or a POU
+pub data ItemData : Type 0 where
+  types : List TypeDeclarationData → ItemData
+  pou : PouData → ItemData
+
 -- all that a text declares, in its order
 abbrev pub FileData : Type 0
-FileData = List PouData
+FileData = List ItemData

@@ -20,16 +20,22 @@ use Rattle.st_tree.specs.declared.syntax.Label.{Label}
 use Rattle.st_tree.specs.declared.syntax.Iteration.{Iteration}
 use Rattle.st_tree.specs.declared.syntax.Stmt.TheOpen.{Stmt-F, Arm-F, Entry-F}
 use Rattle.st_tree.specs.declared.syntax.Stmt.TheFolds.{fold-Stmt, fold-Arm, fold-Entry}
+use Rattle.st_tree.specs.declared.syntax.Bounds.{Bounds}
 use Rattle.st_tree.specs.declared.syntax.TypeName.{TypeName}
 use Rattle.st_tree.specs.declared.syntax.TypeName.TheVariants as type_names
+use Rattle.st_tree.specs.declared.syntax.Specification.{Specification}
+use Rattle.st_tree.specs.declared.syntax.Specification.TheVariants as specifications
+use Rattle.st_tree.specs.declared.syntax.TypeDeclaration.{TypeDeclaration}
 use Rattle.st_tree.specs.declared.syntax.Declaration.{Declaration}
 use Rattle.st_tree.specs.declared.syntax.Variables.{Variables}
 use Rattle.st_tree.specs.declared.syntax.Chart.{Chart}
 use Rattle.st_tree.specs.declared.syntax.Body.{Body}
 use Rattle.st_tree.specs.declared.syntax.Body.TheVariants as bodies
 use Rattle.st_tree.specs.declared.syntax.Pou.{Pou}
+use Rattle.st_tree.specs.declared.syntax.Item.{Item}
+use Rattle.st_tree.specs.declared.syntax.Item.TheVariants as items
 use Rattle.st_tree.specs.declared.syntax.SourceFile.{SourceFile}
-use Rattle.st_tree.specs.Syntax.{Symbol, name, number, truth, elementary, negation, operator, opening, iteration, mark, left_out, Named, PathData, Tree, literal, path, enumerator, paren, unary, chain, call, Links, no_links, link, Arguments, no_arguments, argument, Stmt, empty, assign, branch, cases, iterate, Stmts, no_stmts, stmt, Arms, no_arms, arm, Entries, no_entries, entry, Otherwise, no_else, else_stmts, LabelData, IterationData, TypeData, of_elementary, of_name, DeclarationData, VariablesData, BodyData, statements, chart as chart_body, PouData, FileData}
+use Rattle.st_tree.specs.Syntax.{Symbol, name, number, truth, elementary, negation, operator, opening, iteration, mark, left_out, Named, PathData, Tree, literal, path, enumerator, paren, unary, chain, call, Links, no_links, link, Arguments, no_arguments, argument, Stmt, empty, assign, branch, cases, iterate, Stmts, no_stmts, stmt, Arms, no_arms, arm, Entries, no_entries, entry, Otherwise, no_else, else_stmts, LabelData, IterationData, BoundsData, TypeData, of_elementary, of_subrange, of_name, SpecificationData, of_type, of_values, TypeDeclarationData, DeclarationData, VariablesData, BodyData, statements, chart as chart_body, PouData, ItemData, types, pou, FileData}
 
 -- a text in upper case
 abbrev pub upper : List ℕ → List ℕ
@@ -181,9 +187,23 @@ abbrev pub else_view : Option (Vec StmtTree Global) → Otherwise
 else_view None = no_else
 else_view (Some ss) = else_stmts (stmts_view ss.items)
 
+abbrev pub bounds_view : Bounds → BoundsData
+bounds_view b = record { at = b.at; low = tree_view b.low; high = tree_view b.high }
+
 abbrev pub type_view : TypeName → TypeData
 type_view (type_names.Elementary kind at) = of_elementary kind at
+type_view (type_names.Subrange kind at b) = of_subrange kind at (bounds_view b.value)
 type_view (type_names.Named n) = of_name (name_view n)
+
+abbrev pub specification_view : Specification → SpecificationData
+specification_view (specifications.Type t) = of_type (type_view t)
+specification_view (specifications.Enumeration at first others) = of_values at (name_view first) (names_view others.items)
+
+abbrev pub type_declaration_view : TypeDeclaration → TypeDeclarationData
+type_declaration_view d = record { name = name_view d.name; specification = specification_view d.specification }
+
+abbrev pub type_declarations_view : List TypeDeclaration → List TypeDeclarationData
+type_declarations_view ds = map type_declaration_view ds
 
 abbrev pub declaration_view : Declaration → DeclarationData
 declaration_view d = record { first = name_view d.first; others = names_view d.others.items; kind = type_view d.kind; initial = initial_view d.initial }
@@ -204,8 +224,12 @@ body_view (bodies.Chart c) = elim c [ ]
 abbrev pub pou_view : Pou → PouData
 pou_view p = record { name = name_view p.name; variables = all_variables_view p.variables.items; body = body_view p.body }
 
-abbrev pub pous_view : List Pou → FileData
-pous_view ps = map pou_view ps
+abbrev pub item_view : Item → ItemData
+item_view (items.Types ds) = types (type_declarations_view ds.items)
+item_view (items.Pou p) = pou (pou_view p)
+
+abbrev pub items_view : List Item → FileData
+items_view is = map item_view is
 
 abbrev pub file_view : SourceFile → FileData
-file_view f = pous_view f.pous.items
+file_view f = items_view f.items.items

@@ -18,7 +18,9 @@ Entry = List ℕ × Terminal
 -- reserved words of which trees keep neither the spelling nor the place
 abbrev pub mark_words : List Entry
 mark_words =
-    (codes "PROGRAM", terminals.Mark marks.Program)
+    (codes "TYPE", terminals.Mark marks.Type)
+    ∷ (codes "END_TYPE", terminals.Mark marks.EndType)
+    ∷ (codes "PROGRAM", terminals.Mark marks.Program)
     ∷ (codes "END_PROGRAM", terminals.Mark marks.EndProgram)
     ∷ (codes "VAR", terminals.Mark marks.Var)
     ∷ (codes "VAR_INPUT", terminals.Mark marks.VarInput)
@@ -84,8 +86,7 @@ left_out_words =
 -- words of the language that are not let in yet
 abbrev pub later_words : List (List ℕ)
 later_words =
-    codes "TYPE" ∷ codes "END_TYPE"
-    ∷ codes "FUNCTION" ∷ codes "END_FUNCTION" ∷ codes "FUNCTION_BLOCK" ∷ codes "END_FUNCTION_BLOCK"
+    codes "FUNCTION" ∷ codes "END_FUNCTION" ∷ codes "FUNCTION_BLOCK" ∷ codes "END_FUNCTION_BLOCK"
     ∷ codes "INITIAL_STEP" ∷ codes "STEP" ∷ codes "END_STEP" ∷ codes "TRANSITION" ∷ codes "END_TRANSITION"
     ∷ codes "ACTION" ∷ codes "END_ACTION"
     ∷ []

@@ -1,6 +1,7 @@
 -- Programs as plain data. Paths and names are in upper case, and a variable is the place of its cell.
-use Rattle.std.specs.Prelude.{ℕ, ℤ, List}
+use Rattle.std.specs.Prelude.{ℕ, ℤ, List, Bool}
 use Rattle.st_tree.specs.declared.elementary.Elementary.{Elementary}
+use Rattle.st_tree.specs.declared.data_type.DataType.{DataType}
 use Rattle.st_tree.specs.declared.token.Operator.{Operator}
 use Rattle.st_tree.specs.declared.syntax.UnaryOperator.{UnaryOperator}
 use Rattle.st_tree.specs.declared.function.Function.{Function}
@@ -46,17 +47,20 @@ mutual
     no_entries : Entries
     entry : List Range → Statements → Entries → Entries
 
--- a cell: its path, its part, its type, its range, and the value that it begins with
+-- a cell: its path, its part, its type, its range, whether its type is a subrange, and the value that it begins with
 pub record CellData : Type 0 where
   pub path : List ℕ
   pub part : Part
-  pub kind : Elementary
+  pub kind : DataType
   pub range : Range
+  pub limited : Bool
   pub initial : ℤ
 
--- a PROGRAM: its name, its cells, FAULT first, the names of its constants, and its body
+-- a PROGRAM: its name, its cells, FAULT first, the names of its constants, the names of the values of each type that its file
+-- declares, which only an enumeration has, and its body
 pub record ProgramData : Type 0 where
   pub name : List ℕ
   pub cells : List CellData
   pub constants : List (List ℕ)
+  pub types : List (List (List ℕ))
   pub body : Statements

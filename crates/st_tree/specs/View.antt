@@ -1,5 +1,5 @@
 -- The data that programs stand for.
-use Rattle.std.specs.Prelude.{ℕ, String, List, [], ◌∷◌, map, string_bytes}
+use Rattle.std.specs.Prelude.{ℕ, String, List, [], ◌∷◌, map, string_bytes, Vec}
 use Rattle.std.specs.declared.alloc.Global.{Global}
 use Rattle.st_tree.specs.declared.elementary.Elementary.{Elementary}
 use Rattle.st_tree.specs.declared.token.Operator.{Operator}
@@ -105,7 +105,7 @@ abbrev pub entries_view : List TypedEntry → Entries
 entries_view es = entries_of (map entry_view es)
 
 abbrev pub cell_view : Cell → CellData
-cell_view c = record { path = string_bytes c.path; part = c.part; kind = c.kind; range = c.range; initial = c.initial }
+cell_view c = record { path = string_bytes c.path; part = c.part; kind = c.kind; range = c.range; limited = c.limited; initial = c.initial }
 
 abbrev pub cells_view : List Cell → List CellData
 cells_view cs = map cell_view cs
@@ -116,5 +116,8 @@ text_view s = string_bytes s
 abbrev pub texts_view : List (String Global) → List (List ℕ)
 texts_view ss = map text_view ss
 
+abbrev pub lists_of_texts : List (Vec (String Global) Global) → List (List (List ℕ))
+lists_of_texts vs = map (λ v. texts_view v.items) vs
+
 abbrev pub program_view : Program → ProgramData
-program_view p = record { name = string_bytes p.name; cells = cells_view p.cells.items; constants = texts_view p.constants.items; body = stmts_view p.body.items }
+program_view p = record { name = string_bytes p.name; cells = cells_view p.cells.items; constants = texts_view p.constants.items; types = lists_of_texts p.types.items; body = stmts_view p.body.items }

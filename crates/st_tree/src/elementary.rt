@@ -1,6 +1,6 @@
 // The elementary types.
 ghost use Rattle.std.specs.Prelude.{◌≡◌, ◌<◌, ◌≤◌};
-ghost use Rattle.st_tree.specs.Types.{width_of, is_signed};
+ghost use Rattle.st_tree.specs.Types.{width_of, is_signed, is_integer};
 
 /// An elementary type (IEC 61131-3, 2.3.1). Bit strings are read as unsigned numbers.
 #[derive(Clone, Copy, Debug, PartialEq, Eq)]
@@ -29,6 +29,17 @@ impl Elementary {
             Elementary::Sint | Elementary::Usint | Elementary::Byte => 8,
             Elementary::Int | Elementary::Uint | Elementary::Word => 16,
             Elementary::Dint | Elementary::Udint | Elementary::Dword => 32,
+        }
+    }
+
+    /// Whether it is one of the integer types.
+    pub fn is_integer(self) -> bool
+        ensures { result ≡ is_integer self }
+    {
+        match self {
+            Elementary::Sint | Elementary::Int | Elementary::Dint => true,
+            Elementary::Usint | Elementary::Uint | Elementary::Udint => true,
+            Elementary::Bool | Elementary::Byte | Elementary::Word | Elementary::Dword => false,
         }
     }
 

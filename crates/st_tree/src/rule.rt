@@ -35,6 +35,8 @@ pub enum Rule {
     DeclaredTwice,
     /// N2: a name is unknown. Its place is the name's.
     UnknownName,
+    /// N3: a type is declared in terms of itself, also through others. Its place is the type's name.
+    InTermsOfItself,
     /// N4: a name is of the wrong kind. Its place is the name's.
     WrongKind,
     /// N5: there is not exactly one PROGRAM. Its place is 0.
@@ -64,10 +66,14 @@ pub enum Rule {
     /// F4: a value of a FOR's control variable is outside its type, the one that ends the FOR included. Its
     /// place is the FOR's.
     OutsideControl,
+    /// M3: an enumeration has more than 256 values. Its place is the type's name.
+    TooManyValues,
     /// R4: a clause is not BOOL. Its place is its first token's.
     NotBool,
     /// M2: a program has more than 4,096 cells. Its place is 0.
     TooManyCells,
+    /// M5: the flat form of a program has more than 200,000 statements. Its place is 0.
+    TooManyStatements,
     /// M4: a relation has more than 4,096 candidates. Its place is 0.
     TooManyCandidates,
     /// J1: a trace is no JSON text of its shape. Its place is 0.
@@ -94,6 +100,7 @@ impl Rule {
             Rule::NoSide => "R3",
             Rule::DeclaredTwice => "N1",
             Rule::UnknownName => "N2",
+            Rule::InTermsOfItself => "N3",
             Rule::WrongKind => "N4",
             Rule::NotOneProgram => "N5",
             Rule::InputsDiffer => "P1",
@@ -108,8 +115,10 @@ impl Rule {
             Rule::StepZero => "F2",
             Rule::TooManyTurns => "F3",
             Rule::OutsideControl => "F4",
+            Rule::TooManyValues => "M3",
             Rule::NotBool => "R4",
             Rule::TooManyCells => "M2",
+            Rule::TooManyStatements => "M5",
             Rule::TooManyCandidates => "M4",
             Rule::NoTrace => "J1",
         }

@@ -130,11 +130,35 @@ pub struct Iteration {
     pub step: Option<Expr>,
 }
 
-/// A type where a variable is declared: an elementary one, or one by name.
+/// The bounds of a subrange, and the place of the parenthesis before them.
+#[derive(Drop)]
+pub struct Bounds {
+    pub at: usize,
+    pub low: Expr,
+    pub high: Expr,
+}
+
+/// A type where a variable is declared (IEC 61131-3, 2.3): an elementary one, a subrange of one, or one by name.
 #[derive(Drop)]
 pub enum TypeName {
     Elementary(Elementary, usize),
+    Subrange(Elementary, usize, Box<Bounds>),
     Named(Name),
+}
+
+/// What a declared type is (IEC 61131-3, 2.3.3): a type that is spelled as that of a variable, or an enumeration, with the place
+/// of its parenthesis and the names of its values, of which there is at least one.
+#[derive(Drop)]
+pub enum Specification {
+    Type(TypeName),
+    Enumeration(usize, Name, Vec<Name>),
+}
+
+/// A type by its name, and what it is.
+#[derive(Drop)]
+pub struct TypeDeclaration {
+    pub name: Name,
+    pub specification: Specification,
 }
 
 /// Variables of one type, and the value that they begin with (IEC 61131-3, 2.4.3).
@@ -182,8 +206,15 @@ pub struct Pou {
     pub body: Body,
 }
 
+/// What a file declares in one place: types, from TYPE to END_TYPE, or a program organization unit.
+#[derive(Drop)]
+pub enum Item {
+    Types(Vec<TypeDeclaration>),
+    Pou(Pou),
+}
+
 /// All that a text declares, in its order.
 #[derive(Drop)]
 pub struct SourceFile {
-    pub pous: Vec<Pou>,
+    pub items: Vec<Item>,
 }

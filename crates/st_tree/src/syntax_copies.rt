@@ -1,11 +1,12 @@
 // Copies of trees of a text: each stands for the same data.
 ghost use Rattle.std.specs.Prelude.{◌≡◌, map, option_map, IfOk};
-ghost use Rattle.st_tree.specs.SyntaxView.{name_view, names_view, path_view, tree_view, link_view, links_view, argument_view, arguments_view, stmt_view, stmts_view, arm_view, arms_view, label_view, labels_view, entry_view, entries_view, iteration_view, else_view, type_view, initial_view, declaration_view, declarations_view, variables_view, all_variables_view, body_view, pou_view, pous_view, file_view};
+ghost use Rattle.st_tree.specs.SyntaxView.{name_view, names_view, path_view, tree_view, link_view, links_view, argument_view, arguments_view, stmt_view, stmts_view, arm_view, arms_view, label_view, labels_view, entry_view, entries_view, iteration_view, else_view, initial_view, declaration_view, declarations_view, variables_view, all_variables_view, body_view, pou_view, item_view, items_view, file_view};
 
 use crate::syntax::{
-    Argument, Arm, Body, Declaration, Entry, Expr, Iteration, Label, Link, Name, Path, Pou,
-    SourceFile, Stmt, TypeName, Variables,
+    Argument, Arm, Body, Declaration, Entry, Expr, Item, Iteration, Label, Link, Name, Path, Pou,
+    SourceFile, Stmt, Variables,
 };
+use crate::type_copies::copy_types;
 use std::alloc::{AllocError, Global};
 
 #[cfg(test)]
@@ -21,7 +22,7 @@ impl Name {
     }
 }
 
-fn copy_names(alloc: Global, names: &[Name]) -> Result<Vec<Name>, AllocError>
+pub(crate) fn copy_names(alloc: Global, names: &[Name]) -> Result<Vec<Name>, AllocError>
     ensures { IfOk result (λ v. names_view v.items ≡ names_view names.now) }
 {
     let mut copies = Vec::new(alloc);
@@ -236,18 +237,6 @@ fn copy_arms(alloc: Global, arms: &[Arm]) -> Result<Vec<Arm>, AllocError>
     Ok(copies)
 }
 
-impl TypeName {
-    /// The same type.
-    pub fn copy(&self, alloc: Global) -> Result<TypeName, AllocError>
-        ensures { IfOk result (λ t. type_view t ≡ type_view self.now) }
-    {
-        match self {
-            TypeName::Elementary(kind, at) => Ok(TypeName::Elementary(*kind, *at)),
-            TypeName::Named(name) => Ok(TypeName::Named(name.copy(alloc)?)),
-        }
-    }
-}
-
 fn copy_initial(alloc: Global, initial: &Option<Expr>) -> Result<Option<Expr>, AllocError>
     ensures { IfOk result (λ i. initial_view i ≡ initial_view initial.now) }
 {
@@ -322,15 +311,27 @@ impl Pou {
     }
 }
 
+impl Item {
+    /// The same item.
+    pub fn copy(&self, alloc: Global) -> Result<Item, AllocError>
+        ensures { IfOk result (λ i. item_view i ≡ item_view self.now) }
+    {
+        match self {
+            Item::Types(types) => Ok(Item::Types(copy_types(alloc, types)?)),
+            Item::Pou(pou) => Ok(Item::Pou(pou.copy(alloc)?)),
+        }
+    }
+}
+
 impl SourceFile {
     /// The same file.
     pub fn copy(&self, alloc: Global) -> Result<SourceFile, AllocError>
         ensures { IfOk result (λ f. file_view f ≡ file_view self.now) }
     {
-        let mut pous = Vec::new(alloc);
-        for pou in &self.pous {
-            pous.push(pou.copy(alloc)?)?;
+        let mut items = Vec::new(alloc);
+        for item in &self.items {
+            items.push(item.copy(alloc)?)?;
         }
-        Ok(SourceFile { pous })
+        Ok(SourceFile { items })
     }
 }

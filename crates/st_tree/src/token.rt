@@ -32,6 +32,8 @@ pub enum Mark {
     Point,
     Range,
     Hash,
+    Type,
+    EndType,
     Program,
     EndProgram,
     Var,

@@ -1,4 +1,5 @@
 // Programs whose names are cells and whose operators have types.
+use crate::data_type::DataType;
 use crate::elementary::Elementary;
 use crate::function::Function;
 use crate::syntax::UnaryOperator;
@@ -77,22 +78,26 @@ pub struct Range {
     pub high: i64,
 }
 
-/// A cell: its path, the part that it plays, its type, its range, and the value that it begins with.
+/// A cell: its path, the part that it plays, its type, its range, whether its type is a subrange, which is another than the
+/// whole type even where it has the same range, and the value that the cell begins with.
 #[derive(Drop)]
 pub struct Cell {
     pub path: String,
     pub part: Part,
-    pub kind: Elementary,
+    pub kind: DataType,
     pub range: Range,
+    pub limited: bool,
     pub initial: i64,
 }
 
 /// A PROGRAM (IEC 61131-3, 2.5.3): its name, its cells, FAULT first and then the variables as declared, the
-/// names of its constants, which have no cells, and its body.
+/// names of its constants, which have no cells, its file's types, each by the names of its values, which only an
+/// enumeration has, and its body.
 #[derive(Drop)]
 pub struct Program {
     pub name: String,
     pub cells: Vec<Cell>,
     pub constants: Vec<String>,
+    pub types: Vec<Vec<String>>,
     pub body: Vec<TypedStmt>,
 }

@@ -1,6 +1,6 @@
 // Copies of typed programs.
 ghost use Rattle.std.specs.Prelude.{◌≡◌, map, IfOk};
-ghost use Rattle.st_tree.specs.View.{expr_view, operand_view, stmt_view, arm_view, entry_view, cell_view, texts_view, program_view};
+ghost use Rattle.st_tree.specs.View.{expr_view, operand_view, stmt_view, arm_view, entry_view, cell_view, texts_view, lists_of_texts, program_view};
 
 use crate::typed::{Cell, Operand, Program, Range, TypedArm, TypedEntry, TypedExpr, TypedStmt};
 use std::alloc::{AllocError, Global};
@@ -143,6 +143,7 @@ impl Cell {
             part: self.part,
             kind: self.kind,
             range: self.range,
+            limited: self.limited,
             initial: self.initial,
         })
     }
@@ -169,6 +170,16 @@ fn copy_texts(texts: &[String], alloc: Global) -> Result<Vec<String>, AllocError
     Ok(copies)
 }
 
+fn copy_lists(lists: &[Vec<String>], alloc: Global) -> Result<Vec<Vec<String>>, AllocError>
+    ensures { IfOk result (λ copies. lists_of_texts copies.items ≡ lists_of_texts lists.now) }
+{
+    let mut copies = Vec::new(alloc);
+    for list in lists {
+        copies.push(copy_texts(list, alloc)?)?;
+    }
+    Ok(copies)
+}
+
 impl Program {
     /// An equal program.
     pub fn copy(&self, alloc: Global) -> Result<Program, AllocError>
@@ -178,6 +189,7 @@ impl Program {
             name: String::from_str(alloc, &self.name)?,
             cells: copy_cells(&self.cells, alloc)?,
             constants: copy_texts(&self.constants, alloc)?,
+            types: copy_lists(&self.types, alloc)?,
             body: copy_statements(&self.body, alloc)?,
         })
     }

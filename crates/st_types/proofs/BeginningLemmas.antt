@@ -2,6 +2,7 @@
 use Rattle.std.proofs.Common.{◌≡◌, ℕ, List, [], ◌∷◌, ◌++◌, Bool, true, false, if◌then◌else◌, refl, ap}
 use Rattle.st_tree.specs.Tree.{Statement, Statements, statement}
 use Rattle.st_tree.specs.View.{statements_of}
+use Rattle.st_tree.specs.Syntax.{FileData}
 use Rattle.st_names.specs.Scopes.{Variable}
 use Rattle.st_types.specs.Programs.{cell_behind}
 use Rattle.st_types.specs.TypedPrograms.{is_temporary, begun}
@@ -12,7 +13,7 @@ one_more : (b : Bool) (s : Statement) (list ss : List Statement) (all : Statemen
 one_more true s list ss all behind = ap (statement s) behind
 one_more false s list ss all behind = behind
 
-pub begun-list : (cell : ℕ) (vs : List Variable) (ss : List Statement) → statements_of (beginnings cell vs ++ ss) ≡ begun cell vs (statements_of ss)
-begun-list cell [] ss = refl
-begun-list cell (v ∷ vs) ss =
-    one_more (is_temporary v.section) (beginning cell v) (beginnings (cell_behind cell v) vs) ss (begun (cell_behind cell v) vs (statements_of ss)) (begun-list (cell_behind cell v) vs ss)
+pub begun-list : (f : FileData) (cell : ℕ) (vs : List Variable) (ss : List Statement) → statements_of (beginnings f cell vs ++ ss) ≡ begun f cell vs (statements_of ss)
+begun-list f cell [] ss = refl
+begun-list f cell (v ∷ vs) ss =
+    one_more (is_temporary v.section) (beginning f cell v) (beginnings f (cell_behind cell v) vs) ss (begun f (cell_behind cell v) vs (statements_of ss)) (begun-list f (cell_behind cell v) vs ss)

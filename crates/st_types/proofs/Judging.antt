@@ -1,12 +1,12 @@
 -- What judging tells of a construct, from what it tells of the parts.
 use Rattle.std.proofs.Common.{◌≡◌, ℕ, suc, length, map, arith, Bool, true, false, ◌&&◌, ◌+◌, if◌then◌else◌, List, [], ◌∷◌, ◌++◌, Option, Some, None, refl, sym, ap, ◌∙◌}
-use Rattle.st_tree.specs.declared.elementary.Elementary.{Elementary}
+use Rattle.st_tree.specs.declared.data_type.DataType.{DataType}
+use Rattle.st_tree.specs.DataTypes.{is_same_type}
 use Rattle.st_tree.specs.declared.rule.Rule.{Rule}
 use Rattle.st_tree.specs.declared.rule.Rule.TheVariants.{OperandType, ValueType, ArgumentCount, OutsideType}
 use Rattle.st_tree.specs.declared.function.StandardFunction.{StandardFunction}
 use Rattle.st_tree.specs.declared.rule.Refusal.{Refusal}
 use Rattle.st_tree.specs.declared.typed.Range.{Range}
-use Rattle.st_tree.specs.Rules.{first_in}
 use Rattle.st_tree.specs.declared.syntax.Literal.{Literal}
 use Rattle.st_tree.specs.declared.syntax.UnaryOperator.{UnaryOperator}
 use Rattle.st_tree.specs.Syntax.{PathData, Tree, unary, chain, Links, no_links, link, Arguments, no_arguments, argument, Stmt, empty, assign, branch, cases, iterate, Stmts, no_stmts, stmt, Arms, no_arms, arm, Entries, no_entries, entry, Otherwise, no_else, else_stmts, LabelData, IterationData}
@@ -15,14 +15,12 @@ use Rattle.st_tree.specs.declared.syntax.Argument.{Argument}
 use Rattle.st_tree.specs.SyntaxView.{ArgumentData, argument_view, arguments_view, arguments_of}
 use Rattle.st_tree.proofs.Refusals.{earlier-none, earlier-assoc, earlier-swap, first_in-append}
 use Rattle.st_names.specs.Broken.{alone}
-use Rattle.st_names.specs.Scopes.{Variable}
 use Rattle.st_types.specs.declared.outcome.Outcome.{Outcome}
-use Rattle.st_types.specs.Typing.{Meaning, Scope, kind_at, or_dint, type_of, operand_type, is_same, takes, next_type, Parameter, fixed, common, amount, parameter_of, common_type, takes_operands, takes_count, count_of, is_amount, place_of}
+use Rattle.st_types.specs.Typing.{Meaning, Scope, by_path, kind_at, or_dint, type_of, operand_type, takes, next_type, Parameter, fixed, common, amount, parameter_of, common_type, takes_operands, takes_count, count_of, is_amount, place_of}
 use Rattle.st_types.specs.Judged.{Judgement, sound, also, breaks, tested, takes_sign, negative_literal, judged_unary, wanted_at, fit_from, judged_amount, judged_call, judged, judged_links, judged_arguments, judged_alone, judged_condition}
 use Rattle.st_types.specs.Labels.{judged_label, judged_labels, seen_with, seen_behind}
 use Rattle.st_types.specs.JudgedStatements.{judged_target, judged_assign, judged_control, judged_bound, judged_step, is_typed, step_is_typed, judged_iteration, turns_rule, broken_by, with_control, judged_selector, judged_labels_if, judged_stmt, judged_stmts, judged_arms, judged_entries, judged_else}
-use Rattle.st_types.specs.Programs.{judged_variable, judged_variables}
-use Rattle.st_types.specs.Outcomes.{outcome_of, variables_outcome, both, tried, ruled, links_outcome, labels_outcome, all_labels, judged_selection, judged_turns, amount_outcome, arguments_outcome, alone_outcome, stmt_outcome, stmts_outcome, arms_outcome, bodies_outcome, else_outcome}
+use Rattle.st_types.specs.Outcomes.{outcome_of, both, tried, ruled, links_outcome, labels_outcome, all_labels, judged_selection, judged_turns, amount_outcome, arguments_outcome, alone_outcome, stmt_outcome, stmts_outcome, arms_outcome, bodies_outcome, else_outcome}
 
 pub outcome_of-also : (j k : Judgement) → outcome_of (also j k) ≡ both (outcome_of j) (outcome_of k)
 unfolding outcome_of both
@@ -38,11 +36,11 @@ pub outcome_of-tested : (j : Judgement) (holds : Bool) (rule : Rule) (at : ℕ) 
 outcome_of-tested j holds rule at = tested_by j j.whole holds rule at refl
 
 -- operators behind a left operand
-pub outcome_of-links : (scope : Scope) (t : Elementary) (left : Judgement) (ls : Links) → outcome_of (judged_links scope t left ls) ≡ links_outcome scope t (outcome_of left) ls
+pub outcome_of-links : (scope : Scope) (t : DataType) (left : Judgement) (ls : Links) → outcome_of (judged_links scope t left ls) ≡ links_outcome scope t (outcome_of left) ls
 outcome_of-links scope t left no_links = refl
 outcome_of-links scope t left (link o at e ls) =
     let right = judged scope (Some t) e in
-    let holds = takes o t && is_same (type_of scope (Some t) e) t in
+    let holds = takes o t && is_same_type (type_of scope (Some t) e) t in
     outcome_of-links scope (next_type o t) (tested (also left right) holds OperandType at) ls
     ∙ ap (λ (x : Outcome). links_outcome scope (next_type o t) x ls) (outcome_of-tested (also left right) holds OperandType at ∙ ap (λ (x : Outcome). tried x holds OperandType at) (outcome_of-also left right))
 
@@ -73,7 +71,7 @@ outcome_of-amount scope (fixed k) e j = refl
 outcome_of-amount scope common e j = refl
 outcome_of-amount scope amount e j = sym (outcome_of-tested j (is_amount scope e) OutsideType (place_of e))
 
-pub arguments_outcome-is : (scope : Scope) (f : StandardFunction) (t : Elementary) (place : ℕ) (o : Outcome) (args : Arguments) → arguments_outcome scope f t place o args ≡ both o (outcome_of (judged_arguments scope f t place args))
+pub arguments_outcome-is : (scope : Scope) (f : StandardFunction) (t : DataType) (place : ℕ) (o : Outcome) (args : Arguments) → arguments_outcome scope f t place o args ≡ both o (outcome_of (judged_arguments scope f t place args))
 arguments_outcome-is scope f t place o no_arguments = sym (both-sound o)
 arguments_outcome-is scope f t place o (argument n e args) =
     let p = parameter_of f place in
@@ -105,35 +103,35 @@ both-swap o p = λ i. record { whole = and_swap o.whole p.whole i; first = earli
 -- ---- labels, and the statements behind them
 
 -- labels behind what was judged so far
-pub labels_outcome-is : (t : Elementary) (seen : List Range) (o : Outcome) (ls : List LabelData) → labels_outcome t seen o ls ≡ both o (outcome_of (judged_labels t seen ls))
-labels_outcome-is t seen o [] = sym (both-sound o)
-labels_outcome-is t seen o (l ∷ ls) =
-    let j = judged_label t seen l in
-    let k = judged_labels t (seen_with t seen l) ls in
-    labels_outcome-is t (seen_with t seen l) (both o (outcome_of j)) ls ∙ both-assoc o (outcome_of j) (outcome_of k) ∙ ap (both o) (sym (outcome_of-also j k))
+pub labels_outcome-is : (scope : Scope) (t : DataType) (seen : List Range) (o : Outcome) (ls : List LabelData) → labels_outcome scope t seen o ls ≡ both o (outcome_of (judged_labels scope t seen ls))
+labels_outcome-is scope t seen o [] = sym (both-sound o)
+labels_outcome-is scope t seen o (l ∷ ls) =
+    let j = judged_label scope t seen l in
+    let k = judged_labels scope t (seen_with scope t seen l) ls in
+    labels_outcome-is scope t (seen_with scope t seen l) (both o (outcome_of j)) ls ∙ both-assoc o (outcome_of j) (outcome_of k) ∙ ap (both o) (sym (outcome_of-also j k))
 
-pub labels_outcome-all : (t : Elementary) (ls : List LabelData) → labels_outcome t [] (outcome_of sound) ls ≡ outcome_of (judged_labels t [] ls)
-labels_outcome-all t ls = labels_outcome-is t [] (outcome_of sound) ls ∙ sound-both (outcome_of (judged_labels t [] ls))
+pub labels_outcome-all : (scope : Scope) (t : DataType) (ls : List LabelData) → labels_outcome scope t [] (outcome_of sound) ls ≡ outcome_of (judged_labels scope t [] ls)
+labels_outcome-all scope t ls = labels_outcome-is scope t [] (outcome_of sound) ls ∙ sound-both (outcome_of (judged_labels scope t [] ls))
 
-judged_labels-append : (t : Elementary) (seen : List Range) (ls ms : List LabelData)
-    → outcome_of (judged_labels t seen (ls ++ ms)) ≡ both (outcome_of (judged_labels t seen ls)) (outcome_of (judged_labels t (seen_behind t seen ls) ms))
-judged_labels-append t seen [] ms = sym (sound-both (outcome_of (judged_labels t seen ms)))
-judged_labels-append t seen (l ∷ ls) ms =
-    let j = judged_label t seen l in
-    let s = seen_with t seen l in
-    let x = outcome_of (judged_labels t s ls) in
-    let y = outcome_of (judged_labels t (seen_behind t s ls) ms) in
-    outcome_of-also j (judged_labels t s (ls ++ ms)) ∙ ap (both (outcome_of j)) (judged_labels-append t s ls ms) ∙ sym (both-assoc (outcome_of j) x y)
-    ∙ ap (λ (z : Outcome). both z y) (sym (outcome_of-also j (judged_labels t s ls)))
+judged_labels-append : (scope : Scope) (t : DataType) (seen : List Range) (ls ms : List LabelData)
+    → outcome_of (judged_labels scope t seen (ls ++ ms)) ≡ both (outcome_of (judged_labels scope t seen ls)) (outcome_of (judged_labels scope t (seen_behind scope t seen ls) ms))
+judged_labels-append scope t seen [] ms = sym (sound-both (outcome_of (judged_labels scope t seen ms)))
+judged_labels-append scope t seen (l ∷ ls) ms =
+    let j = judged_label scope t seen l in
+    let s = seen_with scope t seen l in
+    let x = outcome_of (judged_labels scope t s ls) in
+    let y = outcome_of (judged_labels scope t (seen_behind scope t s ls) ms) in
+    outcome_of-also j (judged_labels scope t s (ls ++ ms)) ∙ ap (both (outcome_of j)) (judged_labels-append scope t s ls ms) ∙ sym (both-assoc (outcome_of j) x y)
+    ∙ ap (λ (z : Outcome). both z y) (sym (outcome_of-also j (judged_labels scope t s ls)))
 
-labels_if-append : (whole : Bool) (t : Elementary) (seen : List Range) (ls ms : List LabelData)
-    → outcome_of (judged_labels_if whole t seen (ls ++ ms)) ≡ both (outcome_of (judged_labels_if whole t seen ls)) (outcome_of (judged_labels_if whole t (seen_behind t seen ls) ms))
-labels_if-append true t seen ls ms = judged_labels-append t seen ls ms
-labels_if-append false t seen ls ms = sym (sound-both (outcome_of sound))
+labels_if-append : (scope : Scope) (whole : Bool) (t : DataType) (seen : List Range) (ls ms : List LabelData)
+    → outcome_of (judged_labels_if scope whole t seen (ls ++ ms)) ≡ both (outcome_of (judged_labels_if scope whole t seen ls)) (outcome_of (judged_labels_if scope whole t (seen_behind scope t seen ls) ms))
+labels_if-append scope true t seen ls ms = judged_labels-append scope t seen ls ms
+labels_if-append scope false t seen ls ms = sym (sound-both (outcome_of sound))
 
-labels_if-none : (whole : Bool) (t : Elementary) (seen : List Range) → outcome_of (judged_labels_if whole t seen []) ≡ outcome_of sound
-labels_if-none true t seen = refl
-labels_if-none false t seen = refl
+labels_if-none : (scope : Scope) (whole : Bool) (t : DataType) (seen : List Range) → outcome_of (judged_labels_if scope whole t seen []) ≡ outcome_of sound
+labels_if-none scope true t seen = refl
+labels_if-none scope false t seen = refl
 
 -- the statements of entries alone
 abbrev judged_bodies : Scope → List ℕ → Entries → Judgement
@@ -145,31 +143,31 @@ interleave l b m c =
     ap (both l) (sym (both-assoc b m c)) ∙ ap (λ (x : Outcome). both l (both x c)) (both-swap b m) ∙ ap (both l) (both-assoc m b c) ∙ sym (both-assoc l m (both b c))
 
 -- entries are judged as all their labels and then all their statements
-entries_apart : (scope : Scope) (controls : List ℕ) (whole : Bool) (t : Elementary) (seen : List Range) (es : Entries)
-    → outcome_of (judged_entries scope controls whole t seen es) ≡ both (outcome_of (judged_labels_if whole t seen (all_labels es))) (outcome_of (judged_bodies scope controls es))
+entries_apart : (scope : Scope) (controls : List ℕ) (whole : Bool) (t : DataType) (seen : List Range) (es : Entries)
+    → outcome_of (judged_entries scope controls whole t seen es) ≡ both (outcome_of (judged_labels_if scope whole t seen (all_labels es))) (outcome_of (judged_bodies scope controls es))
 entries_apart scope controls whole t seen no_entries =
-    sym (ap (λ (x : Outcome). both x (outcome_of sound)) (labels_if-none whole t seen) ∙ sound-both (outcome_of sound))
+    sym (ap (λ (x : Outcome). both x (outcome_of sound)) (labels_if-none scope whole t seen) ∙ sound-both (outcome_of sound))
 entries_apart scope controls whole t seen (entry ls ss es) =
-    let behind = seen_behind t seen ls in
-    let l = judged_labels_if whole t seen ls in
+    let behind = seen_behind scope t seen ls in
+    let l = judged_labels_if scope whole t seen ls in
     let b = judged_stmts scope controls ss in
     let e = judged_entries scope controls whole t behind es in
-    let m = outcome_of (judged_labels_if whole t behind (all_labels es)) in
+    let m = outcome_of (judged_labels_if scope whole t behind (all_labels es)) in
     let c = judged_bodies scope controls es in
     outcome_of-also l (also b e) ∙ ap (both (outcome_of l)) (outcome_of-also b e ∙ ap (both (outcome_of b)) (entries_apart scope controls whole t behind es))
     ∙ interleave (outcome_of l) (outcome_of b) m (outcome_of c)
-    ∙ ap (λ (x : Outcome). both x (both (outcome_of b) (outcome_of c))) (sym (labels_if-append whole t seen ls (all_labels es)))
-    ∙ ap (both (outcome_of (judged_labels_if whole t seen (ls ++ all_labels es)))) (sym (outcome_of-also b c))
+    ∙ ap (λ (x : Outcome). both x (both (outcome_of b) (outcome_of c))) (sym (labels_if-append scope whole t seen ls (all_labels es)))
+    ∙ ap (both (outcome_of (judged_labels_if scope whole t seen (ls ++ all_labels es)))) (sym (outcome_of-also b c))
 
 -- a selector that is not whole has no labels judged
 selected_by : (scope : Scope) (e : Tree) (es : Entries) (w : Bool) → (judged_selector scope e).whole ≡ w
-    → outcome_of (judged_selection scope e es) ≡ both (outcome_of (judged_selector scope e)) (outcome_of (judged_labels_if w (type_of scope None e) [] (all_labels es)))
+    → outcome_of (judged_selection scope e es) ≡ both (outcome_of (judged_selector scope e)) (outcome_of (judged_labels_if scope w (type_of scope None e) [] (all_labels es)))
 selected_by scope e es w is =
-    outcome_of-also (judged_selector scope e) (judged_labels_if (judged_selector scope e).whole (type_of scope None e) [] (all_labels es))
-    ∙ ap (λ (b : Bool). both (outcome_of (judged_selector scope e)) (outcome_of (judged_labels_if b (type_of scope None e) [] (all_labels es)))) is
+    outcome_of-also (judged_selector scope e) (judged_labels_if scope (judged_selector scope e).whole (type_of scope None e) [] (all_labels es))
+    ∙ ap (λ (b : Bool). both (outcome_of (judged_selector scope e)) (outcome_of (judged_labels_if scope b (type_of scope None e) [] (all_labels es)))) is
 
 pub outcome_of-selection : (scope : Scope) (e : Tree) (es : Entries) (s l r : Outcome) → s ≡ outcome_of (judged_selector scope e) → s.whole ≡ true
-    → l ≡ outcome_of (judged_labels (type_of scope None e) [] (all_labels es)) → r ≡ both s l → r ≡ outcome_of (judged_selection scope e es)
+    → l ≡ outcome_of (judged_labels scope (type_of scope None e) [] (all_labels es)) → r ≡ both s l → r ≡ outcome_of (judged_selection scope e es)
 unfolding outcome_of
 outcome_of-selection scope e es s l r selector whole labels is =
     let w : (judged_selector scope e).whole ≡ true = sym (ap (λ (x : Outcome). x.whole) selector) ∙ whole in
@@ -183,7 +181,7 @@ outcome_of-unselected scope e es s selector broken =
     selector ∙ sym (both-sound (outcome_of (judged_selector scope e))) ∙ sym (selected_by scope e es false w)
 
 -- what stands between FOR and DO
-pub outcome_of-turns : (scope : Scope) (controls : List ℕ) (m : Option Meaning) (i : IterationData) (t : Elementary) (fits : Bool) (first last step tail bounds control parts r : Outcome) → t ≡ or_dint (kind_at m)
+pub outcome_of-turns : (scope : Scope) (controls : List ℕ) (m : Option Meaning) (i : IterationData) (t : DataType) (fits : Bool) (first last step tail bounds control parts r : Outcome) → t ≡ or_dint (kind_at m)
     → first ≡ outcome_of (judged_bound scope t i.first) → last ≡ outcome_of (judged_bound scope t i.last) → step ≡ outcome_of (judged_step scope t i.step)
     → fits ≡ (is_typed scope t i.first && is_typed scope t i.last && step_is_typed scope t i.step) → control ≡ outcome_of (judged_control controls m i.control.at)
     → tail ≡ both last step → bounds ≡ both first tail → parts ≡ both control bounds → r ≡ tried parts fits ValueType i.control.at → r ≡ outcome_of (judged_turns scope controls m i)
@@ -194,10 +192,10 @@ outcome_of-turns scope controls m i t fits first last step tail bounds control p
     let s = judged_step scope k i.step in
     let c = judged_control controls m i.control.at in
     let h = is_typed scope k i.first && is_typed scope k i.last && step_is_typed scope k i.step in
-    let first_told : first ≡ outcome_of f = first_is ∙ ap (λ (x : Elementary). outcome_of (judged_bound scope x i.first)) kind in
-    let last_told : last ≡ outcome_of l = last_is ∙ ap (λ (x : Elementary). outcome_of (judged_bound scope x i.last)) kind in
-    let step_told : step ≡ outcome_of s = step_is ∙ ap (λ (x : Elementary). outcome_of (judged_step scope x i.step)) kind in
-    let fits_told : fits ≡ h = fits_is ∙ ap (λ (x : Elementary). is_typed scope x i.first && is_typed scope x i.last && step_is_typed scope x i.step) kind in
+    let first_told : first ≡ outcome_of f = first_is ∙ ap (λ (x : DataType). outcome_of (judged_bound scope x i.first)) kind in
+    let last_told : last ≡ outcome_of l = last_is ∙ ap (λ (x : DataType). outcome_of (judged_bound scope x i.last)) kind in
+    let step_told : step ≡ outcome_of s = step_is ∙ ap (λ (x : DataType). outcome_of (judged_step scope x i.step)) kind in
+    let fits_told : fits ≡ h = fits_is ∙ ap (λ (x : DataType). is_typed scope x i.first && is_typed scope x i.last && step_is_typed scope x i.step) kind in
     let tail_told : tail ≡ outcome_of (also l s) = tail_is ∙ ap (λ (x : Outcome). both x step) last_told ∙ ap (both (outcome_of l)) step_told ∙ sym (outcome_of-also l s) in
     let bounds_told : bounds ≡ outcome_of (also f (also l s)) = bounds_is ∙ ap (λ (x : Outcome). both x tail) first_told ∙ ap (both (outcome_of f)) tail_told ∙ sym (outcome_of-also f (also l s)) in
     let parts_told : parts ≡ outcome_of (also c (also f (also l s))) = parts_is ∙ ap (λ (x : Outcome). both x bounds) control_is ∙ ap (both (outcome_of c)) bounds_told ∙ sym (outcome_of-also c (also f (also l s))) in
@@ -229,7 +227,7 @@ mutual
       let t = type_of scope None e in
       let w = (judged_selector scope e).whole in
       let s = judged_selector scope e in
-      let l = outcome_of (judged_labels_if w t [] (all_labels es)) in
+      let l = outcome_of (judged_labels_if scope w t [] (all_labels es)) in
       let b = outcome_of (judged_bodies scope controls es) in
       let f = judged_else scope controls other in
       let j = judged_entries scope controls w t [] es in
@@ -242,7 +240,7 @@ mutual
       ∙ ap (λ (x : Outcome). both o (both (outcome_of s) x)) (sym (outcome_of-also j f))
       ∙ ap (both o) (sym (outcome_of-also s (also j f)))
   stmt_outcome-is scope controls o (iterate i ss) =
-      let inner = with_control controls (scope (alone i.control)) in
+      let inner = with_control controls (scope (by_path (alone i.control))) in
       let head = judged_iteration scope controls i in
       let body = judged_stmts scope inner ss in
       ap (λ (x : Outcome). both o (ruled x (turns_rule scope i) i.at)) (stmts_outcome-is scope inner (outcome_of head) ss ∙ sym (outcome_of-also head body))
@@ -278,10 +276,10 @@ mutual
 pub ruleset judging = (outcome_of-also, outcome_of-tested, sound-both, stmts_outcome-is)
 
 -- a unary operator without a literal behind it
-pub outcome_of-unary : (scope : Scope) (wanted : Option Elementary) (o : UnaryOperator) (at : ℕ) (e : Tree) (t : Elementary) (l r : Outcome) → t ≡ type_of scope wanted e → negative_literal o e ≡ None → l ≡ outcome_of (judged scope (Some t) e) → r ≡ tried l (takes_sign o t) OperandType at → r ≡ outcome_of (judged scope wanted (unary o at e))
+pub outcome_of-unary : (scope : Scope) (wanted : Option DataType) (o : UnaryOperator) (at : ℕ) (e : Tree) (t : DataType) (l r : Outcome) → t ≡ type_of scope wanted e → negative_literal o e ≡ None → l ≡ outcome_of (judged scope (Some t) e) → r ≡ tried l (takes_sign o t) OperandType at → r ≡ outcome_of (judged scope wanted (unary o at e))
 outcome_of-unary scope wanted o at e t l r is none operand tried_is =
     let f = outcome_of-tested (judged scope (Some t) e) (takes_sign o t) OperandType at in
-    tried_is ∙ ap (λ (x : Outcome). tried x (takes_sign o t) OperandType at) operand ∙ sym f ∙ ap (λ (x : Elementary). outcome_of (tested (judged scope (Some x) e) (takes_sign o x) OperandType at)) is ∙ ap (λ (x : Option Literal). outcome_of (judged_unary (type_of scope wanted e) o at x (judged scope (Some (type_of scope wanted e)) e))) (sym none)
+    tried_is ∙ ap (λ (x : Outcome). tried x (takes_sign o t) OperandType at) operand ∙ sym f ∙ ap (λ (x : DataType). outcome_of (tested (judged scope (Some x) e) (takes_sign o x) OperandType at)) is ∙ ap (λ (x : Option Literal). outcome_of (judged_unary (type_of scope wanted e) o at x (judged scope (Some (type_of scope wanted e)) e))) (sym none)
 
 -- how many arguments there are
 count_of-list : (args : List ArgumentData) → count_of (arguments_of args) ≡ length args
@@ -295,23 +293,23 @@ pub count_of_arguments : (args : List Argument) → count_of (arguments_view arg
 count_of_arguments args = count_of-list (map argument_view args) ∙ length-map args argument_view
 
 -- a call of a function with as many arguments as it takes, and with more or fewer
-module _ (scope : Scope) (wanted : Option Elementary) (at : ℕ) (f : StandardFunction) (args : Arguments) where
+module _ (scope : Scope) (wanted : Option DataType) (at : ℕ) (f : StandardFunction) (args : Arguments) where
   abbrev a_call : Judgement
   a_call = judged_call scope wanted at (Some f) args (judged_alone scope args) (λ g t. judged_arguments scope g t 0 args)
 
-  abbrev right_call : Elementary → Judgement
+  abbrev right_call : DataType → Judgement
   right_call t = tested (judged_arguments scope f t 0 args) (takes_operands f t && fit_from scope f t 0 args) OperandType at
 
   abbrev wrong_call : Judgement
   wrong_call = tested (judged_alone scope args) false ArgumentCount at
 
-  pub outcome_of-call : (t : Elementary) (l r : Outcome) (fits : Bool) → takes_count f (count_of args) ≡ true → t ≡ common_type scope wanted f args → fits ≡ takes_operands f t && fit_from scope f t 0 args → l ≡ arguments_outcome scope f t 0 (outcome_of sound) args → r ≡ tried l fits OperandType at → r ≡ outcome_of a_call
+  pub outcome_of-call : (t : DataType) (l r : Outcome) (fits : Bool) → takes_count f (count_of args) ≡ true → t ≡ common_type scope wanted f args → fits ≡ takes_operands f t && fit_from scope f t 0 args → l ≡ arguments_outcome scope f t 0 (outcome_of sound) args → r ≡ tried l fits OperandType at → r ≡ outcome_of a_call
   outcome_of-call t l r fits counted kind fit operands is =
       let left : l ≡ outcome_of (judged_arguments scope f t 0 args) = operands ∙ arguments_outcome-is scope f t 0 (outcome_of sound) args ∙ sound-both (outcome_of (judged_arguments scope f t 0 args)) in
       is ∙ ap (λ (x : Outcome). tried x fits OperandType at) left
       ∙ ap (λ (b : Bool). tried (outcome_of (judged_arguments scope f t 0 args)) b OperandType at) fit
       ∙ sym (outcome_of-tested (judged_arguments scope f t 0 args) (takes_operands f t && fit_from scope f t 0 args) OperandType at)
-      ∙ ap (λ (x : Elementary). outcome_of (right_call x)) kind
+      ∙ ap (λ (x : DataType). outcome_of (right_call x)) kind
       ∙ ap (λ (b : Bool). outcome_of (if b then right_call (common_type scope wanted f args) else wrong_call)) (sym counted)
 
   pub outcome_of-wrong_call : (l r : Outcome) → takes_count f (count_of args) ≡ false → l ≡ alone_outcome scope (outcome_of sound) args → r ≡ tried l false ArgumentCount at → r ≡ outcome_of a_call
@@ -322,33 +320,15 @@ module _ (scope : Scope) (wanted : Option Elementary) (at : ℕ) (f : StandardFu
       ∙ ap (λ (b : Bool). outcome_of (if b then right_call (common_type scope wanted f args) else wrong_call)) (sym counted)
 
 -- operators of one level
-pub outcome_of-chain : (scope : Scope) (wanted : Option Elementary) (e : Tree) (ls : Links) (t : Elementary) (l r : Outcome) → t ≡ operand_type scope wanted e ls → l ≡ outcome_of (judged scope (Some t) e) → r ≡ links_outcome scope t l ls → r ≡ outcome_of (judged scope wanted (chain e ls))
+pub outcome_of-chain : (scope : Scope) (wanted : Option DataType) (e : Tree) (ls : Links) (t : DataType) (l r : Outcome) → t ≡ operand_type scope wanted e ls → l ≡ outcome_of (judged scope (Some t) e) → r ≡ links_outcome scope t l ls → r ≡ outcome_of (judged scope wanted (chain e ls))
 outcome_of-chain scope wanted e ls t l r is left links =
-    links ∙ ap (λ (x : Outcome). links_outcome scope t x ls) left ∙ sym (outcome_of-links scope t (judged scope (Some t) e) ls) ∙ ap (λ (x : Elementary). outcome_of (judged_links scope x (judged scope (Some x) e) ls)) is
+    links ∙ ap (λ (x : Outcome). links_outcome scope t x ls) left ∙ sym (outcome_of-links scope t (judged scope (Some t) e) ls) ∙ ap (λ (x : DataType). outcome_of (judged_links scope x (judged scope (Some x) e) ls)) is
 
 -- an assignment
-pub outcome_of-assign : (scope : Scope) (controls : List ℕ) (p : PathData) (e : Tree) (m : Option Meaning) (w : Option Elementary) (l k b r : Outcome) (fits : Bool) → m ≡ scope p → w ≡ kind_at m → l ≡ outcome_of (judged_target controls m p.first.at) → k ≡ outcome_of (judged scope w e) → b ≡ both l k → fits ≡ is_same (type_of scope w e) (or_dint w) → r ≡ tried b fits ValueType p.first.at → r ≡ outcome_of (judged_assign scope controls p e)
+pub outcome_of-assign : (scope : Scope) (controls : List ℕ) (p : PathData) (e : Tree) (m : Option Meaning) (w : Option DataType) (l k b r : Outcome) (fits : Bool) → m ≡ scope (by_path p) → w ≡ kind_at m → l ≡ outcome_of (judged_target controls m p.first.at) → k ≡ outcome_of (judged scope w e) → b ≡ both l k → fits ≡ is_same_type (type_of scope w e) (or_dint w) → r ≡ tried b fits ValueType p.first.at → r ≡ outcome_of (judged_assign scope controls p e)
 outcome_of-assign scope controls p e m w l k b r fits means wanted target value parts same is =
-    let whole : (n : Option Meaning) → scope p ≡ n → r ≡ outcome_of (tested (also (judged_target controls n p.first.at) (judged scope (kind_at n) e)) (is_same (type_of scope (kind_at n) e) (or_dint (kind_at n))) ValueType p.first.at) = λ n f.
+    let whole : (n : Option Meaning) → scope (by_path p) ≡ n → r ≡ outcome_of (tested (also (judged_target controls n p.first.at) (judged scope (kind_at n) e)) (is_same_type (type_of scope (kind_at n) e) (or_dint (kind_at n))) ValueType p.first.at) = λ n f.
     let h : m ≡ n = means ∙ f in
     is
-    ∙ rw (same, parts, target, value, wanted, h) (sym (outcome_of-tested (also (judged_target controls n p.first.at) (judged scope (kind_at n) e)) (is_same (type_of scope (kind_at n) e) (or_dint (kind_at n))) ValueType p.first.at ∙ ap (λ (x : Outcome). tried x (is_same (type_of scope (kind_at n) e) (or_dint (kind_at n))) ValueType p.first.at) (outcome_of-also (judged_target controls n p.first.at) (judged scope (kind_at n) e)))) in
-    whole (scope p) refl
-
--- declarations behind what was judged so far
-pub variables_outcome-is : (o : Outcome) (vs : List Variable) → variables_outcome o vs ≡ both o (outcome_of (judged_variables vs))
-variables_outcome-is o [] = sym (both-sound o)
-variables_outcome-is o (v ∷ vs) =
-    variables_outcome-is (both o (outcome_of (judged_variable v))) vs
-    ∙ both-assoc o (outcome_of (judged_variable v)) (outcome_of (judged_variables vs))
-    ∙ ap (both o) (sym (outcome_of-also (judged_variable v) (judged_variables vs)))
-
--- a program breaks what its declarations and its body break
-pub first_of_program : (vs ws : List Variable) (j : Judgement) (s d b r : Outcome) → s ≡ outcome_of sound → ws ≡ vs → d ≡ variables_outcome s ws → b ≡ outcome_of j → r ≡ both d b → r.first ≡ first_in (also (judged_variables vs) j).broken
-unfolding outcome_of
-first_of_program vs ws j s d b r start same declared body whole =
-    let left : d ≡ outcome_of (judged_variables vs) =
-    declared ∙ ap (variables_outcome s) same ∙ variables_outcome-is s vs ∙ ap (λ (x : Outcome). both x (outcome_of (judged_variables vs))) start ∙ sound-both (outcome_of (judged_variables vs)) in
-    let all : r ≡ outcome_of (also (judged_variables vs) j) =
-    whole ∙ ap (λ (x : Outcome). both x b) left ∙ ap (both (outcome_of (judged_variables vs))) body ∙ sym (outcome_of-also (judged_variables vs) j) in
-    ap (λ (x : Outcome). x.first) all
+    ∙ rw (same, parts, target, value, wanted, h) (sym (outcome_of-tested (also (judged_target controls n p.first.at) (judged scope (kind_at n) e)) (is_same_type (type_of scope (kind_at n) e) (or_dint (kind_at n))) ValueType p.first.at ∙ ap (λ (x : Outcome). tried x (is_same_type (type_of scope (kind_at n) e) (or_dint (kind_at n))) ValueType p.first.at) (outcome_of-also (judged_target controls n p.first.at) (judged scope (kind_at n) e)))) in
+    whole (scope (by_path p)) refl

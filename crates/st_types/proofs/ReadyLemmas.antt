@@ -1,51 +1,34 @@
--- A typed program begins in range.
-use Rattle.std.proofs.Common.{◌≡◌, ℕ, ◌<◌, Bool, true, false, ◌⊎◌, inl, inr, List, [], ◌∷◌, ◌++◌, map, Option, Some, None, refl, sym, subst, arith, rules, Result, Ok, Err, if◌then◌else◌}
+-- A typed program begins in range: each start lies in the range of its domain.
+use Rattle.std.proofs.Common.{◌≡◌, ℕ, Bool, true, false, ◌&&◌, if◌then◌else◌, List, [], ◌∷◌, Option, Some, None, refl, sym, subst, arith, Result, Ok, Err}
 use Rattle.std.proofs.Math.IntN.{ℤ, pos}
-use Rattle.std.specs.Prelude.{IfOk, OnOk}
+use Rattle.std.specs.Prelude.{IfOk, int_le}
 use Rattle.std.specs.List.{AllByRecursion}
 use Rattle.std.proofs.lemmas.Int.{ints}
-use denote.Enum.Bare.{same_true}
 use Rattle.num_core.specs.Ranges.{Fits}
-use Rattle.num_core.proofs.Wrapped.{wraps_defined}
-use Rattle.st_tree.specs.contracts.elementary.Elementary.{the_type}
-use Rattle.st_tree.specs.declared.elementary.Elementary.{Elementary}
+use Rattle.st_tree.specs.declared.elementary.Elementary.{Elementary as ElementaryType}
 use Rattle.st_tree.specs.declared.elementary.Elementary.TheVariants as types
-use Rattle.st_tree.specs.declared.rule.Rule.TheVariants.{ValueType, OutsideType}
-use Rattle.st_tree.specs.declared.rule.Refusal.{Refusal}
-use Rattle.st_tree.specs.declared.function.StandardFunction.{StandardFunction}
-use Rattle.st_tree.specs.declared.syntax.Literal.{Literal}
-use Rattle.st_tree.specs.declared.syntax.UnaryOperator.{UnaryOperator}
-use Rattle.st_tree.specs.Types.{width_of, is_signed, least_of, greatest_of, wrap_to}
-use Rattle.st_tree.specs.Syntax.{Named, Tree, literal, path, enumerator, paren, unary, chain, call, Arguments, PouData}
-use Rattle.st_tree.specs.Tree.{Expressions}
+use Rattle.st_tree.specs.declared.rule.Rule.{Rule}
+use Rattle.st_tree.specs.declared.rule.Rule.TheVariants.{ValueType, OutsideType, OperandType}
 use Rattle.st_tree.specs.declared.typed.Program.{Program}
+use Rattle.st_tree.specs.DataTypes.{is_same_type}
+use Rattle.st_tree.specs.Types.{is_integer, least_of, greatest_of, in_range}
+use Rattle.st_tree.specs.Syntax.{Named, Tree, BoundsData, TypeData, of_elementary, of_subrange, of_name, SpecificationData, of_type, of_values, PouData, FileData}
 use Rattle.st_tree.specs.View.{program_view}
-use Rattle.st_names.specs.Library.{standard_function}
+use Rattle.st_names.specs.declared.standing.Standing.{Standing}
+use Rattle.st_names.specs.declared.standing.Standing.TheVariants as standings
+use Rattle.st_names.specs.FileScope.{standing}
+use Rattle.st_names.specs.Types.{end_of, end_specification}
 use Rattle.st_names.specs.Scopes.{Variable, variables_of}
-use Rattle.st_types.specs.Typing.{Scope, no_scope, type_of, is_same, is_literal_of, literal_value, negated, place_of_literal}
-use Rattle.st_types.specs.Judged.{Judgement, sound, breaks, tested, negative_literal, judged_unary, judged}
-use Rattle.st_types.specs.Programs.{kind_of, has_cell, judged_value, judged_variable, judged_variables, broken_types}
-use Rattle.st_types.specs.Typed.{typed_signed, typed_result, typed_operands, typed, value_of_number, initial_of}
+use Rattle.st_types.specs.Typing.{type_of, place_of}
+use Rattle.st_types.specs.Judged.{Judgement, also, breaks, tested, judged}
+use Rattle.st_types.specs.Typed.{constant_of}
+use Rattle.st_types.specs.Domains.{Domain, has_few, values_scope, bounds_of, judged_bound_of, judged_subrange, no_domain, enumeration_domain, end_domain, named_domain, domain_of}
+use Rattle.st_types.specs.Programs.{has_cell, domain_of_variable, judged_initial, given_value, start_of}
 use Rattle.st_types.specs.TypedPrograms.{cell_for, cells_of, typed_program}
 use Rattle.st_types.specs.Ready.{StartsInRange, IsReady}
+use Rattle.st_types.proofs.Apart.{le_true}
 
-some_bits : (t : Elementary) → 0 < width_of t
-some_bits types.Bool = omega arith
-some_bits types.Sint = omega arith
-some_bits types.Int = omega arith
-some_bits types.Dint = omega arith
-some_bits types.Usint = omega arith
-some_bits types.Uint = omega arith
-some_bits types.Udint = omega arith
-some_bits types.Byte = omega arith
-some_bits types.Word = omega arith
-some_bits types.Dword = omega arith
-
-FitsIn : Elementary → ℤ → Type 0
-FitsIn t v = Fits (least_of t) (greatest_of t) v
-
-zero_fits : (t : Elementary) → FitsIn t (pos 0)
-unfolding FitsIn
+zero_fits : (t : ElementaryType) → Fits (least_of t) (greatest_of t) (pos 0)
 zero_fits types.Bool = (omega (arith, ints), omega (arith, ints))
 zero_fits types.Sint = (omega (arith, ints), omega (arith, ints))
 zero_fits types.Int = (omega (arith, ints), omega (arith, ints))
@@ -57,112 +40,104 @@ zero_fits types.Byte = (omega (arith, ints), omega (arith, ints))
 zero_fits types.Word = (omega (arith, ints), omega (arith, ints))
 zero_fits types.Dword = (omega (arith, ints), omega (arith, ints))
 
-wrapped_fits : (t : Elementary) (v : ℤ) → FitsIn t (wrap_to t v)
-unfolding FitsIn
-wrapped_fits t v = (wraps_defined (width_of t) (is_signed t) v (some_bits t)).in_range
+-- what is whole passes its test
+by_parts : (w b : Bool) (j k : Judgement) → j.whole ≡ w → k.whole ≡ false → (if w then (if b then j else k) else j).whole ≡ true → b ≡ true
+by_parts true true j k parts none e = refl
+by_parts true false j k parts none e = absurd (let n : ⊥ = cc in n)
+by_parts false b j k parts none e = absurd (let n : ⊥ = cc in n)
 
-signed_fits : (t : Elementary) (o : UnaryOperator) (l : Option Literal) (e : Tree) → FitsIn t (value_of_number (typed_signed t o l (typed no_scope (Some t) e)))
-signed_fits t o None e = zero_fits t
-signed_fits t o (Some l) e = wrapped_fits t (negated true (literal_value l))
+and_false : (w : Bool) → (w && false) ≡ false
+and_false true = refl
+and_false false = refl
 
--- a call is no number
-call_zero : (wanted : Option Elementary) (f : Option StandardFunction) (args : Arguments) (operands : StandardFunction → Elementary → Expressions) → pos 0 ≡ value_of_number (typed_result no_scope wanted f args operands)
-call_zero wanted None args operands = refl
-call_zero wanted (Some f) args operands = refl
+test_of : (j : Judgement) (b : Bool) (rule : Rule) (at : ℕ) → (tested j b rule at).whole ≡ true → b ≡ true
+test_of j b rule at e = by_parts j.whole b j (also j (breaks rule at)) refl (and_false j.whole) e
 
-no_number : (wanted : Option Elementary) (n : Named) (at : ℕ) (args : Arguments) → pos 0 ≡ value_of_number (typed no_scope wanted (call n at args))
-no_number wanted n at args = call_zero wanted (standard_function n.text) args (λ f t. typed_operands no_scope f t 0 args)
+both_true : (a b : Bool) → (a && b) ≡ true → (a ≡ true) × (b ≡ true)
+both_true true b h = (refl, h)
+both_true false b h = absurd (let e : ⊥ = cc in e)
 
--- an initial value is a value of its own type
-own_fits : (wanted : Option Elementary) (e : Tree) → FitsIn (type_of no_scope wanted e) (value_of_number (typed no_scope wanted e))
-own_fits wanted (literal l) = wrapped_fits (type_of no_scope wanted (literal l)) (negated false (literal_value l))
-own_fits wanted (path p) = zero_fits (type_of no_scope wanted (path p))
-own_fits wanted (enumerator t v) = zero_fits (type_of no_scope wanted (enumerator t v))
-own_fits wanted (paren at e) = own_fits wanted e
-own_fits wanted (unary o at e) = signed_fits (type_of no_scope wanted e) o (negative_literal o e) e
-own_fits wanted (chain e ls) = zero_fits (type_of no_scope wanted (chain e ls))
-own_fits wanted (call n at args) = subst (FitsIn (type_of no_scope wanted (call n at args))) (no_number wanted n at args) (zero_fits (type_of no_scope wanted (call n at args)))
+-- ---- what a variable of a domain begins with
 
--- one that breaks no rule is whole, or it stands for 0
-WholeOrZero : Judgement → ℤ → Type 0
-WholeOrZero j v = (j.whole ≡ true) ⊎ (v ≡ pos 0)
+StartFits : Domain → Type 0
+StartFits d = Fits d.range.low d.range.high d.start
 
-literal_whole : (b : Bool) (at : ℕ) (v : ℤ) → (if b then sound else breaks OutsideType at).broken ≡ [] → WholeOrZero (if b then sound else breaks OutsideType at) v
-unfolding WholeOrZero
-literal_whole true at v none = inl refl
-literal_whole false at v none = absurd (let h : ⊥ = cc in h)
+no_domain-fits : StartFits no_domain
+unfolding StartFits
+no_domain-fits = zero_fits types.Bool
 
-signed_whole : (t : Elementary) (o : UnaryOperator) (at : ℕ) (l : Option Literal) (e : Tree) → (judged_unary t o at l (judged no_scope (Some t) e)).broken ≡ []
-    → WholeOrZero (judged_unary t o at l (judged no_scope (Some t) e)) (value_of_number (typed_signed t o l (typed no_scope (Some t) e)))
-unfolding WholeOrZero
-signed_whole t o at None e none = inr refl
-signed_whole t o at (Some l) e none = literal_whole (is_literal_of t true l) at _ none
+elementary-fits : (f : FileData) (k : ElementaryType) (at : ℕ) → StartFits (domain_of f (of_elementary k at))
+unfolding StartFits
+elementary-fits f k at = zero_fits k
 
-whole_or_zero : (wanted : Option Elementary) (e : Tree) → (judged no_scope wanted e).broken ≡ [] → WholeOrZero (judged no_scope wanted e) (value_of_number (typed no_scope wanted e))
-unfolding WholeOrZero
-whole_or_zero wanted (literal l) none = literal_whole (is_literal_of (type_of no_scope wanted (literal l)) false l) (place_of_literal l) _ none
-whole_or_zero wanted (path p) none = inr refl
-whole_or_zero wanted (enumerator t v) none = inr refl
-whole_or_zero wanted (paren at e) none = whole_or_zero wanted e none
-whole_or_zero wanted (unary o at e) none = signed_whole (type_of no_scope wanted e) o at (negative_literal o e) e none
-whole_or_zero wanted (chain e ls) none = inr refl
-whole_or_zero wanted (call n at args) none = inr (sym (no_number wanted n at args))
+in_order-fits : (low high : ℤ) → int_le low high ≡ true → Fits low high low
+in_order-fits low high e = let h = le_true low high e in (omega (arith, ints), omega (arith, ints, h))
 
-nil_left : (xs ys : List Refusal) → xs ++ ys ≡ [] → xs ≡ []
-nil_left [] ys h = refl
-nil_left (x ∷ xs) ys h = absurd (let e : ⊥ = cc in e)
+subrange_by : (b : Bool) (f : FileData) (k : ElementaryType) (at : ℕ) (bounds : BoundsData) → (judged_subrange f k at bounds).whole ≡ b → StartFits (domain_of f (of_subrange k at bounds))
+unfolding StartFits
+subrange_by true f k at bounds e =
+    rw e (in_order-fits (bounds_of f k bounds).low (bounds_of f k bounds).high
+    (test_of (tested (also (judged_bound_of f k bounds.low) (judged_bound_of f k bounds.high)) (is_integer k) OperandType at) (int_le (bounds_of f k bounds).low (bounds_of f k bounds).high) OutsideType (place_of bounds.low) e))
+subrange_by false f k at bounds e = rw e (zero_fits types.Bool)
 
-nil_right : (xs ys : List Refusal) → xs ++ ys ≡ [] → ys ≡ []
-nil_right [] ys h = h
-nil_right (x ∷ xs) ys h = absurd (let e : ⊥ = cc in e)
+enumeration_by : (b : Bool) (t : ℕ) (others : List Named) → has_few others ≡ b → StartFits (enumeration_domain t others)
+unfolding StartFits
+enumeration_by true t others e = rw e (omega (arith, ints), omega (arith, ints))
+enumeration_by false t others e = rw e (zero_fits types.Bool)
 
--- the parts of a test that breaks no rule break none
-parts_of : (j : Judgement) (w h : Bool) (at : ℕ) → j.whole ≡ w → (tested j h ValueType at).broken ≡ [] → j.broken ≡ []
-parts_of j true true at e none = rw e at none
-parts_of j true false at e none = nil_left j.broken _ (rw e at none)
-parts_of j false h at e none = rw e at none
+end-fits : (f : FileData) (t : ℕ) (s : Option SpecificationData) → StartFits (end_domain f t s)
+end-fits f t None = no_domain-fits
+end-fits f t (Some (of_values at first others)) = enumeration_by (has_few others) t others refl
+end-fits f t (Some (of_type (of_elementary k at))) = elementary-fits f k at
+end-fits f t (Some (of_type (of_subrange k at b))) = subrange_by (judged_subrange f k at b).whole f k at b refl
+end-fits f t (Some (of_type (of_name n))) = no_domain-fits
 
--- a test of whole parts holds where no rule is broken
-test_of : (j : Judgement) (h : Bool) (at : ℕ) → j.whole ≡ true → (tested j h ValueType at).broken ≡ [] → h ≡ true
-test_of j true at e none = refl
-test_of j false at e none = absurd (let k : (breaks ValueType at).broken ≡ [] = nil_right j.broken _ (rw e at none) in let z : ⊥ = cc in z)
+named-fits : (f : FileData) (s : Option Standing) → StartFits (named_domain f s)
+named-fits f None = no_domain-fits
+named-fits f (Some (standings.Type t)) = end-fits f (end_of f t) (end_specification f t)
+named-fits f (Some (standings.Value t k)) = no_domain-fits
+named-fits f (Some standings.Pou) = no_domain-fits
 
-value_by : (t : Elementary) (at : ℕ) (e : Tree) → WholeOrZero (judged no_scope (Some t) e) (value_of_number (typed no_scope (Some t) e)) → (judged_value t at (Some e)).broken ≡ [] → FitsIn t (value_of_number (typed no_scope (Some t) e))
-unfolding WholeOrZero
-value_by t at e (inl whole) none =
-    let same : type_of no_scope (Some t) e ≡ t = same_true the_type (search rules) (type_of no_scope (Some t) e) t (test_of (judged no_scope (Some t) e) (is_same (type_of no_scope (Some t) e) t) at whole none) in
-    subst (λ (k : Elementary). FitsIn k (value_of_number (typed no_scope (Some t) e))) same (own_fits (Some t) e)
-value_by t at e (inr zero) none = subst (FitsIn t) (sym zero) (zero_fits t)
+domain-fits : (f : FileData) (t : TypeData) → StartFits (domain_of f t)
+domain-fits f (of_elementary k at) = elementary-fits f k at
+domain-fits f (of_subrange k at b) = subrange_by (judged_subrange f k at b).whole f k at b refl
+domain-fits f (of_name n) = named-fits f (standing f n.text)
 
-value_fits : (t : Elementary) (at : ℕ) (e : Tree) → (judged_value t at (Some e)).broken ≡ [] → FitsIn t (value_of_number (typed no_scope (Some t) e))
-value_fits t at e none =
-    let j = judged no_scope (Some t) e in
-    value_by t at e (whole_or_zero (Some t) e (parts_of j j.whole (is_same (type_of no_scope (Some t) e) t) at refl none)) none
+-- ---- what a variable begins with
 
-initial_fits : (t : Elementary) (at : ℕ) (o : Option Tree) → (judged_value t at o).broken ≡ [] → FitsIn t (initial_of t o)
-initial_fits t at None none = zero_fits t
-initial_fits t at (Some e) none = value_fits t at e none
+in_range-fits : (v low high : ℤ) → (int_le low v && int_le v high) ≡ true → Fits low high v
+in_range-fits v low high e = let h = both_true (int_le low v) (int_le v high) e in (le_true low v h.0, le_true v high h.1)
 
-one_more : (b : Bool) (v : Variable) (vs : List Variable) → StartsInRange (cell_for v) → AllByRecursion StartsInRange (cells_of vs)
-    → AllByRecursion StartsInRange (if b then cell_for v ∷ cells_of vs else cells_of vs)
-one_more true v vs here behind = (here, behind)
-one_more false v vs here behind = behind
+-- an initial value that breaks no rule is in range
+given-fits : (f : FileData) (d : Domain) (at : ℕ) (initial : Option Tree) → StartFits d → (judged_initial f d at initial).whole ≡ true → Fits d.range.low d.range.high (given_value f d initial)
+unfolding StartFits
+given-fits f d at None fits e = fits
+given-fits f d at (Some v) fits e =
+    in_range-fits (constant_of (values_scope f) d.kind v) d.range.low d.range.high
+    (test_of (tested (judged (values_scope f) (Some d.kind) v) (is_same_type (type_of (values_scope f) (Some d.kind) v) d.kind) ValueType at) (in_range (constant_of (values_scope f) d.kind v) d.range) OutsideType (place_of v) e)
 
-all_fit : (vs : List Variable) → (judged_variables vs).broken ≡ [] → AllByRecursion StartsInRange (cells_of vs)
-unfolding FitsIn
-all_fit [] none = tt
-all_fit (v ∷ vs) none =
-    one_more (has_cell v.section) v vs
-    (initial_fits (kind_of v) v.name.at v.initial (nil_left (judged_variable v).broken _ none))
-    (all_fit vs (nil_right (judged_variable v).broken _ none))
+start_by : (b : Bool) (f : FileData) (d : Domain) (at : ℕ) (initial : Option Tree) → (judged_initial f d at initial).whole ≡ b → StartFits d → Fits d.range.low d.range.high (start_of f d at initial)
+unfolding StartFits
+start_by true f d at initial e fits = rw e (given-fits f d at initial fits e)
+start_by false f d at initial e fits = rw e fits
 
-pub typed_program-ready : (p : PouData) → broken_types p ≡ [] → IsReady (typed_program p)
-unfolding FitsIn
-typed_program-ready p none = record {
+cell-fits : (f : FileData) (v : Variable) → StartsInRange (cell_for f v)
+cell-fits f v = start_by (judged_initial f (domain_of_variable f v) v.name.at v.initial).whole f (domain_of_variable f v) v.name.at v.initial refl (domain-fits f v.kind)
+
+one_more : (b : Bool) (f : FileData) (v : Variable) (vs : List Variable) → AllByRecursion StartsInRange (cells_of f vs) → AllByRecursion StartsInRange (if b then cell_for f v ∷ cells_of f vs else cells_of f vs)
+one_more true f v vs all = (cell-fits f v, all)
+one_more false f v vs all = all
+
+all_fit : (f : FileData) (vs : List Variable) → AllByRecursion StartsInRange (cells_of f vs)
+all_fit f [] = tt
+all_fit f (v ∷ vs) = one_more (has_cell v.section) f v vs (all_fit f vs)
+
+pub typed_program-ready : (f : FileData) (p : PouData) → IsReady (typed_program f p)
+typed_program-ready f p = record {
   begins_with_fault = (refl, refl, refl);
-  start_in_range = (zero_fits types.Bool, all_fit (variables_of p.variables) (nil_left (judged_variables (variables_of p.variables)).broken _ none));
+  start_in_range = (zero_fits types.Bool, all_fit f (variables_of p.variables));
 }
 
-pub ready_of : {E : Type 0} (p : PouData) (r : Result Program E) → OnOk r (broken_types p ≡ []) → IfOk r (λ q. program_view q ≡ typed_program p) → IfOk r (λ q. IsReady (program_view q))
-ready_of p (Ok q) none typed = subst IsReady (sym typed) (typed_program-ready p none)
-ready_of p (Err e) none typed = tt
+pub ready_of : {E : Type 0} (f : FileData) (p : PouData) (r : Result Program E) → IfOk r (λ q. program_view q ≡ typed_program f p) → IfOk r (λ q. IsReady (program_view q))
+ready_of f p (Ok q) typed = subst IsReady (sym typed) (typed_program-ready f p)
+ready_of f p (Err e) typed = tt

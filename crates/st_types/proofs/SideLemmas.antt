@@ -12,10 +12,10 @@ use Rattle.st_tree.specs.Syntax.{Named}
 use Rattle.st_tree.specs.Tree.{CellData}
 use Rattle.st_tree.specs.View.{cell_view, cells_view}
 use Rattle.st_types.specs.Typing.{Meaning}
-use Rattle.st_types.specs.Programs.{joined, cell_among}
-use Rattle.st_types.specs.Sides.{meaning_at, Finds}
+use Rattle.st_types.specs.Programs.{joined, own_type, cell_meaning, cell_among}
+use Rattle.st_types.specs.Sides.{Finds}
 
-last_one : (cs : List Cell) (place : ℕ) (d : Cell) → 0 < place → place ≤ length cs → drop (place - 1) cs ≡ get_or cs (place - 1) d ∷ drop place cs
+pub last_one : {A : Type 0} → (cs : List A) (place : ℕ) (d : A) → 0 < place → place ≤ length cs → drop (place - 1) cs ≡ get_or cs (place - 1) d ∷ drop place cs
 last_one cs place d some within =
     let e : suc (place - 1) ≡ place = omega arith in
     let s : place - 1 < length cs = omega arith in
@@ -23,19 +23,19 @@ last_one cs place d some within =
 
 -- one more cell, before those that are found
 pub finds_one_more : {S : Type 0} (start : ℕ) (cs : List Cell) (place : ℕ) (path : Bor (List ℕ)) (cell : Cell) (m : Meaning) (old new : IndexMap (Bor (List ℕ)) Meaning S)
-    → 0 < place → place ≤ length cs → cell ≡ get_or cs (place - 1) cell → path.now ≡ (cell_view cell).path → m ≡ meaning_at (start + (place - 1)) (cell_view cell)
-    → Updates (λ x y. bytes_eq x.now y.now) old new path (Some m) → Finds old (start + place) (cells_view (drop place cs)) → Finds new (start + (place - 1)) (cells_view (drop (place - 1) cs))
+    → 0 < place → place ≤ length cs → cell ≡ get_or cs (place - 1) cell → path.now ≡ (cell_view cell).path → m ≡ cell_meaning own_type (start + (place - 1)) (cell_view cell)
+    → Updates (λ x y. bytes_eq x.now y.now) old new path (Some m) → Finds old own_type (start + place) (cells_view (drop place cs)) → Finds new own_type (start + (place - 1)) (cells_view (drop (place - 1) cs))
 finds_one_more start cs place path cell m old new some within same named meant updates finds text =
     let c : CellData = cell_view cell in
     let rest : List CellData = cells_view (drop place cs) in
     let next : start + place ≡ start + (place - 1) + 1 = omega arith in
     let listed : cells_view (drop (place - 1) cs) ≡ c ∷ rest = ap cells_view (last_one cs place cell some within) ∙ ap (λ x. cell_view x ∷ rest) (sym same) in
     let one : get_by (λ k. bytes_eq text k.now) new ≡ cond (bytes_eq path.now text) (Some m) (get_by (λ k. bytes_eq text k.now) old) = hash_map_updates_str path.now old new (Some m) updates text in
-    let two : get_by (λ k. bytes_eq text k.now) old ≡ cell_among text (start + (place - 1) + 1) rest = finds text ∙ ap (λ n. cell_among text n rest) next in
+    let two : get_by (λ k. bytes_eq text k.now) old ≡ cell_among own_type text (start + (place - 1) + 1) rest = finds text ∙ ap (λ n. cell_among own_type text n rest) next in
     one ∙ ap (λ o. cond (bytes_eq path.now text) (Some m) o) two
-    ∙ ap (λ (t : List ℕ). cond (bytes_eq t text) (Some m) (cell_among text (start + (place - 1) + 1) rest)) named
-    ∙ ap (λ (x : Meaning). cond (bytes_eq c.path text) (Some x) (cell_among text (start + (place - 1) + 1) rest)) meant
-    ∙ ap (cell_among text (start + (place - 1))) (sym listed)
+    ∙ ap (λ (t : List ℕ). cond (bytes_eq t text) (Some m) (cell_among own_type text (start + (place - 1) + 1) rest)) named
+    ∙ ap (λ (x : Meaning). cond (bytes_eq c.path text) (Some x) (cell_among own_type text (start + (place - 1) + 1) rest)) meant
+    ∙ ap (cell_among own_type text (start + (place - 1))) (sym listed)
 
 -- ---- names joined by points
 
@@ -67,10 +67,10 @@ pub same_as : {P : Type 0} (text a b : List ℕ) → P ↔ (text ≡ a) → a �
 same_as text a b same e = (λ p. same.0 p ∙ e, λ q. same.1 (q ∙ sym e))
 
 -- the cell is the one, or it is among those behind
-pub among_here : (text : List ℕ) (place : ℕ) (c : CellData) (cs : List CellData) (b : Bool) → IsTrue b ↔ (c.path ≡ text) → b ≡ true → Some (meaning_at place c) ≡ cell_among text place (c ∷ cs)
+pub among_here : (text : List ℕ) (place : ℕ) (c : CellData) (cs : List CellData) (b : Bool) → IsTrue b ↔ (c.path ≡ text) → b ≡ true → Some (cell_meaning own_type place c) ≡ cell_among own_type text place (c ∷ cs)
 among_here text place c cs b same e = rw (← test_is b c.path text same, e) refl
 
-pub among_next : (text : List ℕ) (place : ℕ) (c : CellData) (cs : List CellData) (b : Bool) → IsTrue b ↔ (c.path ≡ text) → b ≡ false → cell_among text place (c ∷ cs) ≡ cell_among text (place + 1) cs
+pub among_next : (text : List ℕ) (place : ℕ) (c : CellData) (cs : List CellData) (b : Bool) → IsTrue b ↔ (c.path ≡ text) → b ≡ false → cell_among own_type text place (c ∷ cs) ≡ cell_among own_type text (place + 1) cs
 among_next text place c cs b same e = rw (← test_is b c.path text same, e) refl
 
 -- what stands behind a front

@@ -1,28 +1,29 @@
 -- Typed lists are those of the definition.
 use Rattle.std.proofs.Common.{◌≡◌, ℕ, ◌+◌, List, refl, ap, map, ◌∙◌}
 use Rattle.std.specs.Prelude.{Some, None}
-use Rattle.st_tree.specs.declared.elementary.Elementary.{Elementary}
+use Rattle.st_tree.specs.declared.data_type.DataType.{DataType}
+use Rattle.st_tree.specs.DataTypes.{carrier}
 use Rattle.st_tree.specs.declared.function.StandardFunction.{StandardFunction}
 use Rattle.st_tree.specs.Syntax.{Links, no_links, link, Arguments, no_arguments, argument, Stmts, no_stmts, stmt, empty, assign, branch, cases, iterate, Arms, no_arms, arm, Entries, no_entries, entry}
-use Rattle.st_tree.specs.Tree.{Expression, expression, operand, assign as typed_assign, choice, cases as typed_cases, repeat, statement, choose, entry as typed_entry}
+use Rattle.st_tree.specs.Tree.{Expression, operand, assign as typed_assign, choice, cases as typed_cases, repeat, statement, choose, entry as typed_entry}
 use Rattle.st_tree.specs.View.{operands_of, expressions_of, statements_of, choices_of, entries_of}
-use Rattle.st_types.specs.Typing.{Scope, kind_at, next_type, type_of, Parameter, fixed, common, amount, parameter_of}
+use Rattle.st_types.specs.Typing.{Scope, by_path, kind_at, next_type, type_of, Parameter, fixed, common, amount, parameter_of}
 use Rattle.st_types.specs.Judged.{wanted_at}
 use Rattle.st_types.specs.Typed.{with_operand, typed, typed_links, typed_operands}
 use Rattle.st_types.specs.Labels.{label_range}
 use Rattle.st_types.specs.TypedStatements.{cell_of, turns_of, typed_stmts, typed_arms, typed_entries, typed_else}
 use Rattle.st_types.specs.TypedLists.{operand_list, before_operands, expression_list, statement_list, choice_list, entry_list}
 
-pub operands_of-list : (scope : Scope) (t : Elementary) (ls : Links) → operands_of (operand_list scope t ls) ≡ typed_links scope t ls
+pub operands_of-list : (scope : Scope) (t : DataType) (ls : Links) → operands_of (operand_list scope t ls) ≡ typed_links scope t ls
 operands_of-list scope t no_links = refl
-operands_of-list scope t (link o at e ls) = ap (operand o t (typed scope (Some t) e)) (operands_of-list scope (next_type o t) ls)
+operands_of-list scope t (link o at e ls) = ap (operand o (carrier t) (typed scope (Some t) e)) (operands_of-list scope (next_type o t) ls)
 
 expressions_of-before : (p : Parameter) (e : Expression) (es : List Expression) → expressions_of (before_operands p e es) ≡ with_operand p e (expressions_of es)
 expressions_of-before (fixed k) e es = refl
 expressions_of-before common e es = refl
 expressions_of-before amount e es = refl
 
-pub expressions_of-list : (scope : Scope) (f : StandardFunction) (t : Elementary) (place : ℕ) (args : Arguments) → expressions_of (expression_list scope f t place args) ≡ typed_operands scope f t place args
+pub expressions_of-list : (scope : Scope) (f : StandardFunction) (t : DataType) (place : ℕ) (args : Arguments) → expressions_of (expression_list scope f t place args) ≡ typed_operands scope f t place args
 expressions_of-list scope f t place no_arguments = refl
 expressions_of-list scope f t place (argument n e args) =
     let p = parameter_of f place in
@@ -32,7 +33,7 @@ expressions_of-list scope f t place (argument n e args) =
 pub statements_of-list : (scope : Scope) (ss : Stmts) → statements_of (statement_list scope ss) ≡ typed_stmts scope ss
 statements_of-list scope no_stmts = refl
 statements_of-list scope (stmt empty ss) = statements_of-list scope ss
-statements_of-list scope (stmt (assign p e) ss) = ap (statement (typed_assign (cell_of (scope p)) (typed scope (kind_at (scope p)) e))) (statements_of-list scope ss)
+statements_of-list scope (stmt (assign p e) ss) = ap (statement (typed_assign (cell_of (scope (by_path p))) (typed scope (kind_at (scope (by_path p))) e))) (statements_of-list scope ss)
 statements_of-list scope (stmt (branch arms other) ss) = ap (statement (choice (typed_arms scope arms) (typed_else scope other))) (statements_of-list scope ss)
 statements_of-list scope (stmt (cases e es other) ss) =
     ap (statement (typed_cases (typed scope None e) (typed_entries scope (type_of scope None e) es) (typed_else scope other))) (statements_of-list scope ss)
@@ -42,6 +43,6 @@ pub choices_of-list : (scope : Scope) (arms : Arms) → choices_of (choice_list 
 choices_of-list scope no_arms = refl
 choices_of-list scope (arm e ss arms) = ap (choose (typed scope None e) (typed_stmts scope ss)) (choices_of-list scope arms)
 
-pub entries_of-list : (scope : Scope) (t : Elementary) (es : Entries) → entries_of (entry_list scope t es) ≡ typed_entries scope t es
+pub entries_of-list : (scope : Scope) (t : DataType) (es : Entries) → entries_of (entry_list scope t es) ≡ typed_entries scope t es
 entries_of-list scope t no_entries = refl
-entries_of-list scope t (entry ls ss es) = ap (typed_entry (map (label_range t) ls) (typed_stmts scope ss)) (entries_of-list scope t es)
+entries_of-list scope t (entry ls ss es) = ap (typed_entry (map (label_range scope t) ls) (typed_stmts scope ss)) (entries_of-list scope t es)

@@ -1,6 +1,6 @@
 -- Constant expressions, and the turns of a FOR.
 use Rattle.std.specs.Prelude.{ℕ, zero, suc, nat_lt, [], Bool, true, false, not, ◌&&◌, Option, Some, None, if◌then◌else◌, ℤ, pos, ◌+ℤ◌, int_le, int_lt}
-use Rattle.st_tree.specs.declared.elementary.Elementary.{Elementary}
+use Rattle.st_tree.specs.declared.data_type.DataType.{DataType}
 use Rattle.st_tree.specs.declared.rule.Rule.{Rule}
 use Rattle.st_tree.specs.declared.rule.Rule.TheVariants.{StepZero, TooManyTurns, OutsideControl}
 use Rattle.st_tree.specs.declared.typed.Range.{Range}
@@ -9,7 +9,7 @@ use Rattle.st_tree.specs.Syntax.{Tree, literal, path, enumerator, paren, unary, 
 use Rattle.expression_value.specs.Values.{value_of, faults, is_zero}
 use Rattle.st_types.specs.declared.scope.Place.{Place}
 use Rattle.st_types.specs.declared.scope.Place.TheVariants as places
-use Rattle.st_types.specs.Typing.{Meaning, Scope}
+use Rattle.st_types.specs.Typing.{Meaning, Scope, by_path, by_value}
 use Rattle.st_types.specs.Typed.{typed}
 
 abbrev pub is_value : Place → Bool
@@ -20,12 +20,12 @@ abbrev pub means_value : Option Meaning → Bool
 means_value None = false
 means_value (Some m) = is_value m.place
 
--- An expression over literals and constants alone, without calls.
+-- An expression over literals, values of enumerations and constants alone, without calls.
 abbrev mutual
   pub is_constant : Scope → Tree → Bool
   is_constant scope (literal l) = true
-  is_constant scope (path p) = means_value (scope p)
-  is_constant scope (enumerator t v) = true
+  is_constant scope (path p) = means_value (scope (by_path p))
+  is_constant scope (enumerator t v) = means_value (scope (by_value v))
   is_constant scope (paren at e) = is_constant scope e
   is_constant scope (unary o at e) = is_constant scope e
   is_constant scope (chain e ls) = is_constant scope e && are_constant scope ls
@@ -36,7 +36,7 @@ abbrev mutual
   are_constant scope (link o at e ls) = is_constant scope e && are_constant scope ls
 
 -- The value of a constant expression where a type is wanted: there is one where its evaluation meets no fault.
-abbrev pub constant_value : Scope → Option Elementary → Tree → Option ℤ
+abbrev pub constant_value : Scope → Option DataType → Tree → Option ℤ
 constant_value scope wanted e =
     if is_constant scope e && not (faults (typed scope wanted e) []) then Some (value_of (typed scope wanted e) []) else None
 

@@ -1,7 +1,10 @@
 -- The rules on the types of statements. Statements are judged inside FORs, whose control variables are these cells.
 use Rattle.std.specs.Prelude.{ℕ, List, [], ◌∷◌, Bool, true, false, not, ◌&&◌, ◌==◌, Option, Some, None, is_some, if◌then◌else◌, ℤ, pos}
 use Rattle.std.specs.List.{list_any}
-use Rattle.st_tree.specs.declared.elementary.Elementary.{Elementary}
+use Rattle.st_tree.specs.declared.elementary.Elementary.TheVariants as types
+use Rattle.st_tree.specs.declared.data_type.DataType.{DataType}
+use Rattle.st_tree.specs.declared.data_type.DataType.TheVariants.{Elementary, Enumeration, Unknown}
+use Rattle.st_tree.specs.DataTypes.{is_same_type, is_integer_type}
 use Rattle.st_tree.specs.declared.rule.Rule.{Rule}
 use Rattle.st_tree.specs.declared.rule.Rule.TheVariants.{OperandType, ValueType, NotAssignable, NotConstant}
 use Rattle.st_tree.specs.declared.typed.Range.{Range}
@@ -10,7 +13,7 @@ use Rattle.st_tree.specs.Syntax.{PathData, Tree, Stmt, empty, assign, branch, ca
 use Rattle.st_names.specs.Broken.{alone}
 use Rattle.st_types.specs.declared.scope.Place.{Place}
 use Rattle.st_types.specs.declared.scope.Place.TheVariants as places
-use Rattle.st_types.specs.Typing.{Meaning, Scope, kind_at, or_dint, is_same, type_of, place_of}
+use Rattle.st_types.specs.Typing.{Meaning, Scope, by_path, kind_at, or_dint, type_of, place_of}
 use Rattle.st_types.specs.Judged.{Judgement, sound, also, tested, judged, judged_meaning, judged_condition}
 use Rattle.st_types.specs.Constants.{constant_value, broken_by_turns}
 use Rattle.st_types.specs.Labels.{judged_labels, seen_behind}
@@ -31,35 +34,35 @@ judged_target controls m at = tested (judged_meaning m) (is_assignable controls 
 -- an assignment's value is of its target's type
 abbrev pub judged_assign : Scope → List ℕ → PathData → Tree → Judgement
 judged_assign scope controls p e =
-    let wanted = kind_at (scope p) in
-    tested (also (judged_target controls (scope p) p.first.at) (judged scope wanted e)) (is_same (type_of scope wanted e) (or_dint wanted)) ValueType p.first.at
+    let wanted = kind_at (scope (by_path p)) in
+    tested (also (judged_target controls (scope (by_path p)) p.first.at) (judged scope wanted e)) (is_same_type (type_of scope wanted e) (or_dint wanted)) ValueType p.first.at
 
 -- the control variable of a FOR may be assigned, and is of an integer type
 abbrev pub may_control : List ℕ → Option Meaning → Bool
-may_control controls m = is_assignable controls m && is_integer (or_dint (kind_at m))
+may_control controls m = is_assignable controls m && is_integer_type (or_dint (kind_at m))
 
 abbrev pub judged_control : List ℕ → Option Meaning → ℕ → Judgement
 judged_control controls m at = tested (judged_meaning m) (may_control controls m) NotAssignable at
 
 -- the bounds and the step of a FOR are constant
-abbrev pub judged_bound : Scope → Elementary → Tree → Judgement
+abbrev pub judged_bound : Scope → DataType → Tree → Judgement
 judged_bound scope t e = tested (judged scope (Some t) e) (is_some (constant_value scope (Some t) e)) NotConstant (place_of e)
 
-abbrev pub judged_step : Scope → Elementary → Option Tree → Judgement
+abbrev pub judged_step : Scope → DataType → Option Tree → Judgement
 judged_step scope t None = sound
 judged_step scope t (Some e) = judged_bound scope t e
 
-abbrev pub is_typed : Scope → Elementary → Tree → Bool
-is_typed scope t e = is_same (type_of scope (Some t) e) t
+abbrev pub is_typed : Scope → DataType → Tree → Bool
+is_typed scope t e = is_same_type (type_of scope (Some t) e) t
 
-abbrev pub step_is_typed : Scope → Elementary → Option Tree → Bool
+abbrev pub step_is_typed : Scope → DataType → Option Tree → Bool
 step_is_typed scope t None = true
 step_is_typed scope t (Some e) = is_typed scope t e
 
 -- what stands between FOR and DO; the bounds and the step are of the control variable's type
 abbrev pub judged_iteration : Scope → List ℕ → IterationData → Judgement
 judged_iteration scope controls i =
-    let m = scope (alone i.control) in
+    let m = scope (by_path (alone i.control)) in
     let t = or_dint (kind_at m) in
     tested
     (also (judged_control controls m i.control.at) (also (judged_bound scope t i.first) (also (judged_bound scope t i.last) (judged_step scope t i.step))))
@@ -69,19 +72,25 @@ abbrev pub value_or_zero : Option ℤ → ℤ
 value_or_zero None = pos 0
 value_or_zero (Some v) = v
 
-abbrev pub bound_value : Scope → Elementary → Tree → ℤ
+abbrev pub bound_value : Scope → DataType → Tree → ℤ
 bound_value scope t e = value_or_zero (constant_value scope (Some t) e)
 
 -- a step that is not written is 1
-abbrev pub step_value : Scope → Elementary → Option Tree → ℤ
+abbrev pub step_value : Scope → DataType → Option Tree → ℤ
 step_value scope t None = pos 1
 step_value scope t (Some e) = bound_value scope t e
+
+-- the values that what a name stands for may have
+abbrev pub range_at : Option Meaning → Range
+range_at None = range_of types.Dint
+range_at (Some m) = m.range
 
 -- the rule that the turns of a FOR break
 abbrev pub turns_rule : Scope → IterationData → Option Rule
 turns_rule scope i =
-    let t = or_dint (kind_at (scope (alone i.control))) in
-    broken_by_turns (range_of t) (bound_value scope t i.first) (bound_value scope t i.last) (step_value scope t i.step)
+    let m = scope (by_path (alone i.control)) in
+    let t = or_dint (kind_at m) in
+    broken_by_turns (range_at m) (bound_value scope t i.first) (bound_value scope t i.last) (step_value scope t i.step)
 
 -- a construct with whole parts breaks a rule where there is one
 abbrev pub broken_by : Judgement → Option Rule → ℕ → Judgement
@@ -97,13 +106,18 @@ abbrev pub with_control : List ℕ → Option Meaning → List ℕ
 with_control controls None = controls
 with_control controls (Some m) = with_place controls m.place
 
--- a selector is of an integer type
+abbrev pub may_select : DataType → Bool
+may_select (Elementary k) = is_integer k
+may_select (Enumeration n) = true
+may_select Unknown = false
+
+-- a selector is of an integer type, or an enumeration
 abbrev pub judged_selector : Scope → Tree → Judgement
-judged_selector scope e = tested (judged scope None e) (is_integer (type_of scope None e)) OperandType (place_of e)
+judged_selector scope e = tested (judged scope None e) (may_select (type_of scope None e)) OperandType (place_of e)
 
 -- labels are judged where the selector is whole
-abbrev pub judged_labels_if : Bool → Elementary → List Range → List LabelData → Judgement
-judged_labels_if whole t seen ls = if whole then judged_labels t seen ls else sound
+abbrev pub judged_labels_if : Scope → Bool → DataType → List Range → List LabelData → Judgement
+judged_labels_if scope whole t seen ls = if whole then judged_labels scope t seen ls else sound
 
 abbrev mutual
   pub judged_stmt : Scope → List ℕ → Stmt → Judgement
@@ -114,7 +128,7 @@ abbrev mutual
       also (judged_selector scope e)
       (also (judged_entries scope controls (judged_selector scope e).whole (type_of scope None e) [] es) (judged_else scope controls other))
   judged_stmt scope controls (iterate i ss) =
-      broken_by (also (judged_iteration scope controls i) (judged_stmts scope (with_control controls (scope (alone i.control))) ss)) (turns_rule scope i) i.at
+      broken_by (also (judged_iteration scope controls i) (judged_stmts scope (with_control controls (scope (by_path (alone i.control)))) ss)) (turns_rule scope i) i.at
 
   pub judged_stmts : Scope → List ℕ → Stmts → Judgement
   judged_stmts scope controls no_stmts = sound
@@ -126,10 +140,10 @@ abbrev mutual
       also (judged_condition scope OperandType e) (also (judged_stmts scope controls ss) (judged_arms scope controls arms))
 
   -- the entries of a CASE whose selector is whole or not, of a type, behind labels that were seen
-  pub judged_entries : Scope → List ℕ → Bool → Elementary → List Range → Entries → Judgement
+  pub judged_entries : Scope → List ℕ → Bool → DataType → List Range → Entries → Judgement
   judged_entries scope controls whole t seen no_entries = sound
   judged_entries scope controls whole t seen (entry ls ss es) =
-      also (judged_labels_if whole t seen ls) (also (judged_stmts scope controls ss) (judged_entries scope controls whole t (seen_behind t seen ls) es))
+      also (judged_labels_if scope whole t seen ls) (also (judged_stmts scope controls ss) (judged_entries scope controls whole t (seen_behind scope t seen ls) es))
 
   pub judged_else : Scope → List ℕ → Otherwise → Judgement
   judged_else scope controls no_else = sound

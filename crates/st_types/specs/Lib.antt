@@ -3,8 +3,10 @@ pub mod Parameters
 pub mod Judged
 pub mod Typed
 pub mod Constants
+pub mod Turns
 pub mod Labels
 pub mod JudgedStatements
+pub mod Domains
 pub mod Programs
 pub mod TypedStatements
 pub mod TypedPrograms
@@ -12,7 +14,9 @@ pub mod Outcomes
 pub mod Meanings
 pub mod TypedLists
 pub mod Seen
+pub mod OwnDomains
 pub mod Sides
+pub mod PairedTypes
 pub mod Pairs
 pub mod Bodies
 pub mod Faults

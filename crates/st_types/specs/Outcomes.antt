@@ -1,6 +1,7 @@
 -- What judging a construct tells: whether it is whole, and the first of what is broken in it.
 use Rattle.std.specs.Prelude.{ℕ, ◌+◌, List, [], ◌∷◌, ◌++◌, Bool, false, not, ◌&&◌, Option, Some, None, if◌then◌else◌}
-use Rattle.st_tree.specs.declared.elementary.Elementary.{Elementary}
+use Rattle.st_tree.specs.declared.data_type.DataType.{DataType}
+use Rattle.st_tree.specs.DataTypes.{is_same_type}
 use Rattle.st_tree.specs.declared.rule.Rule.{Rule}
 use Rattle.st_tree.specs.declared.rule.Rule.TheVariants.{OperandType, ValueType, OutsideType}
 use Rattle.st_tree.specs.declared.function.StandardFunction.{StandardFunction}
@@ -9,11 +10,12 @@ use Rattle.st_tree.specs.Rules.{earlier, first_in}
 use Rattle.st_names.specs.Scopes.{Variable}
 use Rattle.st_names.specs.Broken.{alone}
 use Rattle.st_types.specs.declared.outcome.Outcome.{Outcome}
-use Rattle.st_tree.specs.Syntax.{Tree, Links, no_links, link, Arguments, no_arguments, argument, Stmt, empty, assign, branch, cases, iterate, Stmts, no_stmts, stmt, Arms, no_arms, arm, Entries, no_entries, entry, Otherwise, no_else, else_stmts, LabelData, IterationData}
-use Rattle.st_types.specs.Typing.{Scope, kind_at, or_dint, type_of, is_same, takes, next_type, Parameter, fixed, common, amount, parameter_of, is_amount, place_of, Meaning}
+use Rattle.st_tree.specs.Syntax.{Tree, Links, no_links, link, Arguments, no_arguments, argument, Stmt, empty, assign, branch, cases, iterate, Stmts, no_stmts, stmt, Arms, no_arms, arm, Entries, no_entries, entry, Otherwise, no_else, else_stmts, LabelData, IterationData, TypeDeclarationData, FileData}
+use Rattle.st_types.specs.Typing.{Scope, by_path, kind_at, or_dint, type_of, takes, next_type, Parameter, fixed, common, amount, parameter_of, is_amount, place_of, Meaning}
 use Rattle.st_types.specs.Judged.{Judgement, also, breaks, tested, wanted_at, judged, judged_condition}
 use Rattle.st_types.specs.Labels.{judged_label, seen_with}
 use Rattle.st_types.specs.JudgedStatements.{judged_assign, judged_control, judged_bound, judged_step, is_typed, step_is_typed, turns_rule, with_control, judged_selector, judged_labels_if}
+use Rattle.st_types.specs.Domains.{judged_specification}
 use Rattle.st_types.specs.Programs.{judged_variable}
 
 unfoldable pub outcome_of : Judgement → Outcome
@@ -28,10 +30,10 @@ unfoldable pub tried : Outcome → Bool → Rule → ℕ → Outcome
 tried parts holds rule at = if parts.whole && not holds then both parts (outcome_of (breaks rule at)) else parts
 
 -- of operators behind a left operand
-abbrev pub links_outcome : Scope → Elementary → Outcome → Links → Outcome
+abbrev pub links_outcome : Scope → DataType → Outcome → Links → Outcome
 links_outcome scope t left no_links = left
 links_outcome scope t left (link o at e ls) =
-    links_outcome scope (next_type o t) (tried (both left (outcome_of (judged scope (Some t) e))) (takes o t && is_same (type_of scope (Some t) e) t) OperandType at) ls
+    links_outcome scope (next_type o t) (tried (both left (outcome_of (judged scope (Some t) e))) (takes o t && is_same_type (type_of scope (Some t) e) t) OperandType at) ls
 
 -- of an argument that was judged
 abbrev pub amount_outcome : Scope → Parameter → Tree → Outcome → Outcome
@@ -40,7 +42,7 @@ amount_outcome scope common e o = o
 amount_outcome scope amount e o = tried o (is_amount scope e) OutsideType (place_of e)
 
 -- of arguments from a place on, behind what was judged so far
-abbrev pub arguments_outcome : Scope → StandardFunction → Elementary → ℕ → Outcome → Arguments → Outcome
+abbrev pub arguments_outcome : Scope → StandardFunction → DataType → ℕ → Outcome → Arguments → Outcome
 arguments_outcome scope f t place o no_arguments = o
 arguments_outcome scope f t place o (argument n e args) =
     arguments_outcome scope f t (place + 1) (both o (amount_outcome scope (parameter_of f place) e (outcome_of (judged scope (wanted_at (parameter_of f place) t) e)))) args
@@ -56,9 +58,9 @@ ruled parts None at = parts
 ruled parts (Some rule) at = tried parts false rule at
 
 -- of labels behind what was judged so far, where some were seen
-abbrev pub labels_outcome : Elementary → List Range → Outcome → List LabelData → Outcome
-labels_outcome t seen o [] = o
-labels_outcome t seen o (l ∷ ls) = labels_outcome t (seen_with t seen l) (both o (outcome_of (judged_label t seen l))) ls
+abbrev pub labels_outcome : Scope → DataType → List Range → Outcome → List LabelData → Outcome
+labels_outcome scope t seen o [] = o
+labels_outcome scope t seen o (l ∷ ls) = labels_outcome scope t (seen_with scope t seen l) (both o (outcome_of (judged_label scope t seen l))) ls
 
 -- the labels of entries, in their order
 abbrev pub all_labels : Entries → List LabelData
@@ -68,7 +70,7 @@ all_labels (entry ls ss es) = ls ++ all_labels es
 -- a selector, and the labels of a CASE
 abbrev pub judged_selection : Scope → Tree → Entries → Judgement
 judged_selection scope e es =
-    also (judged_selector scope e) (judged_labels_if (judged_selector scope e).whole (type_of scope None e) [] (all_labels es))
+    also (judged_selector scope e) (judged_labels_if scope (judged_selector scope e).whole (type_of scope None e) [] (all_labels es))
 
 -- what stands between FOR and DO, by what the control variable's name stands for
 abbrev pub judged_turns : Scope → List ℕ → Option Meaning → IterationData → Judgement
@@ -87,7 +89,7 @@ abbrev mutual
   stmt_outcome scope controls o (cases e es other) =
       else_outcome scope controls (bodies_outcome scope controls (both o (outcome_of (judged_selection scope e es))) es) other
   stmt_outcome scope controls o (iterate i ss) =
-      let m = scope (alone i.control) in
+      let m = scope (by_path (alone i.control)) in
       both o (ruled (stmts_outcome scope (with_control controls m) (outcome_of (judged_turns scope controls m i)) ss) (turns_rule scope i) i.at)
 
   pub stmts_outcome : Scope → List ℕ → Outcome → Stmts → Outcome
@@ -109,6 +111,11 @@ abbrev mutual
   else_outcome scope controls o (else_stmts ss) = stmts_outcome scope controls o ss
 
 -- of declarations behind what was judged so far
-abbrev pub variables_outcome : Outcome → List Variable → Outcome
-variables_outcome o [] = o
-variables_outcome o (v ∷ vs) = variables_outcome (both o (outcome_of (judged_variable v))) vs
+abbrev pub variables_outcome : FileData → Outcome → List Variable → Outcome
+variables_outcome f o [] = o
+variables_outcome f o (v ∷ vs) = variables_outcome f (both o (outcome_of (judged_variable f v))) vs
+
+-- of types behind what was judged so far
+abbrev pub types_outcome : FileData → Outcome → List TypeDeclarationData → Outcome
+types_outcome f o [] = o
+types_outcome f o (d ∷ ds) = types_outcome f (both o (outcome_of (judged_specification f d.name d.specification))) ds

@@ -3,6 +3,7 @@ use Rattle.std.specs.Prelude.{◌≡◌, List, [], ◌∷◌}
 use Rattle.std.specs.List.{AllByRecursion}
 use Rattle.num_core.specs.Ranges.{Fits}
 use Rattle.st_tree.specs.declared.elementary.Elementary.TheVariants as types
+use Rattle.st_tree.specs.declared.data_type.DataType.TheVariants.{Elementary}
 use Rattle.st_tree.specs.declared.typed.Part.TheVariants as parts
 use Rattle.st_tree.specs.Types.{range_of}
 use Rattle.st_tree.specs.Tree.{CellData, ProgramData}
@@ -10,7 +11,7 @@ use Rattle.st_tree.specs.Tree.{CellData, ProgramData}
 -- the first cell is FAULT, a BOOL
 abbrev pub BeginsWithFault : List CellData → Type 0
 BeginsWithFault [] = ⊥
-BeginsWithFault (c ∷ cs) = (c.part ≡ parts.Fault) × (c.kind ≡ types.Bool) × (c.range ≡ range_of types.Bool)
+BeginsWithFault (c ∷ cs) = (c.part ≡ parts.Fault) × (c.kind ≡ Elementary types.Bool) × (c.range ≡ range_of types.Bool)
 
 -- a cell begins in its range
 abbrev pub StartsInRange : CellData → Type 0

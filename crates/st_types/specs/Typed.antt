@@ -1,6 +1,7 @@
 -- The typed expression that a tree stands for.
 use Rattle.std.specs.Prelude.{ℕ, ◌+◌, Bool, true, false, Option, Some, None, ℤ, pos}
-use Rattle.st_tree.specs.declared.elementary.Elementary.{Elementary}
+use Rattle.st_tree.specs.declared.data_type.DataType.{DataType}
+use Rattle.st_tree.specs.DataTypes.{carrier}
 use Rattle.st_tree.specs.declared.function.Function.{Function}
 use Rattle.st_tree.specs.declared.function.Function.TheVariants as typed_functions
 use Rattle.st_tree.specs.declared.function.StandardFunction.{StandardFunction}
@@ -11,17 +12,17 @@ use Rattle.st_tree.specs.declared.syntax.UnaryOperator.{UnaryOperator}
 use Rattle.st_tree.specs.Types.{wrap_to}
 use Rattle.st_tree.specs.Syntax.{Tree, literal, path, enumerator, paren, unary, chain, call, Links, no_links, link, Arguments, no_arguments, argument}
 use Rattle.st_tree.specs.Tree.{Expression, number, cell, unary as typed_unary, chain as typed_chain, call as typed_call, Operands, no_operands, operand, Expressions, no_expressions, expression}
-use Rattle.st_types.specs.Typing.{Meaning, Scope, no_scope, type_of, operand_type, next_type, literal_value, negated, or_else, or_dint, Parameter, fixed, common, amount, parameter_of, result_of, common_type, number_in, amount_value}
+use Rattle.st_types.specs.Typing.{Meaning, Scope, by_path, by_value, type_of, operand_type, next_type, literal_value, negated, or_else, or_dint, Parameter, fixed, common, amount, parameter_of, result_of, common_type, number_in, amount_value}
 use Rattle.st_types.specs.Judged.{negative_literal, wanted_at}
 use Rattle.st_types.specs.declared.scope.Place.{Place}
 use Rattle.st_types.specs.declared.scope.Place.TheVariants as places
 
 -- a literal's number; one that is a value of its type stays as it is
-abbrev pub number_of : Elementary → Bool → Literal → Expression
-number_of t minus l = number (wrap_to t (negated minus (literal_value l)))
+abbrev pub number_of : DataType → Bool → Literal → Expression
+number_of t minus l = number (wrap_to (carrier t) (negated minus (literal_value l)))
 
-abbrev pub typed_signed : Elementary → UnaryOperator → Option Literal → Expression → Expression
-typed_signed t o None e = typed_unary o t e
+abbrev pub typed_signed : DataType → UnaryOperator → Option Literal → Expression → Expression
+typed_signed t o None e = typed_unary o (carrier t) e
 typed_signed t o (Some l) e = number_of t true l
 
 -- a cell is read, and a constant is its value
@@ -56,17 +57,17 @@ with_operand common e es = expression e es
 with_operand amount e es = es
 
 -- a call, where its operands are known by its function and their type
-abbrev pub typed_result : Scope → Option Elementary → Option StandardFunction → Arguments → (StandardFunction → Elementary → Expressions) → Expression
+abbrev pub typed_result : Scope → Option DataType → Option StandardFunction → Arguments → (StandardFunction → DataType → Expressions) → Expression
 typed_result scope wanted None args operands = number (pos 0)
 typed_result scope wanted (Some f) args operands =
     let t = common_type scope wanted f args in
-    typed_call (function_of f args) (or_dint (or_else (result_of f) (Some t))) (operands f t)
+    typed_call (function_of f args) (carrier (or_dint (or_else (result_of f) (Some t)))) (operands f t)
 
 abbrev mutual
-  pub typed : Scope → Option Elementary → Tree → Expression
+  pub typed : Scope → Option DataType → Tree → Expression
   typed scope wanted (literal l) = number_of (type_of scope wanted (literal l)) false l
-  typed scope wanted (path p) = meaning_read (scope p)
-  typed scope wanted (enumerator t v) = number (pos 0)
+  typed scope wanted (path p) = meaning_read (scope (by_path p))
+  typed scope wanted (enumerator t v) = meaning_read (scope (by_value v))
   typed scope wanted (paren at e) = typed scope wanted e
   typed scope wanted (unary o at e) = typed_signed (type_of scope wanted e) o (negative_literal o e) (typed scope (Some (type_of scope wanted e)) e)
   typed scope wanted (chain e ls) =
@@ -74,12 +75,12 @@ abbrev mutual
       typed_chain (typed scope (Some t) e) (typed_links scope t ls)
   typed scope wanted (call n at args) = typed_result scope wanted (standard_function n.text) args (λ f t. typed_operands scope f t 0 args)
 
-  pub typed_links : Scope → Elementary → Links → Operands
+  pub typed_links : Scope → DataType → Links → Operands
   typed_links scope t no_links = no_operands
-  typed_links scope t (link o at e ls) = operand o t (typed scope (Some t) e) (typed_links scope (next_type o t) ls)
+  typed_links scope t (link o at e ls) = operand o (carrier t) (typed scope (Some t) e) (typed_links scope (next_type o t) ls)
 
   -- the operands among arguments from a place on
-  pub typed_operands : Scope → StandardFunction → Elementary → ℕ → Arguments → Expressions
+  pub typed_operands : Scope → StandardFunction → DataType → ℕ → Arguments → Expressions
   typed_operands scope f t place no_arguments = no_expressions
   typed_operands scope f t place (argument n e args) =
       with_operand (parameter_of f place) (typed scope (wanted_at (parameter_of f place) t) e) (typed_operands scope f t (place + 1) args)
@@ -91,7 +92,6 @@ value_of_number (typed_unary o t e) = pos 0
 value_of_number (typed_chain e os) = pos 0
 value_of_number (typed_call f t es) = pos 0
 
--- a variable without an initial value begins at 0
-abbrev pub initial_of : Elementary → Option Tree → ℤ
-initial_of t None = pos 0
-initial_of t (Some e) = value_of_number (typed no_scope (Some t) e)
+-- the value of a constant where a type is wanted
+abbrev pub constant_of : Scope → DataType → Tree → ℤ
+constant_of scope t e = value_of_number (typed scope (Some t) e)

@@ -1,19 +1,20 @@
 -- Typed operands, statements, arms and entries as lists.
 use Rattle.std.specs.Prelude.{ℕ, ◌+◌, List, [], ◌∷◌, map, Option, Some, None}
-use Rattle.st_tree.specs.declared.elementary.Elementary.{Elementary}
+use Rattle.st_tree.specs.declared.data_type.DataType.{DataType}
+use Rattle.st_tree.specs.DataTypes.{carrier}
 use Rattle.st_tree.specs.declared.function.StandardFunction.{StandardFunction}
 use Rattle.st_tree.specs.Syntax.{Links, no_links, link, Arguments, no_arguments, argument, Stmt, Stmts, no_stmts, stmt, empty, assign, branch, cases, iterate, Arms, no_arms, arm, Entries, no_entries, entry}
 use Rattle.st_tree.specs.Tree.{Expression, Statement, assign as typed_assign, choice, cases as typed_cases, repeat}
 use Rattle.st_tree.specs.View.{OperandData, ChoiceData, EntryData}
-use Rattle.st_types.specs.Typing.{Scope, kind_at, next_type, type_of, Parameter, fixed, common, amount, parameter_of}
+use Rattle.st_types.specs.Typing.{Scope, by_path, kind_at, next_type, type_of, Parameter, fixed, common, amount, parameter_of}
 use Rattle.st_types.specs.Judged.{wanted_at}
 use Rattle.st_types.specs.Typed.{typed}
 use Rattle.st_types.specs.Labels.{label_range}
 use Rattle.st_types.specs.TypedStatements.{cell_of, turns_of, typed_stmts, typed_arms, typed_entries, typed_else}
 
-abbrev pub operand_list : Scope → Elementary → Links → List OperandData
+abbrev pub operand_list : Scope → DataType → Links → List OperandData
 operand_list scope t no_links = []
-operand_list scope t (link o at e ls) = (o, t, typed scope (Some t) e) ∷ operand_list scope (next_type o t) ls
+operand_list scope t (link o at e ls) = (o, carrier t, typed scope (Some t) e) ∷ operand_list scope (next_type o t) ls
 
 -- an amount is no operand
 abbrev pub before_operands : Parameter → Expression → List Expression → List Expression
@@ -22,7 +23,7 @@ before_operands common e es = e ∷ es
 before_operands amount e es = es
 
 -- the operands among arguments from a place on
-abbrev pub expression_list : Scope → StandardFunction → Elementary → ℕ → Arguments → List Expression
+abbrev pub expression_list : Scope → StandardFunction → DataType → ℕ → Arguments → List Expression
 expression_list scope f t place no_arguments = []
 expression_list scope f t place (argument n e args) =
     before_operands (parameter_of f place) (typed scope (wanted_at (parameter_of f place) t) e) (expression_list scope f t (place + 1) args)
@@ -30,7 +31,7 @@ expression_list scope f t place (argument n e args) =
 -- an empty statement leaves nothing
 abbrev pub statement_of : Scope → Stmt → Option Statement
 statement_of scope empty = None
-statement_of scope (assign p e) = Some (typed_assign (cell_of (scope p)) (typed scope (kind_at (scope p)) e))
+statement_of scope (assign p e) = Some (typed_assign (cell_of (scope (by_path p))) (typed scope (kind_at (scope (by_path p))) e))
 statement_of scope (branch arms other) = Some (choice (typed_arms scope arms) (typed_else scope other))
 statement_of scope (cases e es other) =
     Some (typed_cases (typed scope None e) (typed_entries scope (type_of scope None e) es) (typed_else scope other))
@@ -48,6 +49,6 @@ abbrev pub choice_list : Scope → Arms → List ChoiceData
 choice_list scope no_arms = []
 choice_list scope (arm e ss arms) = (typed scope None e, typed_stmts scope ss) ∷ choice_list scope arms
 
-abbrev pub entry_list : Scope → Elementary → Entries → List EntryData
+abbrev pub entry_list : Scope → DataType → Entries → List EntryData
 entry_list scope t no_entries = []
-entry_list scope t (entry ls ss es) = (map (label_range t) ls, typed_stmts scope ss) ∷ entry_list scope t es
+entry_list scope t (entry ls ss es) = (map (label_range scope t) ls, typed_stmts scope ss) ∷ entry_list scope t es

@@ -1,13 +1,13 @@
 -- The typed statements that statements stand for.
 use Rattle.std.specs.Prelude.{ℕ, map, Option, Some, None}
-use Rattle.st_tree.specs.declared.elementary.Elementary.{Elementary}
+use Rattle.st_tree.specs.declared.data_type.DataType.{DataType}
 use Rattle.st_tree.specs.declared.typed.Turns.{Turns}
 use Rattle.st_tree.specs.Syntax.{empty, assign, branch, cases, iterate, Stmts, no_stmts, stmt, Arms, no_arms, arm, Entries, no_entries, entry, Otherwise, no_else, else_stmts, IterationData}
 use Rattle.st_tree.specs.Tree.{assign as typed_assign, choice, cases as typed_cases, repeat, Statements, no_statements, statement, Choices, no_choices, choose, Entries as TypedEntries, no_entries as no_typed_entries, entry as typed_entry}
 use Rattle.st_names.specs.Broken.{alone}
 use Rattle.st_types.specs.declared.scope.Place.{Place}
 use Rattle.st_types.specs.declared.scope.Place.TheVariants as places
-use Rattle.st_types.specs.Typing.{Meaning, Scope, kind_at, or_dint, type_of}
+use Rattle.st_types.specs.Typing.{Meaning, Scope, by_path, kind_at, or_dint, type_of}
 use Rattle.st_types.specs.Typed.{typed}
 use Rattle.st_types.specs.Constants.{turn_count}
 use Rattle.st_types.specs.Labels.{label_range}
@@ -23,7 +23,7 @@ cell_of (Some m) = place_cell m.place
 
 abbrev pub turns_of : Scope → IterationData → Turns
 turns_of scope i =
-    let m = scope (alone i.control) in
+    let m = scope (by_path (alone i.control)) in
     let t = or_dint (kind_at m) in
     record {
       count = turn_count (bound_value scope t i.first) (bound_value scope t i.last) (step_value scope t i.step);
@@ -37,7 +37,7 @@ abbrev mutual
   pub typed_stmts : Scope → Stmts → Statements
   typed_stmts scope no_stmts = no_statements
   typed_stmts scope (stmt empty ss) = typed_stmts scope ss
-  typed_stmts scope (stmt (assign p e) ss) = statement (typed_assign (cell_of (scope p)) (typed scope (kind_at (scope p)) e)) (typed_stmts scope ss)
+  typed_stmts scope (stmt (assign p e) ss) = statement (typed_assign (cell_of (scope (by_path p))) (typed scope (kind_at (scope (by_path p))) e)) (typed_stmts scope ss)
   typed_stmts scope (stmt (branch arms other) ss) = statement (choice (typed_arms scope arms) (typed_else scope other)) (typed_stmts scope ss)
   typed_stmts scope (stmt (cases e es other) ss) =
       statement (typed_cases (typed scope None e) (typed_entries scope (type_of scope None e) es) (typed_else scope other)) (typed_stmts scope ss)
@@ -47,9 +47,9 @@ abbrev mutual
   typed_arms scope no_arms = no_choices
   typed_arms scope (arm e ss arms) = choose (typed scope None e) (typed_stmts scope ss) (typed_arms scope arms)
 
-  pub typed_entries : Scope → Elementary → Entries → TypedEntries
+  pub typed_entries : Scope → DataType → Entries → TypedEntries
   typed_entries scope t no_entries = no_typed_entries
-  typed_entries scope t (entry ls ss es) = typed_entry (map (label_range t) ls) (typed_stmts scope ss) (typed_entries scope t es)
+  typed_entries scope t (entry ls ss es) = typed_entry (map (label_range scope t) ls) (typed_stmts scope ss) (typed_entries scope t es)
 
   pub typed_else : Scope → Otherwise → Statements
   typed_else scope no_else = no_statements

@@ -3,10 +3,10 @@ ghost use Rattle.std.specs.Prelude.{◌≡◌};
 ghost use Rattle.st_tree.specs.SyntaxView.{tree_view};
 ghost use Rattle.st_types.specs.Typing.{signed_number, number_in, is_amount_value, is_amount, amount_value};
 
-use crate::kinds::type_of;
+use crate::kinds::{is_bool, type_of};
 use crate::literals::{is_number, literal_value, negated};
 use crate::scope::Scope;
-use st_tree::{Elementary, Expr, UnaryOperator};
+use st_tree::{Expr, UnaryOperator};
 
 // The value of a number behind a minus sign.
 fn signed_number(operator: UnaryOperator, operand: &Expr) -> Option<i128>
@@ -44,7 +44,7 @@ fn is_amount_value(value: Option<i128>) -> bool
 pub(crate) fn is_amount<S: Scope>(scope: &S, expr: &Expr) -> bool
     ensures { result ≡ is_amount (S.means scope.now) (tree_view expr.now) }
 {
-    is_amount_value(number_in(expr)) && type_of(scope, None, expr) != Elementary::Bool
+    is_amount_value(number_in(expr)) && !is_bool(type_of(scope, None, expr))
 }
 
 /// The amount that a number is, 0 where it is none.

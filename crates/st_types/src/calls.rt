@@ -14,27 +14,30 @@ use crate::outcome::Outcome;
 use crate::parameters::{Parameter, parameter_of, takes_count, takes_operands, wanted_at};
 use crate::scope::Scope;
 use st_names::standard_function;
-use st_tree::{Argument, Elementary, Expr, Name, Rule, StandardFunction};
+use st_tree::{Argument, DataType, Expr, Name, Rule, StandardFunction};
 
 /// The one type of a call's operands.
 pub(crate) fn common_type<S: Scope>(
     scope: &S,
-    wanted: Option<Elementary>,
+    wanted: Option<DataType>,
     function: StandardFunction,
     arguments: &[Argument],
-) -> Elementary
+) -> DataType
     ensures { result ≡ common_type (S.means scope.now) wanted function (arguments_view arguments.now) }
 {
     or_dint(own_of_arguments(scope, function, arguments).or(wanted))
 }
 
 // Whether an argument is of the type that is wanted where the operands are of a type.
-fn fits_at<S: Scope>(scope: &S, parameter: Parameter, kind: Elementary, argument: &Expr) -> bool
+fn fits_at<S: Scope>(scope: &S, parameter: Parameter, kind: DataType, argument: &Expr) -> bool
     ensures { result ≡ fits_at (S.means scope.now) (parameter_view parameter) kind (tree_view argument.now) }
 {
     match parameter {
-        Parameter::Fixed(own) => type_of(scope, Some(own), argument) == own,
-        Parameter::Common => type_of(scope, Some(kind), argument) == kind,
+        Parameter::Fixed(own) => {
+            let own = DataType::Elementary(own);
+            type_of(scope, Some(own), argument).is_same(own)
+        }
+        Parameter::Common => type_of(scope, Some(kind), argument).is_same(kind),
         Parameter::Amount => true,
     }
 }
@@ -43,7 +46,7 @@ fn fits_at<S: Scope>(scope: &S, parameter: Parameter, kind: Elementary, argument
 fn all_fit<S: Scope>(
     scope: &S,
     function: StandardFunction,
-    kind: Elementary,
+    kind: DataType,
     arguments: &[Argument],
 ) -> bool
     ensures { result ≡ fit_from (S.means scope.now) function kind 0 (arguments_view arguments.now) }
@@ -61,7 +64,7 @@ fn all_fit<S: Scope>(
 fn are_operands<S: Scope>(
     scope: &S,
     function: StandardFunction,
-    kind: Elementary,
+    kind: DataType,
     arguments: &[Argument],
 ) -> bool
     ensures { result ≡ takes_operands function kind && fit_from (S.means scope.now) function kind 0 (arguments_view arguments.now) }
@@ -99,7 +102,7 @@ fn judge_amount<S: Scope>(
 #[cycle(judge_expr)]
 pub(crate) fn judge_call<S: Scope>(
     scope: &S,
-    wanted: Option<Elementary>,
+    wanted: Option<DataType>,
     name: &Name,
     arguments: &[Argument],
 ) -> Outcome
@@ -121,7 +124,7 @@ pub(crate) fn judge_call<S: Scope>(
 fn judge_arguments<S: Scope>(
     scope: &S,
     function: StandardFunction,
-    kind: Elementary,
+    kind: DataType,
     arguments: &[Argument],
 ) -> Outcome
     ensures { result ≡ arguments_outcome (S.means scope.now) function kind 0 (outcome_of sound) (arguments_view arguments.now) }

@@ -2,26 +2,34 @@
 ghost use Rattle.std.specs.Prelude.{◌≡◌, ◌∷◌, IfOk};
 ghost use Rattle.st_tree.specs.View.{cell_view, cells_view, texts_view};
 ghost use Rattle.st_names.specs.ScopeView.{variable_view, variables_view};
+ghost use Rattle.st_types.specs.Bodies.{file_in};
 ghost use Rattle.st_types.specs.TypedPrograms.{cell_for, fault_cell, cells_of, constants_of};
 
+use crate::domains::Domains;
+use crate::kinds::bool_type;
 use crate::numbers::range;
 use crate::sections::{has_cell, part_of};
-use crate::variables::{initial_of, kind_of};
+use crate::variables::{domain_of, initial_of};
 use st_names::Declared;
 use st_tree::{Cell, Elementary, Part};
 use std::alloc::{AllocError, Global};
 
 // The cell of a variable.
-fn cell_for(alloc: Global, variable: &Declared<'_>) -> Result<Cell, AllocError>
-    ensures { IfOk result (λ cell. cell_view cell ≡ cell_for (variable_view variable.now)) }
+fn cell_for(
+    alloc: Global,
+    domains: &Domains<'_>,
+    variable: &Declared<'_>,
+) -> Result<Cell, AllocError>
+    ensures { IfOk result (λ cell. cell_view cell ≡ cell_for (file_in domains.now) (variable_view variable.now)) }
 {
-    let kind = kind_of(&variable.declaration.kind);
-    let initial = initial_of(alloc, kind, &variable.declaration.initial)?;
+    let domain = domain_of(alloc, domains, variable)?;
+    let initial = initial_of(alloc, domains, variable)?;
     Ok(Cell {
         path: String::from_str(alloc, variable.name.text.as_str())?,
         part: part_of(variable.section),
-        kind,
-        range: range(kind),
+        kind: domain.kind,
+        range: domain.range,
+        limited: domain.limited,
         initial,
     })
 }
@@ -32,8 +40,9 @@ fn fault_cell(alloc: Global) -> Result<Cell, AllocError>
     Ok(Cell {
         path: String::from_str(alloc, "FAULT")?,
         part: Part::Fault,
-        kind: Elementary::Bool,
+        kind: bool_type(),
         range: range(Elementary::Bool),
+        limited: false,
         initial: 0,
     })
 }
@@ -41,15 +50,16 @@ fn fault_cell(alloc: Global) -> Result<Cell, AllocError>
 /// The cells of a program, FAULT first and then the variables but for constants.
 pub(crate) fn program_cells(
     alloc: Global,
+    domains: &Domains<'_>,
     variables: &[Declared<'_>],
 ) -> Result<Vec<Cell>, AllocError>
-    ensures { IfOk result (λ list. cells_view list.items ≡ fault_cell ∷ cells_of (variables_view variables.now)) }
+    ensures { IfOk result (λ list. cells_view list.items ≡ fault_cell ∷ cells_of (file_in domains.now) (variables_view variables.now)) }
 {
     let mut list = Vec::new(alloc);
     list.push(fault_cell(alloc)?)?;
     for variable in variables.iter() {
         if has_cell(variable.section) {
-            list.push(cell_for(alloc, variable)?)?;
+            list.push(cell_for(alloc, domains, variable)?)?;
         }
     }
     Ok(list)

@@ -16,7 +16,7 @@ use crate::typed_expressions::type_expr;
 use st_tree::{Expr, Program, Refusal, Rule, TypedExpr};
 use std::alloc::{AllocError, Global};
 
-/// What a clause breaks first of the rules on types; a clause is BOOL. Its paths stand for cells of the scope.
+/// What a clause breaks first of the rules on types; a clause is BOOL. Its paths stand for cells and values of the scope.
 #[tactic(auto, unfolding(crate::specs::Outcomes::outcome_of))]
 pub fn judge_clause<S: Scope>(scope: &S, clause: &Expr) -> Option<Refusal>
     ensures { result ≡ first_in (judged_clause (S.means scope.now) (tree_view clause.now)).broken }
@@ -43,8 +43,8 @@ pub fn check_clause(
     old: &Program,
     new: &Program,
 ) -> Result<(), TypeFault>
-    ensures kept { OnOk result ((judged_clause (pair_scope (program_view old.now).cells (program_view new.now).cells) (tree_view clause.now)).broken ≡ []) }
-    ensures refused { IfErr result (IsClauseFault (judged_clause (pair_scope (program_view old.now).cells (program_view new.now).cells) (tree_view clause.now)).broken) }
+    ensures kept { OnOk result ((judged_clause (pair_scope (program_view old.now) (program_view new.now)) (tree_view clause.now)).broken ≡ []) }
+    ensures refused { IfErr result (IsClauseFault (judged_clause (pair_scope (program_view old.now) (program_view new.now)) (tree_view clause.now)).broken) }
 {
     let scope = PairScope::new(alloc, old, new)?;
     checked(&scope, clause)

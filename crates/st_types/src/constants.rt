@@ -6,7 +6,7 @@ ghost use Rattle.st_types.specs.Constants.{is_value, means_value, is_constant, a
 use crate::scope::{Meaning, Place, Scope};
 use crate::typed_expressions::type_expr;
 use expression_value::evaluate;
-use st_tree::{Elementary, Expr, Link};
+use st_tree::{DataType, Expr, Link};
 use std::alloc::{AllocError, Global};
 
 fn is_value(place: Place) -> bool
@@ -27,7 +27,7 @@ fn means_value(meaning: Option<Meaning>) -> bool
     }
 }
 
-// Whether an expression is one over literals and constants alone.
+// Whether an expression is one over literals, values of enumerations and constants alone.
 #[cycle(is_constant)]
 fn is_constant<S: Scope>(scope: &S, expr: &Expr) -> bool
     ensures { result ≡ is_constant (S.means scope.now) (tree_view expr.now) }
@@ -35,7 +35,7 @@ fn is_constant<S: Scope>(scope: &S, expr: &Expr) -> bool
     match expr {
         Expr::Literal(_) => true,
         Expr::Path(path) => means_value(scope.meaning(path)),
-        Expr::Enumerator(_, _) => true,
+        Expr::Enumerator(_, value) => means_value(scope.value(value)),
         Expr::Paren(_, inner) => is_constant(scope, inner),
         Expr::Unary(_, _, operand) => is_constant(scope, operand),
         Expr::Chain(first, links) => is_constant(scope, first) && are_constant(scope, links),
@@ -59,7 +59,7 @@ fn are_constant<S: Scope>(scope: &S, links: &[Link]) -> bool
 pub(crate) fn constant_value<S: Scope>(
     alloc: Global,
     scope: &S,
-    wanted: Option<Elementary>,
+    wanted: Option<DataType>,
     expr: &Expr,
 ) -> Result<Option<i64>, AllocError>
     ensures { IfOk result (λ value. value ≡ constant_value (S.means scope.now) wanted (tree_view expr.now)) }

@@ -5,17 +5,21 @@ ghost use Rattle.st_types.specs.Judged.{judged_literal, judged_meaning, takes_si
 ghost use Rattle.st_types.specs.Outcomes.{outcome_of, links_outcome};
 
 use crate::calls::judge_call;
-use crate::kinds::{is_integer, next_type, operand_type, place_of, takes, type_of};
+use crate::kinds::{
+    has_bits, is_bool, is_unknown, next_type, operand_type, place_of, takes, type_of,
+};
 use crate::literals::{is_literal_of, is_number, place_of_literal};
 use crate::outcome::Outcome;
 use crate::scope::{Meaning, Scope};
-use st_tree::{Elementary, Expr, Link, Literal, Rule, UnaryOperator};
+use st_tree::{DataType, Expr, Link, Literal, Rule, UnaryOperator};
 
-/// A literal is a value of its type.
-fn judge_literal(kind: Elementary, minus: bool, at: usize, literal: Literal) -> Outcome
+// A literal is a value of its type; of one whose type is unknown nothing is said.
+fn judge_literal(kind: DataType, minus: bool, at: usize, literal: Literal) -> Outcome
     ensures { result ≡ outcome_of (judged_literal kind minus at literal) }
 {
-    if is_literal_of(kind, minus, literal) {
+    if is_unknown(kind) {
+        Outcome::silent()
+    } else if is_literal_of(kind, minus, literal) {
         Outcome::sound()
     } else {
         Outcome::breaks(Rule::OutsideType, at)
@@ -32,12 +36,12 @@ pub(crate) fn judge_meaning(meaning: Option<Meaning>) -> Outcome
     }
 }
 
-fn takes_sign(operator: UnaryOperator, kind: Elementary) -> bool
+fn takes_sign(operator: UnaryOperator, kind: DataType) -> bool
     ensures { result ≡ takes_sign operator kind }
 {
     match operator {
-        UnaryOperator::Minus => is_integer(kind),
-        UnaryOperator::Not => !is_integer(kind),
+        UnaryOperator::Minus => kind.is_integer(),
+        UnaryOperator::Not => has_bits(kind),
     }
 }
 
@@ -54,7 +58,7 @@ pub(crate) fn negative_literal(operator: UnaryOperator, operand: &Expr) -> Optio
 /// Whether an expression is whole where a type is wanted, or none, and what it breaks first.
 #[cycle(judge_expr)]
 #[tactic(auto, using(crate::proofs::Judging::judging))]
-pub(crate) fn judge_expr<S: Scope>(scope: &S, wanted: Option<Elementary>, expr: &Expr) -> Outcome
+pub(crate) fn judge_expr<S: Scope>(scope: &S, wanted: Option<DataType>, expr: &Expr) -> Outcome
     ensures { result ≡ outcome_of (judged (S.means scope.now) wanted (tree_view expr.now)) }
 {
     match expr {
@@ -63,7 +67,7 @@ pub(crate) fn judge_expr<S: Scope>(scope: &S, wanted: Option<Elementary>, expr: 
             judge_literal(kind, false, place_of_literal(*literal), *literal)
         }
         Expr::Path(path) => judge_meaning(scope.meaning(path)),
-        Expr::Enumerator(_, _) => Outcome::silent(),
+        Expr::Enumerator(_, value) => judge_meaning(scope.value(value)),
         Expr::Paren(_, inner) => judge_expr(scope, wanted, inner),
         Expr::Unary(operator, at, operand) => {
             let kind = type_of(scope, wanted, operand);
@@ -87,14 +91,15 @@ pub(crate) fn judge_expr<S: Scope>(scope: &S, wanted: Option<Elementary>, expr: 
 
 // Operators behind a left operand that was judged.
 #[cycle(judge_expr)]
-fn judge_links<S: Scope>(scope: &S, kind: Elementary, left: Outcome, links: &[Link]) -> Outcome
+fn judge_links<S: Scope>(scope: &S, kind: DataType, left: Outcome, links: &[Link]) -> Outcome
     ensures { result ≡ links_outcome (S.means scope.now) kind left (links_view links.now) }
 {
     let mut kind = kind;
     let mut left = left;
     for link in links {
         let right = judge_expr(scope, Some(kind), &link.right);
-        let fits = takes(link.operator, kind) && type_of(scope, Some(kind), &link.right) == kind;
+        let fits = takes(link.operator, kind)
+            && type_of(scope, Some(kind), &link.right).is_same(kind);
         left = left.also(right).tested(fits, Rule::OperandType, link.at);
         kind = next_type(link.operator, kind);
     }
@@ -106,6 +111,6 @@ fn judge_links<S: Scope>(scope: &S, kind: Elementary, left: Outcome, links: &[Li
 pub(crate) fn judge_condition<S: Scope>(scope: &S, rule: Rule, expr: &Expr) -> Outcome
     ensures { result ≡ outcome_of (judged_condition (S.means scope.now) rule (tree_view expr.now)) }
 {
-    let is_bool = type_of(scope, None, expr) == Elementary::Bool;
-    judge_expr(scope, None, expr).tested(is_bool, rule, place_of(expr))
+    let fits = is_bool(type_of(scope, None, expr));
+    judge_expr(scope, None, expr).tested(fits, rule, place_of(expr))
 }

@@ -3,19 +3,20 @@ ghost use Rattle.std.specs.Prelude.{◌≡◌, ◌==◌, IfOk};
 ghost use Rattle.std.specs.List.{list_any};
 ghost use Rattle.st_tree.specs.SyntaxView.{name_view, path_view, tree_view, initial_view, iteration_view};
 ghost use Rattle.st_names.specs.Broken.{alone};
-ghost use Rattle.st_types.specs.JudgedStatements.{is_free, is_assignable, may_control, judged_control, judged_bound, judged_step, is_typed, step_is_typed, value_or_zero, bound_value, step_value, turns_rule, with_place, with_control};
+ghost use Rattle.st_types.specs.JudgedStatements.{is_free, is_assignable, may_control, judged_control, judged_bound, judged_step, is_typed, step_is_typed, value_or_zero, bound_value, step_value, range_at, turns_rule, with_place, with_control};
+ghost use Rattle.st_types.specs.Typing.{by_path};
 ghost use Rattle.st_types.specs.TypedStatements.{turns_of};
 ghost use Rattle.st_types.specs.Outcomes.{outcome_of, judged_turns};
 
 use crate::constants::constant_value;
 use crate::expressions::{judge_expr, judge_meaning};
-use crate::kinds::{is_integer, kind_at, or_dint, place_of, type_of};
+use crate::kinds::{kind_at, or_dint, place_of, type_of};
 use crate::numbers::range;
 use crate::outcome::Outcome;
 use crate::scope::{Meaning, Place, Scope};
 use crate::turns::{broken_by_turns, turn_count};
 use crate::typed_expressions::cell_of;
-use st_tree::{Elementary, Expr, Iteration, Name, Path, Rule, Turns};
+use st_tree::{DataType, Elementary, Expr, Iteration, Name, Path, Range, Rule, Turns};
 use std::alloc::{AllocError, Global};
 
 // The path of a name alone.
@@ -34,7 +35,7 @@ pub(crate) fn control_of<S: Scope>(
     scope: &S,
     name: &Name,
 ) -> Result<Option<Meaning>, AllocError>
-    ensures { IfOk result (λ meaning. meaning ≡ S.means scope.now (alone (name_view name.now))) }
+    ensures { IfOk result (λ meaning. meaning ≡ S.means scope.now (by_path (alone (name_view name.now)))) }
 {
     let path = alone(alloc, name)?;
     Ok(scope.meaning(&path))
@@ -75,7 +76,7 @@ pub(crate) fn is_assignable(controls: &[usize], meaning: Option<Meaning>) -> boo
 fn may_control(controls: &[usize], meaning: Option<Meaning>) -> bool
     ensures { result ≡ may_control controls.now meaning }
 {
-    is_assignable(controls, meaning) && is_integer(or_dint(kind_at(meaning)))
+    is_assignable(controls, meaning) && or_dint(kind_at(meaning)).is_integer()
 }
 
 #[tactic(auto, using(crate::proofs::Judging::judging))]
@@ -90,7 +91,7 @@ fn judge_control(controls: &[usize], meaning: Option<Meaning>, at: usize) -> Out
 fn judge_bound<S: Scope>(
     alloc: Global,
     scope: &S,
-    kind: Elementary,
+    kind: DataType,
     bound: &Expr,
 ) -> Result<Outcome, AllocError>
     ensures { IfOk result (λ o. o ≡ outcome_of (judged_bound (S.means scope.now) kind (tree_view bound.now))) }
@@ -103,7 +104,7 @@ fn judge_bound<S: Scope>(
 fn judge_step<S: Scope>(
     alloc: Global,
     scope: &S,
-    kind: Elementary,
+    kind: DataType,
     step: &Option<Expr>,
 ) -> Result<Outcome, AllocError>
     ensures { IfOk result (λ o. o ≡ outcome_of (judged_step (S.means scope.now) kind (initial_view step.now))) }
@@ -114,13 +115,13 @@ fn judge_step<S: Scope>(
     }
 }
 
-fn is_typed<S: Scope>(scope: &S, kind: Elementary, bound: &Expr) -> bool
+fn is_typed<S: Scope>(scope: &S, kind: DataType, bound: &Expr) -> bool
     ensures { result ≡ is_typed (S.means scope.now) kind (tree_view bound.now) }
 {
-    type_of(scope, Some(kind), bound) == kind
+    type_of(scope, Some(kind), bound).is_same(kind)
 }
 
-fn step_is_typed<S: Scope>(scope: &S, kind: Elementary, step: &Option<Expr>) -> bool
+fn step_is_typed<S: Scope>(scope: &S, kind: DataType, step: &Option<Expr>) -> bool
     ensures { result ≡ step_is_typed (S.means scope.now) kind (initial_view step.now) }
 {
     match step {
@@ -154,11 +155,21 @@ pub(crate) fn judge_turns<S: Scope>(
     Ok(parts.tested(fits, Rule::ValueType, at))
 }
 
+// The values that what a name stands for may have.
+fn range_at(meaning: Option<Meaning>) -> Range
+    ensures { result ≡ range_at meaning }
+{
+    match meaning {
+        None => range(Elementary::Dint),
+        Some(meaning) => meaning.range,
+    }
+}
+
 // The value of a bound, or 0 where it has none.
 fn bound_value<S: Scope>(
     alloc: Global,
     scope: &S,
-    kind: Elementary,
+    kind: DataType,
     bound: &Expr,
 ) -> Result<i64, AllocError>
     ensures { IfOk result (λ value. value ≡ bound_value (S.means scope.now) kind (tree_view bound.now)) }
@@ -173,7 +184,7 @@ fn bound_value<S: Scope>(
 fn step_value<S: Scope>(
     alloc: Global,
     scope: &S,
-    kind: Elementary,
+    kind: DataType,
     step: &Option<Expr>,
 ) -> Result<i64, AllocError>
     ensures { IfOk result (λ value. value ≡ step_value (S.means scope.now) kind (initial_view step.now)) }
@@ -191,14 +202,14 @@ pub(crate) fn turns_rule<S: Scope>(
     meaning: Option<Meaning>,
     iteration: &Iteration,
 ) -> Result<Option<Rule>, AllocError>
-    requires { meaning ≡ S.means scope.now (alone (name_view iteration.now.control)) }
+    requires { meaning ≡ S.means scope.now (by_path (alone (name_view iteration.now.control))) }
     ensures { IfOk result (λ rule. rule ≡ turns_rule (S.means scope.now) (iteration_view iteration.now)) }
 {
     let kind = or_dint(kind_at(meaning));
     let first = bound_value(alloc, scope, kind, &iteration.first)?;
     let last = bound_value(alloc, scope, kind, &iteration.last)?;
     let step = step_value(alloc, scope, kind, &iteration.step)?;
-    Ok(broken_by_turns(range(kind), first, last, step))
+    Ok(broken_by_turns(range_at(meaning), first, last, step))
 }
 
 /// The turns of a FOR.

@@ -1,35 +1,62 @@
 // The types of expressions (IEC 61131-3, 3.3.1).
 ghost use Rattle.std.specs.Prelude.{◌≡◌};
 ghost use Rattle.st_tree.specs.SyntaxView.{name_view, tree_view, links_view, arguments_view};
-ghost use Rattle.st_types.specs.Typing.{kind_at, is_comparison, compares, own, own_of_links, own_of_call, own_of_arguments, or_dint, type_of, own_of_first, operand_type, next_type, takes, place_of};
-ghost use Rattle.st_tree.specs.Types.{is_integer};
+ghost use Rattle.st_types.specs.Typing.{bool_type, is_unknown, kind_at, has_bits, is_ordered, is_bool, is_comparison, compares, own, own_of_links, own_of_call, own_of_arguments, or_dint, type_of, own_of_first, operand_type, next_type, takes, place_of};
 ghost use Rattle.st_names.specs.Library.{standard_function};
 
 use crate::literals::{own_of_literal, place_of_literal};
 use crate::parameters::{Parameter, parameter_of, result_of};
 use crate::scope::{Meaning, Scope};
 use st_names::standard_function;
-use st_tree::{Argument, Elementary, Expr, Link, Name, Operator, StandardFunction};
+use st_tree::{Argument, DataType, Elementary, Expr, Link, Name, Operator, StandardFunction};
 
-/// The type of what a path stands for.
-pub(crate) fn kind_at(meaning: Option<Meaning>) -> Option<Elementary>
+/// BOOL.
+pub(crate) fn bool_type() -> DataType
+    ensures { result ≡ bool_type }
+{
+    DataType::Elementary(Elementary::Bool)
+}
+
+/// The type of what a name stands for; that of a name whose declaration breaks a rule is unknown.
+pub(crate) fn kind_at(meaning: Option<Meaning>) -> Option<DataType>
     ensures { result ≡ kind_at meaning }
 {
     match meaning {
         None => None,
-        Some(meaning) => Some(meaning.kind),
+        Some(meaning) if meaning.whole => Some(meaning.kind),
+        Some(_) => Some(DataType::Unknown),
     }
 }
 
-/// Whether a type is one of the integer types.
-pub(crate) fn is_integer(kind: Elementary) -> bool
-    ensures { result ≡ is_integer kind }
+/// Whether a type is unknown.
+pub(crate) fn is_unknown(kind: DataType) -> bool
+    ensures { result ≡ is_unknown kind }
+{
+    matches!(kind, DataType::Unknown)
+}
+
+/// Whether a type is BOOL or a bit string.
+pub(crate) fn has_bits(kind: DataType) -> bool
+    ensures { result ≡ has_bits kind }
 {
     match kind {
-        Elementary::Sint | Elementary::Int | Elementary::Dint => true,
-        Elementary::Usint | Elementary::Uint | Elementary::Udint => true,
-        Elementary::Bool | Elementary::Byte | Elementary::Word | Elementary::Dword => false,
+        DataType::Elementary(kind) => !kind.is_integer(),
+        DataType::Enumeration(_) | DataType::Unknown => false,
     }
+}
+
+/// Whether the values of a type have an order.
+pub(crate) fn is_ordered(kind: DataType) -> bool
+    ensures { result ≡ is_ordered kind }
+{
+    matches!(kind, DataType::Elementary(_))
+}
+
+/// Whether a type is BOOL.
+pub(crate) fn is_bool(kind: DataType) -> bool
+    ensures { result ≡ is_bool kind }
+{
+    kind.is_same(bool_type())
 }
 
 fn is_comparison(operator: Operator) -> bool
@@ -57,18 +84,18 @@ fn compares(links: &[Link]) -> bool
 
 /// The own type of an expression, where it has one.
 #[cycle(own)]
-pub(crate) fn own<S: Scope>(scope: &S, expr: &Expr) -> Option<Elementary>
+pub(crate) fn own<S: Scope>(scope: &S, expr: &Expr) -> Option<DataType>
     ensures { result ≡ own (S.means scope.now) (tree_view expr.now) }
 {
     match expr {
         Expr::Literal(literal) => own_of_literal(*literal),
         Expr::Path(path) => kind_at(scope.meaning(path)),
-        Expr::Enumerator(_, _) => None,
+        Expr::Enumerator(_, value) => kind_at(scope.value(value)),
         Expr::Paren(_, inner) => own(scope, inner),
         Expr::Unary(_, _, operand) => own(scope, operand),
         Expr::Chain(first, links) => {
             if compares(links) {
-                return Some(Elementary::Bool);
+                return Some(bool_type());
             }
             match own(scope, first) {
                 Some(kind) => Some(kind),
@@ -81,7 +108,7 @@ pub(crate) fn own<S: Scope>(scope: &S, expr: &Expr) -> Option<Elementary>
 
 // The own type of the leftmost operand that has one.
 #[cycle(own)]
-fn own_of_links<S: Scope>(scope: &S, links: &[Link]) -> Option<Elementary>
+fn own_of_links<S: Scope>(scope: &S, links: &[Link]) -> Option<DataType>
     ensures { result ≡ own_of_links (S.means scope.now) (links_view links.now) }
 {
     for link in links {
@@ -94,7 +121,7 @@ fn own_of_links<S: Scope>(scope: &S, links: &[Link]) -> Option<Elementary>
 
 // The own type of a call, where it has one.
 #[cycle(own)]
-fn own_of_call<S: Scope>(scope: &S, name: &Name, arguments: &[Argument]) -> Option<Elementary>
+fn own_of_call<S: Scope>(scope: &S, name: &Name, arguments: &[Argument]) -> Option<DataType>
     ensures { result ≡ own_of_call (standard_function (name_view name.now).text) (λ f. own_of_arguments (S.means scope.now) f 0 (arguments_view arguments.now)) }
 {
     let function = standard_function(name.text.as_str())?;
@@ -110,7 +137,7 @@ pub(crate) fn own_of_arguments<S: Scope>(
     scope: &S,
     function: StandardFunction,
     arguments: &[Argument],
-) -> Option<Elementary>
+) -> Option<DataType>
     ensures { result ≡ own_of_arguments (S.means scope.now) function 0 (arguments_view arguments.now) }
 {
     for (place, argument) in arguments.iter().enumerate() {
@@ -127,20 +154,20 @@ pub(crate) fn own_of_arguments<S: Scope>(
 }
 
 /// The type that an untyped literal takes.
-pub(crate) fn or_dint(wanted: Option<Elementary>) -> Elementary
+pub(crate) fn or_dint(wanted: Option<DataType>) -> DataType
     ensures { result ≡ or_dint wanted }
 {
-    wanted.unwrap_or(Elementary::Dint)
+    wanted.unwrap_or(DataType::Elementary(Elementary::Dint))
 }
 
 /// The type of an expression where a type is wanted, or none.
-pub(crate) fn type_of<S: Scope>(scope: &S, wanted: Option<Elementary>, expr: &Expr) -> Elementary
+pub(crate) fn type_of<S: Scope>(scope: &S, wanted: Option<DataType>, expr: &Expr) -> DataType
     ensures { result ≡ type_of (S.means scope.now) wanted (tree_view expr.now) }
 {
     or_dint(own(scope, expr).or(wanted))
 }
 
-fn own_of_first<S: Scope>(scope: &S, links: &[Link]) -> Option<Elementary>
+fn own_of_first<S: Scope>(scope: &S, links: &[Link]) -> Option<DataType>
     ensures { result ≡ own_of_first (S.means scope.now) (links_view links.now) }
 {
     match links.first() {
@@ -152,10 +179,10 @@ fn own_of_first<S: Scope>(scope: &S, links: &[Link]) -> Option<Elementary>
 /// The type of the operands of a chain.
 pub(crate) fn operand_type<S: Scope>(
     scope: &S,
-    wanted: Option<Elementary>,
+    wanted: Option<DataType>,
     first: &Expr,
     links: &[Link],
-) -> Elementary
+) -> DataType
     ensures { result ≡ operand_type (S.means scope.now) wanted (tree_view first.now) (links_view links.now) }
 {
     let of_first = own(scope, first);
@@ -167,27 +194,27 @@ pub(crate) fn operand_type<S: Scope>(
 }
 
 /// The type of the operands of the operator behind this one.
-pub(crate) fn next_type(operator: Operator, kind: Elementary) -> Elementary
+pub(crate) fn next_type(operator: Operator, kind: DataType) -> DataType
     ensures { result ≡ next_type operator kind }
 {
     if is_comparison(operator) {
-        Elementary::Bool
+        bool_type()
     } else {
         kind
     }
 }
 
 /// Whether an operator takes operands of a type.
-pub(crate) fn takes(operator: Operator, kind: Elementary) -> bool
+pub(crate) fn takes(operator: Operator, kind: DataType) -> bool
     ensures { result ≡ takes operator kind }
 {
     match operator {
-        Operator::Or | Operator::Xor | Operator::And => !is_integer(kind),
-        Operator::Plus | Operator::Minus => is_integer(kind),
-        Operator::Times | Operator::Divide | Operator::Mod => is_integer(kind),
+        Operator::Or | Operator::Xor | Operator::And => has_bits(kind),
+        Operator::Plus | Operator::Minus => kind.is_integer(),
+        Operator::Times | Operator::Divide | Operator::Mod => kind.is_integer(),
         Operator::Equal | Operator::NotEqual => true,
-        Operator::Less | Operator::Greater => true,
-        Operator::LessEqual | Operator::GreaterEqual => true,
+        Operator::Less | Operator::Greater => is_ordered(kind),
+        Operator::LessEqual | Operator::GreaterEqual => is_ordered(kind),
     }
 }
 

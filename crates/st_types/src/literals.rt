@@ -1,19 +1,20 @@
 // Literals: their own types and their values.
 ghost use Rattle.std.specs.Prelude.{◌≡◌, ◌<ℤ◌, ◌^◌, pos, neg_ℤ};
-ghost use Rattle.st_types.specs.Typing.{own_of_literal, negated, truth_value, literal_value, is_literal_of, is_number, place_of_literal};
+ghost use Rattle.st_types.specs.Typing.{own_of_literal, is_number_of, negated, truth_value, literal_value, is_literal_of, is_number, place_of_literal};
 
+use crate::kinds::{bool_type, is_bool};
 use crate::numbers::is_value_of;
-use st_tree::{Elementary, Literal};
+use st_tree::{DataType, Literal};
 
 /// The own type of a literal; a number without a type before it has none.
-pub(crate) fn own_of_literal(literal: Literal) -> Option<Elementary>
+pub(crate) fn own_of_literal(literal: Literal) -> Option<DataType>
     ensures { result ≡ own_of_literal literal }
 {
     match literal {
         Literal::Number { .. } => None,
-        Literal::Truth { .. } => Some(Elementary::Bool),
-        Literal::TypedNumber { kind, .. } => Some(kind),
-        Literal::TypedTruth { kind, .. } => Some(kind),
+        Literal::Truth { .. } => Some(bool_type()),
+        Literal::TypedNumber { kind, .. } => Some(DataType::Elementary(kind)),
+        Literal::TypedTruth { kind, .. } => Some(DataType::Elementary(kind)),
     }
 }
 
@@ -38,15 +39,25 @@ pub(crate) fn literal_value(literal: Literal) -> i128
     }
 }
 
+// Whether a number is a value of a type: it is none of an enumeration, and of a type that is unknown nothing is said.
+fn is_number_of(kind: DataType, value: i128) -> bool
+    ensures { result ≡ is_number_of kind value }
+{
+    match kind {
+        DataType::Elementary(kind) => is_value_of(value, kind),
+        DataType::Enumeration(_) | DataType::Unknown => false,
+    }
+}
+
 /// Whether a literal, with a minus sign before it or not, is a value of a type.
-pub(crate) fn is_literal_of(kind: Elementary, minus: bool, literal: Literal) -> bool
+pub(crate) fn is_literal_of(kind: DataType, minus: bool, literal: Literal) -> bool
     ensures { result ≡ is_literal_of kind minus literal }
 {
     match literal {
         Literal::Truth { .. } => true,
-        Literal::TypedTruth { kind, .. } => kind == Elementary::Bool,
+        Literal::TypedTruth { kind, .. } => is_bool(DataType::Elementary(kind)),
         Literal::Number { .. } | Literal::TypedNumber { .. } => {
-            is_value_of(negated(minus, literal_value(literal)), kind)
+            is_number_of(kind, negated(minus, literal_value(literal)))
         }
     }
 }

@@ -1,38 +1,62 @@
 // Clauses over a pair of programs.
 ghost use Rattle.std.specs.Prelude.{◌≡◌, length};
+ghost use Rattle.st_tree.specs.Enumerations.{paired_type};
+ghost use Rattle.st_tree.specs.View.{program_view};
+ghost use Rattle.st_types.specs.PairedTypes.{paired_in};
 
+use crate::paired_types::PairedTypes;
 use crate::scope::{Meaning, Scope};
 use crate::sides::Side;
-use st_tree::{Path, Program};
+use st_tree::{DataType, Name, Path, Program};
 use std::alloc::{AllocError, Global};
 
-/// The cells of a pair of programs by the paths of clauses: `old.path` is a cell of OLD, and `new.path` one of NEW,
-/// whose cells stand behind those of OLD.
+// The same of another data type.
+fn of_kind(meaning: Meaning, kind: DataType) -> Meaning
+    ensures { result ≡ record meaning { kind = kind } }
+{
+    Meaning { kind, ..meaning }
+}
+
+/// The cells and values of a pair of programs by the paths of clauses: `old.path` is one of OLD, and `new.path` one of
+/// NEW, whose cells stand behind those of OLD.
 #[derive(Drop)]
 pub struct PairScope<'p> {
     old: Side<'p>,
     new: Side<'p>,
+    types: PairedTypes<'p>,
     ghost first: { old.start ≡ 0 },
-    ghost behind: { new.start ≡ length old.cells.now },
+    ghost behind: { new.start ≡ length (program_view old.program.now).cells },
+    ghost paired: { paired_in types ≡ paired_type (program_view old.program.now).types (program_view new.program.now).types },
 }
 
 impl<'p> PairScope<'p> {
     ghost use Rattle.std.specs.Prelude.{◌≡◌, IfOk};
+    ghost use Rattle.st_tree.specs.Enumerations.{paired_type};
+    ghost use Rattle.st_tree.specs.SyntaxView.{names_view};
     ghost use Rattle.st_tree.specs.View.{program_view};
-    ghost use Rattle.st_types.specs.Programs.{pair_scope};
+    ghost use Rattle.st_types.specs.Programs.{member_of, pair_scope};
     ghost use Rattle.st_types.specs.Pairs.{pair_means};
 
-    /// The cells of a pair, to be looked up.
+    /// The cells and values of a pair, to be looked up.
     pub fn new(
         alloc: Global,
         old: &'p Program,
         new: &'p Program,
     ) -> Result<PairScope<'p>, AllocError>
-        ensures { IfOk result (λ scope. pair_means scope ≡ pair_scope (program_view old.now).cells (program_view new.now).cells) }
+        ensures { IfOk result (λ scope. pair_means scope ≡ pair_scope (program_view old.now) (program_view new.now)) }
     {
-        let old = Side::new(alloc, 0, old.cells())?;
-        let new = Side::new(alloc, old.cells.len(), new.cells())?;
-        Ok(PairScope { old, new })
+        let types = PairedTypes::new(alloc, old, new)?;
+        let old = Side::new(alloc, 0, old)?;
+        let new = Side::new(alloc, old.program.cells.len(), new)?;
+        Ok(PairScope { old, new, types })
+    }
+
+    // What names behind `new` stand for: their data type is that of the pair.
+    fn find_new(&self, members: &[Name]) -> Option<Meaning>
+        ensures { result ≡ member_of (paired_type (program_view self.now.old.program.now).types (program_view self.now.new.program.now).types) self.now.new.start (program_view self.now.new.program.now) (names_view members.now) }
+    {
+        let meaning = self.new.find(members)?;
+        Some(of_kind(meaning, self.types.paired(meaning.kind)))
     }
 }
 
@@ -46,9 +70,13 @@ impl Scope for PairScope<'_> {
         if program == "OLD" {
             self.old.find(&path.members)
         } else if program == "NEW" {
-            self.new.find(&path.members)
+            self.find_new(&path.members)
         } else {
             None
         }
+    }
+
+    fn value(&self, _name: &Name) -> Option<Meaning> {
+        None
     }
 }

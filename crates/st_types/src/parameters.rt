@@ -1,11 +1,11 @@
 // What standard functions take and give (IEC 61131-3, 2.5.1.5).
 ghost use Rattle.std.specs.Prelude.{◌≡◌};
-ghost use Rattle.st_types.specs.Typing.{parameter_of, result_of, is_bit_string, takes_operands, takes_count};
+ghost use Rattle.st_types.specs.Typing.{parameter_of, result_of, is_bit_string, is_number_type, takes_operands, takes_count};
 ghost use Rattle.st_types.specs.Judged.{wanted_at};
 ghost use Rattle.st_types.specs.Parameters.{parameter_view};
 
-use crate::kinds::is_integer;
-use st_tree::{Elementary, StandardFunction};
+use crate::kinds::{has_bits, is_bool, is_ordered};
+use st_tree::{DataType, Elementary, StandardFunction};
 
 /// What a standard function takes at a place: a value of a type of its own, of the one type that its operands and
 /// its result share, or the amount of a shift.
@@ -43,22 +43,22 @@ pub(crate) fn parameter_of(function: StandardFunction, place: usize) -> Paramete
 }
 
 /// The type that is wanted of an argument where the operands are of a type.
-pub(crate) fn wanted_at(parameter: Parameter, kind: Elementary) -> Option<Elementary>
+pub(crate) fn wanted_at(parameter: Parameter, kind: DataType) -> Option<DataType>
     ensures { result ≡ wanted_at (parameter_view parameter) kind }
 {
     match parameter {
-        Parameter::Fixed(own) => Some(own),
+        Parameter::Fixed(own) => Some(DataType::Elementary(own)),
         Parameter::Common => Some(kind),
         Parameter::Amount => None,
     }
 }
 
 /// The type of a conversion's result; that of any other function is the one type of its operands.
-pub(crate) fn result_of(function: StandardFunction) -> Option<Elementary>
+pub(crate) fn result_of(function: StandardFunction) -> Option<DataType>
     ensures { result ≡ result_of function }
 {
     match function {
-        StandardFunction::Conversion { to, .. } => Some(to),
+        StandardFunction::Conversion { to, .. } => Some(DataType::Elementary(to)),
         StandardFunction::Absolute => None,
         StandardFunction::Minimum | StandardFunction::Maximum => None,
         StandardFunction::Limit | StandardFunction::Select => None,
@@ -67,21 +67,28 @@ pub(crate) fn result_of(function: StandardFunction) -> Option<Elementary>
 }
 
 // Whether a type is a bit string of more than one bit.
-fn is_bit_string(kind: Elementary) -> bool
+fn is_bit_string(kind: DataType) -> bool
     ensures { result ≡ is_bit_string kind }
 {
-    !is_integer(kind) && kind != Elementary::Bool
+    has_bits(kind) && !is_bool(kind)
+}
+
+// Whether a type is an integer type or a bit string of more than one bit.
+fn is_number_type(kind: DataType) -> bool
+    ensures { result ≡ is_number_type kind }
+{
+    is_ordered(kind) && !is_bool(kind)
 }
 
 /// Whether the operands of a function may be of a type.
-pub(crate) fn takes_operands(function: StandardFunction, kind: Elementary) -> bool
+pub(crate) fn takes_operands(function: StandardFunction, kind: DataType) -> bool
     ensures { result ≡ takes_operands function kind }
 {
     match function {
         StandardFunction::Conversion { .. } | StandardFunction::Select => true,
-        StandardFunction::Absolute => is_integer(kind),
-        StandardFunction::Minimum | StandardFunction::Maximum => kind != Elementary::Bool,
-        StandardFunction::Limit => kind != Elementary::Bool,
+        StandardFunction::Absolute => kind.is_integer(),
+        StandardFunction::Minimum | StandardFunction::Maximum => is_number_type(kind),
+        StandardFunction::Limit => is_number_type(kind),
         StandardFunction::Shift(_) => is_bit_string(kind),
     }
 }

@@ -29,7 +29,7 @@ fn judge_assign<S: Scope>(scope: &S, controls: &[usize], path: &Path, value: &Ex
     let meaning = scope.meaning(path);
     let wanted = kind_at(meaning);
     let target = judge_target(controls, meaning, path.first.at);
-    let fits = type_of(scope, wanted, value) == or_dint(wanted);
+    let fits = type_of(scope, wanted, value).is_same(or_dint(wanted));
     target
         .also(judge_expr(scope, wanted, value))
         .tested(fits, Rule::ValueType, path.first.at)

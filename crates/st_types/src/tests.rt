@@ -1,9 +1,12 @@
 // Texts and clauses with answers that were worked by hand from the rules on types.
-use crate::{PairScope, TypeFault, check, check_clause, judge_clause, typed_clause};
+use crate::{PairScope, PairedTypes, TypeFault, check, check_clause, judge_clause, typed_clause};
 use st_lexer::lex;
 use st_names::{Resolved, resolve};
 use st_parser::{parse_expr, parse_file};
-use st_tree::{Elementary, Expr, NoCharts, Operator, Program, Refusal, Rule, TypedExpr, TypedStmt};
+use st_tree::{
+    DataType, Elementary, Expr, NoCharts, Operator, Program, Range, Refusal, Rule, TypedExpr,
+    TypedStmt,
+};
 use std::alloc::Global;
 use std::test::Fail;
 
@@ -223,5 +226,51 @@ fn a_typed_clause(rt: HostRuntime) -> Result<(), Fail> {
         }
         _ => assert!(rt; false, "no chain"),
     }
+    Ok(())
+}
+
+const LIGHTS: &str =
+    "TYPE Level : INT (3..9); Light : (Red, Amber, Green); END_TYPE PROGRAM M VAR_INPUT l : Light := Amber; END_VAR VAR_OUTPUT x : Level; y : INT; END_VAR x := 9; END_PROGRAM";
+
+const LAMPS: &str =
+    "TYPE Lamp : (Red, Amber, Green); Other : (Up); END_TYPE PROGRAM M VAR_INPUT l : Lamp; END_VAR VAR_OUTPUT o : Other; END_VAR END_PROGRAM";
+
+#[test]
+fn cells_of_declared_types(rt: HostRuntime) -> Result<(), Fail> {
+    let program = program(rt.alloc(), LIGHTS)?;
+    let light = &program.cells[1];
+    assert_eq!(rt; light.kind, DataType::Enumeration(1));
+    assert_eq!(rt; light.range, Range { low: 0, high: 2 });
+    assert_eq!(rt; light.initial, 1);
+    assert!(rt; !light.limited);
+    let level = &program.cells[2];
+    assert_eq!(rt; level.kind, DataType::Elementary(Elementary::Int));
+    assert_eq!(rt; level.range, Range { low: 3, high: 9 });
+    assert_eq!(rt; level.initial, 3);
+    assert!(rt; level.limited);
+    assert!(rt; !program.cells[3].limited);
+    assert_eq!(rt; program.types.len(), 2);
+    assert_eq!(rt; program.types[0].len(), 0);
+    assert_eq!(rt; program.types[1].len(), 3);
+    assert_eq!(rt; program.types[1][2].as_str(), "GREEN");
+    Ok(())
+}
+
+// Lamp is OLD's Light, and Other stands behind the two types of OLD.
+#[test]
+fn types_of_a_pair(rt: HostRuntime) -> Result<(), Fail> {
+    let old = program(rt.alloc(), LIGHTS)?;
+    let new = program(rt.alloc(), LAMPS)?;
+    let types = PairedTypes::new(rt.alloc(), &old, &new)?;
+    assert_eq!(rt;
+        types.paired(DataType::Enumeration(0)),
+        DataType::Enumeration(1)
+    );
+    assert_eq!(rt;
+        types.paired(DataType::Enumeration(1)),
+        DataType::Enumeration(3)
+    );
+    let word = DataType::Elementary(Elementary::Word);
+    assert_eq!(rt; types.paired(word), word);
     Ok(())
 }

@@ -11,7 +11,7 @@ use crate::parameters::{Parameter, parameter_of, result_of, wanted_at};
 use crate::scope::Scope;
 use crate::typed_expressions::type_expr;
 use st_names::standard_function;
-use st_tree::{Argument, Elementary, Function, Name, StandardFunction, TypedExpr};
+use st_tree::{Argument, DataType, Function, Name, StandardFunction, TypedExpr};
 use std::alloc::{AllocError, Global};
 
 // The amount of a shift: its second argument.
@@ -47,7 +47,7 @@ fn function_of(function: StandardFunction, arguments: &[Argument]) -> Function
 pub(crate) fn type_call<S: Scope>(
     alloc: Global,
     scope: &S,
-    wanted: Option<Elementary>,
+    wanted: Option<DataType>,
     name: &Name,
     arguments: &[Argument],
 ) -> Result<TypedExpr, AllocError>
@@ -60,7 +60,7 @@ pub(crate) fn type_call<S: Scope>(
     let operands = type_operands(alloc, scope, function, kind, arguments)?;
     Ok(TypedExpr::Call(
         function_of(function, arguments),
-        result_of(function).unwrap_or(kind),
+        result_of(function).unwrap_or(kind).carrier(),
         operands,
     ))
 }
@@ -71,7 +71,7 @@ fn type_operands<S: Scope>(
     alloc: Global,
     scope: &S,
     function: StandardFunction,
-    kind: Elementary,
+    kind: DataType,
     arguments: &[Argument],
 ) -> Result<Vec<TypedExpr>, AllocError>
     ensures { IfOk result (λ operands. operands_view operands.items ≡ typed_operands (S.means scope.now) function kind 0 (arguments_view arguments.now)) }

@@ -2,7 +2,7 @@
 ghost use Rattle.std.specs.Prelude.{◌≡◌, map, IfOk};
 ghost use Rattle.st_tree.specs.SyntaxView.{tree_view, links_view};
 ghost use Rattle.st_tree.specs.View.{expr_view, operands_view};
-ghost use Rattle.st_types.specs.Typed.{number_of, read_of, meaning_read, typed, typed_links, value_of_number};
+ghost use Rattle.st_types.specs.Typed.{number_of, read_of, meaning_read, typed, typed_links, value_of_number, constant_of};
 ghost use Rattle.st_types.specs.TypedStatements.{place_cell, cell_of};
 
 use crate::expressions::negative_literal;
@@ -11,14 +11,14 @@ use crate::literals::{literal_value, negated};
 use crate::numbers::wrapped;
 use crate::scope::{Meaning, Place, Scope};
 use crate::typed_calls::type_call;
-use st_tree::{Elementary, Expr, Link, Literal, Operand, TypedExpr};
+use st_tree::{DataType, Expr, Link, Literal, Operand, TypedExpr};
 use std::alloc::{AllocError, Global};
 
 // A literal's number.
-fn number_of(kind: Elementary, minus: bool, literal: Literal) -> TypedExpr
+fn number_of(kind: DataType, minus: bool, literal: Literal) -> TypedExpr
     ensures { expr_view result ≡ number_of kind minus literal }
 {
-    TypedExpr::Number(wrapped(negated(minus, literal_value(literal)), kind))
+    TypedExpr::Number(wrapped(negated(minus, literal_value(literal)), kind.carrier()))
 }
 
 // A cell is read, and a constant is its value.
@@ -31,7 +31,7 @@ fn read_of(place: Place) -> TypedExpr
     }
 }
 
-// What a path reads.
+// What a path, or the value of an enumeration, reads.
 fn meaning_read(meaning: Option<Meaning>) -> TypedExpr
     ensures { expr_view result ≡ meaning_read meaning }
 {
@@ -78,7 +78,7 @@ pub(crate) fn value_of_number(number: &TypedExpr) -> i64
 pub(crate) fn type_expr<S: Scope>(
     alloc: Global,
     scope: &S,
-    wanted: Option<Elementary>,
+    wanted: Option<DataType>,
     expr: &Expr,
 ) -> Result<TypedExpr, AllocError>
     ensures { IfOk result (λ e. expr_view e ≡ typed (S.means scope.now) wanted (tree_view expr.now)) }
@@ -89,7 +89,7 @@ pub(crate) fn type_expr<S: Scope>(
             Ok(number_of(kind, false, *literal))
         }
         Expr::Path(path) => Ok(meaning_read(scope.meaning(path))),
-        Expr::Enumerator(_, _) => Ok(TypedExpr::Number(0)),
+        Expr::Enumerator(_, value) => Ok(meaning_read(scope.value(value))),
         Expr::Paren(_, inner) => type_expr(alloc, scope, wanted, inner),
         Expr::Unary(operator, _, operand) => {
             let kind = type_of(scope, wanted, operand);
@@ -97,7 +97,7 @@ pub(crate) fn type_expr<S: Scope>(
                 Some(literal) => Ok(number_of(kind, true, literal)),
                 None => {
                     let inner = type_expr(alloc, scope, Some(kind), operand)?;
-                    Ok(TypedExpr::Unary(*operator, kind, Box::new(alloc, inner)?))
+                    Ok(TypedExpr::Unary(*operator, kind.carrier(), Box::new(alloc, inner)?))
                 }
             }
         }
@@ -111,12 +111,25 @@ pub(crate) fn type_expr<S: Scope>(
     }
 }
 
+/// The value of a constant where a type is wanted.
+pub(crate) fn constant_of<S: Scope>(
+    alloc: Global,
+    scope: &S,
+    kind: DataType,
+    constant: &Expr,
+) -> Result<i64, AllocError>
+    ensures { IfOk result (λ value. value ≡ constant_of (S.means scope.now) kind (tree_view constant.now)) }
+{
+    let number = type_expr(alloc, scope, Some(kind), constant)?;
+    Ok(value_of_number(&number))
+}
+
 // The operands that operators join to what stands before.
 #[cycle(type_expr)]
 fn type_links<S: Scope>(
     alloc: Global,
     scope: &S,
-    kind: Elementary,
+    kind: DataType,
     links: &[Link],
 ) -> Result<Vec<Operand>, AllocError>
     ensures { IfOk result (λ operands. operands_view operands.items ≡ typed_links (S.means scope.now) kind (links_view links.now)) }
@@ -127,7 +140,7 @@ fn type_links<S: Scope>(
         let right = type_expr(alloc, scope, Some(kind), &link.right)?;
         operands.push(Operand {
             operator: link.operator,
-            kind,
+            kind: kind.carrier(),
             right,
         })?;
         kind = next_type(link.operator, kind);

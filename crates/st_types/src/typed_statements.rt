@@ -10,7 +10,7 @@ use crate::kinds::{kind_at, type_of};
 use crate::labels::label_ranges;
 use crate::scope::Scope;
 use crate::typed_expressions::{cell_of, type_expr};
-use st_tree::{Arm, Elementary, Entry, Stmt, TypedArm, TypedEntry, TypedStmt};
+use st_tree::{Arm, DataType, Entry, Stmt, TypedArm, TypedEntry, TypedStmt};
 use std::alloc::{AllocError, Global};
 
 // The typed statement that a statement stands for; an empty one leaves nothing.
@@ -84,14 +84,14 @@ fn type_arms<S: Scope>(alloc: Global, scope: &S, arms: &[Arm]) -> Result<Vec<Typ
 fn type_entries<S: Scope>(
     alloc: Global,
     scope: &S,
-    kind: Elementary,
+    kind: DataType,
     entries: &[Entry],
 ) -> Result<Vec<TypedEntry>, AllocError>
     ensures { IfOk result (λ list. typed_entries_view list.items ≡ typed_entries (S.means scope.now) kind (entries_view entries.now)) }
 {
     let mut list = Vec::new(alloc);
     for entry in entries {
-        let labels = label_ranges(alloc, kind, &entry.labels)?;
+        let labels = label_ranges(alloc, scope, kind, &entry.labels)?;
         let body = type_stmts(alloc, scope, &entry.body)?;
         list.push(TypedEntry { labels, body })?;
     }

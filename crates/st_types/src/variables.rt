@@ -1,79 +1,74 @@
 // The variables of a program: what their declarations break, the values that they begin with, and their cells' number.
 ghost use Rattle.std.specs.Prelude.{◌≡◌, ◌+◌, ◌<◌, ◌≤◌, ◌^◌, IfOk};
-ghost use Rattle.st_tree.specs.SyntaxView.{type_view, initial_view};
 ghost use Rattle.st_names.specs.ScopeView.{variable_view, variables_view};
+ghost use Rattle.st_types.specs.Bodies.{file_in};
 ghost use Rattle.st_types.specs.Outcomes.{outcome_of, variables_outcome};
-ghost use Rattle.st_types.specs.Programs.{kind_of_type, judged_value, judged_variable, cell_behind, cells_behind};
-ghost use Rattle.st_types.specs.Typed.{initial_of};
+ghost use Rattle.st_types.specs.Programs.{domain_of_variable, judged_variable, initial_of, cell_behind, cells_behind};
 
-use crate::expressions::judge_expr;
-use crate::kinds::type_of;
+use crate::domain::Domain;
+use crate::domains::Domains;
+use crate::initial_values::{judge_value, start_of};
+use crate::judged_types::judge_type;
 use crate::outcome::Outcome;
-use crate::scope::NoScope;
 use crate::sections::has_cell;
-use crate::typed_expressions::{type_expr, value_of_number};
 use st_names::Declared;
-use st_tree::{Elementary, Expr, Rule, TypeName};
 use std::alloc::{AllocError, Global};
 
-/// The type of a variable; where names are bound it is elementary.
-pub(crate) fn kind_of(kind: &TypeName) -> Elementary
-    ensures { result ≡ kind_of_type (type_view kind.now) }
+/// The values that a variable's type allows.
+pub(crate) fn domain_of(
+    alloc: Global,
+    domains: &Domains<'_>,
+    variable: &Declared<'_>,
+) -> Result<Domain, AllocError>
+    ensures { IfOk result (λ d. d ≡ domain_of_variable (file_in domains.now) (variable_view variable.now)) }
 {
-    match kind {
-        TypeName::Elementary(kind, _) => *kind,
-        TypeName::Named(_) => Elementary::Bool,
-    }
-}
-
-// An initial value is of its variable's type.
-#[tactic(auto, using(crate::proofs::Judging::judging))]
-fn judge_value(kind: Elementary, at: usize, initial: &Option<Expr>) -> Outcome
-    ensures { result ≡ outcome_of (judged_value kind at (initial_view initial.now)) }
-{
-    match initial {
-        None => Outcome::sound(),
-        Some(value) => {
-            let fits = type_of(&NoScope, Some(kind), value) == kind;
-            judge_expr(&NoScope, Some(kind), value).tested(fits, Rule::ValueType, at)
-        }
-    }
+    domains.of_type(alloc, &variable.declaration.kind)
 }
 
 /// What a declaration breaks.
-pub(crate) fn judge_variable(variable: &Declared<'_>) -> Outcome
-    ensures { result ≡ outcome_of (judged_variable (variable_view variable.now)) }
+#[tactic(auto, using(crate::proofs::Judging::judging))]
+pub(crate) fn judge_variable(
+    alloc: Global,
+    domains: &Domains<'_>,
+    variable: &Declared<'_>,
+) -> Result<Outcome, AllocError>
+    ensures { IfOk result (λ o. o ≡ outcome_of (judged_variable (file_in domains.now) (variable_view variable.now))) }
 {
-    let kind = kind_of(&variable.declaration.kind);
-    judge_value(kind, variable.name.at, &variable.declaration.initial)
+    let declaration = variable.declaration;
+    let domain = domain_of(alloc, domains, variable)?;
+    let of_type = judge_type(alloc, domains, &declaration.kind)?;
+    let at = variable.name.at;
+    let of_value = judge_value(alloc, &domains.types, domain, at, &declaration.initial)?;
+    Ok(of_type.also(of_value))
 }
 
 /// What the declarations of variables break, behind what was judged so far.
-pub(crate) fn judge_variables(so_far: Outcome, variables: &[Declared<'_>]) -> Outcome
-    ensures { result ≡ variables_outcome so_far (variables_view variables.now) }
+pub(crate) fn judge_variables(
+    alloc: Global,
+    domains: &Domains<'_>,
+    so_far: Outcome,
+    variables: &[Declared<'_>],
+) -> Result<Outcome, AllocError>
+    ensures { IfOk result (λ o. o ≡ variables_outcome (file_in domains.now) so_far (variables_view variables.now)) }
 {
     let mut judged = so_far;
     for variable in variables.iter() {
-        judged = judged.also(judge_variable(variable));
+        judged = judged.also(judge_variable(alloc, domains, variable)?);
     }
-    judged
+    Ok(judged)
 }
 
 /// The value that a variable begins with.
 pub(crate) fn initial_of(
     alloc: Global,
-    kind: Elementary,
-    initial: &Option<Expr>,
+    domains: &Domains<'_>,
+    variable: &Declared<'_>,
 ) -> Result<i64, AllocError>
-    ensures { IfOk result (λ value. value ≡ initial_of kind (initial_view initial.now)) }
+    ensures { IfOk result (λ value. value ≡ initial_of (file_in domains.now) (variable_view variable.now)) }
 {
-    match initial {
-        None => Ok(0),
-        Some(value) => {
-            let number = type_expr(alloc, &NoScope, Some(kind), value)?;
-            Ok(value_of_number(&number))
-        }
-    }
+    let domain = domain_of(alloc, domains, variable)?;
+    let initial = &variable.declaration.initial;
+    start_of(alloc, &domains.types, domain, variable.name.at, initial)
 }
 
 /// The first cell behind a variable's, which begins at a place.

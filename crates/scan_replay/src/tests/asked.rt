@@ -8,7 +8,7 @@ ghost use Rattle.scan_replay.specs.Duos.{AreComparable};
 use crate::run::range_at;
 use crate::states::{start, state_fits};
 use scan_model::{InputLine, Relation};
-use st_tree::{Cell, Elementary, Part, Program, Range};
+use st_tree::{Cell, DataType, Elementary, Part, Program, Range};
 use std::alloc::{AllocError, Global};
 
 /// Whether a program may run.
@@ -38,7 +38,7 @@ fn begins_with_fault(cells: &[Cell]) -> bool
         [] => false,
         [fault, ..] => {
             fault.part == Part::Fault
-                && fault.kind == Elementary::Bool
+                && fault.kind == DataType::Elementary(Elementary::Bool)
                 && fault.range == Range { low: 0, high: 1 }
         }
     }

@@ -1,7 +1,7 @@
 // Small typed programs.
 use st_tree::{
-    Cell, Elementary, Operand, Operator, Part, Program, Range, TypedArm, TypedExpr, TypedStmt,
-    UnaryOperator,
+    Cell, DataType, Elementary, Operand, Operator, Part, Program, Range, TypedArm, TypedExpr,
+    TypedStmt, UnaryOperator,
 };
 use std::alloc::{AllocError, Global};
 
@@ -35,6 +35,7 @@ pub fn program(
         name: String::from_str(alloc, "M")?,
         cells,
         constants: Vec::new(alloc),
+        types: Vec::new(alloc),
         body,
     })
 }
@@ -49,8 +50,9 @@ fn cell(
     Ok(Cell {
         path: String::from_str(alloc, path)?,
         part,
-        kind,
+        kind: DataType::Elementary(kind),
         range,
+        limited: false,
         initial: 0,
     })
 }

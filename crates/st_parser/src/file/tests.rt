@@ -144,7 +144,7 @@ fn a_word_left_out_comes_first(rt: HostRuntime) {
 #[test]
 fn no_tokens_are_a_file(rt: HostRuntime) -> Result<(), Fail> {
     let file = parse_file(rt.alloc(), &[], 0, &NoCharts)?;
-    assert_eq!(rt; file.pous.len(), 0);
+    assert_eq!(rt; file.items.len(), 0);
     Ok(())
 }
 
@@ -186,8 +186,10 @@ fn a_program_is_read(rt: HostRuntime) -> Result<(), Fail> {
         mark(Mark::EndProgram, 90),
     ];
     let file = parse_file(rt.alloc(), &toks, 101, &NoCharts)?;
-    assert_eq!(rt; file.pous.len(), 1);
-    let pou = &file.pous[0];
+    assert_eq!(rt; file.items.len(), 1);
+    let Item::Pou(pou) = &file.items[0] else {
+        return Err("a program".into());
+    };
     assert_eq!(rt; pou.name.text.as_str(), "M");
     assert_eq!(rt; pou.variables.len(), 2);
     let inputs = &pou.variables[0];
@@ -236,8 +238,11 @@ fn constants_and_temporaries(rt: HostRuntime) -> Result<(), Fail> {
         mark(Mark::EndProgram, 57),
     ];
     let file = parse_file(rt.alloc(), &toks, 68, &NoCharts)?;
-    assert_eq!(rt; file.pous.len(), 1);
-    let variables = &file.pous[0].variables;
+    assert_eq!(rt; file.items.len(), 1);
+    let Item::Pou(pou) = &file.items[0] else {
+        return Err("a program".into());
+    };
+    let variables = &pou.variables;
     assert_eq!(rt; variables.len(), 2);
     assert_eq!(rt; variables[0].section, Section::Constant);
     assert_eq!(rt; variables[1].section, Section::Temporary);

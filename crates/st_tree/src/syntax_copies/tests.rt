@@ -1,8 +1,8 @@
 // A file with each form of statements and expressions, and its copy.
 use crate::elementary::Elementary;
 use crate::syntax::{
-    Arm, Body, Declaration, Expr, Link, Literal, Name, Path, Pou, Section, SourceFile, Stmt,
-    TypeName, UnaryOperator, Variables,
+    Arm, Body, Bounds, Declaration, Expr, Item, Link, Literal, Name, Path, Pou, Section,
+    SourceFile, Specification, Stmt, TypeDeclaration, TypeName, UnaryOperator, Variables,
 };
 use crate::token::Operator;
 use std::alloc::Global;
@@ -59,15 +59,48 @@ fn file(alloc: Global) -> Result<SourceFile, Fail> {
         body: Body::Statements(vec![in alloc; branch(alloc)?]?),
     };
     Ok(SourceFile {
-        pous: vec![in alloc; pou]?,
+        items: vec![in alloc; types(alloc)?, Item::Pou(pou)]?,
     })
+}
+
+// TYPE LEVEL : INT (0..9); LIGHT : (RED, GREEN); END_TYPE
+fn types(alloc: Global) -> Result<Item, Fail> {
+    let bounds = Bounds {
+        at: 210,
+        low: Expr::Literal(Literal::Number { value: 0, at: 211 }),
+        high: Expr::Literal(Literal::Number { value: 9, at: 214 }),
+    };
+    let level = TypeDeclaration {
+        name: name(alloc, "LEVEL", 200)?,
+        specification: Specification::Type(TypeName::Subrange(
+            Elementary::Int,
+            206,
+            Box::new(alloc, bounds)?,
+        )),
+    };
+    let light = TypeDeclaration {
+        name: name(alloc, "LIGHT", 220)?,
+        specification: Specification::Enumeration(
+            228,
+            name(alloc, "RED", 229)?,
+            vec![in alloc; name(alloc, "GREEN", 234)?]?,
+        ),
+    };
+    Ok(Item::Types(vec![in alloc; level, light]?))
+}
+
+fn pou_of(item: &Item) -> Result<&Pou, Fail> {
+    match item {
+        Item::Pou(pou) => Ok(pou),
+        Item::Types(_) => Err(Fail::from("a POU")),
+    }
 }
 
 #[test]
 fn a_file_is_copied(rt: HostRuntime) -> Result<(), Fail> {
     let copy = file(rt.alloc())?.copy(rt.alloc())?;
-    assert_eq!(rt; copy.pous.len(), 1);
-    let pou = copy.pous[0].copy(rt.alloc())?;
+    assert_eq!(rt; copy.items.len(), 2);
+    let pou = pou_of(&copy.items[1])?.copy(rt.alloc())?;
     assert_eq!(rt; pou.name.text.as_str(), "M");
     assert_eq!(rt; pou.variables.len(), 1);
     let variables = pou.variables[0].copy(rt.alloc())?;
@@ -82,6 +115,37 @@ fn a_file_is_copied(rt: HostRuntime) -> Result<(), Fail> {
             TypeName::Elementary(Elementary::Int, 19)
         )
     );
+    Ok(())
+}
+
+#[test]
+fn types_are_copied(rt: HostRuntime) -> Result<(), Fail> {
+    let copy = types(rt.alloc())?.copy(rt.alloc())?;
+    let Item::Types(types) = &copy else {
+        return Err(Fail::from("types"));
+    };
+    assert_eq!(rt; types.len(), 2);
+    let level = types[0].copy(rt.alloc())?;
+    assert_eq!(rt; level.name.text.as_str(), "LEVEL");
+    let Specification::Type(TypeName::Subrange(Elementary::Int, 206, bounds)) = &level.specification
+    else {
+        return Err(Fail::from("a subrange"));
+    };
+    let bounds = bounds.copy(rt.alloc())?;
+    assert_eq!(rt; bounds.at, 210);
+    assert!(rt;
+        matches!(
+            bounds.high,
+            Expr::Literal(Literal::Number { value: 9, at: 214 })
+        )
+    );
+    let Specification::Enumeration(228, first, others) = types[1].specification.copy(rt.alloc())?
+    else {
+        return Err(Fail::from("an enumeration"));
+    };
+    assert_eq!(rt; first.text.as_str(), "RED");
+    assert_eq!(rt; others.len(), 1);
+    assert_eq!(rt; others[0].text.as_str(), "GREEN");
     Ok(())
 }
 

@@ -1,8 +1,11 @@
-use Rattle.std.proofs.Common.{subst}
+use Rattle.std.proofs.Common.{◌≡◌, [], sym, subst}
 use Rattle.std.proofs.lemmas.Result.{err_from_is_err_and}
-use Rattle.st_tree.specs.SyntaxView.{file_view, pou_view}
+use Rattle.st_tree.specs.Syntax.{FileData}
+use Rattle.st_tree.specs.SyntaxView.{file_view}
+use Rattle.st_tree.specs.View.{program_view}
+use Rattle.st_names.specs.Broken.{broken_names}
 use Rattle.front_end.specs.Texts.{HasTree}
-use Rattle.front_end.proofs.Passes.{tree_first, names_refused, types_refused}
+use Rattle.front_end.proofs.Passes.{tree_first, names_refused, types_refused, one_pou, program_of}
 use Rattle.front_end.proofs.accept.accept_text.Goals as goal
 
 pub returns-in_err-file-clause-refused : goal.returns-in_err-file-clause-refused
@@ -18,5 +21,15 @@ returns-in_err-resolved-clause-refused c =
 pub returns-in_err-check-clause-refused : goal.returns-in_err-check-clause-refused
 returns-in_err-check-clause-refused c =
     let p = err_from_is_err_and c.from_residual-in_err-check.result c.from_residual-in_err-check.ensures.1 in
-    rw (p.1, p.2) (types_refused c.args.text.now (pou_view c.in_ok-resolved.resolved.program) c.in_err-check.field-0.0
-    (subst (HasTree c.args.text.now) c.in_ok-resolved.ensures.program c.in_ok-file.ensures.tree) c.in_ok-resolved.resolved.kept c.in_err-check.ensures.refused)
+    let f = file_view c.in_ok-resolved.resolved.file in
+    let same = sym c.in_ok-resolved.ensures.file in
+    let n = subst (λ (g : FileData). broken_names g ≡ []) same c.in_ok-resolved.ensures.kept in
+    let one = one_pou f n in
+    rw (p.1, p.2) (types_refused c.args.text.now f one.pou c.in_err-check.field-0.0 (subst (HasTree c.args.text.now) same c.in_ok-file.ensures.tree) n one.only (c.in_err-check.ensures.refused one.pou one.only))
+
+pub returns-clause-program : goal.returns-clause-program
+returns-clause-program c =
+    let f = file_view c.in_ok-resolved.resolved.file in
+    let same = sym c.in_ok-resolved.ensures.file in
+    let n = subst (λ (g : FileData). broken_names g ≡ []) same c.in_ok-resolved.ensures.kept in
+    program_of c.args.text.now f (program_view c.in_ok-check.field-0) (subst (HasTree c.args.text.now) same c.in_ok-file.ensures.tree) n c.in_ok-check.ensures.kept c.in_ok-check.ensures.room c.in_ok-check.ensures.typed

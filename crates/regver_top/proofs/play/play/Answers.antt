@@ -1,5 +1,5 @@
 use Rattle.std.proofs.Common.{arith}
-use Rattle.regver_top.proofs.PlayLemmas.{are_related, are_still, step_run, row_related, row_unrelated, row_part, on_err}
+use Rattle.regver_top.proofs.PlayLemmas.{are_related, are_still, step_run, row_related, row_unrelated, row_part, on_err, nothing_put}
 use Rattle.regver_top.proofs.play.play.Goals as goal
 
 pub returns-in_err-put_scan-clause-part : goal.returns-in_err-put_scan-clause-part
@@ -25,3 +25,6 @@ loop-done-preserved g c =
       played = row_related _ _ _ _ _ _ _ _ _ _ run c.in_ok-put_scan.ensures.whole (are_related c.args.old.now c.args.new.now c.args.relation.now c.step.new.self c.related.result _ still c.related.ensures c.if-not-related.false);
       later = omega (arith, c.loop-done.invariant.later, c.in_ok-put_scan.ensures.later);
     }
+
+pub returns-in_err-duo-clause-part : goal.returns-in_err-duo-clause-part
+returns-in_err-duo-clause-part g c = on_err c.from_residual.result _ (nothing_put _ _)

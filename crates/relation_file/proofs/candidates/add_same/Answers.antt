@@ -2,6 +2,7 @@ use Rattle.std.proofs.Common.{◌≡◌, ℕ, List, ◌+◌, ◌++◌, length, d
 use Rattle.st_tree.specs.View.{cell_view, cells_view, program_view}
 use Rattle.st_names.proofs.Steps.{view-drop}
 use Rattle.scan_model.specs.Pairs.{candidates_view}
+use Rattle.st_types.specs.PairedTypes.{paired_in}
 use Rattle.scan_model.specs.Candidates.{same_cells}
 use Rattle.relation_file.specs.Inputs.{cell_named}
 use Rattle.relation_file.proofs.CandidateLemmas.{same_more, room_behind}
@@ -17,6 +18,6 @@ loop-place-preserved c =
     let new = (program_view c.args.new.now.program.now).cells in
     let behind = length c.args.old.now in
     let left = view-drop cell_view c.args.old.now i x (omega arith) c.index-old-place.is in
-    let all = ap (λ cs. candidates_view c.loop-place.found.items ++ same_cells i behind new cs) (sym left) ∙ c.loop-place.invariant in
+    let all = ap (λ cs. candidates_view c.loop-place.found.items ++ same_cells (paired_in c.args.types.now) i behind new cs) (sym left) ∙ c.loop-place.invariant in
     let known = c.find-other.ensures ∙ ap (λ (t : List ℕ). cell_named t 0 new) c.as_str.ensures.value in
-    same_more c.loop-place.found.items _ c.in_ok-candidate.candidate c.find-other.result (cell_view x) i behind new (cells_view (drop (i + 1) c.args.old.now)) _ known c.in_ok-candidate.ensures c.in_ok-add.ensures all
+    same_more (paired_in c.args.types.now) c.loop-place.found.items _ c.in_ok-candidate.candidate c.find-other.result (cell_view x) i behind new (cells_view (drop (i + 1) c.args.old.now)) _ known c.in_ok-candidate.ensures c.in_ok-add.ensures all

@@ -2,6 +2,7 @@ use Rattle.std.proofs.Common.{◌++◌, ℕ, List, ap, ◌∙◌}
 use Rattle.st_tree.specs.declared.rule.Rule.TheVariants.{InputsDiffer}
 use Rattle.st_tree.specs.Rules.{first_in}
 use Rattle.st_tree.specs.SyntaxView.{name_view}
+use Rattle.st_tree.specs.Enumerations.{paired_type}
 use Rattle.scan_model.specs.declared.side.Side.TheVariants as sides
 use Rattle.relation_file.specs.Broken.{broken_name}
 use Rattle.relation_file.specs.Inputs.{cell_named, are_alike}
@@ -20,7 +21,7 @@ returns c = λ before recalls.
     let of_new = broken_name old new sides.New before b in
     let one = c.find.ensures ∙ ap (λ (t : List ℕ). cell_named t 0 old.cells) c.as_str.ensures.value in
     let two = c.find-2.ensures ∙ ap (λ (t : List ℕ). cell_named t 0 new.cells) c.as_str-2.ensures.value in
-    let alike = c.are_alike-alike.ensures ∙ ap (λ o. are_alike o c.find-2.result) one ∙ ap (are_alike (cell_named a.text 0 old.cells)) two in
+    let alike = c.are_alike-alike.ensures ∙ ap (λ o. are_alike (paired_type old.types new.types) o c.find-2.result) one ∙ ap (are_alike (paired_type old.types new.types) (cell_named a.text 0 old.cells)) two in
     let own = c.unless.ensures ∙ ap (λ t. first_in (unless t InputsDiffer a.at)) alike in
     let parts = both_first c.earlier.result c.name_refusal-of_old.result c.name_refusal-of_new.result of_old of_new c.earlier.ensures (c.name_refusal-of_old.ensures before recalls) (c.name_refusal-of_new.ensures before recalls) in
-    own_behind c.or.result c.earlier.result c.unless.result (of_old ++ of_new) (unless (are_alike (cell_named a.text 0 old.cells) (cell_named b.text 0 new.cells)) InputsDiffer a.at) c.or.ensures parts own
+    own_behind c.or.result c.earlier.result c.unless.result (of_old ++ of_new) (unless (are_alike (paired_type old.types new.types) (cell_named a.text 0 old.cells) (cell_named b.text 0 new.cells)) InputsDiffer a.at) c.or.ensures parts own

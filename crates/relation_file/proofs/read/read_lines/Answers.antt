@@ -19,3 +19,16 @@ returns-clause-belongs c =
     let stated = rw (c.in_ok-pair.ensures.0, c.in_ok-pair.ensures.1, c.deref.ensures.value) at is in
     let kept = rw (c.in_ok-pair.ensures.0, c.in_ok-pair.ensures.1, c.deref.ensures.value) at sound in
     relation_belongs (program_view c.args.old.now) (program_view c.args.new.now) c.args.end (lines_view c.in_ok-lines.lines.items) (relation_view c.in_ok-relation.relation) kept stated
+
+pub returns-clause-read : goal.returns-clause-read
+returns-clause-read c =
+    let is = c.in_ok-relation.ensures.stated in
+    let sound = c.in_ok-relation.ensures.sound in
+    let typing = c.in_ok-relation.ensures.typing in
+    record {
+      lines = lines_view c.in_ok-lines.lines.items;
+      read = c.in_ok-lines.ensures.read;
+      sound = rw (c.in_ok-pair.ensures.0, c.in_ok-pair.ensures.1, c.deref.ensures.value) at sound;
+      typing = rw (c.in_ok-pair.ensures.0, c.in_ok-pair.ensures.1, c.deref.ensures.value) at typing;
+      stated = rw (c.in_ok-pair.ensures.0, c.in_ok-pair.ensures.1, c.deref.ensures.value) at is;
+    }

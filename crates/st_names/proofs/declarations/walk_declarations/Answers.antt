@@ -24,5 +24,5 @@ loop-place-preserved c =
     let all = ap (λ list. earlier c.loop-place.first (first_in (in_declarations f vs before list))) (sym left) ∙ c.loop-place.invariant in
     let kind = c.earlier.ensures ∙ ap (earlier c.loop-place.first) c.type_refusal.ensures in
     let initial = c.earlier-in-loop-place.ensures ∙ ap (earlier c.earlier.result) c.initial_refusal.ensures in
-    let step = then_on c.loop-place.first c.earlier.result c.earlier-in-loop-place.result (in_type f v.kind) (in_initial f vs before v.initial) kind initial in
-    rw more (before_rest c.loop-place.first c.earlier-in-loop-place.result _ (in_type f v.kind ++ in_initial f vs before v.initial) (in_declarations f vs (before ++ v ∷ []) rest) step all)
+    let step = then_on c.loop-place.first c.earlier.result c.earlier-in-loop-place.result (in_type f vs before v.kind) (in_initial f vs before v.initial) kind initial in
+    rw more (before_rest c.loop-place.first c.earlier-in-loop-place.result _ (in_type f vs before v.kind ++ in_initial f vs before v.initial) (in_declarations f vs (before ++ v ∷ []) rest) step all)

@@ -1,5 +1,5 @@
 use Rattle.std.proofs.Common.{[], ◌++◌}
-use Rattle.st_tree.specs.SyntaxView.{pou_view, pous_view}
+use Rattle.st_tree.specs.SyntaxView.{pou_view, file_view}
 use Rattle.st_names.specs.Bound.{variables_in_pou}
 use Rattle.st_names.specs.Broken.{in_body, in_declarations, variables_twice}
 use Rattle.st_names.proofs.Steps.{then_on}
@@ -7,7 +7,7 @@ use Rattle.st_names.proofs.resolution.walk_pou.Goals as goal
 
 pub returns-clause-broken : goal.returns-clause-broken
 returns-clause-broken c =
-    let f = pous_view c.args.file.now.pous.now in
+    let f = file_view c.args.file.now.types.names.file.now in
     let p = pou_view c.args.pou.now in
     let vs = variables_in_pou p in
     let file = c.in_ok-names.ensures.file in

@@ -2,7 +2,8 @@ use Rattle.std.proofs.Common.{◌≡◌, [], take, drop}
 use Rattle.st_tree.specs.Rules.{earlier, first_in}
 use Rattle.st_names.specs.Broken.{variables_twice}
 use Rattle.st_names.specs.ScopeView.{variables_view}
-use Rattle.st_names.specs.Slots.{slot_named, Holds}
+use Rattle.st_names.specs.Slots.{slot_named}
+use Rattle.st_names.specs.Table.{Holds}
 use Rattle.st_names.proofs.slots.slots.Given as goal
 
 abbrev pub invariant-loop-place : goal.invariant-loop-place

@@ -7,8 +7,7 @@ use Rattle.st_tree.specs.declared.syntax.Expr.TheFolds.{fold-roll-Expr}
 use Rattle.st_tree.specs.Syntax.{Tree, chain, call}
 use Rattle.st_tree.specs.Rules.{earlier, first_in}
 use Rattle.st_tree.specs.SyntaxView.{LinkData, ArgumentData, expr_step, argument_step, link_step, name_view, tree_view, link_view, links_view, links_of, argument_view, arguments_view, arguments_of}
-use Rattle.st_names.specs.Broken.{in_called, in_argument_name, in_tree, in_links, in_arguments}
-use Rattle.st_names.specs.Library.{is_function}
+use Rattle.st_names.specs.Broken.{in_called, is_known_function, in_argument_name, in_tree, in_links, in_arguments}
 use Rattle.st_names.specs.NamesView.{file_in, variables_in}
 use Rattle.st_names.proofs.Outs.{link_view-out, argument_view-out}
 use Rattle.st_names.proofs.Steps.{view-drop, then_on, before_rest}
@@ -42,9 +41,9 @@ walk_expr-returns-in-Call t c =
     let shape : tree_view c.args.expr.now ≡ call n c.in-Call.field-1 (arguments_view args) = ap tree_view (c.in-Call.is ∙ sym (rolls-Call c.in-Call.function c.in-Call.field-1 c.in-Call.arguments)) ∙ fold-roll-Expr Tree ArgumentData LinkData expr_step argument_step link_step _ in
     let called = c.earlier-in-Call.ensures ∙ ap (earlier c.args.first.now) c.called_refusal.ensures in
     let all = c.walk_arguments.ensures
-    ∙ ap (λ known. earlier c.earlier-in-Call.result (first_in (in_arguments f vs known (arguments_view c.deref-in-Call.result.now)))) c.is_function.ensures
-    ∙ ap (λ (list : List Argument). earlier c.earlier-in-Call.result (first_in (in_arguments f vs (is_function n.text) (arguments_view list)))) c.deref-in-Call.ensures.value in
-    rw shape (then_on c.args.first.now c.earlier-in-Call.result c.walk_arguments.new.first (in_called f n) (in_arguments f vs (is_function n.text) (arguments_view args)) called all)
+    ∙ ap (λ known. earlier c.earlier-in-Call.result (first_in (in_arguments f vs known (arguments_view c.deref-in-Call.result.now)))) c.is_known_function.ensures
+    ∙ ap (λ (list : List Argument). earlier c.earlier-in-Call.result (first_in (in_arguments f vs (is_known_function f n.text) (arguments_view list)))) c.deref-in-Call.ensures.value in
+    rw shape (then_on c.args.first.now c.earlier-in-Call.result c.walk_arguments.new.first (in_called f n) (in_arguments f vs (is_known_function f n.text) (arguments_view args)) called all)
 
 pub walk_arguments-loop-argument-preserved : goal.walk_arguments-loop-argument-preserved
 walk_arguments-loop-argument-preserved t c =

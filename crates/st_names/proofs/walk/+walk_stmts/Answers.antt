@@ -13,7 +13,7 @@ use Rattle.st_tree.specs.Rules.{earlier, first_in}
 use Rattle.st_tree.specs.SyntaxView.{path_view, tree_view, stmt_view, stmts_view, stmts_of, ArmData, arm_view, arms_view, arms_of, EntryData, entry_view, entries_view, entries_of, labels_view, iteration_view, stmt_step, arm_step, entry_step}
 use Rattle.st_tree.proofs.Branches.{stmt_view-If, stmt_view-Case}
 use Rattle.st_tree.proofs.Refusals.{earlier-none}
-use Rattle.st_names.specs.Broken.{in_path, in_tree, in_stmt, in_stmts, in_arms, in_labels, in_iteration, in_entries}
+use Rattle.st_names.specs.Broken.{in_target, in_tree, in_stmt, in_stmts, in_arms, in_labels, in_iteration, in_entries}
 use Rattle.st_names.specs.NamesView.{file_in, variables_in}
 use Rattle.st_names.specs.Scopes.{variable_named}
 use Rattle.st_names.proofs.Outs.{arm_view-out, entry_view-out}
@@ -26,8 +26,8 @@ walk_stmt-returns-in-Assign t c =
     let vs = variables_in c.args.names.now in
     let p = path_view c.in-Assign.target in
     let shape : stmt_view c.args.stmt.now ≡ assign p (tree_view c.in-Assign.value) = ap stmt_view (c.in-Assign.is ∙ sym (rolls-Assign c.in-Assign.target c.in-Assign.value)) ∙ fold-roll-Stmt Stmt ArmData EntryData stmt_step arm_step entry_step _ in
-    let target = c.earlier.ensures ∙ ap (earlier c.args.first.now) c.path_refusal.ensures in
-    rw shape (then_on c.args.first.now c.earlier.result c.walk_expr.new.first (in_path f vs (variable_named p.first.text vs) p) (in_tree f vs (tree_view c.in-Assign.value)) target c.walk_expr.ensures)
+    let target = c.earlier.ensures ∙ ap (earlier c.args.first.now) c.target_refusal.ensures in
+    rw shape (then_on c.args.first.now c.earlier.result c.walk_expr.new.first (in_target f vs (variable_named p.first.text vs) p) (in_tree f vs (tree_view c.in-Assign.value)) target c.walk_expr.ensures)
 
 pub walk_stmt-returns-in-Some : goal.walk_stmt-returns-in-Some
 walk_stmt-returns-in-Some t c =

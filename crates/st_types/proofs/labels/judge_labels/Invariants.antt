@@ -6,6 +6,6 @@ use Rattle.st_types.specs.Seen.{Keeps}
 use Rattle.st_types.proofs.labels.judge_labels.Given as goal
 
 abbrev pub invariant-loop-entry : goal.invariant-loop-entry
-invariant-loop-entry l =
+invariant-loop-entry g l =
     (now : List Range) × Keeps l.seen now
-    × (labels_outcome l.kind now l.judged (all_labels (entries_view (drop l.entry-index l.entries))) ≡ labels_outcome l.kind [] l.initial.judged (all_labels (entries_view l.entries)))
+    × (labels_outcome (g.S.Scope.means l.scope) l.kind now l.judged (all_labels (entries_view (drop l.entry-index l.entries))) ≡ labels_outcome (g.S.Scope.means l.scope) l.kind [] l.initial.judged (all_labels (entries_view l.entries)))

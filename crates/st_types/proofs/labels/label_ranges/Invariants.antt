@@ -4,4 +4,4 @@ use Rattle.st_types.specs.Labels.{label_range}
 use Rattle.st_types.proofs.labels.label_ranges.Given as goal
 
 abbrev pub invariant-loop-label : goal.invariant-loop-label
-invariant-loop-label l = l.ranges.items ≡ map (label_range l.kind) (labels_view (take l.label-index l.labels))
+invariant-loop-label g l = l.ranges.items ≡ map (label_range (g.S.Scope.means l.scope) l.kind) (labels_view (take l.label-index l.labels))

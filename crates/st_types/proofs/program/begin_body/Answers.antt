@@ -3,17 +3,19 @@ use Rattle.std.proofs.lemmas.List.{map-append}
 use Rattle.st_tree.specs.Tree.{Statement}
 use Rattle.st_tree.specs.View.{stmt_view, stmts_view, statements_of}
 use Rattle.st_names.specs.ScopeView.{variables_view}
+use Rattle.st_types.specs.Bodies.{file_in}
 use Rattle.st_types.specs.TypedPrograms.{begun}
 use Rattle.st_types.proofs.BeginningLemmas.{begun-list}
 use Rattle.st_types.proofs.program.begin_body.Goals as goal
 
 pub returns : goal.returns
-returns g c =
+returns c =
+    let f = file_in c.args.scope.now.domains in
     let list = c.in_ok-list.list.items in
     let behind = c.in_ok-behind.behind.items in
     let vs = variables_view c.args.variables.now in
     let items : c.append.new.self.items ≡ list ++ behind = c.in_ok-append.ensures.items in
     ap stmts_view items
     ∙ ap statements_of (map-append stmt_view list behind ∙ ap (λ (ss : List Statement). ss ++ map stmt_view behind) c.in_ok-list.ensures)
-    ∙ begun-list 1 vs (map stmt_view behind)
-    ∙ ap (begun 1 vs) c.in_ok-behind.ensures
+    ∙ begun-list f 1 vs (map stmt_view behind)
+    ∙ ap (begun f 1 vs) c.in_ok-behind.ensures

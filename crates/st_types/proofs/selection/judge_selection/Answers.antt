@@ -16,4 +16,4 @@ returns-then-not-judged g c =
 pub returns : goal.returns
 returns g c =
     outcome_of-selection (g.S.Scope.means c.args.scope.now) (tree_view c.args.selector.now) (entries_view c.args.entries.now) c.judge_selector-judged.result c.in_ok-labels.labels c.also.result c.judge_selector-judged.ensures (turned c.judge_selector-judged.result.whole false c.if-not-judged.false)
-    (c.in_ok-labels.ensures ∙ ap (λ t. outcome_of (judged_labels t [] (all_labels (entries_view c.args.entries.now)))) c.type_of.ensures) c.also.ensures
+    (c.in_ok-labels.ensures ∙ ap (λ t. outcome_of (judged_labels (g.S.Scope.means c.args.scope.now) t [] (all_labels (entries_view c.args.entries.now)))) c.type_of.ensures) c.also.ensures

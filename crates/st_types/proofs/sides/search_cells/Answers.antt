@@ -2,7 +2,7 @@ use Rattle.std.proofs.Common.{◌≡◌, ◌+◌, ◌∷◌, drop, Some, ap, sym
 use Rattle.std.proofs.lemmas.Grind.{common_steps}
 use Rattle.st_tree.specs.SyntaxView.{names_view}
 use Rattle.st_tree.specs.View.{cell_view, cells_view}
-use Rattle.st_types.specs.Programs.{joined, cell_among}
+use Rattle.st_types.specs.Programs.{joined, own_type, cell_among}
 use Rattle.st_types.proofs.SideLemmas.{among_here, among_next}
 use Rattle.st_types.proofs.sides.search_cells.Goals as goal
 
@@ -14,7 +14,7 @@ returns-then-is_joined c =
     let rest = cells_view (drop (i + 1) c.args.cells.now) in
     let left : cells_view (drop i c.args.cells.now) ≡ cell_view item ∷ rest = grind (arith, common_steps) in
     let same = rw c.as_bytes.ensures.value at c.is_joined.ensures in
-    ap Some c.meaning_at.ensures ∙ among_here text (c.args.start + i) (cell_view item) rest c.is_joined.result same c.if-is_joined.true ∙ ap (cell_among text (c.args.start + i)) (sym left) ∙ sym c.loop-index.invariant
+    ap Some c.cell_meaning.ensures ∙ among_here text (c.args.start + i) (cell_view item) rest c.is_joined.result same c.if-is_joined.true ∙ ap (cell_among own_type text (c.args.start + i)) (sym left) ∙ sym c.loop-index.invariant
 
 pub loop-index-preserved : goal.loop-index-preserved
 loop-index-preserved c =
@@ -24,4 +24,4 @@ loop-index-preserved c =
     let rest = cells_view (drop (i + 1) c.args.cells.now) in
     let left : cells_view (drop i c.args.cells.now) ≡ cell_view item ∷ rest = grind (arith, common_steps) in
     let same = rw c.as_bytes.ensures.value at c.is_joined.ensures in
-    c.loop-index.invariant ∙ ap (cell_among text (c.args.start + i)) left ∙ among_next text (c.args.start + i) (cell_view item) rest c.is_joined.result same c.if-is_joined.false ∙ ap (λ n. cell_among text n rest) (omega arith)
+    c.loop-index.invariant ∙ ap (cell_among own_type text (c.args.start + i)) left ∙ among_next text (c.args.start + i) (cell_view item) rest c.is_joined.result same c.if-is_joined.false ∙ ap (λ n. cell_among own_type text n rest) (omega arith)

@@ -1,6 +1,6 @@
 use Rattle.std.proofs.Common.{◌≡◌, take, map}
-use Rattle.st_tree.specs.SyntaxView.{pou_view}
+use Rattle.st_tree.specs.SyntaxView.{item_view}
 use Rattle.st_tree.proofs.syntax.SourceFile.copy.Given as goal
 
-abbrev pub invariant-loop-pou : goal.invariant-loop-pou
-invariant-loop-pou l = map pou_view l.pous.items ≡ map pou_view (take l.pou-index l.self.pous.items)
+abbrev pub invariant-loop-item : goal.invariant-loop-item
+invariant-loop-item l = map item_view l.items.items ≡ map item_view (take l.item-index l.self.items.items)

@@ -1,0 +1,103 @@
+-- What expressions and assignments do to the cells alone, in a store that has scratch cells behind them.
+use Rattle.std.proofs.Common.{◌≡◌, ℕ, ◌-◌, ◌<◌, ◌≤◌, Bool, true, false, List, length, take, ℤ, pos, refl, ◌∙◌, rules, tests}
+use Rattle.std.specs.Prelude.{slice_set, if◌then◌else◌, nat_lt}
+use Rattle.std.proofs.lemmas.List.{get_or-take, length-set}
+use Rattle.std.proofs.Math.Seq.{take-set-lt}
+use Rattle.st_tree.specs.declared.typed.Range.{Range}
+use Rattle.st_tree.specs.Types.{in_range}
+use Rattle.st_tree.specs.Tree.{Expression, number, cell, unary, chain, call, Operands, no_operands, operand, Expressions, no_expressions, expression}
+use Rattle.expression_value.specs.Values.{State, value_of, value_on, values_of, faults, any_faults, one_faults, applied, is_truth}
+use Rattle.scan_model.specs.Scans.{range_at, with_fault, stored}
+use Rattle.flat_core.specs.declared.flat_tree.Scratch.{Scratch}
+use Rattle.flat_core.specs.FlatTree.{FlatStatement, set, branch, FlatStatements, no_flats, flat}
+use Rattle.flat_core.specs.FlatScans.{takes, placed, run_of, run_of_all}
+use Rattle.flat_core.specs.FlatRules.{Reads, AllRead, EachReads}
+
+-- ---- an expression over the first n cells reads no others
+
+module _ (n : ℕ) (x : State) where
+  mutual
+    pub value_of-take : (e : Expression) → Reads (λ place. place < n) e → value_of e (take n x) ≡ value_of e x
+    value_of-take (number v) b = refl
+    value_of-take (cell place) b = get_or-take n x place (pos 0) b
+    value_of-take (unary o t e) b = rw (value_of-take e b)
+    value_of-take (chain e os) b = rw (value_of-take e b.0) (value_on-take (value_of e x) os b.1)
+    value_of-take (call f t es) b = rw (values_of-take es b)
+
+    value_on-take : (v : ℤ) (os : Operands) → AllRead (λ place. place < n) os → value_on v os (take n x) ≡ value_on v os x
+    value_on-take v no_operands b = refl
+    value_on-take v (operand o t e os) b = rw (value_of-take e b.0) (value_on-take (applied o t v (value_of e x)) os b.1)
+
+    values_of-take : (es : Expressions) → EachReads (λ place. place < n) es → values_of es (take n x) ≡ values_of es x
+    values_of-take no_expressions b = refl
+    values_of-take (expression e es) b = rw (value_of-take e b.0, values_of-take es b.1)
+
+  mutual
+    pub faults-take : (e : Expression) → Reads (λ place. place < n) e → faults e (take n x) ≡ faults e x
+    faults-take (number v) b = refl
+    faults-take (cell place) b = refl
+    faults-take (unary o t e) b = faults-take e b
+    faults-take (chain e os) b = rw (faults-take e b.0, any_faults-take os b.1)
+    faults-take (call f t es) b = one_faults-take es b
+
+    any_faults-take : (os : Operands) → AllRead (λ place. place < n) os → any_faults os (take n x) ≡ any_faults os x
+    any_faults-take no_operands b = refl
+    any_faults-take (operand o t e os) b = rw (faults-take e b.0, value_of-take e b.0, any_faults-take os b.1)
+
+    one_faults-take : (es : Expressions) → EachReads (λ place. place < n) es → one_faults es (take n x) ≡ one_faults es x
+    one_faults-take no_expressions b = refl
+    one_faults-take (expression e es) b = rw (faults-take e b.0, one_faults-take es b.1)
+
+-- ---- one of two stores
+
+pub take-if : (n : ℕ) (b : Bool) (x y s t : State) → take n x ≡ s → take n y ≡ t → take n (if b then x else y) ≡ (if b then s else t)
+take-if n true x y s t p q = p
+take-if n false x y s t p q = q
+
+length-if : (b : Bool) (x y : State) (n : ℕ) → length x ≡ n → length y ≡ n → length (if b then x else y) ≡ n
+length-if true x y n p q = p
+length-if false x y n p q = q
+
+pub take-with_fault : (n : ℕ) → 0 < n → (b : Bool) (x : State) → take n (with_fault b x) ≡ with_fault b (take n x)
+take-with_fault n h true x = take-set-lt n x 0 (pos 1) h
+take-with_fault n h false x = refl
+
+-- ---- assignments
+
+below_is : (c n : ℕ) → c < n → nat_lt c n ≡ true
+below_is c n h = search (rules, tests)
+
+behind_is : (c n : ℕ) → n ≤ c → nat_lt c n ≡ false
+behind_is c n h = search (rules, tests)
+
+pub take-placed : (rs : List Range) (cs : List Scratch) → 0 < length rs → (c : ℕ) (v : ℤ) (x : State) → c < length rs → take (length rs) (placed rs cs c v x) ≡ stored rs c v (take (length rs) x)
+take-placed rs cs some c v x h =
+    rw (below_is c (length rs) h) (take-if (length rs) (in_range v (range_at rs c)) _ _ _ _ (take-set-lt (length rs) x c v h) (take-with_fault (length rs) some true x))
+
+-- a scratch cell that takes each value
+pub placed-behind : (rs : List Range) (cs : List Scratch) (c : ℕ) (v : ℤ) (x : State) → length rs ≤ c → takes cs (c - length rs) v ≡ true → placed rs cs c v x ≡ slice_set x c v
+placed-behind rs cs c v x h free = rw (behind_is c (length rs) h, free)
+
+-- ---- lengths
+
+pub length-with_fault : (b : Bool) (x : State) → length (with_fault b x) ≡ length x
+length-with_fault true x = length-set x 0 (pos 1)
+length-with_fault false x = refl
+
+length-stored : (rs : List Range) (c : ℕ) (v : ℤ) (x : State) → length (stored rs c v x) ≡ length x
+length-stored rs c v x = length-if (in_range v (range_at rs c)) _ _ _ (length-set x c v) (length-with_fault true x)
+
+pub length-placed : (rs : List Range) (cs : List Scratch) (c : ℕ) (v : ℤ) (x : State) → length (placed rs cs c v x) ≡ length x
+length-placed rs cs c v x =
+    length-if (nat_lt c (length rs)) _ _ _ (length-stored rs c v x) (length-if (takes cs (c - length rs) v) _ _ _ (length-set x c v) (length-with_fault true x))
+
+module _ (rs : List Range) (cs : List Scratch) where
+  mutual
+    length-run_of : (t : FlatStatement) (x : State) → length (run_of rs cs t x) ≡ length x
+    length-run_of (set place e) x = length-placed rs cs place _ _ ∙ length-with_fault (faults e x) x
+    length-run_of (branch e a b) x =
+        length-if (is_truth (value_of e x)) _ _ _ (length-run_of_all a _ ∙ length-with_fault (faults e x) x) (length-run_of_all b _ ∙ length-with_fault (faults e x) x)
+
+    pub length-run_of_all : (ts : FlatStatements) (x : State) → length (run_of_all rs cs ts x) ≡ length x
+    length-run_of_all no_flats x = refl
+    length-run_of_all (flat t ts) x = length-run_of_all ts _ ∙ length-run_of t x

@@ -1,0 +1,24 @@
+// Why a program has no flat form.
+use st_tree::Refusal;
+use std::alloc::AllocError;
+use thiserror::Error;
+
+/// Why a program has no flat form.
+#[derive(Debug, Drop, Error)]
+pub enum FlatFault {
+    #[error("the flat form of the program has too many statements")]
+    Refused(Refusal),
+    #[error("memory was wanting")]
+    Memory,
+}
+
+impl From<AllocError> for FlatFault {
+    ghost use Rattle.std.specs.Prelude.{◌≡◌};
+    ghost use Rattle.fb_inline.specs.declared.fault.FlatFault.TheVariants.{Memory};
+
+    ghost from_gives = { λ _ e. e ≡ Memory };
+
+    fn from(_: AllocError) -> Self {
+        FlatFault::Memory
+    }
+}

@@ -1,0 +1,93 @@
+// Tests of the labels of a CASE.
+ghost use Rattle.std.specs.Prelude.{◌≡◌, ◌∷◌, [], map, IfOk};
+ghost use Rattle.st_tree.specs.Tree.{chain};
+ghost use Rattle.st_tree.specs.View.{expr_view, operand_view, operands_of};
+ghost use Rattle.fb_inline.specs.FlatLists.{label_test, or_test, labels_test};
+
+use st_tree::{Elementary, Operand, Operator, Range, TypedExpr};
+use std::alloc::{AllocError, Global};
+
+/// Whether the value at a place is one of those of labels: their tests, joined by OR from the left.
+pub fn labels_test(
+    alloc: Global,
+    kind: Elementary,
+    place: usize,
+    labels: &[Range],
+) -> Result<TypedExpr, AllocError>
+    ensures { IfOk result (λ e. expr_view e ≡ labels_test kind place labels.now) }
+{
+    match labels {
+        [] => Ok(TypedExpr::Number(0)),
+        [only] => label_test(alloc, kind, place, *only),
+        [first, others @ ..] => {
+            let first = label_test(alloc, kind, place, *first)?;
+            let others = or_tests(alloc, kind, place, others)?;
+            chain(alloc, first, others)
+        }
+    }
+}
+
+fn or_tests(
+    alloc: Global,
+    kind: Elementary,
+    place: usize,
+    labels: &[Range],
+) -> Result<Vec<Operand>, AllocError>
+    ensures { IfOk result (λ os. map operand_view os.items ≡ map (or_test kind place) labels.now) }
+{
+    let mut tests = Vec::new(alloc);
+    for label in labels {
+        let right = label_test(alloc, kind, place, *label)?;
+        tests.push(Operand {
+            operator: Operator::Or,
+            kind: Elementary::Bool,
+            right,
+        })?;
+    }
+    Ok(tests)
+}
+
+fn label_test(
+    alloc: Global,
+    kind: Elementary,
+    place: usize,
+    label: Range,
+) -> Result<TypedExpr, AllocError>
+    ensures { IfOk result (λ e. expr_view e ≡ label_test kind place label) }
+{
+    let value = TypedExpr::Cell(place);
+    let low = TypedExpr::Number(label.low);
+    if label.low == label.high {
+        return joined(alloc, value, Operator::Equal, kind, low);
+    }
+    let high = TypedExpr::Number(label.high);
+    let from = joined(alloc, low, Operator::LessEqual, kind, value)?;
+    let value = TypedExpr::Cell(place);
+    let up_to = joined(alloc, value, Operator::LessEqual, kind, high)?;
+    joined(alloc, from, Operator::And, Elementary::Bool, up_to)
+}
+
+// An operator between two operands.
+fn joined(
+    alloc: Global,
+    left: TypedExpr,
+    operator: Operator,
+    kind: Elementary,
+    right: TypedExpr,
+) -> Result<TypedExpr, AllocError>
+    ensures { IfOk result (λ e. expr_view e ≡ chain (expr_view left) (operands_of ((operator, kind, expr_view right) ∷ []))) }
+{
+    let mut operands = Vec::new(alloc);
+    operands.push(Operand {
+        operator,
+        kind,
+        right,
+    })?;
+    chain(alloc, left, operands)
+}
+
+fn chain(alloc: Global, first: TypedExpr, operands: Vec<Operand>) -> Result<TypedExpr, AllocError>
+    ensures { IfOk result (λ e. expr_view e ≡ chain (expr_view first) (operands_of (map operand_view operands.items))) }
+{
+    Ok(TypedExpr::Chain(Box::new(alloc, first)?, operands))
+}

@@ -1,0 +1,16 @@
+// Flat forms of programs, whose scans leave the cells that the programs' scans leave.
+#![tactic(auto)]
+
+mod count;
+mod fault;
+mod kinds;
+mod labels;
+mod program;
+mod puts;
+mod statements;
+
+pub use fault::FlatFault;
+pub use program::flatten;
+
+#[cfg(test)]
+mod tests;

@@ -1,0 +1,71 @@
+// The flat form of a program.
+ghost use Rattle.std.specs.Prelude.{◌≡◌, IfOk, MatchResult, IsTrue};
+ghost use Rattle.st_tree.specs.View.{cells_view, program_view};
+ghost use Rattle.flat_core.specs.FlatView.{flat_program_view};
+ghost use Rattle.fb_inline.specs.FlatPrograms.{flat_program, is_short};
+ghost use Rattle.fb_inline.specs.FlatLaws.{KeepsMeaning, KeepsRules};
+ghost use Rattle.fb_inline.specs.Faults.{IsFault};
+
+use crate::count::{MOST_STATEMENTS, count_all};
+use crate::fault::FlatFault;
+use crate::puts::put_number;
+use crate::statements::flatten_all;
+use flat_core::Flat;
+use st_tree::{Cell, Program, Refusal, Rule};
+use std::alloc::{AllocError, Global};
+
+/// The flat form of a program; none that has more than 200,000 statements, which are counted before any is built. A FOR
+/// with a value that is no i64, which no checked program has, counts as want of memory.
+pub fn flatten(alloc: Global, program: &Program) -> Result<Flat, FlatFault>
+    ensures list { IfOk result (λ f. flat_program_view f ≡ flat_program (program_view program.now)) }
+    ensures refused { MatchResult result (λ f. IsTrue (is_short (program_view program.now))) (λ e. IsFault (program_view program.now) e) }
+    ensures meaning { IfOk result (λ f. KeepsMeaning (program_view program.now) (flat_program_view f)) }
+    ensures rules { IfOk result (λ f. KeepsRules (program_view program.now) (flat_program_view f)) }
+{
+    if !is_short(program) {
+        return Err(FlatFault::Refused(Refusal {
+            rule: Rule::TooManyStatements,
+            at: 0,
+        }));
+    }
+    let flat = flat_program(alloc, program)?;
+    Ok(flat)
+}
+
+// Whether the flat form has at most 200,000 statements.
+fn is_short(program: &Program) -> bool
+    ensures { result ≡ is_short (program_view program.now) }
+{
+    count_all(&program.body) < MOST_STATEMENTS
+}
+
+fn flat_program(alloc: Global, program: &Program) -> Result<Flat, AllocError>
+    ensures { IfOk result (λ f. flat_program_view f ≡ flat_program (program_view program.now)) }
+{
+    let mut scratch = Vec::new(alloc);
+    let mut body = Vec::new(alloc);
+    put_number(&mut body, 0, 0)?;
+    flatten_all(
+        &program.body,
+        &program.cells,
+        &mut scratch,
+        &mut body,
+        alloc,
+    )?;
+    Ok(Flat {
+        cells: copy_cells(&program.cells, alloc)?,
+        scratch,
+        body,
+    })
+}
+
+fn copy_cells(cells: &[Cell], alloc: Global) -> Result<Vec<Cell>, AllocError>
+    ensures { IfOk result (λ copies. cells_view copies.items ≡ cells_view cells.now) }
+{
+    let mut copies = Vec::new(alloc);
+    for cell in cells {
+        let copy = cell.copy(alloc)?;
+        copies.push(copy)?;
+    }
+    Ok(copies)
+}

@@ -1,0 +1,76 @@
+// One more flat statement, arm or scratch cell.
+ghost use Rattle.std.specs.Prelude.{◌≡◌, ◌+◌, ◌++◌, ◌∷◌, [], length, IfOk, OnOk};
+ghost use Rattle.st_tree.specs.Tree.{number};
+ghost use Rattle.st_tree.specs.View.{expr_view};
+ghost use Rattle.flat_core.specs.FlatTree.{set};
+ghost use Rattle.flat_core.specs.FlatView.{nested, flat_view, flats_view, flat_arms_view};
+ghost use Rattle.fb_inline.specs.FlatLists.{selector_cell};
+
+use crate::kinds::range;
+use flat_core::{FlatArm, FlatStmt, Scratch};
+use st_tree::{Elementary, TypedExpr};
+use std::alloc::AllocError;
+
+fn put(out: &mut Vec<FlatStmt>, flat: FlatStmt) -> Result<(), AllocError>
+    ensures { OnOk result (flats_view out.new.items ≡ flats_view out.old.items ++ flat_view flat) }
+{
+    out.push(flat)?;
+    Ok(())
+}
+
+/// One more assignment.
+pub fn put_set(out: &mut Vec<FlatStmt>, place: usize, expr: TypedExpr) -> Result<(), AllocError>
+    ensures { OnOk result (flats_view out.new.items ≡ flats_view out.old.items ++ set place (expr_view expr) ∷ []) }
+{
+    put(out, FlatStmt::Set(place, expr))
+}
+
+/// One more assignment of a number.
+pub fn put_number(out: &mut Vec<FlatStmt>, place: usize, value: i64) -> Result<(), AllocError>
+    ensures { OnOk result (flats_view out.new.items ≡ flats_view out.old.items ++ set place (number value) ∷ []) }
+{
+    put_set(out, place, TypedExpr::Number(value))
+}
+
+/// One more chain of nested choices.
+pub fn put_if(
+    out: &mut Vec<FlatStmt>,
+    arms: Vec<FlatArm>,
+    rest: Vec<FlatStmt>,
+) -> Result<(), AllocError>
+    ensures { OnOk result (flats_view out.new.items
+        ≡ flats_view out.old.items ++ nested (flat_arms_view arms.items) (flats_view rest.items)) }
+{
+    put(out, FlatStmt::If(arms, rest))
+}
+
+/// One more condition with its statements.
+pub fn put_arm(
+    arms: &mut Vec<FlatArm>,
+    condition: TypedExpr,
+    body: Vec<FlatStmt>,
+) -> Result<(), AllocError>
+    ensures { OnOk result (flat_arms_view arms.new.items
+        ≡ flat_arms_view arms.old.items ++ (expr_view condition, flats_view body.items) ∷ []) }
+{
+    arms.push(FlatArm { condition, body })?;
+    Ok(())
+}
+
+/// One more scratch cell of a selector, behind so many cells and the scratch cells so far; its place.
+pub fn new_scratch(
+    kind: Elementary,
+    cells: usize,
+    scratch: &mut Vec<Scratch>,
+) -> Result<usize, AllocError>
+    ensures place { IfOk result (λ place. place ≡ cells + length scratch.old.items) }
+    ensures scratch { OnOk result (scratch.new.items ≡ scratch.old.items ++ selector_cell kind ∷ []) }
+{
+    let place = cells.checked_add(scratch.len()).ok_or(AllocError)?;
+    scratch.push(Scratch {
+        kind,
+        range: range(kind),
+        limited: false,
+    })?;
+    Ok(place)
+}

@@ -1,0 +1,6 @@
+mod limits;
+mod lists;
+mod printing;
+mod programs;
+mod runs;
+mod trees;

@@ -1,0 +1,5 @@
+pub mod FlatTree
+pub mod FlatView
+pub mod FlatScans
+pub mod FlatRules
+pub mod FlatLaws

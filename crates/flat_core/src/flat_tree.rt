@@ -1,0 +1,36 @@
+// Flat programs.
+use st_tree::{Cell, Elementary, Range, TypedExpr};
+
+/// A cell that a scan sets before it reads it, so that no state has it: the elementary type whose numbers its values
+/// are, their range, and whether they are those of a subrange, which takes no others.
+#[derive(Clone, Copy, Debug, PartialEq, Eq)]
+pub struct Scratch {
+    pub kind: Elementary,
+    pub range: Range,
+    pub limited: bool,
+}
+
+/// A flat statement. A place counts the cells and behind them the scratch cells. An `If` is a chain of nested ones: what an
+/// arm leaves to do where its condition is not TRUE is the arms behind it. Thousands of arms are so no deeper than one.
+#[derive(Drop)]
+#[cycle(flat_stmt)]
+pub enum FlatStmt {
+    Set(usize, TypedExpr),
+    If(Vec<FlatArm>, Vec<FlatStmt>),
+}
+
+/// A condition, and the statements that run where it is the first that is TRUE.
+#[derive(Drop)]
+#[cycle(flat_stmt)]
+pub struct FlatArm {
+    pub condition: TypedExpr,
+    pub body: Vec<FlatStmt>,
+}
+
+/// A program in flat form: its cells, FAULT first, its scratch cells, and the statements of a scan.
+#[derive(Drop)]
+pub struct Flat {
+    pub cells: Vec<Cell>,
+    pub scratch: Vec<Scratch>,
+    pub body: Vec<FlatStmt>,
+}

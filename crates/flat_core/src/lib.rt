@@ -1,0 +1,8 @@
+// The flat form of programs: assignments and choices over cells and scratch cells, and what they mean.
+#![tactic(auto)]
+
+mod flat_tree;
+mod laws;
+
+pub use flat_tree::{Flat, FlatArm, FlatStmt, Scratch};
+pub use laws::scratch_does_not_count;

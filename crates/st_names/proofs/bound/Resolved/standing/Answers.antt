@@ -1,0 +1,11 @@
+use Rattle.std.proofs.Common.{ap, ◌∙◌}
+use Rattle.st_tree.specs.SyntaxView.{file_view}
+use Rattle.st_names.specs.Library.{is_library}
+use Rattle.st_names.specs.Table.{standing_by}
+use Rattle.st_names.proofs.TableLemmas.{standing-named}
+use Rattle.st_names.proofs.bound.Resolved.standing.Goals as goal
+
+pub returns : goal.returns
+returns c =
+    let q = c.args.name.now in
+    c.standing_at.ensures ∙ ap (standing_by (is_library q)) (c.args.self.now.bound.table q) ∙ standing-named (file_view c.args.self.now.file) q

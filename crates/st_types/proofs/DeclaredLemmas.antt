@@ -1,0 +1,51 @@
+-- What declarations break, from what each of them breaks.
+use Rattle.std.proofs.Common.{◌≡◌, ℕ, Bool, List, [], ◌∷◌, sym, ap, ◌∙◌}
+use Rattle.st_tree.specs.declared.rule.Rule.{Rule}
+use Rattle.st_tree.specs.Rules.{first_in}
+use Rattle.st_tree.specs.Syntax.{TypeDeclarationData, FileData, PouData}
+use Rattle.st_names.specs.FileScope.{types_of}
+use Rattle.st_names.specs.Scopes.{Variable}
+use Rattle.st_names.specs.Bound.{variables_in_pou}
+use Rattle.st_types.specs.declared.outcome.Outcome.{Outcome}
+use Rattle.st_types.specs.Judged.{Judgement, sound, also, tested}
+use Rattle.st_types.specs.Domains.{judged_specification, judged_types}
+use Rattle.st_types.specs.Programs.{judged_variable, judged_variables, scope_of, judged_body, broken_types}
+use Rattle.st_types.specs.Outcomes.{outcome_of, both, tried, types_outcome, variables_outcome}
+use Rattle.st_types.proofs.Judging.{outcome_of-also, outcome_of-tested, both-assoc, both-sound, sound-both}
+
+-- two parts, and two tests of them
+pub outcome_of-limits : (j k : Judgement) (o p q r s : Outcome) (b c : Bool) (one two : Rule) (at place : ℕ) → o ≡ outcome_of j → p ≡ outcome_of k → q ≡ both o p → r ≡ tried q b one at → s ≡ tried r c two place
+    → s ≡ outcome_of (tested (tested (also j k) b one at) c two place)
+outcome_of-limits j k o p q r s b c one two at place of_j of_k parts first second =
+    let whole : q ≡ outcome_of (also j k) = parts ∙ ap (λ (x : Outcome). both x p) of_j ∙ ap (both (outcome_of j)) of_k ∙ sym (outcome_of-also j k) in
+    let tested_once : r ≡ outcome_of (tested (also j k) b one at) = first ∙ ap (λ (x : Outcome). tried x b one at) whole ∙ sym (outcome_of-tested (also j k) b one at) in
+    second ∙ ap (λ (x : Outcome). tried x c two place) tested_once ∙ sym (outcome_of-tested (tested (also j k) b one at) c two place)
+
+pub types_outcome-is : (f : FileData) (o : Outcome) (ds : List TypeDeclarationData) → types_outcome f o ds ≡ both o (outcome_of (judged_types f ds))
+types_outcome-is f o [] = sym (both-sound o)
+types_outcome-is f o (d ∷ ds) =
+    let j = judged_specification f d.name d.specification in
+    types_outcome-is f (both o (outcome_of j)) ds ∙ both-assoc o (outcome_of j) (outcome_of (judged_types f ds)) ∙ ap (both o) (sym (outcome_of-also j (judged_types f ds)))
+
+pub variables_outcome-is : (f : FileData) (o : Outcome) (vs : List Variable) → variables_outcome f o vs ≡ both o (outcome_of (judged_variables f vs))
+variables_outcome-is f o [] = sym (both-sound o)
+variables_outcome-is f o (v ∷ vs) =
+    let j = judged_variable f v in
+    variables_outcome-is f (both o (outcome_of j)) vs ∙ both-assoc o (outcome_of j) (outcome_of (judged_variables f vs)) ∙ ap (both o) (sym (outcome_of-also j (judged_variables f vs)))
+
+-- a program breaks what its file's types, its declarations and its body break
+pub first_of_program : (f : FileData) (p : PouData) (vs : List Variable) (t d b r : Outcome) → vs ≡ variables_in_pou p → t ≡ types_outcome f (outcome_of sound) (types_of f) → d ≡ variables_outcome f t vs
+    → b ≡ outcome_of (judged_body (scope_of f (variables_in_pou p)) p.body) → r ≡ both d b → r.first ≡ first_in (broken_types f p)
+unfolding outcome_of
+first_of_program f p vs t d b r same types declared body whole =
+    let ws = variables_in_pou p in
+    let jt = judged_types f (types_of f) in
+    let jv = judged_variables f ws in
+    let jb = judged_body (scope_of f ws) p.body in
+    let of_types : t ≡ outcome_of jt = types ∙ types_outcome-is f (outcome_of sound) (types_of f) ∙ sound-both (outcome_of jt) in
+    let of_declared : d ≡ both (outcome_of jt) (outcome_of jv) =
+    declared ∙ ap (variables_outcome f t) same ∙ variables_outcome-is f t ws ∙ ap (λ (x : Outcome). both x (outcome_of jv)) of_types in
+    let all : r ≡ outcome_of (also jt (also jv jb)) =
+    whole ∙ ap (λ (x : Outcome). both x b) of_declared ∙ ap (both (both (outcome_of jt) (outcome_of jv))) body ∙ both-assoc (outcome_of jt) (outcome_of jv) (outcome_of jb)
+    ∙ ap (both (outcome_of jt)) (sym (outcome_of-also jv jb)) ∙ sym (outcome_of-also jt (also jv jb)) in
+    ap (λ (x : Outcome). x.first) all

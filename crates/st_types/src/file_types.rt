@@ -1,0 +1,79 @@
+// The types of a file, and what its names stand for as values.
+ghost use Rattle.std.specs.Prelude.{◌≡◌, ◌<◌, Some};
+ghost use Rattle.st_tree.specs.SyntaxView.{specification_view, file_view};
+ghost use Rattle.st_names.specs.FileScope.{types_of};
+ghost use Rattle.st_names.specs.ScopeView.{types_view};
+ghost use Rattle.st_types.specs.Domains.{is_few, value_meaning};
+ghost use Rattle.st_types.specs.OwnDomains.{count_of_values};
+
+use crate::domain::has_few;
+use crate::enumeration_values::valued;
+use crate::scope::{Meaning, Scope};
+use st_names::{Resolved, Standing, declared_types};
+use st_tree::{Name, Path, Specification, TypeDeclaration};
+use std::alloc::{AllocError, Global};
+
+/// A file whose names are bound, and the types that it declares, by their numbers.
+#[derive(Drop)]
+pub(crate) struct FileTypes<'p> {
+    pub names: &'p Resolved,
+    pub types: Vec<&'p TypeDeclaration>,
+    ghost declared: { ∥ types_view types.items ≡ types_of (file_view names.now.file) ∥₁ },
+}
+
+// A value of the type of a number, by its own number.
+fn value_of_type(kind: usize, number: usize, specification: &Specification) -> Meaning
+    requires { number < count_of_values (specification_view specification.now) }
+    ensures { result ≡ value_meaning kind number (is_few (Some (specification_view specification.now))) }
+{
+    match specification {
+        Specification::Enumeration(_, _, others) => {
+            let whole = has_few(others);
+            valued(kind, number as i64, whole)
+        }
+        Specification::Type(_) => valued(kind, 0, false),
+    }
+}
+
+impl<'p> FileTypes<'p> {
+    ghost use Rattle.std.specs.Prelude.{◌≡◌, IfOk};
+    ghost use Rattle.st_tree.specs.SyntaxView.{file_view};
+    ghost use Rattle.st_names.specs.FileScope.{standing};
+    ghost use Rattle.st_types.specs.Bodies.{file_of};
+    ghost use Rattle.st_types.specs.Domains.{value_at};
+
+    /// The types of a file.
+    pub(crate) fn new(alloc: Global, names: &'p Resolved) -> Result<FileTypes<'p>, AllocError>
+        ensures { IfOk result (λ s. file_of s ≡ file_view names.now.file) }
+    {
+        let types = declared_types(alloc, &names.file)?;
+        Ok(FileTypes { names, types })
+    }
+
+    /// What a name stands for as a value.
+    pub(crate) fn value_of(&self, name: &str) -> Option<Meaning>
+        ensures { result ≡ value_at (file_of self.now) (standing (file_of self.now) name.now) }
+    {
+        match self.names.standing(name) {
+            Some(Standing::Value(kind, number)) => {
+                let declaration = self.types.get(kind)?;
+                Some(value_of_type(kind, number, &declaration.specification))
+            }
+            _ => None,
+        }
+    }
+}
+
+impl Scope for FileTypes<'_> {
+    ghost use Rattle.st_types.specs.Bodies.{values_in};
+
+    ghost means = { values_in };
+
+    fn meaning(&self, path: &Path) -> Option<Meaning> {
+        self.value_of(path.first.text.as_str())
+    }
+
+    fn value(&self, name: &Name) -> Option<Meaning> {
+        self.value_of(name.text.as_str())
+    }
+}

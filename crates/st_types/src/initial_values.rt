@@ -1,0 +1,109 @@
+// The values that variables begin with.
+ghost use Rattle.std.specs.Prelude.{◌≡◌, IfOk};
+ghost use Rattle.st_tree.specs.SyntaxView.{tree_view, initial_view};
+ghost use Rattle.st_tree.specs.Types.{in_range};
+ghost use Rattle.st_types.specs.Bodies.{file_of};
+ghost use Rattle.st_types.specs.Outcomes.{outcome_of};
+ghost use Rattle.st_types.specs.Programs.{judged_initial, judged_value, given_value, start_of};
+
+use crate::domain::Domain;
+use crate::expressions::judge_expr;
+use crate::file_types::FileTypes;
+use crate::kinds::{place_of, type_of};
+use crate::outcome::Outcome;
+use crate::typed_expressions::constant_of;
+use st_tree::{Expr, Range, Rule};
+use std::alloc::{AllocError, Global};
+
+// Whether a value is in a range.
+fn is_in(value: i64, range: Range) -> bool
+    ensures { result ≡ in_range value range }
+{
+    range.low <= value && value <= range.high
+}
+
+// An initial value that is written is of its variable's type, and in its range.
+#[tactic(auto, using(crate::proofs::Judging::judging))]
+fn judge_given(
+    alloc: Global,
+    file: &FileTypes<'_>,
+    domain: Domain,
+    at: usize,
+    value: &Expr,
+) -> Result<Outcome, AllocError>
+    ensures { IfOk result (λ o. o ≡ outcome_of (judged_initial (file_of file.now) domain at (Some (tree_view value.now)))) }
+{
+    let kind = domain.kind;
+    let given = constant_of(alloc, file, kind, value)?;
+    let fits = type_of(file, Some(kind), value).is_same(kind);
+    let of_type = judge_expr(file, Some(kind), value).tested(fits, Rule::ValueType, at);
+    let within = is_in(given, domain.range);
+    Ok(of_type.tested(within, Rule::OutsideType, place_of(value)))
+}
+
+// What an initial value breaks, where one is written.
+fn judge_initial(
+    alloc: Global,
+    file: &FileTypes<'_>,
+    domain: Domain,
+    at: usize,
+    initial: &Option<Expr>,
+) -> Result<Outcome, AllocError>
+    ensures { IfOk result (λ o. o ≡ outcome_of (judged_initial (file_of file.now) domain at (initial_view initial.now))) }
+{
+    match initial {
+        None => Ok(Outcome::sound()),
+        Some(value) => judge_given(alloc, file, domain, at, value),
+    }
+}
+
+/// What an initial value breaks; that of a type that breaks a rule is not looked at.
+pub(crate) fn judge_value(
+    alloc: Global,
+    file: &FileTypes<'_>,
+    domain: Domain,
+    at: usize,
+    initial: &Option<Expr>,
+) -> Result<Outcome, AllocError>
+    ensures { IfOk result (λ o. o ≡ outcome_of (judged_value (file_of file.now) domain at (initial_view initial.now))) }
+{
+    if domain.whole {
+        judge_initial(alloc, file, domain, at, initial)
+    } else {
+        Ok(Outcome::silent())
+    }
+}
+
+// The initial value that is written, or that of the type.
+fn given_value(
+    alloc: Global,
+    file: &FileTypes<'_>,
+    domain: Domain,
+    initial: &Option<Expr>,
+) -> Result<i64, AllocError>
+    ensures { IfOk result (λ value. value ≡ given_value (file_of file.now) domain (initial_view initial.now)) }
+{
+    match initial {
+        None => Ok(domain.start),
+        Some(value) => constant_of(alloc, file, domain.kind, value),
+    }
+}
+
+/// The value that a variable of a domain begins with: the initial value, or that of the type where none is written or
+/// where it breaks a rule.
+#[tactic(auto, unfolding(crate::specs::Outcomes::outcome_of))]
+pub(crate) fn start_of(
+    alloc: Global,
+    file: &FileTypes<'_>,
+    domain: Domain,
+    at: usize,
+    initial: &Option<Expr>,
+) -> Result<i64, AllocError>
+    ensures { IfOk result (λ value. value ≡ start_of (file_of file.now) domain at (initial_view initial.now)) }
+{
+    if judge_initial(alloc, file, domain, at, initial)?.whole {
+        given_value(alloc, file, domain, initial)
+    } else {
+        Ok(domain.start)
+    }
+}
