@@ -21,17 +21,24 @@ fn refused(alloc: Global, words: &[(&str, usize)], end: usize) -> Result<Option<
     }
 }
 
-fn types(item: &Item) -> Result<&[TypeDeclaration], Fail> {
-    match item {
-        Item::Types(found) => Ok(found.as_slice()),
-        Item::Pou(_) => Err("types".into()),
+fn types(file: &SourceFile, place: usize) -> Result<&[TypeDeclaration], Fail> {
+    match file.items.get(place) {
+        Some(Item::Types(found)) => Ok(found.as_slice()),
+        _ => Err("types".into()),
     }
 }
 
-fn pou(item: &Item) -> Result<&Pou, Fail> {
-    match item {
-        Item::Pou(found) => Ok(found),
-        Item::Types(_) => Err("a program".into()),
+fn declared(file: &SourceFile, place: usize, of_block: usize) -> Result<&TypeDeclaration, Fail> {
+    match types(file, place)?.get(of_block) {
+        Some(found) => Ok(found),
+        None => Err("a type".into()),
+    }
+}
+
+fn pou(file: &SourceFile, place: usize) -> Result<&Pou, Fail> {
+    match file.items.get(place) {
+        Some(Item::Pou(found)) => Ok(found),
+        _ => Err("a program".into()),
     }
 }
 
@@ -97,11 +104,11 @@ const WORDS: [(&str, usize); 50] = [
 fn a_file_of_types_and_programs_is_read(rt: HostRuntime) -> Result<(), Fail> {
     let file = read(rt.alloc(), &WORDS)?;
     assert_eq!(rt; file.items.len(), 4);
-    assert_eq!(rt; types(&file.items[0])?.len(), 2);
-    assert_eq!(rt; pou(&file.items[1])?.name.text.as_str(), "M");
-    assert_eq!(rt; types(&file.items[2])?.len(), 1);
-    assert_eq!(rt; types(&file.items[3])?.len(), 0);
-    let alias = &types(&file.items[2])?[0];
+    assert_eq!(rt; types(&file, 0)?.len(), 2);
+    assert_eq!(rt; pou(&file, 1)?.name.text.as_str(), "M");
+    assert_eq!(rt; types(&file, 2)?.len(), 1);
+    assert_eq!(rt; types(&file, 3)?.len(), 0);
+    let alias = declared(&file, 2, 0)?;
     assert_eq!(rt; alias.name.text.as_str(), "A");
     assert!(rt;
         matches!(
@@ -115,7 +122,7 @@ fn a_file_of_types_and_programs_is_read(rt: HostRuntime) -> Result<(), Fail> {
 #[test]
 fn an_enumeration_is_read(rt: HostRuntime) -> Result<(), Fail> {
     let file = read(rt.alloc(), &WORDS)?;
-    let found = &types(&file.items[0])?[0];
+    let found = declared(&file, 0, 0)?;
     assert_eq!(rt; found.name.text.as_str(), "E");
     assert_eq!(rt; found.name.at, 5);
     let Specification::Enumeration(at, first, others) = &found.specification else {
@@ -123,17 +130,19 @@ fn an_enumeration_is_read(rt: HostRuntime) -> Result<(), Fail> {
     };
     assert_eq!(rt; *at, 9);
     assert_eq!(rt; first.text.as_str(), "R");
-    assert_eq!(rt; others.len(), 2);
-    assert_eq!(rt; others[0].text.as_str(), "G");
-    assert_eq!(rt; others[1].text.as_str(), "B");
-    assert_eq!(rt; others[1].at, 16);
+    let [second, third] = others.as_slice() else {
+        return Err("two more names".into());
+    };
+    assert_eq!(rt; second.text.as_str(), "G");
+    assert_eq!(rt; third.text.as_str(), "B");
+    assert_eq!(rt; third.at, 16);
     Ok(())
 }
 
 #[test]
 fn a_subrange_is_read(rt: HostRuntime) -> Result<(), Fail> {
     let file = read(rt.alloc(), &WORDS)?;
-    let found = &types(&file.items[0])?[1];
+    let found = declared(&file, 0, 1)?;
     let Specification::Type(TypeName::Subrange(Elementary::Int, 24, bounds)) = &found.specification
     else {
         return Err("a subrange".into());
@@ -147,10 +156,12 @@ fn a_subrange_is_read(rt: HostRuntime) -> Result<(), Fail> {
 #[test]
 fn a_subrange_of_variables_has_an_initial_value(rt: HostRuntime) -> Result<(), Fail> {
     let file = read(rt.alloc(), &WORDS)?;
-    let variables = &pou(&file.items[1])?.variables;
-    assert_eq!(rt; variables.len(), 1);
-    assert_eq!(rt; variables[0].declarations.len(), 1);
-    let found = &variables[0].declarations[0];
+    let [section] = pou(&file, 1)?.variables.as_slice() else {
+        return Err("one section".into());
+    };
+    let [found] = section.declarations.as_slice() else {
+        return Err("one declaration".into());
+    };
     assert_eq!(rt; found.others.len(), 1);
     assert!(rt; matches!(&found.initial, Some(value) if is_number(value, 3)));
     let TypeName::Subrange(Elementary::Sint, 67, bounds) = &found.kind else {
