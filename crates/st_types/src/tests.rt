@@ -238,21 +238,26 @@ const LAMPS: &str =
 #[test]
 fn cells_of_declared_types(rt: HostRuntime) -> Result<(), Fail> {
     let program = program(rt.alloc(), LIGHTS)?;
-    let light = &program.cells[1];
+    let [_, light, level, plain] = program.cells.as_slice() else {
+        return Err("four cells".into());
+    };
     assert_eq!(rt; light.kind, DataType::Enumeration(1));
     assert_eq!(rt; light.range, Range { low: 0, high: 2 });
     assert_eq!(rt; light.initial, 1);
     assert!(rt; !light.limited);
-    let level = &program.cells[2];
     assert_eq!(rt; level.kind, DataType::Elementary(Elementary::Int));
     assert_eq!(rt; level.range, Range { low: 3, high: 9 });
     assert_eq!(rt; level.initial, 3);
     assert!(rt; level.limited);
-    assert!(rt; !program.cells[3].limited);
-    assert_eq!(rt; program.types.len(), 2);
-    assert_eq!(rt; program.types[0].len(), 0);
-    assert_eq!(rt; program.types[1].len(), 3);
-    assert_eq!(rt; program.types[1][2].as_str(), "GREEN");
+    assert!(rt; !plain.limited);
+    let [level_values, light_values] = program.types.as_slice() else {
+        return Err("two types".into());
+    };
+    assert_eq!(rt; level_values.len(), 0);
+    let [_, _, green] = light_values.as_slice() else {
+        return Err("three values".into());
+    };
+    assert_eq!(rt; green.as_str(), "GREEN");
     Ok(())
 }
 

@@ -1,6 +1,6 @@
 // Texts that break no rule, and what one of them states.
 use crate::{accept_text, tokens_of};
-use st_tree::{Elementary, Part};
+use st_tree::{DataType, Elementary, Part};
 use std::test::Fail;
 
 const ACCEPTED: [&str; 14] = [
@@ -71,7 +71,7 @@ fn the_cells_of_a_program(rt: HostRuntime) -> Result<(), Fail> {
     for (cell, (path, part, kind, low, high, initial)) in program.cells.iter().zip(CELLS) {
         assert_eq!(rt; cell.path.as_str(), path);
         assert_eq!(rt; cell.part, part);
-        assert_eq!(rt; cell.kind, kind);
+        assert_eq!(rt; cell.kind, DataType::Elementary(kind));
         assert_eq!(rt; (cell.range.low, cell.range.high), (low, high));
         assert_eq!(rt; cell.initial, initial);
     }
