@@ -1,4 +1,6 @@
 pub mod ViewLemmas
+pub mod MovedLemmas
+pub mod BlockLemmas
 pub mod CountLemmas
 pub mod TurnLemmas
 pub mod StoreLemmas

@@ -1,50 +1,53 @@
 -- What expressions and assignments do to the cells alone, in a store that has scratch cells behind them.
-use Rattle.std.proofs.Common.{◌≡◌, ℕ, ◌-◌, ◌<◌, ◌≤◌, Bool, true, false, List, length, take, ℤ, pos, refl, ◌∙◌, rules, tests}
+use Rattle.std.proofs.Common.{◌≡◌, ℕ, ◌+◌, ◌-◌, ◌<◌, ◌≤◌, Bool, true, false, List, length, take, ℤ, pos, refl, ◌∙◌, rules, tests, zero-add}
 use Rattle.std.specs.Prelude.{slice_set, if◌then◌else◌, nat_lt}
 use Rattle.std.proofs.lemmas.List.{get_or-take, length-set}
 use Rattle.std.proofs.Math.Seq.{take-set-lt}
 use Rattle.st_tree.specs.declared.typed.Range.{Range}
 use Rattle.st_tree.specs.Types.{in_range}
-use Rattle.st_tree.specs.Tree.{Expression, number, cell, unary, chain, call, Operands, no_operands, operand, Expressions, no_expressions, expression}
-use Rattle.expression_value.specs.Values.{State, value_of, value_on, values_of, faults, any_faults, one_faults, applied, is_truth}
-use Rattle.scan_model.specs.Scans.{range_at, with_fault, stored}
+use Rattle.st_tree.specs.Tree.{Expression, number, cell, unary, chain, call, answer, Operands, no_operands, operand, Expressions, no_expressions, expression}
+use Rattle.effects.specs.Values.{State, Callees, no_callees, value_of, value_on, values_of, faults, any_faults, one_faults, applied, is_truth}
+use Rattle.effects.specs.Effects.{range_at, with_fault, stored}
 use Rattle.flat_core.specs.declared.flat_tree.Scratch.{Scratch}
 use Rattle.flat_core.specs.FlatTree.{FlatStatement, set, branch, FlatStatements, no_flats, flat}
 use Rattle.flat_core.specs.FlatScans.{takes, placed, run_of, run_of_all}
 use Rattle.flat_core.specs.FlatRules.{Reads, AllRead, EachReads}
+use Rattle.fb_inline.specs.Moved.{moved, moved_operands, all_moved}
 
 -- ---- an expression over the first n cells reads no others
 
-module _ (n : ℕ) (x : State) where
+module _ (callees : Callees) (base n : ℕ) (x : State) where
   mutual
-    pub value_of-take : (e : Expression) → Reads (λ place. place < n) e → value_of e (take n x) ≡ value_of e x
+    pub value_of-take : (e : Expression) → Reads (λ place. base + place < n) e → value_of callees base e (take n x) ≡ value_of no_callees 0 (moved base e) x
     value_of-take (number v) b = refl
-    value_of-take (cell place) b = get_or-take n x place (pos 0) b
+    value_of-take (cell place) b = rw (zero-add (base + place)) (get_or-take n x (base + place) (pos 0) b)
     value_of-take (unary o t e) b = rw (value_of-take e b)
-    value_of-take (chain e os) b = rw (value_of-take e b.0) (value_on-take (value_of e x) os b.1)
+    value_of-take (chain e os) b = rw (value_of-take e b.0) (value_on-take (value_of no_callees 0 (moved base e) x) os b.1)
     value_of-take (call f t es) b = rw (values_of-take es b)
+    value_of-take (answer f es) b = absurd b
 
-    value_on-take : (v : ℤ) (os : Operands) → AllRead (λ place. place < n) os → value_on v os (take n x) ≡ value_on v os x
+    value_on-take : (v : ℤ) (os : Operands) → AllRead (λ place. base + place < n) os → value_on callees base v os (take n x) ≡ value_on no_callees 0 v (moved_operands base os) x
     value_on-take v no_operands b = refl
-    value_on-take v (operand o t e os) b = rw (value_of-take e b.0) (value_on-take (applied o t v (value_of e x)) os b.1)
+    value_on-take v (operand o t e os) b = rw (value_of-take e b.0) (value_on-take (applied o t v (value_of no_callees 0 (moved base e) x)) os b.1)
 
-    values_of-take : (es : Expressions) → EachReads (λ place. place < n) es → values_of es (take n x) ≡ values_of es x
+    values_of-take : (es : Expressions) → EachReads (λ place. base + place < n) es → values_of callees base es (take n x) ≡ values_of no_callees 0 (all_moved base es) x
     values_of-take no_expressions b = refl
     values_of-take (expression e es) b = rw (value_of-take e b.0, values_of-take es b.1)
 
   mutual
-    pub faults-take : (e : Expression) → Reads (λ place. place < n) e → faults e (take n x) ≡ faults e x
+    pub faults-take : (e : Expression) → Reads (λ place. base + place < n) e → faults callees base e (take n x) ≡ faults no_callees 0 (moved base e) x
     faults-take (number v) b = refl
     faults-take (cell place) b = refl
     faults-take (unary o t e) b = faults-take e b
     faults-take (chain e os) b = rw (faults-take e b.0, any_faults-take os b.1)
     faults-take (call f t es) b = one_faults-take es b
+    faults-take (answer f es) b = absurd b
 
-    any_faults-take : (os : Operands) → AllRead (λ place. place < n) os → any_faults os (take n x) ≡ any_faults os x
+    any_faults-take : (os : Operands) → AllRead (λ place. base + place < n) os → any_faults callees base os (take n x) ≡ any_faults no_callees 0 (moved_operands base os) x
     any_faults-take no_operands b = refl
     any_faults-take (operand o t e os) b = rw (faults-take e b.0, value_of-take e b.0, any_faults-take os b.1)
 
-    one_faults-take : (es : Expressions) → EachReads (λ place. place < n) es → one_faults es (take n x) ≡ one_faults es x
+    one_faults-take : (es : Expressions) → EachReads (λ place. base + place < n) es → one_faults callees base es (take n x) ≡ one_faults no_callees 0 (all_moved base es) x
     one_faults-take no_expressions b = refl
     one_faults-take (expression e es) b = rw (faults-take e b.0, one_faults-take es b.1)
 
@@ -94,9 +97,9 @@ length-placed rs cs c v x =
 module _ (rs : List Range) (cs : List Scratch) where
   mutual
     length-run_of : (t : FlatStatement) (x : State) → length (run_of rs cs t x) ≡ length x
-    length-run_of (set place e) x = length-placed rs cs place _ _ ∙ length-with_fault (faults e x) x
+    length-run_of (set place e) x = length-placed rs cs place _ _ ∙ length-with_fault (faults no_callees 0 e x) x
     length-run_of (branch e a b) x =
-        length-if (is_truth (value_of e x)) _ _ _ (length-run_of_all a _ ∙ length-with_fault (faults e x) x) (length-run_of_all b _ ∙ length-with_fault (faults e x) x)
+        length-if (is_truth (value_of no_callees 0 e x)) _ _ _ (length-run_of_all a _ ∙ length-with_fault (faults no_callees 0 e x) x) (length-run_of_all b _ ∙ length-with_fault (faults no_callees 0 e x) x)
 
     pub length-run_of_all : (ts : FlatStatements) (x : State) → length (run_of_all rs cs ts x) ≡ length x
     length-run_of_all no_flats x = refl

@@ -6,12 +6,13 @@ use Rattle.st_tree.specs.declared.elementary.Elementary.TheVariants.{Bool}
 use Rattle.st_tree.specs.declared.token.Operator.TheVariants.{Or, And, Equal, LessEqual}
 use Rattle.st_tree.specs.declared.typed.Range.{Range}
 use Rattle.st_tree.specs.Types.{range_of}
-use Rattle.st_tree.specs.Tree.{Expression, number, cell, chain, no_operands, operand, Statement, assign, choice, cases, repeat, Statements, no_statements, statement, Choices, no_choices, choose, Entries, no_entries, entry, CellData}
+use Rattle.st_tree.specs.Tree.{Expression, number, cell, chain, no_operands, operand, Statement, assign, run, choice, cases, repeat, chart, Statements, no_statements, statement, Choices, no_choices, choose, Entries, no_entries, entry, CellData}
 use Rattle.st_tree.specs.View.{OperandData, operands_of}
 use Rattle.flat_core.specs.declared.flat_tree.Scratch.{Scratch}
 use Rattle.flat_core.specs.FlatTree.{FlatStatement, set}
 use Rattle.flat_core.specs.FlatView.{FlatArmData, nested}
 use Rattle.fb_inline.specs.Kinds.{kind_of}
+use Rattle.fb_inline.specs.Moved.{moved}
 
 -- the scratch cell of a CASE, which keeps the selector's value
 abbrev pub selector_cell : Elementary → Scratch
@@ -21,25 +22,35 @@ abbrev pub repeated : ℕ → List Scratch → List Scratch
 repeated zero cs = []
 repeated (suc n) cs = cs ++ repeated n cs
 
--- the scratch cells that statements over cells make: one for each CASE, in each turn of the FORs around it
+-- What runs of FUNCTION_BLOCKs become, by the block's number and the base where the cells of the instance begin: their scratch cells;
+-- and their flat list, by the place from which those are numbered.
+pub record Blocks : Type 0 where
+  pub scratch : ℕ → ℕ → List Scratch
+  pub list : ℕ → ℕ → ℕ → List FlatStatement
+
+-- the scratch cells that statements over cells make, whose own cells begin at a base: one for each CASE, in each turn of the FORs
+-- around it, and those of the blocks that they run
 abbrev mutual
-  pub scratch_of : List CellData → Statement → List Scratch
-  scratch_of cells (assign target e) = []
-  scratch_of cells (choice arms other) = scratch_of_choices cells arms ++ scratch_of_all cells other
-  scratch_of cells (cases e es other) = selector_cell (kind_of cells e) ∷ (scratch_of_entries cells es ++ scratch_of_all cells other)
-  scratch_of cells (repeat turns body) = repeated turns.count (scratch_of_all cells body)
+  pub scratch_of : Blocks → List CellData → ℕ → Statement → List Scratch
+  scratch_of blocks cells base (assign target e) = []
+  scratch_of blocks cells base (run b offset) = blocks.scratch b (base + offset)
+  scratch_of blocks cells base (choice arms other) = scratch_of_choices blocks cells base arms ++ scratch_of_all blocks cells base other
+  scratch_of blocks cells base (cases e es other) =
+      selector_cell (kind_of cells (moved base e)) ∷ (scratch_of_entries blocks cells base es ++ scratch_of_all blocks cells base other)
+  scratch_of blocks cells base (repeat turns body) = repeated turns.count (scratch_of_all blocks cells base body)
+  scratch_of blocks cells base (chart _ _ _) = []
 
-  pub scratch_of_all : List CellData → Statements → List Scratch
-  scratch_of_all cells no_statements = []
-  scratch_of_all cells (statement t ts) = scratch_of cells t ++ scratch_of_all cells ts
+  pub scratch_of_all : Blocks → List CellData → ℕ → Statements → List Scratch
+  scratch_of_all blocks cells base no_statements = []
+  scratch_of_all blocks cells base (statement t ts) = scratch_of blocks cells base t ++ scratch_of_all blocks cells base ts
 
-  pub scratch_of_choices : List CellData → Choices → List Scratch
-  scratch_of_choices cells no_choices = []
-  scratch_of_choices cells (choose e ss arms) = scratch_of_all cells ss ++ scratch_of_choices cells arms
+  pub scratch_of_choices : Blocks → List CellData → ℕ → Choices → List Scratch
+  scratch_of_choices blocks cells base no_choices = []
+  scratch_of_choices blocks cells base (choose e ss arms) = scratch_of_all blocks cells base ss ++ scratch_of_choices blocks cells base arms
 
-  pub scratch_of_entries : List CellData → Entries → List Scratch
-  scratch_of_entries cells no_entries = []
-  scratch_of_entries cells (entry labels ss es) = scratch_of_all cells ss ++ scratch_of_entries cells es
+  pub scratch_of_entries : Blocks → List CellData → ℕ → Entries → List Scratch
+  scratch_of_entries blocks cells base no_entries = []
+  scratch_of_entries blocks cells base (entry labels ss es) = scratch_of_all blocks cells base ss ++ scratch_of_entries blocks cells base es
 
 -- a label's test of the selector's scratch cell t: `t = k` for one value, and `low <= t AND t <= high` for several
 abbrev pub label_test : Elementary → ℕ → Range → Expression
@@ -62,27 +73,34 @@ abbrev pub unrolled : ℕ → ℕ → ℤ → ℤ → ℕ → (ℕ → List Flat
 unrolled zero control v step m body k = set control (number v) ∷ []
 unrolled (suc n) control v step m body k = set control (number v) ∷ (body k ++ unrolled n control (v +ℤ step) step m body (k + m))
 
--- An IF is nested ones, an ELSIF being an IF in the rest. A CASE sets a scratch cell to the selector's value and goes on as an IF.
+-- An IF is nested ones, an ELSIF being an IF in the rest. A CASE sets a scratch cell to the selector's value and goes on as an IF. A
+-- run of a block is the list of its body. A call of a FUNCTION stays, and a chart has no flat statements: only programs without them
+-- have a flat form that keeps their meaning.
 abbrev mutual
-  pub flat_of : List CellData → Statement → ℕ → List FlatStatement
-  flat_of cells (assign target e) k = set target e ∷ []
-  flat_of cells (choice arms other) k = nested (flat_choices cells arms k) (flat_of_all cells other (k + length (scratch_of_choices cells arms)))
-  flat_of cells (cases e es other) k =
-      set k e ∷ nested (flat_entries cells (kind_of cells e) k es (k + 1)) (flat_of_all cells other (k + 1 + length (scratch_of_entries cells es)))
-  flat_of cells (repeat turns body) k =
-      unrolled turns.count turns.control turns.first turns.step (length (scratch_of_all cells body)) (flat_of_all cells body) k
+  pub flat_of : Blocks → List CellData → ℕ → Statement → ℕ → List FlatStatement
+  flat_of blocks cells base (assign target e) k = set (base + target) (moved base e) ∷ []
+  flat_of blocks cells base (run b offset) k = blocks.list b (base + offset) k
+  flat_of blocks cells base (choice arms other) k =
+      nested (flat_choices blocks cells base arms k) (flat_of_all blocks cells base other (k + length (scratch_of_choices blocks cells base arms)))
+  flat_of blocks cells base (cases e es other) k =
+      set k (moved base e)
+      ∷ nested (flat_entries blocks cells base (kind_of cells (moved base e)) k es (k + 1)) (flat_of_all blocks cells base other (k + 1 + length (scratch_of_entries blocks cells base es)))
+  flat_of blocks cells base (repeat turns body) k =
+      unrolled turns.count (base + turns.control) turns.first turns.step (length (scratch_of_all blocks cells base body)) (flat_of_all blocks cells base body) k
+  flat_of blocks cells base (chart _ _ _) k = []
 
-  pub flat_of_all : List CellData → Statements → ℕ → List FlatStatement
-  flat_of_all cells no_statements k = []
-  flat_of_all cells (statement t ts) k = flat_of cells t k ++ flat_of_all cells ts (k + length (scratch_of cells t))
+  pub flat_of_all : Blocks → List CellData → ℕ → Statements → ℕ → List FlatStatement
+  flat_of_all blocks cells base no_statements k = []
+  flat_of_all blocks cells base (statement t ts) k = flat_of blocks cells base t k ++ flat_of_all blocks cells base ts (k + length (scratch_of blocks cells base t))
 
   -- each condition with its statements
-  pub flat_choices : List CellData → Choices → ℕ → List FlatArmData
-  flat_choices cells no_choices k = []
-  flat_choices cells (choose e ss arms) k = (e, flat_of_all cells ss k) ∷ flat_choices cells arms (k + length (scratch_of_all cells ss))
+  pub flat_choices : Blocks → List CellData → ℕ → Choices → ℕ → List FlatArmData
+  flat_choices blocks cells base no_choices k = []
+  flat_choices blocks cells base (choose e ss arms) k =
+      (moved base e, flat_of_all blocks cells base ss k) ∷ flat_choices blocks cells base arms (k + length (scratch_of_all blocks cells base ss))
 
   -- the test of each entry's labels with its statements; t is the selector's scratch cell, and kind its type
-  pub flat_entries : List CellData → Elementary → ℕ → Entries → ℕ → List FlatArmData
-  flat_entries cells kind t no_entries k = []
-  flat_entries cells kind t (entry labels ss es) k =
-      (labels_test kind t labels, flat_of_all cells ss k) ∷ flat_entries cells kind t es (k + length (scratch_of_all cells ss))
+  pub flat_entries : Blocks → List CellData → ℕ → Elementary → ℕ → Entries → ℕ → List FlatArmData
+  flat_entries blocks cells base kind t no_entries k = []
+  flat_entries blocks cells base kind t (entry labels ss es) k =
+      (labels_test kind t labels, flat_of_all blocks cells base ss k) ∷ flat_entries blocks cells base kind t es (k + length (scratch_of_all blocks cells base ss))

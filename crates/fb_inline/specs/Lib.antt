@@ -1,5 +1,7 @@
 pub mod Kinds
+pub mod Moved
 pub mod FlatLists
+pub mod Blocks
 pub mod FlatPrograms
 pub mod Counts
 pub mod OwnCells

@@ -3,13 +3,13 @@ ghost use Rattle.std.specs.Prelude.{◌≡◌};
 ghost use Rattle.st_tree.specs.Types.{range_of};
 ghost use Rattle.st_tree.specs.DataTypes.{carrier};
 ghost use Rattle.st_tree.specs.View.{expr_view, operands_view, cells_view};
-ghost use Rattle.expression_value.specs.Values.{result_type};
+ghost use Rattle.effects.specs.Values.{result_type};
 ghost use Rattle.fb_inline.specs.Kinds.{kinds_of, kind_at, number_kind, kind_on, kind_of};
 
 use num_core::IntType;
 use st_tree::{Cell, DataType, Elementary, Operand, Operator, Range, TypedExpr};
 
-/// The elementary type whose numbers the values of an expression are.
+/// The elementary type whose numbers the values of an expression are; a DINT for what a FUNCTION answers.
 pub fn kind_of(expr: &TypedExpr, cells: &[Cell]) -> Elementary
     ensures { result ≡ kind_of (cells_view cells.now) (expr_view expr.now) }
 {
@@ -19,6 +19,7 @@ pub fn kind_of(expr: &TypedExpr, cells: &[Cell]) -> Elementary
         TypedExpr::Unary(_, kind, _) => *kind,
         TypedExpr::Chain(first, operands) => kind_on(kind_of(first, cells), operands),
         TypedExpr::Call(_, kind, _) => *kind,
+        TypedExpr::Answer(_, _) => Elementary::Dint,
     }
 }
 

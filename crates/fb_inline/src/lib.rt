@@ -5,8 +5,10 @@ mod count;
 mod fault;
 mod kinds;
 mod labels;
+mod moved;
 mod program;
 mod puts;
+mod scope;
 mod statements;
 
 pub use fault::FlatFault;

@@ -6,23 +6,25 @@ ghost use Rattle.fb_inline.specs.FlatPrograms.{flat_program, is_short};
 ghost use Rattle.fb_inline.specs.FlatLaws.{KeepsMeaning, KeepsRules};
 ghost use Rattle.fb_inline.specs.Faults.{IsFault};
 
-use crate::count::{MOST_STATEMENTS, count_all};
+use crate::count::{MOST_STATEMENTS, count_all, count_runs};
 use crate::fault::FlatFault;
 use crate::puts::put_number;
+use crate::scope::FlatScope;
 use crate::statements::flatten_all;
 use flat_core::Flat;
 use st_tree::{Cell, Program, Refusal, Rule};
 use std::alloc::{AllocError, Global};
 
 /// The flat form of a program; none that has more than 200,000 statements, which are counted before any is built. A FOR
-/// with a value that is no i64, which no checked program has, counts as want of memory.
+/// with a value that is no i64, or a place that is no usize, which no checked program has, counts as want of memory. The form keeps
+/// the meaning of programs that call no FUNCTION and have no chart, neither in the blocks that they run.
 pub fn flatten(alloc: Global, program: &Program) -> Result<Flat, FlatFault>
     ensures list { IfOk result (λ f. flat_program_view f ≡ flat_program (program_view program.now)) }
     ensures refused { MatchResult result (λ f. IsTrue (is_short (program_view program.now))) (λ e. IsFault (program_view program.now) e) }
     ensures meaning { IfOk result (λ f. KeepsMeaning (program_view program.now) (flat_program_view f)) }
     ensures rules { IfOk result (λ f. KeepsRules (program_view program.now) (flat_program_view f)) }
 {
-    if !is_short(program) {
+    if !is_short(alloc, program)? {
         return Err(FlatFault::Refused(Refusal {
             rule: Rule::TooManyStatements,
             at: 0,
@@ -33,10 +35,12 @@ pub fn flatten(alloc: Global, program: &Program) -> Result<Flat, FlatFault>
 }
 
 // Whether the flat form has at most 200,000 statements.
-fn is_short(program: &Program) -> bool
-    ensures { result ≡ is_short (program_view program.now) }
+fn is_short(alloc: Global, program: &Program) -> Result<bool, AllocError>
+    ensures { IfOk result (λ short. short ≡ is_short (program_view program.now)) }
 {
-    count_all(&program.body) < MOST_STATEMENTS
+    let runs = count_runs(&program.called, alloc)?;
+    let count = count_all(&program.body, &runs);
+    Ok(count < MOST_STATEMENTS)
 }
 
 fn flat_program(alloc: Global, program: &Program) -> Result<Flat, AllocError>
@@ -45,13 +49,13 @@ fn flat_program(alloc: Global, program: &Program) -> Result<Flat, AllocError>
     let mut scratch = Vec::new(alloc);
     let mut body = Vec::new(alloc);
     put_number(&mut body, 0, 0)?;
-    flatten_all(
-        &program.body,
-        &program.cells,
-        &mut scratch,
-        &mut body,
-        alloc,
-    )?;
+    let scope = FlatScope {
+        cells: &program.cells,
+        base: 0,
+        called: &program.called,
+        below: program.called.len(),
+    };
+    flatten_all(&program.body, &scope, &mut scratch, &mut body, alloc)?;
     Ok(Flat {
         cells: copy_cells(&program.cells, alloc)?,
         scratch,

@@ -1,12 +1,13 @@
 -- Stores that agree where they may be read agree behind each statement.
-use Rattle.std.proofs.Common.{◌≡◌, ◌⊎◌, ℕ, zero, suc, ◌+◌, ◌-◌, ◌<◌, Bool, true, false, List, [], ◌∷◌, ◌++◌, length, take, ℤ, pos, refl, sym, ap, subst, ◌∙◌, inl, inr, arith, rules, tests, length-append}
+use Rattle.std.proofs.Common.{◌≡◌, ◌⊎◌, ℕ, zero, suc, ◌+◌, ◌-◌, ◌<◌, Bool, true, false, List, [], ◌∷◌, ◌++◌, length, take, ℤ, pos, refl, sym, ap, subst, ◌∙◌, inl, inr, arith, rules, tests, length-append, zero-add}
 use Rattle.std.specs.Prelude.{slice_set, slice_index_or, if◌then◌else◌, nat_lt}
 use Rattle.std.proofs.lemmas.List.{length-set, length-map}
 use Rattle.st_tree.specs.declared.typed.Range.{Range}
 use Rattle.st_tree.specs.Types.{in_range}
-use Rattle.st_tree.specs.Tree.{Expression, number, cell, unary, chain, call, Operands, no_operands, operand, Expressions, no_expressions, expression, CellData}
-use Rattle.expression_value.specs.Values.{State, value_of, value_on, values_of, faults, any_faults, one_faults, applied, is_truth}
-use Rattle.scan_model.specs.Scans.{ranges_of, range_at, with_fault}
+use Rattle.st_tree.specs.Tree.{Expression, number, cell, unary, chain, call, answer, Operands, no_operands, operand, Expressions, no_expressions, expression, CellData}
+use Rattle.effects.specs.Values.{State, no_callees, value_of, value_on, values_of, faults, any_faults, one_faults, applied, is_truth}
+use Rattle.effects.specs.Effects.{range_at, with_fault}
+use Rattle.scan_model.specs.Scans.{ranges_of}
 use Rattle.flat_core.specs.declared.flat_tree.Scratch.{Scratch}
 use Rattle.flat_core.specs.FlatTree.{FlatStatement, set, branch, FlatStatements, no_flats, flat}
 use Rattle.flat_core.specs.FlatScans.{takes, placed, run_of, run_of_all}
@@ -17,34 +18,36 @@ use Rattle.flat_core.specs.FlatLaws.{ScratchDoesNotCount}
 
 module _ (P : ℕ → Type 0) (x y : State) (same : (p : ℕ) → P p → slice_index_or x p (pos 0) ≡ slice_index_or y p (pos 0)) where
   mutual
-    same_value : (e : Expression) → Reads P e → value_of e x ≡ value_of e y
+    same_value : (e : Expression) → Reads P e → value_of no_callees 0 e x ≡ value_of no_callees 0 e y
     same_value (number v) r = refl
-    same_value (cell place) r = same place r
+    same_value (cell place) r = rw (zero-add place) (same place r)
     same_value (unary o t e) r = rw (same_value e r)
-    same_value (chain e os) r = rw (same_value e r.0) (same_value_on (value_of e y) os r.1)
+    same_value (chain e os) r = rw (same_value e r.0) (same_value_on (value_of no_callees 0 e y) os r.1)
     same_value (call f t es) r = rw (same_values es r)
+    same_value (answer f es) r = absurd r
 
-    same_value_on : (v : ℤ) (os : Operands) → AllRead P os → value_on v os x ≡ value_on v os y
+    same_value_on : (v : ℤ) (os : Operands) → AllRead P os → value_on no_callees 0 v os x ≡ value_on no_callees 0 v os y
     same_value_on v no_operands r = refl
-    same_value_on v (operand o t e os) r = rw (same_value e r.0) (same_value_on (applied o t v (value_of e y)) os r.1)
+    same_value_on v (operand o t e os) r = rw (same_value e r.0) (same_value_on (applied o t v (value_of no_callees 0 e y)) os r.1)
 
-    same_values : (es : Expressions) → EachReads P es → values_of es x ≡ values_of es y
+    same_values : (es : Expressions) → EachReads P es → values_of no_callees 0 es x ≡ values_of no_callees 0 es y
     same_values no_expressions r = refl
     same_values (expression e es) r = rw (same_value e r.0, same_values es r.1)
 
   mutual
-    same_fault : (e : Expression) → Reads P e → faults e x ≡ faults e y
+    same_fault : (e : Expression) → Reads P e → faults no_callees 0 e x ≡ faults no_callees 0 e y
     same_fault (number v) r = refl
     same_fault (cell place) r = refl
     same_fault (unary o t e) r = same_fault e r
     same_fault (chain e os) r = rw (same_fault e r.0, same_faults os r.1)
     same_fault (call f t es) r = same_faults_of es r
+    same_fault (answer f es) r = absurd r
 
-    same_faults : (os : Operands) → AllRead P os → any_faults os x ≡ any_faults os y
+    same_faults : (os : Operands) → AllRead P os → any_faults no_callees 0 os x ≡ any_faults no_callees 0 os y
     same_faults no_operands r = refl
     same_faults (operand o t e os) r = rw (same_fault e r.0, same_value e r.0, same_faults os r.1)
 
-    same_faults_of : (es : Expressions) → EachReads P es → one_faults es x ≡ one_faults es y
+    same_faults_of : (es : Expressions) → EachReads P es → one_faults no_callees 0 es x ≡ one_faults no_callees 0 es y
     same_faults_of no_expressions r = refl
     same_faults_of (expression e es) r = rw (same_fault e r.0, same_faults_of es r.1)
 
@@ -117,27 +120,28 @@ free_takes [] c v h = refl
 free_takes (s ∷ cs) zero v h = rw h
 free_takes (s ∷ cs) (suc c) v h = free_takes cs c v h
 
-number_takes : (cs : List Scratch) (c : ℕ) (e : Expression) (x : State) → IsTakenNumber cs c e → takes cs c (value_of e x) ≡ true
+number_takes : (cs : List Scratch) (c : ℕ) (e : Expression) (x : State) → IsTakenNumber cs c e → takes cs c (value_of no_callees 0 e x) ≡ true
 number_takes cs c (number v) x h = h
 number_takes cs c (cell place) x h = absurd h
 number_takes cs c (unary o t e) x h = absurd h
 number_takes cs c (chain e os) x h = absurd h
 number_takes cs c (call f t es) x h = absurd h
+number_takes cs c (answer f es) x h = absurd h
 
 below_where : (c n : ℕ) → nat_lt c n ≡ true → c < n
 below_where c n h = search (rules, tests)
 
 module _ (rs : List Range) (cs : List Scratch) where
   -- a value that is refused leaves a place that may be read already
-  refused_is_readable : (done : List ℕ) (place : ℕ) (e : Expression) (x : State) → MaySet (length rs) cs done place e → takes cs (place - length rs) (value_of e x) ≡ false → IsReadable (length rs) done place
+  refused_is_readable : (done : List ℕ) (place : ℕ) (e : Expression) (x : State) → MaySet (length rs) cs done place e → takes cs (place - length rs) (value_of no_callees 0 e x) ≡ false → IsReadable (length rs) done place
   refused_is_readable done place e x (inl r) h = r
-  refused_is_readable done place e x (inr (inl free)) h = let two : true ≡ false = sym (free_takes cs (place - length rs) (value_of e x) free) ∙ h in cc
+  refused_is_readable done place e x (inr (inl free)) h = let two : true ≡ false = sym (free_takes cs (place - length rs) (value_of no_callees 0 e x) free) ∙ h in cc
   refused_is_readable done place e x (inr (inr taken)) h = let two : true ≡ false = sym (number_takes cs (place - length rs) e x taken) ∙ h in cc
 
-  Agree-placed : (done : List ℕ) (place : ℕ) (e : Expression) (z x y : State) → MaySet (length rs) cs done place e → Agree (length rs) done x y → Agree (length rs) (place ∷ done) (placed rs cs place (value_of e z) x) (placed rs cs place (value_of e z) y)
+  Agree-placed : (done : List ℕ) (place : ℕ) (e : Expression) (z x y : State) → MaySet (length rs) cs done place e → Agree (length rs) done x y → Agree (length rs) (place ∷ done) (placed rs cs place (value_of no_callees 0 e z) x) (placed rs cs place (value_of no_callees 0 e z) y)
   Agree-placed done place e z x y may a =
       let n = length rs in
-      let v = value_of e z in
+      let v = value_of no_callees 0 e z in
       let kept = λ (r : IsReadable (length rs) done place). Agree-more n done _ _ place r (Agree-set n done x y 0 (pos 1) a) in
       Agree-if n (place ∷ done) (nat_lt place n) _ _ _ _
       (λ below. Agree-if n (place ∷ done) (in_range v (range_at rs place)) _ _ _ _ (λ _. Agree-set_more n done x y place v a) (λ _. kept (inl (below_where place n below))))
@@ -146,12 +150,12 @@ module _ (rs : List Range) (cs : List Scratch) where
   mutual
     Agree-run_of : (t : FlatStatement) (done : List ℕ) (x y : State) → IsFlatOver (length rs) cs done t → Agree (length rs) done x y → Agree (length rs) (set_behind t done) (run_of rs cs t x) (run_of rs cs t y)
     Agree-run_of (set place e) done x y is a =
-        let begun = Agree-with_fault (length rs) done (faults e x) x y a in
+        let begun = Agree-with_fault (length rs) done (faults no_callees 0 e x) x y a in
         rw (sym (same_fault (IsReadable (length rs) done) x y a.same e is.1), sym (same_value (IsReadable (length rs) done) x y a.same e is.1)) (Agree-placed done place e x _ _ is.2 begun)
     Agree-run_of (branch e p q) done x y is a =
-        let begun = Agree-with_fault (length rs) done (faults e x) x y a in
+        let begun = Agree-with_fault (length rs) done (faults no_callees 0 e x) x y a in
         rw (sym (same_fault (IsReadable (length rs) done) x y a.same e is.0), sym (same_value (IsReadable (length rs) done) x y a.same e is.0))
-        (Agree-if (length rs) done (is_truth (value_of e x)) _ _ _ _ (λ _. Agree-run_of_all p done _ _ is.1 begun) (λ _. Agree-run_of_all q done _ _ is.2 begun))
+        (Agree-if (length rs) done (is_truth (value_of no_callees 0 e x)) _ _ _ _ (λ _. Agree-run_of_all p done _ _ is.1 begun) (λ _. Agree-run_of_all q done _ _ is.2 begun))
 
     Agree-run_of_all : (ts : FlatStatements) (done : List ℕ) (x y : State) → AreFlatOver (length rs) cs done ts → Agree (length rs) done x y → Agree (length rs) done (run_of_all rs cs ts x) (run_of_all rs cs ts y)
     Agree-run_of_all no_flats done x y is a = a

@@ -1,13 +1,13 @@
--- The rules of flat programs: each place is a cell's or a scratch cell's; a scratch cell is read only behind an assignment to it
+-- The rules of flat programs: no FUNCTION is called; each place is a cell's or a scratch cell's; a scratch cell is read only behind an assignment to it
 -- that stands earlier in the same list or in one around it; and only behind such an assignment is a scratch cell of a subrange set
 -- to anything but a number of its range. So what scratch cells hold before a scan does not count.
 use Rattle.std.specs.Prelude.{◌≡◌, ◌<◌, ◌⊎◌, ℕ, zero, suc, ◌+◌, ◌-◌, Bool, true, false, List, [], ◌∷◌, length}
-use Rattle.st_tree.specs.Tree.{Expression, number, cell, unary, chain, call, Operands, no_operands, operand, Expressions, no_expressions, expression}
+use Rattle.st_tree.specs.Tree.{Expression, number, cell, unary, chain, call, answer, Operands, no_operands, operand, Expressions, no_expressions, expression}
 use Rattle.flat_core.specs.declared.flat_tree.Scratch.{Scratch}
 use Rattle.flat_core.specs.FlatTree.{FlatStatement, set, branch, FlatStatements, no_flats, flat, FlatData}
 use Rattle.flat_core.specs.FlatScans.{takes}
 
--- each place that an expression reads is such
+-- an expression calls no FUNCTION, and each place that it reads is such
 abbrev mutual
   pub Reads : (ℕ → Type 0) → Expression → Type 0
   Reads P (number v) = Unit {0}
@@ -15,6 +15,7 @@ abbrev mutual
   Reads P (unary o t e) = Reads P e
   Reads P (chain e os) = Reads P e × AllRead P os
   Reads P (call f t es) = EachReads P es
+  Reads P (answer f es) = ⊥
 
   pub AllRead : (ℕ → Type 0) → Operands → Type 0
   AllRead P no_operands = Unit {0}
@@ -46,6 +47,7 @@ IsTakenNumber cs n (cell place) = ⊥
 IsTakenNumber cs n (unary o t e) = ⊥
 IsTakenNumber cs n (chain e os) = ⊥
 IsTakenNumber cs n (call f t es) = ⊥
+IsTakenNumber cs n (answer f es) = ⊥
 
 -- an assignment to a place that holds a value that counts; or to a scratch cell that takes each value, or this number
 abbrev pub MaySet : ℕ → List Scratch → List ℕ → ℕ → Expression → Type 0

@@ -1,9 +1,11 @@
 -- What flat statements do to a store, which has the values of the cells and behind them those of the scratch cells, and one scan.
+-- They call nothing, and their cells begin at place 0.
 use Rattle.std.specs.Prelude.{ℕ, suc, zero, ◌-◌, List, [], ◌∷◌, ◌++◌, map, length, take, Bool, true, not, ◌||◌, nat_lt, slice_set, ℤ, pos, if◌then◌else◌}
 use Rattle.st_tree.specs.declared.typed.Range.{Range}
 use Rattle.st_tree.specs.Types.{in_range}
-use Rattle.expression_value.specs.Values.{State, value_of, faults, is_truth}
-use Rattle.scan_model.specs.Scans.{ranges_of, with_fault, stored}
+use Rattle.effects.specs.Values.{State, no_callees, value_of, faults, is_truth}
+use Rattle.effects.specs.Effects.{with_fault, stored}
+use Rattle.scan_model.specs.Scans.{ranges_of}
 use Rattle.flat_core.specs.declared.flat_tree.Scratch.{Scratch}
 use Rattle.flat_core.specs.FlatTree.{FlatStatement, set, branch, FlatStatements, no_flats, flat, FlatData}
 
@@ -20,9 +22,9 @@ placed rs cs place v s =
 
 abbrev mutual
   pub run_of : List Range → List Scratch → FlatStatement → State → State
-  run_of rs cs (set place e) s = placed rs cs place (value_of e s) (with_fault (faults e s) s)
+  run_of rs cs (set place e) s = placed rs cs place (value_of no_callees 0 e s) (with_fault (faults no_callees 0 e s) s)
   run_of rs cs (branch e a b) s =
-      if is_truth (value_of e s) then run_of_all rs cs a (with_fault (faults e s) s) else run_of_all rs cs b (with_fault (faults e s) s)
+      if is_truth (value_of no_callees 0 e s) then run_of_all rs cs a (with_fault (faults no_callees 0 e s) s) else run_of_all rs cs b (with_fault (faults no_callees 0 e s) s)
 
   pub run_of_all : List Range → List Scratch → FlatStatements → State → State
   run_of_all rs cs no_flats s = s

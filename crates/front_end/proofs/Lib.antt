@@ -1,3 +1,4 @@
 pub mod Passes
 pub mod OneReading
 pub mod OneProgram
+pub mod OnePou

@@ -1,15 +1,16 @@
 -- A text states one program, or breaks one rule first.
-use Rattle.std.proofs.Common.{◌≡◌, Bool, true, false, ℕ, List, [], ◌∷◌, sym, ap, ◌∙◌, subst, inl}
+use Rattle.std.proofs.Common.{◌≡◌, Bool, true, false, ℕ, List, [], ◌∷◌, Some, sym, ap, ◌∙◌, subst, inl}
 use Rattle.st_tree.specs.declared.rule.Refusal.{Refusal}
 use Rattle.st_tree.specs.Rules.{IsAmong, IsFirst, IsSame}
 use Rattle.st_tree.specs.Syntax.{PouData, FileData}
 use Rattle.st_tree.specs.Tree.{ProgramData}
 use Rattle.st_tree.proofs.FirstOnce.{first_once}
-use Rattle.st_names.specs.FileScope.{pous_of}
-use Rattle.st_names.specs.Broken.{broken_names}
-use Rattle.st_types.specs.Programs.{broken_types, has_room}
+use Rattle.st_names.specs.Bound.{program_number}
+use Rattle.st_names.specs.FileScope.{pou_at}
+use Rattle.st_names.specs.Circles.{IsBroken}
+use Rattle.st_types.specs.Pous.{broken_types, has_room}
 use Rattle.st_types.specs.TypedPrograms.{typed_program}
-use Rattle.front_end.specs.Texts.{HasTree, IsProgram, IsNoProgram, by_tree, by_names, by_types, by_room}
+use Rattle.front_end.specs.Texts.{HasFile, HasNoTree, AreNamesSound, HasProgram, IsProgram, IsNoProgram, by_tree, by_names, by_types, by_room}
 use Rattle.front_end.proofs.OneReading.{one_tree, no_tree_too, one_no_tree}
 
 abbrev FirstIn : List Refusal → Refusal → Type 0
@@ -22,61 +23,81 @@ none_first broken r e h = subst (IsAmong r) e h.is_broken
 not_both : (b : Bool) → b ≡ true → b ≡ false → ⊥
 not_both b h k = let e : true ≡ false = sym h ∙ k in cc
 
-only_pou : (p q : PouData) → (let ps : List PouData = p ∷ [] in ps) ≡ q ∷ [] → p ≡ q
-only_pou p q e = cc
+-- a text has one file
+one_file : (text : List ℕ) (f g : FileData) → HasFile text f → HasFile text g → f ≡ g
+one_file text f g h k =
+    let blocks = one_tree _ h.blocks k.blocks h.prelude k.prelude in
+    let own = one_tree _ h.own k.own h.tree k.tree in
+    let first = h.joined in
+    let second = k.joined in
+    cc
 
--- the only POU of a text's file
-one_pou : (text : List ℕ) (f g : FileData) (p q : PouData) → HasTree text f → HasTree text g → pous_of f ≡ p ∷ [] → pous_of g ≡ q ∷ [] → p ≡ q
-one_pou text f g p q h k one other = only_pou p q (sym one ∙ ap pous_of (one_tree text f g h k) ∙ other)
+same_number : (m n : ℕ) → Some m ≡ Some n → m ≡ n
+same_number m n e = cc
 
--- a function of one file and its only POU
-same_of : {A : Type 0} (of : FileData → PouData → A) (text : List ℕ) (f g : FileData) (p q : PouData) → HasTree text f → HasTree text g → pous_of f ≡ p ∷ [] → pous_of g ≡ q ∷ []
-    → of f p ≡ of g q
-same_of of text f g p q h k one other = ap (λ (x : FileData). of x p) (one_tree text f g h k) ∙ ap (of g) (one_pou text f g p q h k one other)
+same_pou : (p q : PouData) → Some p ≡ Some q → p ≡ q
+same_pou p q e = cc
+
+-- a file has one PROGRAM
+one_number : (f g : FileData) (m n : ℕ) → f ≡ g → program_number f ≡ Some m → program_number g ≡ Some n → m ≡ n
+one_number f g m n e h k = same_number m n (sym h ∙ ap program_number e ∙ k)
+
+one_pou : (f g : FileData) (m n : ℕ) (p q : PouData) → f ≡ g → HasProgram f m p → HasProgram g n q → p ≡ q
+one_pou f g m n p q e h k =
+    same_pou p q (sym h.there ∙ ap (λ (x : FileData). pou_at x m) e ∙ ap (pou_at g) (one_number f g m n e h.is k.is) ∙ k.there)
 
 pub one_program : (text : List ℕ) (p q : ProgramData) → IsProgram text p → IsProgram text q → p ≡ q
-one_program text p q h k = h.program ∙ same_of typed_program text h.file k.file h.pou k.pou h.tree k.tree h.only k.only ∙ sym k.program
+one_program text p q h k =
+    let file = one_file text h.file k.file h.states k.states in
+    let number = one_number h.file k.file h.number k.number file h.one.is k.one.is in
+    let pou = one_pou h.file k.file h.number k.number h.pou k.pou file h.one k.one in
+    h.program ∙ ap (λ (x : FileData). typed_program x h.number h.pou) file ∙ ap (λ n. typed_program k.file n h.pou) number ∙ ap (typed_program k.file k.number) pou ∙ sym k.program
 
--- what the names of one file break
-names_of : (text : List ℕ) (f g : FileData) → HasTree text f → HasTree text g → broken_names f ≡ broken_names g
-names_of text f g h k = ap broken_names (one_tree text f g h k)
+-- names break no rule in the file of another reading
+names_sound : (text : List ℕ) (f g : FileData) (r : Refusal) → HasFile text f → HasFile text g → AreNamesSound g → IsFirst (IsBroken f) r → ⊥
+names_sound text f g r h k sound first = sound r (subst (λ (x : FileData). IsBroken x r) (one_file text f g h k) first.is_broken)
 
--- names break no rule in a file that states the tree of another reading
-names_sound : (text : List ℕ) (f g : FileData) (r : Refusal) → HasTree text f → HasTree text g → broken_names g ≡ [] → FirstIn (broken_names f) r → ⊥
-names_sound text f g r h k e first = none_first (broken_names f) r (names_of text f g h k ∙ e) first
+types_sound : (text : List ℕ) (f g : FileData) (r : Refusal) → HasFile text f → HasFile text g → broken_types g ≡ [] → FirstIn (broken_types f) r → ⊥
+types_sound text f g r h k e first = none_first (broken_types f) r (ap broken_types (one_file text f g h k) ∙ e) first
 
-types_sound : (text : List ℕ) (f g : FileData) (p q : PouData) (r : Refusal) → HasTree text f → HasTree text g → pous_of f ≡ p ∷ [] → pous_of g ≡ q ∷ [] → broken_types g q ≡ []
-    → FirstIn (broken_types f p) r → ⊥
-types_sound text f g p q r h k one other e first = none_first (broken_types f p) r (same_of broken_types text f g p q h k one other ∙ e) first
+room_of : (text : List ℕ) (f g : FileData) (m n : ℕ) → HasFile text f → HasFile text g → program_number f ≡ Some m → program_number g ≡ Some n → has_room f m ≡ has_room g n
+room_of text f g m n h k one other =
+    let file = one_file text f g h k in
+    ap (λ (x : FileData). has_room x m) file ∙ ap (has_room g) (one_number f g m n file one other)
 
-room_of : (text : List ℕ) (f g : FileData) (p q : PouData) → HasTree text f → HasTree text g → pous_of f ≡ p ∷ [] → pous_of g ≡ q ∷ [] → has_room p ≡ has_room q
-room_of text f g p q h k one other = ap has_room (one_pou text f g p q h k one other)
+-- the file of a text is there where its own tree is
+no_file_too : (text : List ℕ) (f : FileData) (r : Refusal) → HasFile text f → HasNoTree text r → ⊥
+no_file_too text f r h none = no_tree_too text h.own r h.tree none
 
 pub no_program_too : (text : List ℕ) (p : ProgramData) (r : Refusal) → IsProgram text p → IsNoProgram text r → ⊥
-no_program_too text p r h (by_tree none) = no_tree_too text h.file r h.tree none
-no_program_too text p r h (by_names f k first) = names_sound text f h.file r k h.tree h.names first
-no_program_too text p r h (by_types f q k names one first) = types_sound text f h.file q h.pou r k h.tree one h.only h.typing first
-no_program_too text p r h (by_room f q k names one typing room e) = not_both (has_room q) (room_of text f h.file q h.pou k h.tree one h.only ∙ h.room) room
+no_program_too text p r h (by_tree none) = no_file_too text h.file r h.states none
+no_program_too text p r h (by_names f k first) = names_sound text f h.file r k h.states h.names first
+no_program_too text p r h (by_types f k names first) = types_sound text f h.file r k h.states h.typing first
+no_program_too text p r h (by_room f n k names one typing room e) =
+    not_both (has_room f n) (room_of text f h.file n h.number k h.states one h.one.is ∙ h.room) room
 
--- one first of one list
-one_first : (xs ys : List Refusal) (r s : Refusal) → xs ≡ ys → FirstIn xs r → FirstIn ys s → IsSame r s
-one_first xs ys r s e h k = inl (first_once (λ x. IsAmong x ys) r s (subst (λ zs. FirstIn zs r) e h) k)
+first_names : (text : List ℕ) (f g : FileData) (r s : Refusal) → HasFile text f → HasFile text g → IsFirst (IsBroken f) r → IsFirst (IsBroken g) s → IsSame r s
+first_names text f g r s h k first other =
+    inl (first_once (IsBroken g) r s (subst (λ (x : FileData). IsFirst (IsBroken x) r) (one_file text f g h k) first) other)
+
+first_types : (text : List ℕ) (f g : FileData) (r s : Refusal) → HasFile text f → HasFile text g → FirstIn (broken_types f) r → FirstIn (broken_types g) s → IsSame r s
+first_types text f g r s h k first other =
+    inl (first_once (λ x. IsAmong x (broken_types g)) r s (subst (λ (x : FileData). FirstIn (broken_types x) r) (one_file text f g h k) first) other)
 
 pub one_refusal : (text : List ℕ) (r s : Refusal) → IsNoProgram text r → IsNoProgram text s → IsSame r s
 one_refusal text r s (by_tree h) (by_tree k) = one_no_tree text r s h k
-one_refusal text r s (by_tree h) (by_names g k other) = absurd (no_tree_too text g r k h)
-one_refusal text r s (by_tree h) (by_types g q k names two other) = absurd (no_tree_too text g r k h)
-one_refusal text r s (by_tree h) (by_room g q k names two typing room e) = absurd (no_tree_too text g r k h)
-one_refusal text r s (by_names f h first) (by_tree k) = absurd (no_tree_too text f s h k)
-one_refusal text r s (by_names f h first) (by_names g k other) = one_first (broken_names f) (broken_names g) r s (names_of text f g h k) first other
-one_refusal text r s (by_names f h first) (by_types g q k names two other) = absurd (names_sound text f g r h k names first)
-one_refusal text r s (by_names f h first) (by_room g q k names two typing room e) = absurd (names_sound text f g r h k names first)
-one_refusal text r s (by_types f p h names one first) (by_tree k) = absurd (no_tree_too text f s h k)
-one_refusal text r s (by_types f p h names one first) (by_names g k other) = absurd (names_sound text g f s k h names other)
-one_refusal text r s (by_types f p h names one first) (by_types g q k also two other) =
-    one_first (broken_types f p) (broken_types g q) r s (same_of broken_types text f g p q h k one two) first other
-one_refusal text r s (by_types f p h names one first) (by_room g q k also two typing room e) = absurd (types_sound text f g p q r h k one two typing first)
-one_refusal text r s (by_room f p h names one typing room e) (by_tree k) = absurd (no_tree_too text f s h k)
-one_refusal text r s (by_room f p h names one typing room e) (by_names g k other) = absurd (names_sound text g f s k h names other)
-one_refusal text r s (by_room f p h names one typing room e) (by_types g q k also two other) = absurd (types_sound text g f q p s k h two one typing other)
-one_refusal text r s (by_room f p h names one typing room e) (by_room g q k also two others full o) = inl (e ∙ sym o)
+one_refusal text r s (by_tree h) (by_names g k other) = absurd (no_file_too text g r k h)
+one_refusal text r s (by_tree h) (by_types g k names other) = absurd (no_file_too text g r k h)
+one_refusal text r s (by_tree h) (by_room g n k names one typing room e) = absurd (no_file_too text g r k h)
+one_refusal text r s (by_names f h first) (by_tree k) = absurd (no_file_too text f s h k)
+one_refusal text r s (by_names f h first) (by_names g k other) = first_names text f g r s h k first other
+one_refusal text r s (by_names f h first) (by_types g k names other) = absurd (names_sound text f g r h k names first)
+one_refusal text r s (by_names f h first) (by_room g n k names one typing room e) = absurd (names_sound text f g r h k names first)
+one_refusal text r s (by_types f h names first) (by_tree k) = absurd (no_file_too text f s h k)
+one_refusal text r s (by_types f h names first) (by_names g k other) = absurd (names_sound text g f s k h names other)
+one_refusal text r s (by_types f h names first) (by_types g k also other) = first_types text f g r s h k first other
+one_refusal text r s (by_types f h names first) (by_room g n k also one typing room e) = absurd (types_sound text f g r h k typing first)
+one_refusal text r s (by_room f m h names one typing room e) (by_tree k) = absurd (no_file_too text f s h k)
+one_refusal text r s (by_room f m h names one typing room e) (by_names g k other) = absurd (names_sound text g f s k h names other)
+one_refusal text r s (by_room f m h names one typing room e) (by_types g k also other) = absurd (types_sound text g f s k h typing other)
+one_refusal text r s (by_room f m h names one typing room e) (by_room g n k also others full more o) = inl (e ∙ sym o)

@@ -1,2 +1,3 @@
+pub mod StandardBlocks
 pub mod Texts
 pub mod Faults

@@ -1,6 +1,6 @@
--- The texts of programs: which program a text states, and which rule each other text breaks first. The passes
+-- The texts of programs: which program a text states, once the blocks of the prelude stand before it, and which rule each other text breaks first. The passes
 -- come one after the other: size, tokens, left-out words and nesting, grammar, names, types, and the count of cells.
-use Rattle.std.specs.Prelude.{◌≡◌, ◌<◌, ◌≤◌, ℕ, List, [], ◌∷◌, length, All, true, false}
+use Rattle.std.specs.Prelude.{◌≡◌, ◌<◌, ◌≤◌, ℕ, List, [], ◌++◌, length, All, true, false, Some}
 use Rattle.st_tree.specs.declared.token.Tok.{Tok}
 use Rattle.st_tree.specs.declared.rule.Rule.TheVariants.{TooLong, NoTree, TooManyCells}
 use Rattle.st_tree.specs.declared.rule.Refusal.{Refusal}
@@ -15,10 +15,12 @@ use Rattle.st_tree.specs.Tree.{ProgramData}
 use Rattle.st_lexer.specs.Parts as lexer
 use Rattle.st_lexer.specs.Lexing.{lexemes_of}
 use Rattle.st_parser.specs.FirstFault as nesting
-use Rattle.st_names.specs.FileScope.{pous_of}
-use Rattle.st_names.specs.Broken.{broken_names}
-use Rattle.st_types.specs.Programs.{broken_types, has_room}
+use Rattle.st_names.specs.Circles.{IsBroken}
+use Rattle.st_names.specs.Bound.{program_number}
+use Rattle.st_names.specs.FileScope.{pou_at}
+use Rattle.st_types.specs.Pous.{broken_types, has_room}
 use Rattle.st_types.specs.TypedPrograms.{typed_program}
+use Rattle.front_end.specs.StandardBlocks.{prelude_text}
 
 -- how many bytes a text may have
 abbrev pub limit : ℕ
@@ -54,22 +56,39 @@ pub data HasNoTree (text : List ℕ) (r : Refusal) : Type 0 where
   by_nesting : (toks : List Tok) → HasTokens text toks → nesting.IsFirstFault toks r → HasNoTree text r
   by_grammar : (toks : List Tok) → HasTokens text toks → nesting.IsSound toks → IsUnprinted toks → r.rule ≡ NoTree → HasNoTree text r
 
+-- A text's file, once the blocks of the prelude stand before its own items.
+pub record HasFile (text : List ℕ) (f : FileData) : Type 0 where
+  pub blocks : FileData
+  pub own : FileData
+  pub prelude : HasTree prelude_text blocks
+  pub tree : HasTree text own
+  pub joined : f ≡ blocks ++ own
+
+-- Nothing is broken of the rules on names.
+abbrev pub AreNamesSound : FileData → Type 0
+AreNamesSound f = (r : Refusal) → IsBroken f r → ⊥
+
+-- A file's PROGRAM: its number among the POUs, and the POU.
+pub record HasProgram (f : FileData) (number : ℕ) (p : PouData) : Type 0 where
+  pub is : program_number f ≡ Some number
+  pub there : pou_at f number ≡ Some p
+
 -- A text states a program: its file breaks no rule on names, has one PROGRAM, breaks no rule on types, and has room for its cells.
 pub record IsProgram (text : List ℕ) (p : ProgramData) : Type 0 where
   pub file : FileData
+  pub number : ℕ
   pub pou : PouData
-  pub tree : HasTree text file
-  pub names : broken_names file ≡ []
-  pub only : pous_of file ≡ pou ∷ []
-  pub typing : broken_types file pou ≡ []
-  pub room : has_room pou ≡ true
-  pub program : p ≡ typed_program file pou
+  pub states : HasFile text file
+  pub names : AreNamesSound file
+  pub one : HasProgram file number pou
+  pub typing : broken_types file ≡ []
+  pub room : has_room file number ≡ true
+  pub program : p ≡ typed_program file number pou
 
 -- a text states no program, and this is the first rule that it breaks
 pub data IsNoProgram (text : List ℕ) (r : Refusal) : Type 0 where
   by_tree : HasNoTree text r → IsNoProgram text r
-  by_names : (f : FileData) → HasTree text f → IsFirst (λ x. IsAmong x (broken_names f)) r → IsNoProgram text r
-  by_types : (f : FileData) → (pou : PouData) → HasTree text f → broken_names f ≡ [] → pous_of f ≡ pou ∷ [] → IsFirst (λ x. IsAmong x (broken_types f pou)) r
-      → IsNoProgram text r
-  by_room : (f : FileData) → (pou : PouData) → HasTree text f → broken_names f ≡ [] → pous_of f ≡ pou ∷ [] → broken_types f pou ≡ [] → has_room pou ≡ false
+  by_names : (f : FileData) → HasFile text f → IsFirst (IsBroken f) r → IsNoProgram text r
+  by_types : (f : FileData) → HasFile text f → AreNamesSound f → IsFirst (λ x. IsAmong x (broken_types f)) r → IsNoProgram text r
+  by_room : (f : FileData) → (number : ℕ) → HasFile text f → AreNamesSound f → program_number f ≡ Some number → broken_types f ≡ [] → has_room f number ≡ false
       → r ≡ record { rule = TooManyCells; at = 0 } → IsNoProgram text r

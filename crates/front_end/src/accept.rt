@@ -2,15 +2,18 @@
 ghost use Rattle.std.specs.Prelude.{◌≡◌, IfOk, IfErr};
 ghost use Rattle.st_tree.specs.View.{program_view};
 ghost use Rattle.st_tree.specs.SyntaxView.{file_view};
-ghost use Rattle.front_end.specs.Texts.{HasTokens, HasNoTokens, HasTree, HasNoTree, IsProgram, IsNoProgram};
+ghost use Rattle.front_end.specs.declared.fault.AcceptFault.TheVariants.{Memory};
+ghost use Rattle.front_end.specs.StandardBlocks.{prelude_text};
+ghost use Rattle.front_end.specs.Texts.{HasTokens, HasNoTokens, HasTree, HasNoTree, HasFile, IsProgram, IsNoProgram};
 ghost use Rattle.front_end.specs.Faults.{IfRefused};
 ghost use Rattle.st_types.specs.Ready.{IsReady};
 
 use crate::fault::AcceptFault;
+use crate::prelude::prelude;
 use st_lexer::lex;
 use st_names::resolve;
 use st_parser::parse_file;
-use st_tree::{NoCharts, Program, Refusal, Rule, SourceFile, Tok};
+use st_tree::{Program, Refusal, Rule, SourceFile, Tok};
 use st_types::check;
 use std::alloc::Global;
 
@@ -37,7 +40,30 @@ fn tree_of(alloc: Global, text: &[u8]) -> Result<SourceFile, AcceptFault>
     ensures refused { IfErr result (IfRefused (HasNoTree text.now)) }
 {
     let toks = tokens_of(alloc, text)?;
-    Ok(parse_file(alloc, &toks, text.len(), &NoCharts)?)
+    Ok(parse_file(alloc, &toks, text.len())?)
+}
+
+// The tree of the prelude. Its text is fixed; that it has a tree is shown by tests, and were it refused, no text would be
+// accepted: memory would be said to be wanting.
+fn blocks(alloc: Global) -> Result<SourceFile, AcceptFault>
+    ensures tree { IfOk result (λ f. HasTree prelude_text (file_view f)) }
+    ensures memory { IfErr result (λ e. e ≡ Memory) }
+{
+    match tree_of(alloc, prelude()) {
+        Ok(file) => Ok(file),
+        Err(_) => Err(AcceptFault::Memory),
+    }
+}
+
+// The file of a text: the blocks of the prelude, and then its own items; or the first rule up to the grammar that it breaks.
+fn file_of(alloc: Global, text: &[u8]) -> Result<SourceFile, AcceptFault>
+    ensures file { IfOk result (λ f. HasFile text.now (file_view f)) }
+    ensures refused { IfErr result (IfRefused (HasNoTree text.now)) }
+{
+    let mut own = tree_of(alloc, text)?;
+    let mut file = blocks(alloc)?;
+    file.items.append(&mut own.items)?;
+    Ok(file)
 }
 
 /// The program that a text states, or the first rule that it breaks of those on size, tokens, words that are left
@@ -47,7 +73,7 @@ pub fn accept_text(alloc: Global, text: &[u8]) -> Result<Program, AcceptFault>
     ensures ready { IfOk result (λ p. IsReady (program_view p)) }
     ensures refused { IfErr result (IfRefused (IsNoProgram text.now)) }
 {
-    let file = tree_of(alloc, text)?;
+    let file = file_of(alloc, text)?;
     let resolved = resolve(alloc, file)?;
     Ok(check(alloc, resolved)?)
 }

@@ -1,6 +1,7 @@
 // Why a text is refused.
 ghost use Rattle.std.specs.Prelude.{◌≡◌};
 ghost use Rattle.st_tree.specs.declared.parse_fault.ParseFault.TheVariants as parse_faults;
+ghost use Rattle.front_end.specs.declared.fault.AcceptFault.TheVariants.{Memory};
 ghost use Rattle.front_end.specs.Faults.{of_lexer, of_parser, of_names, of_types};
 
 use st_lexer::LexFault;
@@ -17,6 +18,14 @@ pub enum AcceptFault {
     Refused(Refusal),
     #[error("memory was wanting")]
     Memory,
+}
+
+impl From<AllocError> for AcceptFault {
+    ghost from_gives = { λ fault e. e ≡ Memory };
+
+    fn from(_fault: AllocError) -> Self {
+        AcceptFault::Memory
+    }
 }
 
 impl From<LexFault> for AcceptFault {

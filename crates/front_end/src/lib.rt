@@ -4,6 +4,7 @@
 mod accept;
 mod fault;
 mod laws;
+mod prelude;
 
 pub use accept::{accept_text, tokens_of};
 pub use fault::AcceptFault;

@@ -3,7 +3,7 @@ use crate::stages::Stages;
 use front_end::{AcceptFault, tokens_of};
 use st_names::{Resolved, resolve};
 use st_parser::parse_file;
-use st_tree::{NoCharts, Program, Refusal, SourceFile, Tok};
+use st_tree::{Program, Refusal, SourceFile, Tok};
 use st_types::check;
 use std::alloc::Global;
 use std::io;
@@ -34,7 +34,7 @@ impl From<io::Error> for Stop {
 }
 
 fn tree_of(alloc: Global, toks: &[Tok<'_>], end: usize) -> Result<SourceFile, AcceptFault> {
-    Ok(parse_file(alloc, toks, end, &NoCharts)?)
+    Ok(parse_file(alloc, toks, end)?)
 }
 
 fn resolved(alloc: Global, file: SourceFile) -> Result<Resolved, AcceptFault> {

@@ -6,7 +6,7 @@ use Rattle.st_tree.specs.declared.typed.Part.TheVariants.{Fault, Input, Output, 
 use Rattle.st_tree.specs.Tree.{CellData, ProgramData}
 use Rattle.scan_model.specs.declared.relation.Ending.{Ending}
 use Rattle.scan_model.specs.declared.relation.Ending.TheVariants.{Related, Unrelated, NotAllowed}
-use Rattle.expression_value.specs.Values.{State}
+use Rattle.effects.specs.Values.{State}
 use Rattle.scan_model.specs.InRange.{Row}
 use Rattle.scan_model.specs.Pairs.{RelationData, Pair, after_row}
 

@@ -14,7 +14,8 @@ use Rattle.st_tree.specs.DataTypes.{is_same_type}
 use Rattle.st_tree.specs.Enumerations.{paired_type}
 use Rattle.scan_model.specs.declared.side.Side.TheVariants as sides
 use Rattle.scan_model.specs.declared.relation.InputLine.{InputLine}
-use Rattle.scan_model.specs.Scans.{ranges_of, range_at}
+use Rattle.effects.specs.Effects.{range_at}
+use Rattle.scan_model.specs.Scans.{ranges_of}
 use Rattle.scan_model.specs.Pairs.{RelationData, IsCellOf, NamesCells, BelongsTo}
 use Rattle.relation_lines.specs.Lines.{ContentData, setting, faults, paired, single, clause, LineData}
 use Rattle.relation_file.specs.declared.places.Placed.{Placed}

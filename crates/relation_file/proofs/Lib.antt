@@ -1,3 +1,4 @@
+pub mod Steps
 pub mod OneRelation
 pub mod FirstLemmas
 pub mod LineLemmas

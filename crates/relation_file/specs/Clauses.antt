@@ -4,7 +4,7 @@ use Rattle.std.specs.Str.{bytes_eq}
 use Rattle.st_tree.specs.declared.rule.Rule.TheVariants.{NoSide, UnknownName}
 use Rattle.st_tree.specs.declared.rule.Refusal.{Refusal}
 use Rattle.st_tree.specs.Syntax.{Named, PathData, Tree, literal, path, enumerator, paren, unary, chain, call, Links, no_links, link, Arguments, no_arguments, argument}
-use Rattle.st_names.specs.Library.{is_function}
+use Rattle.st_names.specs.Library.{is_library}
 use Rattle.st_types.specs.declared.scope.Meaning.{Meaning}
 use Rattle.st_types.specs.Typing.{Scope, by_path}
 use Rattle.relation_file.specs.Refusals.{breaks}
@@ -22,14 +22,14 @@ unknown_unless at (Some m) = []
 -- A path has `old` or `new` before it (R3), and names a cell (N2, at the name behind).
 abbrev pub broken_members : Scope → PathData → List Named → List Refusal
 broken_members scope p [] = no_side p.first.at
-broken_members scope p (n ∷ ns) = if is_side p.first.text then unknown_unless n.at (scope (by_path p)) else no_side p.first.at
+broken_members scope p (n ∷ ns) = if is_side p.first.text then unknown_unless n.at (scope.means (by_path p)) else no_side p.first.at
 
 abbrev pub broken_path : Scope → PathData → List Refusal
 broken_path scope p = broken_members scope p p.members
 
 -- a called name is that of a standard function (N2)
 abbrev pub broken_called : Named → List Refusal
-broken_called n = if is_function n.text then [] else breaks UnknownName n.at
+broken_called n = if is_library n.text then [] else breaks UnknownName n.at
 
 -- standard functions have no argument names (N2)
 abbrev pub broken_argument : Bool → Option Named → List Refusal
@@ -45,7 +45,7 @@ abbrev mutual
   broken_names scope (paren at e) = broken_names scope e
   broken_names scope (unary o at e) = broken_names scope e
   broken_names scope (chain e ls) = broken_names scope e ++ broken_links scope ls
-  broken_names scope (call n at args) = broken_called n ++ broken_arguments scope (is_function n.text) args
+  broken_names scope (call n at args) = broken_called n ++ broken_arguments scope (is_library n.text) args
 
   pub broken_links : Scope → Links → List Refusal
   broken_links scope no_links = []

@@ -51,15 +51,15 @@ names_in side (l ∷ ls) = named_by side l.content ++ names_in side ls
 abbrev pub is_among : List (List ℕ) → List ℕ → Bool
 is_among names text = list_any (λ name. bytes_eq name text) names
 
--- What a name of an INPUT line breaks: N2 where it is no variable; N4 where it is a constant, which has no cell, or no
--- input; P2 where a line before has named it.
+-- What a name of an INPUT line breaks: N2 where it is no variable; N4 where it is a constant or an instance, which are no cells, or
+-- no input; P2 where a line before has named it.
 abbrev pub broken_at_cell : Bool → Bool → Named → Option Placed → List Refusal
-broken_at_cell again constant n None = if constant then breaks WrongKind n.at else breaks UnknownName n.at
-broken_at_cell again constant n (Some c) = if is_input c.part then unless (not again) InputCount n.at else breaks WrongKind n.at
+broken_at_cell again without_cell n None = if without_cell then breaks WrongKind n.at else breaks UnknownName n.at
+broken_at_cell again without_cell n (Some c) = if is_input c.part then unless (not again) InputCount n.at else breaks WrongKind n.at
 
 -- the names of the lines before come first
 abbrev pub broken_input : List (List ℕ) → ProgramData → Named → List Refusal
-broken_input before p n = broken_at_cell (is_among before n.text) (is_among p.constants n.text) n (cell_named n.text 0 p.cells)
+broken_input before p n = broken_at_cell (is_among before n.text) (is_among p.without_cell n.text) n (cell_named n.text 0 p.cells)
 
 abbrev pub is_same_range : Range → Range → Bool
 is_same_range r s = int_eq r.low s.low && int_eq r.high s.high

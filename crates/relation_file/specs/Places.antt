@@ -1,4 +1,4 @@
--- The cells of a program by their paths, and the names of its constants.
+-- The cells of a program by their paths, and the names of its variables that are no cells.
 use Rattle.std.specs.Prelude.{◌≡◌, ℕ, List}
 use Rattle.std.specs.Str.{bytes_eq}
 use denote.Ref.{Bor}

@@ -93,23 +93,31 @@ pub(crate) fn first_of_lines(
 }
 
 // What the types of a clause break.
-fn clause_refusal(pair: &Pair<'_>, content: &Content) -> Option<Refusal>
-    ensures { result ≡ first_in (broken_content (old_of pair.now) (new_of pair.now) (content_view content.now)) }
+fn clause_refusal(
+    alloc: Global,
+    pair: &Pair<'_>,
+    content: &Content,
+) -> Result<Option<Refusal>, AllocError>
+    ensures { IfOk result (λ first. first ≡ first_in (broken_content (old_of pair.now) (new_of pair.now) (content_view content.now))) }
 {
     match content {
-        Content::Clause(_, clause) => judge_clause(&pair.scope, clause),
-        Content::Setting(_, _, _) | Content::Faults(_, _) => None,
-        Content::Paired(_, _, _) | Content::Single(_, _, _) => None,
+        Content::Clause(_, clause) => judge_clause(alloc, &pair.scope, clause),
+        Content::Setting(_, _, _) | Content::Faults(_, _) => Ok(None),
+        Content::Paired(_, _, _) | Content::Single(_, _, _) => Ok(None),
     }
 }
 
 /// The first rule on types that the clauses break.
-pub(crate) fn first_of_clauses(pair: &Pair<'_>, lines: &[Line]) -> Option<Refusal>
-    ensures { result ≡ first_in (broken_clauses (old_of pair.now) (new_of pair.now) (lines_view lines.now)) }
+pub(crate) fn first_of_clauses(
+    alloc: Global,
+    pair: &Pair<'_>,
+    lines: &[Line],
+) -> Result<Option<Refusal>, AllocError>
+    ensures { IfOk result (λ first. first ≡ first_in (broken_clauses (old_of pair.now) (new_of pair.now) (lines_view lines.now))) }
 {
     let mut first = None;
     for line in lines {
-        first = Refusal::earlier(first, clause_refusal(pair, &line.content));
+        first = Refusal::earlier(first, clause_refusal(alloc, pair, &line.content)?);
     }
-    first
+    Ok(first)
 }

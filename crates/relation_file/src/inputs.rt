@@ -29,13 +29,13 @@ fn is_input(part: Part) -> bool
     }
 }
 
-// What a name breaks: N2 where it is no variable, N4 where it is a constant or no input, and P2 where a line before
+// What a name breaks: N2 where it is no variable, N4 where it is a variable without a cell or no input, and P2 where a line before
 // named it.
-fn at_cell(again: bool, constant: bool, name: &Name, cell: Option<Placed>) -> Option<Refusal>
-    ensures { result ≡ first_in (broken_at_cell again constant (name_view name.now) cell) }
+fn at_cell(again: bool, without_cell: bool, name: &Name, cell: Option<Placed>) -> Option<Refusal>
+    ensures { result ≡ first_in (broken_at_cell again without_cell (name_view name.now) cell) }
 {
     match cell {
-        None if constant => breaks(Rule::WrongKind, name.at),
+        None if without_cell => breaks(Rule::WrongKind, name.at),
         None => breaks(Rule::UnknownName, name.at),
         Some(cell) => {
             if is_input(cell.part) {
@@ -54,19 +54,19 @@ pub(crate) fn name_refusal(pair: &Pair<'_>, seen: &Seen, side: Side, name: &Name
     let text = name.text.as_str();
     match side {
         Side::Old => {
-            let constant = pair.old.is_constant(text);
+            let without_cell = pair.old.is_without_cell(text);
             at_cell(
                 seen.of_old.contains(text),
-                constant,
+                without_cell,
                 name,
                 pair.old.find(text),
             )
         }
         Side::New => {
-            let constant = pair.new.is_constant(text);
+            let without_cell = pair.new.is_without_cell(text);
             at_cell(
                 seen.of_new.contains(text),
-                constant,
+                without_cell,
                 name,
                 pair.new.find(text),
             )

@@ -2,11 +2,10 @@
 ghost use Rattle.std.specs.Prelude.{◌≡◌, None, option_map};
 ghost use Rattle.st_tree.specs.Rules.{earlier, first_in};
 ghost use Rattle.st_tree.specs.SyntaxView.{name_view, path_view, tree_view, links_view, arguments_view};
-ghost use Rattle.st_names.specs.Library.{is_function};
 ghost use Rattle.relation_file.specs.Clauses.{is_side, broken_path, broken_called, broken_argument, broken_names, broken_links, broken_arguments, unknown_unless};
 
 use crate::unless::breaks;
-use st_names::standard_function;
+use st_names::is_library;
 use st_tree::{Argument, Expr, Link, Name, Path, Refusal, Rule};
 use st_types::{Meaning, Scope};
 
@@ -39,17 +38,11 @@ fn path_refusal<S: Scope>(scope: &S, path: &Path) -> Option<Refusal>
     }
 }
 
-fn is_function(text: &str) -> bool
-    ensures { result ≡ is_function text.now }
-{
-    standard_function(text).is_some()
-}
-
 // What a called name breaks: it is that of a standard function (N2).
 fn called_refusal(function: &Name) -> Option<Refusal>
     ensures { result ≡ first_in (broken_called (name_view function.now)) }
 {
-    if is_function(function.text.as_str()) {
+    if is_library(function.text.as_str()) {
         None
     } else {
         breaks(Rule::UnknownName, function.at)
@@ -85,7 +78,7 @@ fn walk_names<S: Scope>(scope: &S, expr: &Expr, first: &mut Option<Refusal>)
         }
         Expr::Call(function, _, arguments) => {
             *first = Refusal::earlier(*first, called_refusal(function));
-            walk_arguments(scope, is_function(function.text.as_str()), arguments, first);
+            walk_arguments(scope, is_library(function.text.as_str()), arguments, first);
         }
     }
 }

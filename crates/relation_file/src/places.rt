@@ -1,4 +1,4 @@
-// The cells of a program by their paths, and the names of its constants.
+// The cells of a program by their paths, and the names of its variables that are no cells.
 ghost use Rattle.std.specs.Prelude.{◌≡◌, IfOk};
 ghost use Rattle.st_tree.specs.View.{cell_view, cells_view, texts_view, program_view};
 ghost use Rattle.relation_file.specs.Inputs.{placed, cell_named, is_among};
@@ -59,14 +59,14 @@ fn names<'p>(alloc: Global, list: &'p [String]) -> Result<Names<'p>, AllocError>
     Ok(set)
 }
 
-/// A program, its cells by their paths, and the names of its constants.
+/// A program, its cells by their paths, and the names of its variables that are no cells.
 #[derive(Drop)]
 pub(crate) struct Cells<'p> {
     pub program: &'p Program,
     places: Places<'p>,
-    constants: Names<'p>,
+    without_cell: Names<'p>,
     ghost finds: { Finds places 0 (program_view program.now).cells },
-    ghost named: { HasNames constants (program_view program.now).constants },
+    ghost named: { HasNames without_cell (program_view program.now).without_cell },
 }
 
 impl<'p> Cells<'p> {
@@ -77,7 +77,7 @@ impl<'p> Cells<'p> {
         Ok(Cells {
             program,
             places: places(alloc, &program.cells)?,
-            constants: names(alloc, &program.constants)?,
+            without_cell: names(alloc, &program.without_cell)?,
         })
     }
 
@@ -88,10 +88,10 @@ impl<'p> Cells<'p> {
         self.places.get(path).copied()
     }
 
-    /// Whether a name is that of a constant.
-    pub(crate) fn is_constant(&self, name: &str) -> bool
-        ensures { result ≡ is_among (program_view self.now.program.now).constants name.now }
+    /// Whether a name is that of a constant or an instance, which are variables without a cell of their own.
+    pub(crate) fn is_without_cell(&self, name: &str) -> bool
+        ensures { result ≡ is_among (program_view self.now.program.now).without_cell name.now }
     {
-        self.constants.contains(name)
+        self.without_cell.contains(name)
     }
 }

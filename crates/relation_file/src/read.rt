@@ -33,7 +33,7 @@ fn relation_in(
     if let Some(refusal) = first_of_lines(alloc, pair, end, lines)? {
         return Err(RelFault::Refused(refusal));
     }
-    if let Some(refusal) = first_of_clauses(pair, lines) {
+    if let Some(refusal) = first_of_clauses(alloc, pair, lines)? {
         return Err(RelFault::Refused(refusal));
     }
     let relation = relation_of(alloc, pair, lines)?;

@@ -1,14 +1,19 @@
 -- Loading and scans keep every value in its cell's range.
 use Rattle.std.proofs.Common.{◌≡◌, ℕ, zero, suc, Bool, true, false, ◌&&◌, List, [], ◌∷◌, ℤ, pos, ◌+ℤ◌, ◌≤ℤ◌, refl, ap, subst, sym, length, rules, arith, tests}
-use Rattle.std.specs.Prelude.{slice_set, if◌then◌else◌, All}
+use Rattle.std.specs.Prelude.{◌+◌, ◌==◌, Option, None, Some, slice_set, slice_index_or, if◌then◌else◌, All}
 use Rattle.std.proofs.lemmas.Int.{ints}
 use Rattle.st_tree.specs.declared.typed.Range.{Range}
+use Rattle.st_tree.specs.declared.typed.StepCells.{StepCells}
+use Rattle.st_tree.specs.declared.typed.Association.{Association}
 use Rattle.st_tree.specs.Types.{in_range}
-use Rattle.st_tree.specs.Tree.{Statement, assign, choice, cases, repeat, Statements, no_statements, statement, Choices, no_choices, choose, Entries, no_entries, entry, CellData, ProgramData}
+use Rattle.st_tree.specs.Tree.{Statement, assign, run, choice, cases, repeat, chart, Statements, no_statements, statement, Choices, no_choices, choose, Entries, no_entries, entry, Actions, no_actions, action, CellData, CalledData, block, function, ProgramData}
 use Rattle.scan_model.specs.declared.relation.InputLine.{InputLine}
 use Rattle.scan_model.specs.declared.relation.InputLine.TheVariants.{Both, Old, New}
-use Rattle.expression_value.specs.Values.{State, value_of, faults, is_truth}
-use Rattle.scan_model.specs.Scans.{ranges_of, range_at, with_fault, stored, is_labelled, effect_of_turns, effect_of, effect_of_all, effect_of_choices, effect_of_entries, scanned}
+use Rattle.effects.specs.Values.{State, Callees, value_of, faults, is_truth}
+use Rattle.effects.specs.Charts.{Marking, runs}
+use Rattle.effects.specs.Effects.{range_at, with_fault, stored, is_labelled, effect_of_turns, latched, all_latched, marked, effect_of, effect_of_all, effect_of_choices, effect_of_entries, effect_of_actions}
+use Rattle.effects.specs.Calls.{run_of, nothing, callees_of}
+use Rattle.scan_model.specs.Scans.{ranges_of, callees_in, scanned}
 use Rattle.scan_model.specs.InRange.{Row, IsInRange, BeginsWithFault, IsProgram, fits_places, put_at}
 use Rattle.scan_model.specs.Pairs.{RelationData, BelongsTo, is_allowed, after_row, Pair, IsPairInRange, IsCellOf, NamesCells, fits_lines, range_of_line, loaded_one, loaded}
 
@@ -71,35 +76,66 @@ module _ (rs : List Range) (first : HoldsFault rs) where
   kept_by_turns zero c v step body keeps s f = kept_by_store c v s f
   kept_by_turns (suc n) c v step body keeps s f = kept_by_turns n c (v +ℤ step) step body keeps _ (keeps _ (kept_by_store c v s f))
 
-  mutual
-    kept_by_statement : (a : Statement) (s : State) → IsInRange rs s → IsInRange rs (effect_of rs a s)
-    kept_by_statement (assign c e) s f = kept_by_store c _ _ (fault_added (faults e s) s f)
-    kept_by_statement (choice arms other) s f = kept_by_choices arms (effect_of_all rs other) (λ x g. kept_by_all other x g) s f
-    kept_by_statement (cases e es other) s f =
-        kept_by_entries (value_of e s) es (effect_of_all rs other) (λ x g. kept_by_all other x g) _ (fault_added (faults e s) s f)
-    kept_by_statement (repeat turns body) s f =
-        kept_by_turns turns.count turns.control turns.first turns.step (effect_of_all rs body) (λ x g. kept_by_all body x g) s f
+  kept_by_latch : (base : ℕ) (x : Marking) (latch : Option ℕ) (associations : List Association) (s : State) → IsInRange rs s → IsInRange rs (latched rs base x latch associations s)
+  kept_by_latch base x None associations s f = f
+  kept_by_latch base x (Some place) associations s f = kept_by_store (base + place) _ s f
 
-    kept_by_all : (b : Statements) (s : State) → IsInRange rs s → IsInRange rs (effect_of_all rs b s)
-    kept_by_all no_statements s f = f
-    kept_by_all (statement a rest) s f = kept_by_all rest _ (kept_by_statement a s f)
+  kept_by_latches : (base : ℕ) (x : Marking) (actions : Actions) (s : State) → IsInRange rs s → IsInRange rs (all_latched rs base x actions s)
+  kept_by_latches base x no_actions s f = f
+  kept_by_latches base x (action latch associations body rest) s f = kept_by_latches base x rest _ (kept_by_latch base x latch associations s f)
 
-    kept_by_choices : (arms : Choices) (other : State → State) → ((s : State) → IsInRange rs s → IsInRange rs (other s)) → (s : State) → IsInRange rs s → IsInRange rs (effect_of_choices rs arms other s)
-    kept_by_choices no_choices other keeps s f = keeps s f
-    kept_by_choices (choose e b arms) other keeps s f =
-        let g = fault_added (faults e s) s f in
-        either rs (is_truth (value_of e s)) _ _ (λ _. kept_by_all b _ g) (λ _. kept_by_choices arms other keeps _ g)
+  kept_by_marks : (base : ℕ) (x : Marking) (next : ℕ → Bool) (i : ℕ) (steps : List StepCells) (s : State) → IsInRange rs s → IsInRange rs (marked rs base x next i steps s)
+  kept_by_marks base x next i [] s f = f
+  kept_by_marks base x next i (p ∷ rest) s f =
+      kept_by_marks base x next (i + 1) rest _ (kept_by_store (base + p.active) _ _ (kept_by_store (base + p.before) _ s f))
 
-    kept_by_entries : (v : ℤ) (es : Entries) (other : State → State) → ((s : State) → IsInRange rs s → IsInRange rs (other s)) → (s : State) → IsInRange rs s → IsInRange rs (effect_of_entries rs v es other s)
-    kept_by_entries v no_entries other keeps s f = keeps s f
-    kept_by_entries v (entry labels b es) other keeps s f =
-        either rs (is_labelled v labels) _ _ (λ _. kept_by_all b s f) (λ _. kept_by_entries v es other keeps s f)
+  module _ (callees : Callees) (calls : (b base : ℕ) (s : State) → IsInRange rs s → IsInRange rs (callees.runs b rs base s)) where
+    mutual
+      kept_by_statement : (base : ℕ) (a : Statement) (s : State) → IsInRange rs s → IsInRange rs (effect_of callees rs base a s)
+      kept_by_statement base (assign c e) s f = kept_by_store (base + c) _ _ (fault_added (faults callees base e s) s f)
+      kept_by_statement base (run b offset) s f = calls b (base + offset) s f
+      kept_by_statement base (choice arms other) s f = kept_by_choices base arms (effect_of_all callees rs base other) (λ x g. kept_by_all base other x g) s f
+      kept_by_statement base (cases e es other) s f =
+          kept_by_entries base (value_of callees base e s) es (effect_of_all callees rs base other) (λ x g. kept_by_all base other x g) _ (fault_added (faults callees base e s) s f)
+      kept_by_statement base (repeat turns body) s f =
+          kept_by_turns turns.count (base + turns.control) turns.first turns.step (effect_of_all callees rs base body) (λ x g. kept_by_all base body x g) s f
+      kept_by_statement base (chart steps actions ts) s f =
+          kept_by_marks base _ _ 0 steps _ (fault_added _ _ (kept_by_actions base _ _ actions _ (kept_by_latches base _ actions s f)))
+
+      kept_by_all : (base : ℕ) (b : Statements) (s : State) → IsInRange rs s → IsInRange rs (effect_of_all callees rs base b s)
+      kept_by_all base no_statements s f = f
+      kept_by_all base (statement a rest) s f = kept_by_all base rest _ (kept_by_statement base a s f)
+
+      kept_by_choices : (base : ℕ) (arms : Choices) (other : State → State) → ((s : State) → IsInRange rs s → IsInRange rs (other s)) → (s : State) → IsInRange rs s → IsInRange rs (effect_of_choices callees rs base arms other s)
+      kept_by_choices base no_choices other keeps s f = keeps s f
+      kept_by_choices base (choose e b arms) other keeps s f =
+          let g = fault_added (faults callees base e s) s f in
+          either rs (is_truth (value_of callees base e s)) _ _ (λ _. kept_by_all base b _ g) (λ _. kept_by_choices base arms other keeps _ g)
+
+      kept_by_entries : (base : ℕ) (v : ℤ) (es : Entries) (other : State → State) → ((s : State) → IsInRange rs s → IsInRange rs (other s)) → (s : State) → IsInRange rs s → IsInRange rs (effect_of_entries callees rs base v es other s)
+      kept_by_entries base v no_entries other keeps s f = keeps s f
+      kept_by_entries base v (entry labels b es) other keeps s f =
+          either rs (is_labelled v labels) _ _ (λ _. kept_by_all base b s f) (λ _. kept_by_entries base v es other keeps s f)
+
+      kept_by_actions : (base : ℕ) (x l : Marking) (actions : Actions) (s : State) → IsInRange rs s → IsInRange rs (effect_of_actions callees rs base x l actions s)
+      kept_by_actions base x l no_actions s f = f
+      kept_by_actions base x l (action latch associations body rest) s f =
+          kept_by_actions base x l rest _ (either rs (runs base x l latch associations s) _ _ (λ _. kept_by_all base body s f) (λ _. f))
+
+  kept_by_call : (callees : Callees) → ((b base : ℕ) (s : State) → IsInRange rs s → IsInRange rs (callees.runs b rs base s)) → (p : CalledData) (base : ℕ) (s : State) → IsInRange rs s → IsInRange rs (run_of callees p rs base s)
+  kept_by_call callees calls (block body) base s f = kept_by_all callees calls base body s f
+  kept_by_call callees calls (function own start body) base s f = f
+
+  kept_by_calls : (ps : List CalledData) (n b base : ℕ) (s : State) → IsInRange rs s → IsInRange rs ((callees_of ps n).runs b rs base s)
+  kept_by_calls ps zero b base s f = f
+  kept_by_calls ps (suc n) b base s f =
+      either rs (b == n) _ _ (λ _. kept_by_call (callees_of ps n) (kept_by_calls ps n) (slice_index_or ps n nothing) base s f) (λ _. kept_by_calls ps n b base s f)
 
 -- a scan keeps the ranges
 pub IsInRange-scanned : (p : ProgramData) → IsProgram p → (s : State) → IsInRange (ranges_of p.cells) s → IsInRange (ranges_of p.cells) (scanned p s)
 IsInRange-scanned p is s f =
     let first = holds_fault p.cells is.begins_with_fault in
-    kept_by_all (ranges_of p.cells) first p.body _ (cleared (ranges_of p.cells) first s f)
+    kept_by_all (ranges_of p.cells) first (callees_in p) (kept_by_calls (ranges_of p.cells) first p.called (length p.called)) 0 p.body _ (cleared (ranges_of p.cells) first s f)
 
 -- and so does loading numbers that fit their places
 pub IsInRange-put_at : (rs : List Range) (ps : List ℕ) (vs : Row) (s : State) → fits_places rs ps vs ≡ true → IsInRange rs s → IsInRange rs (put_at ps vs s)

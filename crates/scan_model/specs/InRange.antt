@@ -6,8 +6,9 @@ use Rattle.st_tree.specs.declared.typed.Part.TheVariants as parts
 use Rattle.st_tree.specs.declared.typed.Range.{Range}
 use Rattle.st_tree.specs.Types.{range_of, in_range}
 use Rattle.st_tree.specs.Tree.{CellData, ProgramData}
-use Rattle.expression_value.specs.Values.{State}
-use Rattle.scan_model.specs.Scans.{ranges_of, range_at, initial}
+use Rattle.effects.specs.Values.{State}
+use Rattle.effects.specs.Effects.{range_at}
+use Rattle.scan_model.specs.Scans.{ranges_of, initial}
 
 -- each cell has one value, in its range
 abbrev pub IsInRange : List Range → State → Type 0

@@ -8,8 +8,9 @@ use Rattle.scan_model.specs.declared.relation.Candidate.{Candidate}
 use Rattle.scan_model.specs.declared.relation.Relation.{Relation}
 use Rattle.scan_model.specs.declared.relation.InputLine.{InputLine}
 use Rattle.scan_model.specs.declared.relation.InputLine.TheVariants.{Both, Old, New}
-use Rattle.expression_value.specs.Values.{State, value_of, faults, is_truth}
-use Rattle.scan_model.specs.Scans.{ranges_of, range_at, initial, scanned}
+use Rattle.effects.specs.Values.{State, no_callees, value_of, faults, is_truth}
+use Rattle.effects.specs.Effects.{range_at}
+use Rattle.scan_model.specs.Scans.{ranges_of, initial, scanned}
 use Rattle.scan_model.specs.InRange.{Row, IsInRange}
 
 -- a clause that may hold after every scan, and its printed name
@@ -83,9 +84,9 @@ loaded [] vs pair = pair
 loaded (l ∷ ls) [] pair = pair
 loaded (l ∷ ls) (v ∷ vs) pair = loaded ls vs (loaded_one l v pair)
 
--- a clause holds where its value is TRUE and its evaluation meets no fault
+-- a clause calls no POU, and holds where its value is TRUE and its evaluation meets no fault
 abbrev pub holds : Expression → Pair → Bool
-holds e pair = is_truth (value_of e (pair.old ++ pair.new)) && not (faults e (pair.old ++ pair.new))
+holds e pair = is_truth (value_of no_callees 0 e (pair.old ++ pair.new)) && not (faults no_callees 0 e (pair.old ++ pair.new))
 
 abbrev pub all_hold : List Expression → Pair → Bool
 all_hold [] pair = true

@@ -6,7 +6,7 @@ use Rattle.st_tree.specs.declared.typed.Program.{Program}
 use Rattle.st_tree.specs.View.{cells_view, program_view}
 use Rattle.scan_model.specs.declared.relation.Relation.{Relation}
 use Rattle.scan_model.specs.declared.relation.InputLine.{InputLine}
-use Rattle.expression_value.specs.Values.{State}
+use Rattle.effects.specs.Values.{State}
 use Rattle.scan_model.specs.Scans.{ranges_of, scanned}
 use Rattle.scan_model.specs.InRange.{Row, IsInRange, IsProgram}
 use Rattle.scan_model.specs.Pairs.{Pair, IsPairInRange, relation_view, is_allowed, loaded, scanned_both}

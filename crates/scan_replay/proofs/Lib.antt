@@ -1,4 +1,3 @@
 pub mod CellLemmas
 pub mod RowLemmas
 pub mod DuoLemmas
-pub mod TurnLemmas

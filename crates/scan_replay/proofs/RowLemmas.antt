@@ -8,8 +8,9 @@ use Rattle.st_tree.specs.Types.{in_range}
 use Rattle.st_tree.specs.View.{cells_view}
 use Rattle.scan_model.specs.declared.relation.InputLine.{InputLine}
 use Rattle.scan_model.specs.Pairs.{Pair, range_of_line, fits_lines, loaded}
-use Rattle.expression_value.specs.Values.{State}
-use Rattle.scan_model.specs.Scans.{ranges_of, range_at}
+use Rattle.effects.specs.Values.{State}
+use Rattle.effects.specs.Effects.{range_at}
+use Rattle.scan_model.specs.Scans.{ranges_of}
 use Rattle.scan_model.specs.InRange.{Row, IsInRange, fits_places, put_at}
 
 and_false : (a b : Bool) → b ≡ false → (a && b) ≡ false
@@ -43,6 +44,15 @@ pub written_back : (rs : List Range) (n : ℕ) (old new wanted : State) → leng
 written_back rs n old new wanted long is f =
     let e : take n (new ++ drop (length new) old) ≡ wanted = rw (← long) (front new (drop (length new) old) ∙ is) in
     subst (λ (s : State). IsInRange rs s) (sym e) f
+  where
+    front : (xs ys : State) → take (length xs) (xs ++ ys) ≡ xs
+    front xs ys = grind (arith, common_steps)
+
+-- a stack, as it is written back, has as much room as before
+pub room_kept : (room n : ℕ) (old new : State) → length new ≡ n → room ≤ n → room ≤ length (take n (new ++ drop (length new) old))
+room_kept room n old new long h =
+    let e : take n (new ++ drop (length new) old) ≡ new = rw (← long) (front new (drop (length new) old)) in
+    rw (e, long) h
   where
     front : (xs ys : State) → take (length xs) (xs ++ ys) ≡ xs
     front xs ys = grind (arith, common_steps)

@@ -1,9 +1,10 @@
 -- Programs that run.
-use Rattle.std.specs.Prelude.{Bool}
+use Rattle.std.specs.Prelude.{ℕ, ◌+◌, length, Bool}
 use Rattle.st_tree.specs.declared.typed.Program.{Program}
 use Rattle.st_tree.specs.Cells.{inputs_of}
-use Rattle.st_tree.specs.View.{program_view, cells_view}
-use Rattle.expression_value.specs.Values.{State}
+use Rattle.st_tree.specs.View.{program_view, cells_view, stmts_view, all_called_view}
+use Rattle.effects.specs.Values.{State}
+use Rattle.effects.specs.Room.{room_for, markings_in_all}
 use Rattle.scan_model.specs.Scans.{ranges_of}
 use Rattle.scan_model.specs.InRange.{Row, fits_places, put_at}
 
@@ -19,3 +20,7 @@ fits_inputs p row = fits_places (ranges_of (cells_view p.cells.items)) (inputs_o
 -- a row in the inputs
 abbrev pub with_inputs : Program → Row → State → State
 with_inputs p row s = put_at (inputs_of (program_view p)) row s
+
+-- the room that a program's calls and charts take
+abbrev pub room_of_program : Program → ℕ
+room_of_program p = room_for (all_called_view p.called.items) (length p.called.items) + markings_in_all (stmts_view p.body.items)

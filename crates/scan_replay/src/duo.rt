@@ -4,13 +4,15 @@ ghost use Rattle.st_tree.specs.View.{program_view};
 ghost use Rattle.scan_model.specs.Pairs.{start};
 ghost use Rattle.scan_replay.specs.Duos.{AreComparable, with_pair, start_of, IsInRangeOf, allows, pair_after, is_pair_related, has_candidate, program_of, state_of};
 
+use crate::cells::ranges_of;
 use crate::pair::{
     all_hold, candidate_holds, copy_both, fits_lines, load, reset_both, scan_both, start_both,
 };
 use crate::states::value_at;
 use crate::two_states::States;
+use effects::add_room;
 use scan_model::{Relation, Side};
-use st_tree::Program;
+use st_tree::{Program, Range};
 use std::alloc::{AllocError, Global};
 use std::marker::Model;
 
@@ -23,12 +25,19 @@ pub struct Duo<'p> {
     states: States,
     // room for the states with a row loaded
     tried: States,
+    old_ranges: Vec<Range>,
+    new_ranges: Vec<Range>,
+    // room for calls and charts
+    stack: Vec<i64>,
 }
 
 impl<'p> Model for Duo<'p> {
-    ghost use Rattle.st_tree.specs.View.{program_view};
+    ghost use Rattle.std.specs.Prelude.{◌≡◌, ◌≤◌, length};
+    ghost use Rattle.st_tree.specs.View.{cells_view, program_view};
+    ghost use Rattle.scan_model.specs.Scans.{ranges_of};
     ghost use Rattle.scan_model.specs.Pairs.{IsPairInRange};
     ghost use Rattle.scan_replay.specs.Duos.{Compared, AreComparable};
+    ghost use Rattle.scan_replay.specs.Machines.{room_of_program};
     ghost use Rattle.scan_replay.specs.States.{pair_of};
     ghost use Rattle.st_tree.specs.contracts.typed.TypedStmt as stmt;
     ghost use Rattle.st_tree.specs.contracts.typed.TypedExpr as expr;
@@ -42,7 +51,11 @@ impl<'p> Model for Duo<'p> {
 
     ghost invariant = { λ d. AreComparable d.old_program.now d.new_program.now d.relation.now
         × IsPairInRange (program_view d.old_program.now) (program_view d.new_program.now) (pair_of d.states)
-        × IsPairInRange (program_view d.old_program.now) (program_view d.new_program.now) (pair_of d.tried) };
+        × IsPairInRange (program_view d.old_program.now) (program_view d.new_program.now) (pair_of d.tried)
+        × (d.old_ranges.items ≡ ranges_of (cells_view d.old_program.now.cells.items))
+        × (d.new_ranges.items ≡ ranges_of (cells_view d.new_program.now.cells.items))
+        × (room_of_program d.old_program.now ≤ length d.stack.items)
+        × (room_of_program d.new_program.now ≤ length d.stack.items) };
 }
 
 impl<'p> Duo<'p> {
@@ -61,12 +74,20 @@ impl<'p> Duo<'p> {
     {
         let states = start_both(alloc, old, new)?;
         let tried = start_both(alloc, old, new)?;
+        let old_ranges = ranges_of(alloc, &old.cells)?;
+        let new_ranges = ranges_of(alloc, &new.cells)?;
+        let mut stack = Vec::new(alloc);
+        add_room(&old.called, &old.body, &mut stack)?;
+        add_room(&new.called, &new.body, &mut stack)?;
         Ok(Duo {
             old_program: old,
             new_program: new,
             relation,
             states,
             tried,
+            old_ranges,
+            new_ranges,
+            stack,
         })
     }
 
@@ -105,7 +126,14 @@ impl<'p> Duo<'p> {
         ensures in_range { IsInRangeOf self.new self.new.pair }
     {
         load(&self.relation.inputs, row, &mut self.states);
-        scan_both(self.old_program, self.new_program, &mut self.states);
+        scan_both(
+            self.old_program,
+            self.new_program,
+            &self.old_ranges,
+            &self.new_ranges,
+            &mut self.states,
+            &mut self.stack,
+        );
     }
 
     /// Whether every RELATE clause holds.

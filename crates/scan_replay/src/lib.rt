@@ -1,13 +1,12 @@
 // Machines that run programs scan by scan: their states are those of the model.
 #![tactic(auto)]
 
+mod cells;
 mod duo;
 mod machine;
 mod pair;
 mod run;
-mod selection;
 mod states;
-mod turns;
 mod two_states;
 
 pub use duo::Duo;

@@ -6,9 +6,11 @@ ghost use Rattle.scan_model.specs.Scans.{ranges_of, initial, scanned};
 ghost use Rattle.scan_model.specs.InRange.{IsInRange, IsProgram};
 ghost use Rattle.scan_replay.specs.Machines.{fits_inputs, with_inputs};
 
+use crate::cells::ranges_of;
 use crate::run::scan;
 use crate::states::{copy_over, put_all, row_fits, start, state_fits, value_at};
-use st_tree::Program;
+use effects::add_room;
+use st_tree::{Program, Range};
 use std::alloc::{AllocError, Global};
 use std::marker::Model;
 
@@ -18,16 +20,19 @@ pub struct Machine<'p> {
     program: &'p Program,
     inputs: Vec<usize>,
     state: Vec<i64>,
+    ranges: Vec<Range>,
+    // room for calls and charts
+    stack: Vec<i64>,
 }
 
 impl<'p> Model for Machine<'p> {
-    ghost use Rattle.scan_replay.specs.Machines.{Running};
+    ghost use Rattle.scan_replay.specs.Machines.{Running, room_of_program};
     ghost use Rattle.scan_model.specs.Scans.{ranges_of};
     ghost use Rattle.scan_model.specs.InRange.{IsInRange, IsProgram};
     ghost use Rattle.st_tree.specs.Cells.{inputs_of};
     ghost use Rattle.st_tree.specs.View.{program_view, cells_view};
     ghost use Rattle.st_tree.specs.contracts.typed.TypedStmt as stmt;
-    ghost use Rattle.std.specs.Prelude.{◌≡◌};
+    ghost use Rattle.std.specs.Prelude.{◌≡◌, ◌≤◌, length};
     ghost use Rattle.std.specs.Coded.{codes};
 
     ghost Value = { Running };
@@ -36,7 +41,8 @@ impl<'p> Model for Machine<'p> {
 
     ghost view = { λ m. record { program = m.program.now; state = m.state.items } };
 
-    ghost invariant = { λ m. IsProgram (program_view m.program.now) × (m.inputs.items ≡ inputs_of (program_view m.program.now)) × IsInRange (ranges_of (cells_view m.program.now.cells.items)) m.state.items };
+    ghost invariant = { λ m. IsProgram (program_view m.program.now) × (m.inputs.items ≡ inputs_of (program_view m.program.now)) × IsInRange (ranges_of (cells_view m.program.now.cells.items)) m.state.items
+        × (m.ranges.items ≡ ranges_of (cells_view m.program.now.cells.items)) × (room_of_program m.program.now ≤ length m.stack.items) };
 }
 
 impl<'p> Machine<'p> {
@@ -48,10 +54,15 @@ impl<'p> Machine<'p> {
     {
         let inputs = program.inputs(alloc)?;
         let state = start(alloc, &program.cells)?;
+        let ranges = ranges_of(alloc, &program.cells)?;
+        let mut stack = Vec::new(alloc);
+        add_room(&program.called, &program.body, &mut stack)?;
         Ok(Machine {
             program,
             inputs,
             state,
+            ranges,
+            stack,
         })
     }
 
@@ -61,7 +72,7 @@ impl<'p> Machine<'p> {
         ensures state { self.new.state ≡ scanned (program_view self.old.program) self.old.state }
         ensures in_range { IsInRange (ranges_of (cells_view self.new.program.cells.items)) self.new.state }
     {
-        scan(self.program, &mut self.state);
+        scan(self.program, &self.ranges, &mut self.state, &mut self.stack);
     }
 
     /// Whether a row has one number for each VAR_INPUT cell, in its range.

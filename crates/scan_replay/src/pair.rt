@@ -1,14 +1,17 @@
 // A pair of states under a relation: rows of inputs, and clauses.
-ghost use Rattle.std.specs.Prelude.{◌≡◌, ◌++◌, IfOk, length};
-ghost use Rattle.st_tree.specs.View.{expr_view, exprs_view, program_view};
+ghost use Rattle.std.specs.Prelude.{◌≡◌, ◌≤◌, ◌++◌, IfOk, length};
+ghost use Rattle.st_tree.specs.View.{expr_view, exprs_view, cells_view, program_view};
+ghost use Rattle.scan_model.specs.Scans.{ranges_of};
 ghost use Rattle.scan_model.specs.Pairs.{Pair, start, scanned_both, range_of_line, fits_lines, loaded_one, loaded, holds, all_hold, candidates_view};
 ghost use Rattle.scan_model.specs.Candidates.{candidate_holds};
+ghost use Rattle.scan_replay.specs.Machines.{room_of_program};
 ghost use Rattle.scan_replay.specs.States.{pair_of};
 
-use crate::run::{is_in_range, put, scan};
+use crate::cells::{is_in_range, put};
+use crate::run::scan;
 use crate::states::{copy_over, reset, start};
 use crate::two_states::States;
-use expression_value::evaluate;
+use effects::evaluate;
 use scan_model::{Candidate, InputLine};
 use st_tree::{Program, Range, TypedExpr};
 use std::alloc::{AllocError, Global};
@@ -44,12 +47,23 @@ pub fn copy_both(states: &mut States, old: &[i64], new: &[i64])
     copy_over(&mut states.of_new, new);
 }
 
-/// Runs both programs one scan.
-pub fn scan_both(old: &Program, new: &Program, states: &mut States)
+/// Runs both programs one scan, each with the ranges of its cells and room on the stack.
+pub fn scan_both(
+    old: &Program,
+    new: &Program,
+    old_ranges: &[Range],
+    new_ranges: &[Range],
+    states: &mut States,
+    stack: &mut [i64],
+)
+    requires old_ranges { old_ranges.now ≡ ranges_of (cells_view old.now.cells.items) }
+    requires new_ranges { new_ranges.now ≡ ranges_of (cells_view new.now.cells.items) }
+    requires old_room { room_of_program old.now ≤ length stack.old }
+    requires new_room { room_of_program new.now ≤ length stack.old }
     ensures { pair_of states.new ≡ scanned_both (program_view old.now) (program_view new.now) (pair_of states.old) }
 {
-    scan(old, &mut states.of_old);
-    scan(new, &mut states.of_new);
+    scan(old, old_ranges, &mut states.of_old, stack);
+    scan(new, new_ranges, &mut states.of_new, stack);
 }
 
 /// Whether a row has one number for each INPUT line, in its range.

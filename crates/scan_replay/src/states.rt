@@ -4,7 +4,7 @@ ghost use Rattle.st_tree.specs.View.{cells_view};
 ghost use Rattle.scan_model.specs.Scans.{ranges_of, initial};
 ghost use Rattle.scan_model.specs.InRange.{IsInRange, fits_places, put_at};
 
-use crate::run::{is_in_range, put, range_at};
+use crate::cells::{is_in_range, put, range_at};
 use st_tree::Cell;
 use std::alloc::{AllocError, Global};
 

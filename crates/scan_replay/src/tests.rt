@@ -1,4 +1,6 @@
 mod asked;
+mod calls;
+mod charts;
 mod duos;
 mod machines;
 mod selections;

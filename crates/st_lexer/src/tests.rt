@@ -1,6 +1,6 @@
 // Texts of which the tokens, or the first broken rule, were worked by hand.
 use crate::{LexFault, lex, number_value, one_cut, one_spelling};
-use st_tree::{Elementary, Kind, Mark, Operator, Refusal, Rule, Terminal};
+use st_tree::{Elementary, Kind, Mark, Operator, PartWord, Refusal, Rule, Terminal};
 use std::alloc::Global;
 use std::test::Fail;
 
@@ -65,7 +65,7 @@ fn tokens_in_order(rt: HostRuntime) -> Result<(), Fail> {
 #[test]
 fn terminals_in_any_case(rt: HostRuntime) -> Result<(), Fail> {
     let text =
-        "If end_Program ifs AND & xor Not tRUE Usint wstring For Var_Temp tYPE End_Type step :=<>..(#-16#1F".as_bytes();
+        "If end_Program ifs AND & xor Not tRUE Usint wstring For Var_Temp tYPE End_Type step Initial_Step TRANSITION action End_Step END_TRANSITION end_action array Function END_function fUNCTION_BLOCK end_Function_Block :=<>..(#-16#1F".as_bytes();
     let tokens = lex(rt.alloc(), text).ok().ok_or("tokens")?;
     let rows = [
         Terminal::Mark(Mark::If),
@@ -82,7 +82,18 @@ fn terminals_in_any_case(rt: HostRuntime) -> Result<(), Fail> {
         Terminal::Mark(Mark::VarTemp),
         Terminal::Mark(Mark::Type),
         Terminal::Mark(Mark::EndType),
+        Terminal::Part(PartWord::Step),
+        Terminal::Part(PartWord::InitialStep),
+        Terminal::Part(PartWord::Transition),
+        Terminal::Part(PartWord::Action),
+        Terminal::Mark(Mark::EndStep),
+        Terminal::Mark(Mark::EndTransition),
+        Terminal::Mark(Mark::EndAction),
         Terminal::LeftOut,
+        Terminal::Mark(Mark::Function),
+        Terminal::Mark(Mark::EndFunction),
+        Terminal::Mark(Mark::FunctionBlock),
+        Terminal::Mark(Mark::EndFunctionBlock),
         Terminal::Mark(Mark::Assign),
         Terminal::Operator(Operator::NotEqual),
         Terminal::Mark(Mark::Range),

@@ -5,7 +5,7 @@ ghost use Rattle.st_tree.specs.SyntaxView.{upper};
 ghost use Rattle.st_tree.specs.Terminals.{entry_or, words};
 ghost use Rattle.st_lexer.specs.Tables.{entries_of, of_length};
 
-use st_tree::{Elementary, Mark, Operator, Terminal};
+use st_tree::{Elementary, Mark, Operator, PartWord, Terminal};
 
 static WORDS_OF_2: [(&str, Terminal); 8] = [
     ("IF", Terminal::Mark(Mark::If)),
@@ -35,6 +35,7 @@ static WORDS_OF_4: [(&str, Terminal); 19] = [
     ("ELSE", Terminal::Mark(Mark::Else)),
     ("CASE", Terminal::Mark(Mark::Case)),
     ("FROM", Terminal::Mark(Mark::From)),
+    ("STEP", Terminal::Part(PartWord::Step)),
     ("TRUE", Terminal::Truth(true)),
     ("BOOL", Terminal::Type(Elementary::Bool)),
     ("SINT", Terminal::Type(Elementary::Sint)),
@@ -48,7 +49,6 @@ static WORDS_OF_4: [(&str, Terminal); 19] = [
     ("LINT", Terminal::LeftOut),
     ("EXIT", Terminal::LeftOut),
     ("TASK", Terminal::LeftOut),
-    ("STEP", Terminal::LeftOut),
 ];
 
 static WORDS_OF_5: [(&str, Terminal); 10] = [
@@ -66,6 +66,7 @@ static WORDS_OF_5: [(&str, Terminal); 10] = [
 
 static WORDS_OF_6: [(&str, Terminal); 9] = [
     ("END_IF", Terminal::Mark(Mark::EndIf)),
+    ("ACTION", Terminal::Part(PartWord::Action)),
     ("STRING", Terminal::LeftOut),
     ("STRUCT", Terminal::LeftOut),
     ("REPEAT", Terminal::LeftOut),
@@ -73,7 +74,6 @@ static WORDS_OF_6: [(&str, Terminal); 9] = [
     ("RETAIN", Terminal::LeftOut),
     ("R_EDGE", Terminal::LeftOut),
     ("F_EDGE", Terminal::LeftOut),
-    ("ACTION", Terminal::LeftOut),
 ];
 
 static WORDS_OF_7: [(&str, Terminal); 4] = [
@@ -85,25 +85,25 @@ static WORDS_OF_7: [(&str, Terminal); 4] = [
 
 static WORDS_OF_8: [(&str, Terminal); 7] = [
     ("END_TYPE", Terminal::Mark(Mark::EndType)),
+    ("FUNCTION", Terminal::Mark(Mark::Function)),
     ("VAR_TEMP", Terminal::Mark(Mark::VarTemp)),
     ("CONSTANT", Terminal::Mark(Mark::Constant)),
     ("END_CASE", Terminal::Mark(Mark::EndCase)),
+    ("END_STEP", Terminal::Mark(Mark::EndStep)),
     ("RESOURCE", Terminal::LeftOut),
-    ("FUNCTION", Terminal::LeftOut),
-    ("END_STEP", Terminal::LeftOut),
 ];
 
 static WORDS_OF_9: [(&str, Terminal); 1] = [("VAR_INPUT", Terminal::Mark(Mark::VarInput))];
 
 static WORDS_OF_10: [(&str, Terminal); 8] = [
     ("VAR_OUTPUT", Terminal::Mark(Mark::VarOutput)),
+    ("END_ACTION", Terminal::Mark(Mark::EndAction)),
+    ("TRANSITION", Terminal::Part(PartWord::Transition)),
     ("VAR_IN_OUT", Terminal::LeftOut),
     ("VAR_ACCESS", Terminal::LeftOut),
     ("VAR_GLOBAL", Terminal::LeftOut),
     ("VAR_CONFIG", Terminal::LeftOut),
     ("NON_RETAIN", Terminal::LeftOut),
-    ("TRANSITION", Terminal::LeftOut),
-    ("END_ACTION", Terminal::LeftOut),
 ];
 
 static WORDS_OF_11: [(&str, Terminal); 2] = [
@@ -112,9 +112,9 @@ static WORDS_OF_11: [(&str, Terminal); 2] = [
 ];
 
 static WORDS_OF_12: [(&str, Terminal); 3] = [
+    ("END_FUNCTION", Terminal::Mark(Mark::EndFunction)),
+    ("INITIAL_STEP", Terminal::Part(PartWord::InitialStep)),
     ("VAR_EXTERNAL", Terminal::LeftOut),
-    ("END_FUNCTION", Terminal::LeftOut),
-    ("INITIAL_STEP", Terminal::LeftOut),
 ];
 
 static WORDS_OF_13: [(&str, Terminal); 2] = [
@@ -123,11 +123,14 @@ static WORDS_OF_13: [(&str, Terminal); 2] = [
 ];
 
 static WORDS_OF_14: [(&str, Terminal); 2] = [
-    ("FUNCTION_BLOCK", Terminal::LeftOut),
-    ("END_TRANSITION", Terminal::LeftOut),
+    ("FUNCTION_BLOCK", Terminal::Mark(Mark::FunctionBlock)),
+    ("END_TRANSITION", Terminal::Mark(Mark::EndTransition)),
 ];
 
-static WORDS_OF_18: [(&str, Terminal); 1] = [("END_FUNCTION_BLOCK", Terminal::LeftOut)];
+static WORDS_OF_18: [(&str, Terminal); 1] = [(
+    "END_FUNCTION_BLOCK",
+    Terminal::Mark(Mark::EndFunctionBlock),
+)];
 
 #[tactic(auto, unfolding(st_tree::specs::Terminals::words))]
 fn words_of(len: usize) -> &'static [(&'static str, Terminal)]

@@ -9,5 +9,13 @@ pub mod EndLemmas
 pub mod CircularLemmas
 pub mod SlotLemmas
 pub mod SlotSteps
+pub mod PouLemmas
 pub mod UseLemmas
+pub mod MemberLemmas
+pub mod JudgedLemmas
+pub mod ListLemmas
+pub mod CircleLemmas
+pub mod BindingLemmas
+pub mod TextSetLemmas
+pub mod ChartLemmas
 pub mod Kept

@@ -35,25 +35,29 @@ types_append number (d ∷ ds) es =
     ap (λ ns. (d.name, standings.Type number) ∷ (here ++ ns)) (types_append (number + 1) ds es ∙ ap (λ k. names_of_types (number + 1) ds ++ names_of_types k es) (omega arith))
     ∙ ap (λ ns. (d.name, standings.Type number) ∷ ns) (sym (append_assoc here (names_of_types (number + 1) ds) (names_of_types (number + suc (length ds)) es)))
 
-pub of_file : (d : DeclaredName) (number : ℕ) (f : FileData) → IsIn d (names_of_items number f) → (d.1 ≡ standings.Pou) ⊎ IsIn d (names_of_types number (types_of f))
-of_file d number [] h = absurd h
-of_file d number (types ds ∷ is) h = elim (in_split d (names_of_types number ds) (names_of_items (number + length ds) is) h) as (λ _. (d.1 ≡ standings.Pou) ⊎ IsIn d (names_of_types number (ds ++ types_of is))) [
+-- what stands for a POU
+abbrev pub IsPouName : DeclaredName → Type 0
+IsPouName d = (k : ℕ) × (d.1 ≡ standings.Pou k)
+
+pub of_file : (d : DeclaredName) (number place : ℕ) (f : FileData) → IsIn d (names_of_items number place f) → IsPouName d ⊎ IsIn d (names_of_types number (types_of f))
+of_file d number place [] h = absurd h
+of_file d number place (types ds ∷ is) h = elim (in_split d (names_of_types number ds) (names_of_items (number + length ds) place is) h) as (λ _. IsPouName d ⊎ IsIn d (names_of_types number (ds ++ types_of is))) [
   | inl k ↦ inr (subst (IsIn d) (sym (types_append number ds (types_of is))) (in_left d (names_of_types number ds) (names_of_types (number + length ds) (types_of is)) k))
-  | inr k ↦ elim (of_file d (number + length ds) is k) as (λ _. (d.1 ≡ standings.Pou) ⊎ IsIn d (names_of_types number (ds ++ types_of is))) [
+  | inr k ↦ elim (of_file d (number + length ds) place is k) as (λ _. IsPouName d ⊎ IsIn d (names_of_types number (ds ++ types_of is))) [
     | inl e ↦ inl e
     | inr r ↦ inr (subst (IsIn d) (sym (types_append number ds (types_of is))) (in_right d (names_of_types number ds) (names_of_types (number + length ds) (types_of is)) r))
   ]
 ]
-of_file d number (pou p ∷ is) (inl e) = inl (ap (λ x. x.1) e)
-of_file d number (pou p ∷ is) (inr k) = of_file d number is k
+of_file d number place (pou p ∷ is) (inl e) = inl (place, ap (λ x. x.1) e)
+of_file d number place (pou p ∷ is) (inr k) = of_file d number (place + 1) is k
 
-pub in_file_names : (d : DeclaredName) (number : ℕ) (f : FileData) → IsIn d (names_of_types number (types_of f)) → IsIn d (names_of_items number f)
-in_file_names d number [] h = absurd h
-in_file_names d number (types ds ∷ is) h = elim (in_split d (names_of_types number ds) (names_of_types (number + length ds) (types_of is)) (subst (IsIn d) (types_append number ds (types_of is)) h)) as (λ _. IsIn d (names_of_types number ds ++ names_of_items (number + length ds) is)) [
-  | inl k ↦ in_left d (names_of_types number ds) (names_of_items (number + length ds) is) k
-  | inr k ↦ in_right d (names_of_types number ds) (names_of_items (number + length ds) is) (in_file_names d (number + length ds) is k)
+pub in_file_names : (d : DeclaredName) (number place : ℕ) (f : FileData) → IsIn d (names_of_types number (types_of f)) → IsIn d (names_of_items number place f)
+in_file_names d number place [] h = absurd h
+in_file_names d number place (types ds ∷ is) h = elim (in_split d (names_of_types number ds) (names_of_types (number + length ds) (types_of is)) (subst (IsIn d) (types_append number ds (types_of is)) h)) as (λ _. IsIn d (names_of_types number ds ++ names_of_items (number + length ds) place is)) [
+  | inl k ↦ in_left d (names_of_types number ds) (names_of_items (number + length ds) place is) k
+  | inr k ↦ in_right d (names_of_types number ds) (names_of_items (number + length ds) place is) (in_file_names d (number + length ds) place is k)
 ]
-in_file_names d number (pou p ∷ is) h = inr (in_file_names d number is h)
+in_file_names d number place (pou p ∷ is) h = inr (in_file_names d number (place + 1) is h)
 
 -- ---- a name and what it stands for
 

@@ -3,8 +3,8 @@ use Rattle.std.proofs.Common.{◌≡◌, ℕ, suc, ◌+◌, List, [], ◌∷◌,
 use Rattle.std.specs.List.{list_any}
 use Rattle.std.specs.Cmp.Lexicographic.{bytes_decides}
 use Rattle.std.proofs.lemmas.Bool.Decides.{nat_tests}
-use Rattle.st_names.specs.Scopes.{Variable, is_of_name, is_fault, is_doubled}
-use Rattle.st_names.specs.Slots.{found, slot_of, slot_named, entered}
+use Rattle.st_names.specs.Scopes.{Variable, is_of_name, is_fault, is_doubled_among}
+use Rattle.st_names.specs.Slots.{found, slot_of, slot_among, entered}
 use Rattle.st_names.proofs.CountLemmas.{count-cons, count-push}
 
 pub same_name : (v : Variable) (q : List ℕ) → is_of_name q v ≡ true → v.name.text ≡ q
@@ -28,7 +28,7 @@ found-push q n (x ∷ xs) v = by (is_of_name q x) (found-push q (n + 1) xs v)
     by false rest = rest ∙ ap (λ k. pushed q k v (found q (n + 1) xs)) more
 
 -- a name that is found is counted
-found-count : (q : List ℕ) (n : ℕ) (xs : List Variable) → is_some (found q n xs) ≡ nat_lt 0 (count_by (is_of_name q) xs)
+pub found-count : (q : List ℕ) (n : ℕ) (xs : List Variable) → is_some (found q n xs) ≡ nat_lt 0 (count_by (is_of_name q) xs)
 found-count q n [] = refl
 found-count q n (x ∷ xs) = by (is_of_name q x) (found-count q (n + 1) xs) ∙ ap (nat_lt 0) (sym (count-cons (is_of_name q) x xs))
   where
@@ -47,35 +47,35 @@ found-any q n (x ∷ xs) = by (is_of_name q x) (found-any q (n + 1) xs)
 
 -- ---- whether a name is doubled, once a variable is declared behind others
 
-other_name : (q : List ℕ) (xs : List Variable) (v : Variable) → is_of_name q v ≡ false → is_doubled (xs ++ v ∷ []) q ≡ is_doubled xs q
-other_name q xs v h = ap (λ n. is_fault q || nat_lt 1 n) (count-push (is_of_name q) xs v ∙ ap (λ b. count_by (is_of_name q) xs + (if b then 1 else 0)) h ∙ add-zero (count_by (is_of_name q) xs))
+other_name : (fault : Bool) (q : List ℕ) (xs : List Variable) (v : Variable) → is_of_name q v ≡ false → is_doubled_among fault (xs ++ v ∷ []) q ≡ is_doubled_among fault xs q
+other_name fault q xs v h = ap (λ n. is_fault fault q || nat_lt 1 n) (count-push (is_of_name q) xs v ∙ ap (λ b. count_by (is_of_name q) xs + (if b then 1 else 0)) h ∙ add-zero (count_by (is_of_name q) xs))
 
 or_true : (b c : Bool) → c ≡ true → (b || c) ≡ true
 or_true true c h = refl
 or_true false c h = h
 
-or_false : (b c : Bool) → c ≡ false → (b || c) ≡ b
+pub or_false : (b c : Bool) → c ≡ false → (b || c) ≡ b
 or_false true c h = refl
 or_false false c h = h
 
-known_name : (q : List ℕ) (xs : List Variable) (v : Variable) → is_of_name q v ≡ true → is_some (found q 1 xs) ≡ true → is_doubled (xs ++ v ∷ []) q ≡ true
-known_name q xs v h some =
+known_name : (fault : Bool) (q : List ℕ) (xs : List Variable) (v : Variable) → is_of_name q v ≡ true → is_some (found q 1 xs) ≡ true → is_doubled_among fault (xs ++ v ∷ []) q ≡ true
+known_name fault q xs v h some =
     let n : count_by (is_of_name q) (xs ++ v ∷ []) ≡ count_by (is_of_name q) xs + 1 = count-push (is_of_name q) xs v ∙ ap (λ b. count_by (is_of_name q) xs + (if b then 1 else 0)) h in
     let counted : nat_lt 0 (count_by (is_of_name q) xs) ≡ true = sym (found-count q 1 xs) ∙ some in
-    or_true (is_fault q) (nat_lt 1 (count_by (is_of_name q) (xs ++ v ∷ []))) (rw n (grind (arith, nat_tests)))
+    or_true (is_fault fault q) (nat_lt 1 (count_by (is_of_name q) (xs ++ v ∷ []))) (rw n (grind (arith, nat_tests)))
 
-new_name : (q : List ℕ) (xs : List Variable) (v : Variable) → is_of_name q v ≡ true → is_some (found q 1 xs) ≡ false → is_doubled (xs ++ v ∷ []) q ≡ is_fault v.name.text
-new_name q xs v h none =
+new_name : (fault : Bool) (q : List ℕ) (xs : List Variable) (v : Variable) → is_of_name q v ≡ true → is_some (found q 1 xs) ≡ false → is_doubled_among fault (xs ++ v ∷ []) q ≡ is_fault fault v.name.text
+new_name fault q xs v h none =
     let n : count_by (is_of_name q) (xs ++ v ∷ []) ≡ count_by (is_of_name q) xs + 1 = count-push (is_of_name q) xs v ∙ ap (λ b. count_by (is_of_name q) xs + (if b then 1 else 0)) h in
     let counted : nat_lt 0 (count_by (is_of_name q) xs) ≡ false = sym (found-count q 1 xs) ∙ none in
-    or_false (is_fault q) (nat_lt 1 (count_by (is_of_name q) (xs ++ v ∷ []))) (rw n (grind (arith, nat_tests))) ∙ ap is_fault (sym (same_name v q h))
+    or_false (is_fault fault q) (nat_lt 1 (count_by (is_of_name q) (xs ++ v ∷ []))) (rw n (grind (arith, nat_tests))) ∙ ap (is_fault fault) (sym (same_name v q h))
 
-slot-push : (q : List ℕ) (xs : List Variable) (v : Variable) (o : Option (ℕ × Variable)) (b : Bool) → found q 1 xs ≡ o → is_of_name q v ≡ b
-    → option_map (slot_of (is_doubled (xs ++ v ∷ []) q)) (pushed q (1 + length xs) v o) ≡ (if b then Some (entered (length xs + 1) v (option_map (slot_of (is_doubled xs q)) o)) else option_map (slot_of (is_doubled xs q)) o)
-slot-push q xs v (Some f) true e h = ap (λ d. Some (slot_of d f)) (known_name q xs v h (ap is_some e))
-slot-push q xs v (Some f) false e h = ap (λ d. Some (slot_of d f)) (other_name q xs v h)
-slot-push q xs v None true e h = rw (h, new_name q xs v h (ap is_some e)) (ap (λ k. Some (slot_of (is_fault v.name.text) (k, v))) (omega arith))
-slot-push q xs v None false e h = rw h refl
+slot-push : (fault : Bool) (q : List ℕ) (xs : List Variable) (v : Variable) (o : Option (ℕ × Variable)) (b : Bool) → found q 1 xs ≡ o → is_of_name q v ≡ b
+    → option_map (slot_of (is_doubled_among fault (xs ++ v ∷ []) q)) (pushed q (1 + length xs) v o) ≡ (if b then Some (entered fault (length xs + 1) v (option_map (slot_of (is_doubled_among fault xs q)) o)) else option_map (slot_of (is_doubled_among fault xs q)) o)
+slot-push fault q xs v (Some f) true e h = ap (λ d. Some (slot_of d f)) (known_name fault q xs v h (ap is_some e))
+slot-push fault q xs v (Some f) false e h = ap (λ d. Some (slot_of d f)) (other_name fault q xs v h)
+slot-push fault q xs v None true e h = rw (h, new_name fault q xs v h (ap is_some e)) (ap (λ k. Some (slot_of (is_fault fault v.name.text) (k, v))) (omega arith))
+slot-push fault q xs v None false e h = rw h refl
 
-pub slot_named-push : (q : List ℕ) (xs : List Variable) (v : Variable) → slot_named (xs ++ v ∷ []) q ≡ (if is_of_name q v then Some (entered (length xs + 1) v (slot_named xs q)) else slot_named xs q)
-slot_named-push q xs v = ap (option_map (slot_of (is_doubled (xs ++ v ∷ []) q))) (found-push q 1 xs v) ∙ slot-push q xs v (found q 1 xs) (is_of_name q v) refl refl
+pub slot_among-push : (fault : Bool) (q : List ℕ) (xs : List Variable) (v : Variable) → slot_among fault (xs ++ v ∷ []) q ≡ (if is_of_name q v then Some (entered fault (length xs + 1) v (slot_among fault xs q)) else slot_among fault xs q)
+slot_among-push fault q xs v = ap (option_map (slot_of (is_doubled_among fault (xs ++ v ∷ []) q))) (found-push q 1 xs v) ∙ slot-push fault q xs v (found q 1 xs) (is_of_name q v) refl refl

@@ -12,6 +12,7 @@ use Rattle.st_tree.specs.Rules.{earlier, first_in}
 use Rattle.st_tree.specs.Syntax.{Named, FileData}
 use Rattle.st_names.specs.declared.standing.Standing.{Standing}
 use Rattle.st_names.specs.declared.table.Entry.{Entry}
+use Rattle.st_names.specs.Judgements.{sound}
 use Rattle.st_names.specs.Broken.{twice, names_twice, in_file}
 use Rattle.st_names.specs.FileScope.{DeclaredName, names_of, is_declared_as, is_doubled_in_file, first_standing, standing}
 use Rattle.st_names.specs.Library.{is_library}
@@ -92,7 +93,7 @@ pub count-below : (q : List ℕ) (xs : List DeclaredName) (known : Option Entry)
 count-below q xs known n k e h l = omega (arith, count_by-le-length (is_declared_as q) xs, ap count_in e ∙ entry-count q xs)
 
 abbrev own : DeclaredName → Bool → List Refusal
-own d known = if is_library d.0.text || known then twice d.0.at else []
+own d known = (if is_library d.0.text || known then twice d.0 else sound).broken
 
 pub names_push : (a b r : Option Refusal) (before rest : List DeclaredName) (d : DeclaredName) (known : Option Entry) → known ≡ entry_named before d.0.text
     → r ≡ first_in (own d (is_some known)) → b ≡ earlier a r

@@ -1,14 +1,16 @@
 -- What a slot says of a name's uses is what the variables say.
-use Rattle.std.proofs.Common.{◌≡◌, ℕ, zero, suc, ◌+◌, ◌-◌, ◌≤◌, List, [], ◌∷◌, ◌++◌, length, Bool, true, false, not, ◌&&◌, ◌||◌, nat_lt, nat_le, Option, Some, None, option_map, is_some, refl, sym, ap, ◌∙◌, if◌then◌else◌, arith}
+use Rattle.std.proofs.Common.{◌≡◌, ℕ, zero, suc, ◌+◌, ◌-◌, ◌≤◌, List, [], ◌∷◌, ◌++◌, length, Bool, true, false, not, ◌&&◌, ◌||◌, nat_lt, nat_le, Option, Some, None, option_map, is_some, refl, sym, ap, ◌∙◌, if◌then◌else◌, count_by, arith}
 use Rattle.std.specs.List.{list_any, slice_get}
 use Rattle.std.proofs.lemmas.Bool.Decides.{nat_tests}
 use Rattle.st_tree.specs.Syntax.{Named, FileData}
 use Rattle.st_names.specs.declared.slots.Slot.{Slot}
 use Rattle.st_names.specs.Broken.{misused, in_value}
-use Rattle.st_names.specs.Scopes.{Variable, is_of_name, variable_named, is_doubled, is_typed, has_constants, is_whole}
-use Rattle.st_names.specs.Slots.{found, slot_of, slot_named}
+use Rattle.st_names.specs.Judgements.{silent}
+use Rattle.st_names.specs.Scopes.{Variable, PouScope, is_of_name, variable_named, is_fault, is_doubled_among, is_doubled, block_of, is_typed, has_constants, is_whole, seen, seen_named}
+use Rattle.st_names.specs.declared.seen.Seen.{Seen}
+use Rattle.st_names.specs.Slots.{found, slot_of, slot_among}
 use Rattle.st_names.specs.Uses.{is_misused, value_by}
-use Rattle.st_names.proofs.SlotLemmas.{same_name}
+use Rattle.st_names.proofs.SlotLemmas.{same_name, found-count, or_false}
 
 abbrev pub variable_of : ℕ × Variable → Variable
 variable_of f = f.1
@@ -66,39 +68,46 @@ slot_some : (d : Bool) (o : Option (ℕ × Variable)) (s : Slot) → option_map 
 slot_some d None s h = absurd (let e : ⊥ = cc in e)
 slot_some d (Some g) s h = (g, refl, let e : slot_of d g ≡ s = cc in e)
 
-pub record IsSlotOf (vs : List Variable) (q : List ℕ) (s : Slot) (v : Variable) : Type 0 where
+pub record IsSlotOf (fault : Bool) (vs : List Variable) (q : List ℕ) (s : Slot) (v : Variable) : Type 0 where
   pub found : found q 1 vs ≡ Some (s.number, v)
-  pub doubled : s.is_doubled ≡ is_doubled vs q
+  pub role : s.role ≡ v.role
+  pub doubled : s.is_doubled ≡ is_doubled_among fault vs q
   pub counted : 1 ≤ s.number
   pub at : slice_get vs (s.number - 1) ≡ Some v
 
-pub slot_says : (vs : List Variable) (q : List ℕ) (s : Slot) → slot_named vs q ≡ Some s → (v : Variable) × IsSlotOf vs q s v
-slot_says vs q s h =
-    let r = slot_some (is_doubled vs q) (found q 1 vs) s h in
+pub slot_says : (fault : Bool) (vs : List Variable) (q : List ℕ) (s : Slot) → slot_among fault vs q ≡ Some s → (v : Variable) × IsSlotOf fault vs q s v
+slot_says fault vs q s h =
+    let r = slot_some (is_doubled_among fault vs q) (found q 1 vs) s h in
     let number : r.0.0 ≡ s.number = ap (λ x. x.number) r.2 in
     let low = found_from q 1 vs r.0 r.1 in (
       r.0.1,
       record {
         found = r.1 ∙ ap (λ n. Some (n, r.0.1)) number;
+        role = ap (λ x. x.role) (sym r.2);
         doubled = ap (λ x. x.is_doubled) (sym r.2);
         counted = omega arith;
         at = found_at q 1 (s.number - 1) vs r.0 r.1 (omega arith);
       },
     )
 
-pub no_slot : (vs : List Variable) (q : List ℕ) → slot_named vs q ≡ None → found q 1 vs ≡ None
-no_slot vs q h = by (found q 1 vs) h
+pub no_slot : (fault : Bool) (vs : List Variable) (q : List ℕ) → slot_among fault vs q ≡ None → found q 1 vs ≡ None
+no_slot fault vs q h = by (found q 1 vs) h
   where
-    by : (o : Option (ℕ × Variable)) → option_map (slot_of (is_doubled vs q)) o ≡ None → o ≡ None
+    by : (o : Option (ℕ × Variable)) → option_map (slot_of (is_doubled_among fault vs q)) o ≡ None → o ≡ None
     by None k = refl
     by (Some g) k = absurd (let e : ⊥ = cc in e)
+
+pub none_doubled : (fault : Bool) (vs : List Variable) (q : List ℕ) → slot_among fault vs q ≡ None → is_fault fault q ≡ is_doubled_among fault vs q
+none_doubled fault vs q h =
+    let few : nat_lt 0 (count_by (is_of_name q) vs) ≡ false = sym (found-count q 1 vs) ∙ ap is_some (no_slot fault vs q h) in
+    sym (or_false (is_fault fault q) (nat_lt 1 (count_by (is_of_name q) vs)) (grind (arith, nat_tests)))
 
 is_some-map : {A B : Type 0} (f : A → B) (o : Option A) → is_some (option_map f o) ≡ is_some o
 is_some-map f None = refl
 is_some-map f (Some a) = refl
 
-pub slot-variable : (vs : List Variable) (q : List ℕ) → is_some (slot_named vs q) ≡ is_some (variable_named q vs)
-slot-variable vs q = is_some-map (slot_of (is_doubled vs q)) (found q 1 vs) ∙ sym (is_some-map variable_of (found q 1 vs)) ∙ ap is_some (sym (variable_named-found q 1 vs))
+pub slot-variable : (fault : Bool) (vs : List Variable) (q : List ℕ) → is_some (slot_among fault vs q) ≡ is_some (variable_named q vs)
+slot-variable fault vs q = is_some-map (slot_of (is_doubled_among fault vs q)) (found q 1 vs) ∙ sym (is_some-map variable_of (found q 1 vs)) ∙ ap is_some (sym (variable_named-found q 1 vs))
 
 -- ---- what is known of a name's variable
 
@@ -108,27 +117,27 @@ named_known q vs number v h = variable_named-found q 1 vs ∙ ap (option_map var
 pub none_known : {A : Type 0} (g : Variable → A) (q : List ℕ) (vs : List Variable) → None ≡ found q 1 vs → None ≡ option_map g (variable_named q vs)
 none_known g q vs h = ap (λ o. option_map g (option_map variable_of o)) h ∙ ap (option_map g) (sym (variable_named-found q 1 vs))
 
-pub whole_known : (f : FileData) (q : List ℕ) (vs : List Variable) (number : ℕ) (v : Variable) (d b : Bool) → Some (number, v) ≡ found q 1 vs → d ≡ is_doubled vs q
-    → b ≡ (not d && is_typed f v.kind && has_constants f vs v) → Some b ≡ option_map (is_whole f vs) (variable_named q vs)
-whole_known f q vs number v d b h k is =
-    let name = found_name q 1 vs (number, v) (sym h) in
-    ap Some (is ∙ ap (λ x. not x && is_typed f v.kind && has_constants f vs v) (k ∙ ap (is_doubled vs) (sym name))) ∙ ap (option_map (is_whole f vs)) (sym (named_known q vs number v h))
+pub seen_known : (f : FileData) (p : PouScope) (q : List ℕ) (number : ℕ) (v : Variable) (whole : Bool) (block : Option ℕ) → Some (number, v) ≡ found q 1 p.variables
+    → whole ≡ is_whole f p v → block ≡ block_of f v → Some (record { whole = whole; role = v.role; block = block }) ≡ seen_named f p q
+seen_known f p q number v whole block h w b =
+    ap (λ x. Some (record { whole = x; role = v.role; block = block })) w ∙ ap (λ x. Some (record { whole = is_whole f p v; role = v.role; block = x })) b
+    ∙ ap (option_map (seen f p)) (sym (named_known q p.variables number v h))
 
-pub misused_known : (f : FileData) (q : List ℕ) (before rest : List Variable) (place number : ℕ) (v : Variable) (d b : Bool) → place ≡ length before → Some (number, v) ≡ found q 1 (before ++ rest) → d ≡ is_doubled (before ++ rest) q
-    → b ≡ (not d && (is_typed f v.kind && (has_constants f (before ++ rest) v || not (nat_le number place)))) → Some b ≡ option_map (is_misused f (before ++ rest) before) (variable_named q (before ++ rest))
-misused_known f q before rest place number v d b l h k is =
-    let vs = before ++ rest in
-    let name = found_name q 1 vs (number, v) (sym h) in
+pub misused_known : (f : FileData) (p : PouScope) (q : List ℕ) (before rest : List Variable) (place number : ℕ) (v : Variable) (b : Bool) → p.variables ≡ before ++ rest → place ≡ length before → Some (number, v) ≡ found q 1 p.variables
+    → b ≡ (not (is_doubled p v.name.text) && (is_typed f v && (has_constants f p v || not (nat_le number place)))) → Some b ≡ option_map (is_misused f p before) (variable_named q p.variables)
+misused_known f p q before rest place number v b all l h is =
+    let name = found_name q 1 p.variables (number, v) (sym h) in
+    let parts : found q 1 (before ++ rest) ≡ Some (number, v) = ap (found q 1) (sym all) ∙ sym h in
     let behind : nat_le number place ≡ nat_lt number (1 + length before) = grind (arith, nat_tests) in
-    let there : nat_le number place ≡ list_any (is_of_name v.name.text) before = behind ∙ sym (found_before q 1 before rest (number, v) (sym h)) ∙ ap (λ t. list_any (is_of_name t) before) (sym name) in
-    ap Some (is ∙ ap (λ x. not x && (is_typed f v.kind && (has_constants f vs v || not (nat_le number place)))) (k ∙ ap (is_doubled vs) (sym name)) ∙ ap (λ x. not (is_doubled vs v.name.text) && (is_typed f v.kind && (has_constants f vs v || not x))) there)
-    ∙ ap (option_map (is_misused f vs before)) (sym (named_known q vs number v h))
+    let there : nat_le number place ≡ list_any (is_of_name v.name.text) before = behind ∙ sym (found_before q 1 before rest (number, v) parts) ∙ ap (λ t. list_any (is_of_name t) before) (sym name) in
+    ap Some (is ∙ ap (λ x. not (is_doubled p v.name.text) && (is_typed f v && (has_constants f p v || not x))) there)
+    ∙ ap (option_map (is_misused f p before)) (sym (named_known q p.variables number v h))
 
-pub value_by-named : (f : FileData) (vs before : List Variable) (n : Named) (o : Option Variable) → value_by f (option_map (is_misused f vs before) o) n ≡ in_value f vs before o n
-value_by-named f vs before n None = refl
-value_by-named f vs before n (Some v) = by (is_doubled vs v.name.text)
+pub value_by-named : (f : FileData) (p : PouScope) (before : List Variable) (n : Named) (o : Option Variable) → value_by f p (option_map (is_misused f p before) o) n ≡ in_value f p before o n
+value_by-named f p before n None = refl
+value_by-named f p before n (Some v) = by (is_doubled p v.name.text)
   where
-    by : (d : Bool) → (if not d && (is_typed f v.kind && (has_constants f vs v || not (list_any (is_of_name v.name.text) before))) then misused n else [])
-        ≡ (if d then [] else (if is_typed f v.kind && (has_constants f vs v || not (list_any (is_of_name v.name.text) before)) then misused n else []))
+    by : (d : Bool) → (if not d && (is_typed f v && (has_constants f p v || not (list_any (is_of_name v.name.text) before))) then misused n else silent)
+        ≡ (if d then silent else (if is_typed f v && (has_constants f p v || not (list_any (is_of_name v.name.text) before)) then misused n else silent))
     by true = refl
     by false = refl

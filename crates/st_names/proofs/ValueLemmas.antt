@@ -24,12 +24,6 @@ names_value text None = false
 names_value text (Some (of_type k)) = false
 names_value text (Some (of_values at first others)) = list_any (is_text text) (first ∷ others)
 
--- what is a type or a value stands no other way
-is_type_number : Standing → Bool
-is_type_number (standings.Type t) = true
-is_type_number (standings.Value t k) = false
-is_type_number standings.Pou = false
-
 in_values : (d : DeclaredName) (t number : ℕ) (ns : List Named) → IsIn d (names_of_values t number ns) → (k : ℕ) × (d.1 ≡ standings.Value t k) × (list_any (is_text d.0.text) ns ≡ true)
 in_values d t number [] h = absurd h
 in_values d t number (n ∷ ns) (inl e) = (number, ap (λ x. x.1) e, ap (λ b. b || list_any (is_text d.0.text) ns) ((bytes_decides n.text d.0.text).1 (ap (λ x. x.0.text) (sym e))))
@@ -139,7 +133,7 @@ standing_some f q s h = by (is_doubled_in_file f q) h
 pub stands_for : (f : FileData) (d : DeclaredName) → IsIn d (names_of_types 0 (types_of f)) → is_doubled_in_file f d.0.text ≡ false → standing f d.0.text ≡ Some d.1
 stands_for f d h once =
     let few : count_by (is_declared_as d.0.text) (names_of f) ≤ 1 = few_of (count_by (is_declared_as d.0.text) (names_of f)) (is_library d.0.text) once in
-    standing_first f d.0.text once ∙ first_of d (names_of f) (in_file_names d 0 f h) few
+    standing_first f d.0.text once ∙ first_of d (names_of f) (in_file_names d 0 0 f h) few
   where
     few_of : (n : ℕ) (l : Bool) → nat_lt 1 (n + (if l then 1 else 0)) ≡ false → n ≤ 1
     few_of n true h = grind (arith, nat_tests)
@@ -148,24 +142,24 @@ stands_for f d h once =
 pub standing_type : (f : FileData) (q : List ℕ) (t : ℕ) → standing f q ≡ Some (standings.Type t) → t < length (types_of f)
 standing_type f q t h =
     let r = found_in q (names_of f) (standings.Type t) (standing_some f q (standings.Type t) h) in
-    elim (of_file r.0 0 f r.1) as (λ _. t < length (types_of f)) [
-      | inl e ↦ absurd (let i = r.3 in let g : ⊥ = cc in g)
+    elim (of_file r.0 0 0 f r.1) as (λ _. t < length (types_of f)) [
+      | inl e ↦ absurd (let i = r.3 in let j = e.1 in let g : ⊥ = cc in g)
       | inr k ↦ let b = type_below r.0 0 t (types_of f) k r.3 in omega arith
     ]
 
 pub standing_value : (f : FileData) (q : List ℕ) (t k : ℕ) → standing f q ≡ Some (standings.Value t k) → names_value q (specification_at f t) ≡ true
 standing_value f q t k h =
     let r = found_in q (names_of f) (standings.Value t k) (standing_some f q (standings.Value t k) h) in
-    elim (of_file r.0 0 f r.1) as (λ _. names_value q (specification_at f t) ≡ true) [
-      | inl e ↦ absurd (let i = r.3 in let g : ⊥ = cc in g)
+    elim (of_file r.0 0 0 f r.1) as (λ _. names_value q (specification_at f t) ≡ true) [
+      | inl e ↦ absurd (let i = r.3 in let j = e.1 in let g : ⊥ = cc in g)
       | inr m ↦ ap (λ text. names_value text (specification_at f t)) (sym r.2) ∙ value_in r.0 0 t k (types_of f) m (r.3 ∙ ap (λ n. standings.Value n k) (sym (zero-add t)))
     ]
 
 pub first_value : (f : FileData) (q : List ℕ) (t k : ℕ) → first_standing q (names_of f) ≡ Some (standings.Value t k) → names_value q (specification_at f t) ≡ true
 first_value f q t k h =
     let r = found_in q (names_of f) (standings.Value t k) h in
-    elim (of_file r.0 0 f r.1) as (λ _. names_value q (specification_at f t) ≡ true) [
-      | inl e ↦ absurd (let i = r.3 in let g : ⊥ = cc in g)
+    elim (of_file r.0 0 0 f r.1) as (λ _. names_value q (specification_at f t) ≡ true) [
+      | inl e ↦ absurd (let i = r.3 in let j = e.1 in let g : ⊥ = cc in g)
       | inr m ↦ ap (λ text. names_value text (specification_at f t)) (sym r.2) ∙ value_in r.0 0 t k (types_of f) m (r.3 ∙ ap (λ n. standings.Value n k) (sym (zero-add t)))
     ]
 
@@ -175,13 +169,13 @@ is_value_of-some : (number : ℕ) (o : Option Standing) → is_value_of number o
 is_value_of-some number None h = absurd (true≢false (sym h))
 is_value_of-some number (Some (standings.Type t)) h = absurd (true≢false (sym h))
 is_value_of-some number (Some (standings.Value t k)) h = let e : t ≡ number = grind (arith, nat_tests) in (k, ap (λ n. Some (standings.Value n k)) e)
-is_value_of-some number (Some standings.Pou) h = absurd (true≢false (sym h))
+is_value_of-some number (Some (standings.Pou p)) h = absurd (true≢false (sym h))
 
 that_is_of : (t k : ℕ) (o : Option Standing) → is_that_value t k o ≡ true → is_value_of t o ≡ true
 that_is_of t k None h = absurd (true≢false (sym h))
 that_is_of t k (Some (standings.Type u)) h = absurd (true≢false (sym h))
 that_is_of t k (Some (standings.Value u l)) h = grind (arith, nat_tests)
-that_is_of t k (Some standings.Pou) h = absurd (true≢false (sym h))
+that_is_of t k (Some (standings.Pou p)) h = absurd (true≢false (sym h))
 
 three : (a b c : Bool) → (a && b && c) ≡ true → (b ≡ true) × (c ≡ true)
 three true true true h = (refl, refl)

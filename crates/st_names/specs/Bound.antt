@@ -1,31 +1,42 @@
--- What the names of a PROGRAM are bound to, and what a file's answer is.
-use Rattle.std.specs.Prelude.{ℕ, List, Bool, Option, option_map}
-use Rattle.std.specs.List.{list_all}
-use Rattle.st_tree.specs.Rules.{IsAmong, IsFirst}
-use Rattle.st_tree.specs.Syntax.{PouData, FileData}
+-- What the names of a POU are bound to, and what a file's answer is.
+use Rattle.std.specs.Prelude.{◌≡◌, ℕ, ◌+◌, List, [], ◌∷◌, Bool, Option, Some, option_map}
+use Rattle.std.specs.List.{list_all, position_from}
+use Rattle.st_tree.specs.Rules.{IsFirst}
+use Rattle.st_tree.specs.Syntax.{PouData, types, pou, FileData}
 use Rattle.st_names.specs.declared.bound.Bound.{Bound}
 use Rattle.st_names.specs.declared.fault.NameFault.{NameFault}
 use Rattle.st_names.specs.declared.fault.NameFault.TheVariants.{Refused, Memory}
-use Rattle.st_names.specs.Broken.{broken_names}
-use Rattle.st_names.specs.Scopes.{Variable, variables_of, is_typed}
+use Rattle.st_names.specs.Broken.{is_program_pou}
+use Rattle.st_names.specs.Circles.{IsBroken}
+use Rattle.st_names.specs.FileScope.{pous_of}
+use Rattle.st_names.specs.Scopes.{Variable, variables_in_pou, is_typed}
 use Rattle.st_names.specs.Slots.{found}
 
 abbrev pub bound_of : ℕ × Variable → Bound
-bound_of f = record { number = f.0; section = f.1.section }
+bound_of f = record { number = f.0; role = f.1.role }
 
 -- a name is bound to the first variable of that name
 abbrev pub bound_named : List Variable → List ℕ → Option Bound
 bound_named vs text = option_map bound_of (found text 1 vs)
 
--- the variables of a PROGRAM
-abbrev pub variables_in_pou : PouData → List Variable
-variables_in_pou p = variables_of p.variables
-
--- each type by name is a type of the file
+-- each variable is an instance of a block, or its type, where it is one by name, breaks no rule
 abbrev pub are_typed : FileData → List Variable → Bool
-are_typed f vs = list_all (λ v. is_typed f v.kind) vs
+are_typed f vs = list_all (is_typed f) vs
+
+abbrev pub are_pous_typed : FileData → Bool
+are_pous_typed f = list_all (λ p. are_typed f (variables_in_pou p)) (pous_of f)
+
+-- the number of the first PROGRAM of a file
+abbrev pub program_number : FileData → Option ℕ
+program_number f = position_from is_program_pou 0 (pous_of f)
+
+-- the places of POUs among items, which are counted from a number on
+abbrev pub places_from : ℕ → FileData → List ℕ
+places_from number [] = []
+places_from number (types ds ∷ is) = places_from (number + 1) is
+places_from number (pou p ∷ is) = number ∷ places_from (number + 1) is
 
 -- a file is refused by the first rule on names that it breaks
 abbrev pub IsFaultOf : FileData → NameFault → Type 0
-IsFaultOf f (Refused r) = IsFirst (λ x. IsAmong x (broken_names f)) r
+IsFaultOf f (Refused r) = IsFirst (IsBroken f) r
 IsFaultOf f Memory = Unit {0}

@@ -50,4 +50,4 @@ abbrev pub is_value_of : ℕ → Option Standing → Bool
 is_value_of number None = false
 is_value_of number (Some (standings.Type t)) = false
 is_value_of number (Some (standings.Value t k)) = t == number
-is_value_of number (Some standings.Pou) = false
+is_value_of number (Some (standings.Pou p)) = false

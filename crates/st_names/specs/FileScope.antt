@@ -1,8 +1,8 @@
 -- The scope of a file (IEC 61131-3, 2.3.3 and 2.5): the names of types, of the values of enumerations, and of POUs.
-use Rattle.std.specs.Prelude.{ℕ, ◌+◌, List, [], ◌∷◌, ◌++◌, length, count_by, Bool, true, false, ◌||◌, nat_lt, Option, Some, None, if◌then◌else◌}
-use Rattle.std.specs.List.{list_any}
+use Rattle.std.specs.Prelude.{ℕ, ◌+◌, List, [], ◌∷◌, ◌++◌, length, count_by, Bool, true, false, ◌||◌, nat_lt, Option, Some, None, option_map, option_and_then, unwrap_or, if◌then◌else◌}
+use Rattle.std.specs.List.{list_any, slice_get}
 use Rattle.std.specs.Str.{bytes_eq}
-use Rattle.st_tree.specs.Syntax.{Named, SpecificationData, of_type, of_values, TypeDeclarationData, PouData, types, pou, FileData}
+use Rattle.st_tree.specs.Syntax.{Named, SpecificationData, of_type, of_values, TypeDeclarationData, PouKindData, function, function_block, program, PouData, types, pou, FileData}
 use Rattle.st_names.specs.declared.standing.Standing.{Standing}
 use Rattle.st_names.specs.declared.standing.Standing.TheVariants as standings
 use Rattle.st_names.specs.Library.{is_library}
@@ -36,14 +36,15 @@ abbrev pub names_of_types : ℕ → List TypeDeclarationData → List DeclaredNa
 names_of_types number [] = []
 names_of_types number (d ∷ ds) = (d.name, standings.Type number) ∷ (names_in_specification number d.specification ++ names_of_types (number + 1) ds)
 
-abbrev pub names_of_items : ℕ → FileData → List DeclaredName
-names_of_items number [] = []
-names_of_items number (types ds ∷ is) = names_of_types number ds ++ names_of_items (number + length ds) is
-names_of_items number (pou p ∷ is) = (p.name, standings.Pou) ∷ names_of_items number is
+-- the names of items, whose types and whose POUs are counted from a number on each
+abbrev pub names_of_items : ℕ → ℕ → FileData → List DeclaredName
+names_of_items number place [] = []
+names_of_items number place (types ds ∷ is) = names_of_types number ds ++ names_of_items (number + length ds) place is
+names_of_items number place (pou p ∷ is) = (p.name, standings.Pou place) ∷ names_of_items number (place + 1) is
 
 -- all names that a file declares, in its order
 abbrev pub names_of : FileData → List DeclaredName
-names_of f = names_of_items 0 f
+names_of f = names_of_items 0 0 f
 
 abbrev pub is_declared_as : List ℕ → DeclaredName → Bool
 is_declared_as text d = bytes_eq d.0.text text
@@ -69,10 +70,41 @@ abbrev pub is_type : Option Standing → Bool
 is_type None = false
 is_type (Some (standings.Type t)) = true
 is_type (Some (standings.Value t k)) = false
-is_type (Some standings.Pou) = false
+is_type (Some (standings.Pou p)) = false
 
 abbrev pub is_value : Option Standing → Bool
 is_value None = false
 is_value (Some (standings.Type t)) = false
 is_value (Some (standings.Value t k)) = true
-is_value (Some standings.Pou) = false
+is_value (Some (standings.Pou p)) = false
+
+-- the POU of a number, where a file has one
+abbrev pub pou_at : FileData → ℕ → Option PouData
+pou_at f number = slice_get (pous_of f) number
+
+abbrev pub kind_at : FileData → ℕ → Option PouKindData
+kind_at f number = option_map (λ p. p.kind) (pou_at f number)
+
+abbrev pub is_program : PouKindData → Bool
+is_program (function t) = false
+is_program function_block = false
+is_program program = true
+
+abbrev pub is_block : PouKindData → Bool
+is_block (function t) = false
+is_block function_block = true
+is_block program = false
+
+abbrev pub pou_number : Option Standing → Option ℕ
+pou_number None = None
+pou_number (Some (standings.Type t)) = None
+pou_number (Some (standings.Value t k)) = None
+pou_number (Some (standings.Pou p)) = Some p
+
+-- a POU that passes a test by what it is, by its number
+abbrev pub number_if : FileData → (PouKindData → Bool) → ℕ → Option ℕ
+number_if f test number = if unwrap_or (option_map test (kind_at f number)) false then Some number else None
+
+-- the FUNCTION_BLOCK that a name stands for, by its number
+abbrev pub block_number : FileData → Option Standing → Option ℕ
+block_number f s = option_and_then (number_if f is_block) (pou_number s)

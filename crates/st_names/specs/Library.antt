@@ -1,6 +1,5 @@
--- Names that each file's scope has from the start: standard functions, conversions and the blocks of the prelude.
-use Rattle.std.specs.Prelude.{ℕ, List, [], ◌∷◌, codes, Bool, ◌||◌, ◌==◌, Option, Some, None, is_some, option_and_then, if◌then◌else◌}
-use Rattle.std.specs.List.{list_any}
+-- Names that each file's scope has from the start: standard functions and conversions.
+use Rattle.std.specs.Prelude.{ℕ, List, [], ◌∷◌, codes, Bool, ◌==◌, Option, Some, None, is_some, option_and_then, if◌then◌else◌}
 use Rattle.std.specs.Str.{bytes_eq}
 use denote.Enum.Bare.{sameb}
 use Rattle.st_tree.specs.contracts.elementary.Elementary.{the_type}
@@ -9,10 +8,6 @@ use Rattle.st_tree.specs.declared.elementary.Elementary.TheVariants as types
 use Rattle.st_tree.specs.declared.function.Shift.TheVariants as shifts
 use Rattle.st_tree.specs.declared.function.StandardFunction.{StandardFunction}
 use Rattle.st_tree.specs.declared.function.StandardFunction.TheVariants as functions
-
--- the blocks of the prelude
-abbrev pub blocks : List (List ℕ)
-blocks = codes "R_TRIG" ∷ codes "F_TRIG" ∷ codes "SR" ∷ codes "RS" ∷ codes "CTU" ∷ codes "CTD" ∷ codes "CTUD" ∷ []
 
 -- the standard functions, but for the conversions
 abbrev pub functions_by_name : List (List ℕ × StandardFunction)
@@ -81,9 +76,6 @@ conversion_in (e ∷ es) text = either_function (conversion_from e.0 e.1 text) (
 unfoldable pub standard_function : List ℕ → Option StandardFunction
 standard_function text = either_function (function_in functions_by_name text) (conversion_in types_by_name text)
 
-abbrev pub is_function : List ℕ → Bool
-is_function text = is_some (standard_function text)
-
--- a standard function, a conversion, or a block of the prelude
+-- a standard function or a conversion
 abbrev pub is_library : List ℕ → Bool
-is_library text = list_any (λ w. bytes_eq w text) blocks || is_function text
+is_library text = is_some (standard_function text)

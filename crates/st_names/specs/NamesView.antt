@@ -1,13 +1,29 @@
--- What the names of a PROGRAM stand for: a file, and variables.
-use Rattle.std.specs.Prelude.{List}
-use Rattle.st_tree.specs.Syntax.{FileData}
-use Rattle.st_tree.specs.SyntaxView.{file_view}
-use Rattle.st_names.specs.declared.program_names.Names.{Names}
-use Rattle.st_names.specs.Scopes.{Variable}
+-- What the names of a POU stand for: a file, and the POU's scope.
+use Rattle.std.specs.Prelude.{◌≡◌, ℕ, List, map, option_map}
+use Rattle.std.specs.List.{slice_get}
+use Rattle.st_tree.specs.Syntax.{PouData, FileData}
+use Rattle.st_tree.specs.SyntaxView.{file_view, pou_view}
+use Rattle.st_names.specs.declared.names_of_pou.NamesOfPou.{NamesOfPou}
+use Rattle.st_names.specs.declared.names_of_pou.Names.{Names}
+use Rattle.st_names.specs.FileScope.{pou_at}
+use Rattle.st_names.specs.Scopes.{PouScope, scope_of, seen_named}
 use Rattle.st_names.specs.ScopeView.{variables_view}
 
 abbrev pub file_in : Names → FileData
 file_in names = file_view names.file.now.types.names.file.now
 
-abbrev pub variables_in : Names → List Variable
-variables_in names = variables_view names.variables.items
+abbrev pub scope_named : NamesOfPou → PouScope
+scope_named n = record { has_fault = n.has_fault; variables = variables_view n.variables.items }
+
+abbrev pub pou_in : Names → PouScope
+pou_in names = scope_named names.own.now
+
+abbrev pub pous_named : List NamesOfPou → List PouData
+pous_named ns = map (λ n. pou_view n.pou.now) ns
+
+abbrev pub scopes_named : List NamesOfPou → List PouScope
+scopes_named ns = map scope_named ns
+
+-- of the names of each POU of a file the same is known as in the file
+abbrev pub AreNamesOf : FileData → List NamesOfPou → Type 0
+AreNamesOf f ns = (number : ℕ) → (text : List ℕ) → option_map (λ n. seen_named f (scope_named n) text) (slice_get ns number) ≡ option_map (λ p. seen_named f (scope_of p) text) (pou_at f number)

@@ -1,10 +1,10 @@
 -- What is known of a name of a file, in one place: how often it is declared, and what it stands for first.
-use Rattle.std.specs.Prelude.{◌≡◌, ℕ, ◌+◌, List, [], Bool, ◌||◌, nat_lt, Option, Some, None, is_some, option_map, if◌then◌else◌, String, count_by}
+use Rattle.std.specs.Prelude.{◌≡◌, ℕ, ◌+◌, List, Bool, ◌||◌, nat_lt, Option, Some, None, is_some, option_map, if◌then◌else◌, String, count_by}
 use Rattle.std.specs.HashMap.{HashMap, get_by_text}
-use Rattle.st_tree.specs.declared.rule.Refusal.{Refusal}
 use Rattle.st_tree.specs.Syntax.{Named}
 use Rattle.st_names.specs.declared.standing.Standing.{Standing}
 use Rattle.st_names.specs.declared.table.Entry.{Entry}
+use Rattle.st_names.specs.Judgements.{Judgement, silent}
 use Rattle.st_names.specs.Broken.{unknown, misused}
 use Rattle.st_names.specs.FileScope.{DeclaredName, is_declared_as, first_standing}
 
@@ -31,9 +31,9 @@ abbrev pub standing_by : Bool → Option Entry → Option Standing
 standing_by library None = None
 standing_by library (Some e) = if is_twice library (Some e) then None else Some e.standing
 
--- what the use of a name breaks, where none is that fits
-abbrev pub used : Bool → Option Entry → Named → List Refusal
-used library e n = if library || is_some e then (if is_twice library e then [] else misused n) else unknown n
+-- the use of a name, where none is that fits
+abbrev pub used : Bool → Option Entry → Named → Judgement
+used library e n = if library || is_some e then (if is_twice library e then silent else misused n) else unknown n
 
 -- a map holds what a look-up finds
 abbrev pub Holds : {Y X S : Type 0} → HashMap (String Y) X S → (List ℕ → Option X) → Type 0

@@ -12,7 +12,7 @@ abbrev pub type_number : Option Standing → Option ℕ
 type_number None = None
 type_number (Some (standings.Type t)) = Some t
 type_number (Some (standings.Value t k)) = None
-type_number (Some standings.Pou) = None
+type_number (Some (standings.Pou p)) = None
 
 -- the type that a type by name names, where its file has one of that name, once
 abbrev pub named_type : FileData → SpecificationData → Option ℕ
@@ -65,7 +65,7 @@ abbrev pub is_that_value : ℕ → ℕ → Option Standing → Bool
 is_that_value t k None = false
 is_that_value t k (Some (standings.Type u)) = false
 is_that_value t k (Some (standings.Value u l)) = t == u && k == l
-is_that_value t k (Some standings.Pou) = false
+is_that_value t k (Some (standings.Pou p)) = false
 
 -- The values of a type, which are counted from a number on, break no rule by their names: none is a name of the library, or of an
 -- earlier declaration.

@@ -1,84 +1,131 @@
-// A program whose names are bound.
-ghost use Rattle.std.specs.Prelude.{◌≡◌, [], ◌∷◌, length};
-ghost use Rattle.st_tree.specs.Syntax.{PouData};
-ghost use Rattle.st_tree.specs.SyntaxView.{pou_view, items_view, file_view};
-ghost use Rattle.st_names.specs.Bound.{variables_in_pou};
-ghost use Rattle.st_names.specs.FileScope.{pous_of};
+// A file whose names are bound.
+ghost use Rattle.std.specs.Prelude.{◌≡◌, ◌<◌, Some, length, count_by, option_map};
+ghost use Rattle.st_tree.specs.SyntaxView.{file_view};
 ghost use Rattle.st_names.specs.Bindings.{AreBindings};
+ghost use Rattle.st_names.specs.BoundBy.{bound_by};
+ghost use Rattle.st_names.specs.Broken.{is_program_pou};
+ghost use Rattle.st_names.specs.FileScope.{pous_of};
 
 use crate::ends::end_at;
-use crate::slots::{Slots, slot_at};
+use crate::role::Role;
+use crate::slots::{Slot, Slots, slot_at};
 use crate::standing::Standing;
 use crate::table::{Table, standing_at};
-use st_tree::{Item, Pou, Section, SourceFile};
+use st_tree::{Item, Pou, SourceFile};
 
-/// A variable that a name is bound to: its number in declared order, from 1, and its section.
+/// A variable that a name is bound to: its number in declared order, from 1, and what it is for.
 #[derive(Clone, Copy, Debug, PartialEq, Eq)]
 pub struct Bound {
     pub number: usize,
-    pub section: Section,
+    pub role: Role,
 }
 
-/// The slots of a file's one PROGRAM, the table of its names, and where its types lead to.
+/// The slots of each POU, the places of POUs among the items of a file, their order, the number of the PROGRAM, the table of
+/// all names, and where types lead to.
 #[derive(Drop)]
 pub struct Bindings {
-    pub slots: Slots,
+    pub slots: Vec<Slots>,
+    pub places: Vec<usize>,
+    pub order: Vec<usize>,
+    pub program: Option<usize>,
     pub table: Table,
     pub ends: Vec<usize>,
 }
 
-/// The one PROGRAM of a file (IEC 61131-3, 2.5.3), which breaks no rule on names, and all names by what they stand for.
+/// A file that breaks no rule on names, and all its names by what they stand for.
 #[derive(Drop)]
 pub struct Resolved {
     pub file: SourceFile,
     bindings: Bindings,
-    ghost one: { length (pous_of (file_view file)) ≡ 1 },
+    ghost one: { count_by is_program_pou (pous_of (file_view file)) ≡ 1 },
     ghost bound: { AreBindings (file_view file) bindings },
 }
 
-// The first POU of a file's items.
-fn first_pou(items: &[Item]) -> &Pou
-    requires { length (pous_of (items_view items.now)) ≡ 1 }
-    ensures { pous_of (items_view items.now) ≡ pou_view result.now ∷ [] }
+// What a slot binds its name to.
+fn bound_by(slot: Option<Slot>) -> Option<Bound>
+    ensures { result ≡ option_map bound_by slot }
 {
-    for item in items {
-        if let Item::Pou(pou) = item {
-            return pou;
-        }
+    match slot {
+        Some(slot) => Some(Bound {
+            number: slot.number,
+            role: slot.role,
+        }),
+        None => None,
     }
-    unreachable!()
 }
 
 impl Resolved {
-    ghost use Rattle.st_names.specs.Bound.{bound_named};
-    ghost use Rattle.st_names.specs.FileScope.{standing};
+    ghost use Rattle.std.specs.Prelude.{option_and_then};
+    ghost use Rattle.call_order.specs.Uses.{order_of};
+    ghost use Rattle.st_tree.specs.SyntaxView.{pou_view};
+    ghost use Rattle.st_names.specs.Bound.{bound_named, program_number};
+    ghost use Rattle.st_names.specs.Circles.{uses_of};
+    ghost use Rattle.st_names.specs.FileScope.{pou_at, standing};
+    ghost use Rattle.st_names.specs.Scopes.{scope_of, variables_in_pou};
+    ghost use Rattle.st_names.specs.Slots.{slot_named};
     ghost use Rattle.st_names.specs.Types.{end_of};
 
     /// A file that has one PROGRAM, with its bindings.
     pub(crate) fn new(file: SourceFile, bindings: Bindings) -> Resolved
-        requires one { length (pous_of (file_view file)) ≡ 1 }
+        requires one { count_by is_program_pou (pous_of (file_view file)) ≡ 1 }
         requires bound { AreBindings (file_view file) bindings }
         ensures { file_view result.file ≡ file_view file }
     {
         Resolved { file, bindings }
     }
 
-    /// The one PROGRAM.
-    pub fn program(&self) -> &Pou
-        ensures { pous_of (file_view self.now.file) ≡ pou_view result.now ∷ [] }
+    /// How many POUs the file has.
+    pub fn pou_count(&self) -> usize
+        ensures { result ≡ length (pous_of (file_view self.now.file)) }
     {
-        first_pou(&self.file.items)
+        self.bindings.places.as_slice().len()
     }
 
-    /// The variable that a name in upper case is bound to, in constant time.
-    pub fn variable(&self, name: &str) -> Option<Bound>
-        ensures { (p : PouData) → pous_of (file_view self.now.file) ≡ p ∷ [] → result ≡ bound_named (variables_in_pou p) name.now }
+    /// The number of the one PROGRAM.
+    pub fn program(&self) -> usize
+        ensures { program_number (file_view self.now.file) ≡ Some result }
     {
-        let slot = slot_at(&self.bindings.slots, name)?;
-        Some(Bound {
-            number: slot.number,
-            section: slot.section,
-        })
+        match self.bindings.program {
+            Some(number) => number,
+            None => unreachable!(),
+        }
+    }
+
+    /// The POU of a number, in constant time.
+    pub fn pou(&self, number: usize) -> &Pou
+        requires { number < length (pous_of (file_view self.now.file)) }
+        ensures { pou_at (file_view self.now.file) number ≡ Some (pou_view result.now) }
+    {
+        let places = self.bindings.places.as_slice();
+        let items = self.file.items.as_slice();
+        match &items[places[number]] {
+            Item::Pou(pou) => pou,
+            Item::Types(_) => unreachable!(),
+        }
+    }
+
+    /// The POUs in an order in which each stands behind those that it uses.
+    pub fn order(&self) -> &[usize]
+        ensures { result.now ≡ order_of (uses_of (file_view self.now.file)) }
+    {
+        &self.bindings.order
+    }
+
+    // The slot of a name in the POU of a number.
+    fn slot(&self, pou: usize, name: &str) -> Option<Slot>
+        ensures { result ≡ option_and_then (λ p. slot_named (scope_of p) name.now) (pou_at (file_view self.now.file) pou) }
+    {
+        match self.bindings.slots.as_slice().get(pou) {
+            Some(slots) => slot_at(slots, name),
+            None => None,
+        }
+    }
+
+    /// The variable that a name in upper case is bound to in the POU of a number, in constant time.
+    pub fn variable(&self, pou: usize, name: &str) -> Option<Bound>
+        ensures { result ≡ option_and_then (λ p. bound_named (variables_in_pou p) name.now) (pou_at (file_view self.now.file) pou) }
+    {
+        bound_by(self.slot(pou, name))
     }
 
     /// What a name in upper case stands for in the file's scope, where it is declared there once, in constant time.

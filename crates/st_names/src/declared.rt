@@ -1,41 +1,69 @@
-// The variables of a program in declared order.
+// The names of a POU in declared order.
 ghost use Rattle.std.specs.Prelude.{◌≡◌, ◌++◌, map, OnOk, IfOk};
-ghost use Rattle.st_tree.specs.SyntaxView.{file_view, declaration_view, declarations_view, all_variables_view};
-ghost use Rattle.st_names.specs.Scopes.{declared_by, declared_in, variables_of};
+ghost use Rattle.st_tree.specs.SyntaxView.{name_view, pou_kind_view, pou_view, file_view, declaration_view, declarations_view, all_variables_view};
+ghost use Rattle.st_names.specs.Scopes.{declared_by, declared_in, variables_of, result_of, variables_in_pou};
 ghost use Rattle.st_names.specs.FileScope.{types_of};
 ghost use Rattle.st_names.specs.ScopeView.{variables_view, types_view};
 
+use crate::chart_names::append_names_in_body;
 use crate::names::list_declarations;
-use st_tree::{Declaration, Name, Section, SourceFile, TypeDeclaration, Variables};
+use crate::role::Role;
+use st_tree::{
+    Declaration, Expr, Name, Pou, PouKind, SourceFile, TypeDeclaration, TypeName, Variables,
+};
 use std::alloc::{AllocError, Global};
 
-/// A variable as it is declared: one of the names of a declaration in a section.
+/// A name of a POU as it is declared: one of the names of a declaration, or a FUNCTION's own; or that of a step, an action or a
+/// transition of a chart, which has no type.
 #[derive(Clone, Copy)]
 pub struct Declared<'a> {
     pub name: &'a Name,
-    pub section: Section,
-    pub declaration: &'a Declaration,
+    pub role: Role,
+    pub kind: Option<&'a TypeName>,
+    pub initial: Option<&'a Expr>,
+}
+
+// Appends a FUNCTION's own name.
+fn append_result<'a>(
+    list: &mut Vec<Declared<'a>>,
+    kind: &'a PouKind,
+    name: &'a Name,
+) -> Result<(), AllocError>
+    ensures { OnOk result (variables_view list.new.items ≡ variables_view list.old.items ++ result_of (pou_kind_view kind.now) (name_view name.now)) }
+{
+    if let PouKind::Function(kind) = kind {
+        list.push(Declared {
+            name,
+            role: Role::Result,
+            kind: Some(kind),
+            initial: None,
+        })?;
+    }
+    Ok(())
 }
 
 // Appends the variables of a declaration.
 fn append_declared<'a>(
     list: &mut Vec<Declared<'a>>,
-    section: Section,
+    role: Role,
     declaration: &'a Declaration,
 ) -> Result<(), AllocError>
-    ensures { OnOk result (variables_view list.new.items ≡ variables_view list.old.items ++ declared_by section (declaration_view declaration.now)) }
+    ensures { OnOk result (variables_view list.new.items ≡ variables_view list.old.items ++ declared_by role (declaration_view declaration.now)) }
 {
-    let name = &declaration.first;
+    let kind = Some(&declaration.kind);
+    let initial = declaration.initial.as_ref();
     list.push(Declared {
-        name,
-        section,
-        declaration,
+        name: &declaration.first,
+        role,
+        kind,
+        initial,
     })?;
     for name in &declaration.others {
         list.push(Declared {
             name,
-            section,
-            declaration,
+            role,
+            kind,
+            initial,
         })?;
     }
     Ok(())
@@ -44,28 +72,39 @@ fn append_declared<'a>(
 // Appends the variables of a section.
 fn append_section<'a>(
     list: &mut Vec<Declared<'a>>,
-    section: Section,
+    role: Role,
     declarations: &'a [Declaration],
 ) -> Result<(), AllocError>
-    ensures { OnOk result (variables_view list.new.items ≡ variables_view list.old.items ++ declared_in section (declarations_view declarations.now)) }
+    ensures { OnOk result (variables_view list.new.items ≡ variables_view list.old.items ++ declared_in role (declarations_view declarations.now)) }
 {
     for declaration in declarations {
-        append_declared(list, section, declaration)?;
+        append_declared(list, role, declaration)?;
     }
     Ok(())
 }
 
-/// The variables of a program in declared order.
-pub fn declared_variables<'a>(
-    alloc: Global,
-    variables: &'a [Variables],
-) -> Result<Vec<Declared<'a>>, AllocError>
-    ensures { IfOk result (λ list. variables_view list.items ≡ variables_of (all_variables_view variables.now)) }
+// Appends the variables that are declared in lists.
+fn append_sections<'a>(
+    list: &mut Vec<Declared<'a>>,
+    sections: &'a [Variables],
+) -> Result<(), AllocError>
+    ensures { OnOk result (variables_view list.new.items ≡ variables_view list.old.items ++ variables_of (all_variables_view sections.now)) }
+{
+    for section in sections {
+        append_section(list, Role::of(section.section), &section.declarations)?;
+    }
+    Ok(())
+}
+
+/// The names of a POU: of a FUNCTION first its own, then the variables that are declared, in their order, and then the names of a
+/// chart.
+pub fn declared_variables(alloc: Global, pou: &Pou) -> Result<Vec<Declared<'_>>, AllocError>
+    ensures { IfOk result (λ list. variables_view list.items ≡ variables_in_pou (pou_view pou.now)) }
 {
     let mut list = Vec::new(alloc);
-    for section in variables {
-        append_section(&mut list, section.section, &section.declarations)?;
-    }
+    append_result(&mut list, &pou.kind, &pou.name)?;
+    append_sections(&mut list, &pou.variables)?;
+    append_names_in_body(alloc, &mut list, &pou.body)?;
     Ok(list)
 }
 

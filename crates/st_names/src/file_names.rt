@@ -2,17 +2,19 @@
 ghost use Rattle.std.specs.Prelude.{◌≡◌, [], ◌∷◌, ◌&&◌, not, OnOk, IfOk};
 ghost use Rattle.st_tree.specs.Rules.{earlier, first_in};
 ghost use Rattle.st_tree.specs.SyntaxView.{name_view, names_view, specification_view, file_view};
-ghost use Rattle.st_names.specs.Broken.{names_twice, in_file, in_type_name};
+ghost use Rattle.st_names.specs.Broken.{names_twice, in_file};
 ghost use Rattle.st_names.specs.FileScope.{names_of, first_standing, standing, is_doubled_in_file};
 ghost use Rattle.st_names.specs.Library.{is_library};
 ghost use Rattle.st_names.specs.FileView.{file_names_view};
+ghost use Rattle.st_names.specs.Outcomes.{outcome_of};
 ghost use Rattle.st_names.specs.Table.{entry_named, Holds};
 ghost use Rattle.st_names.specs.Types.{is_that_value, are_first, named_type};
 
 use crate::library::is_library;
 use crate::names::FileName;
-use crate::standing::{Standing, is_that_value, is_type, type_number};
-use crate::table::{Table, first_at, is_doubled_at, refusal_in, standing_at, table_of};
+use crate::outcome::Outcome;
+use crate::standing::{Standing, is_that_value, type_number};
+use crate::table::{Table, first_at, is_doubled_at, standing_at, table_of, use_in};
 use st_tree::{Name, Refusal, SourceFile, Specification, TypeName};
 use std::alloc::{AllocError, Global};
 
@@ -39,21 +41,11 @@ impl FileNames<'_> {
         is_doubled_at(&self.table, name.text.as_str())
     }
 
-    /// What a name breaks that is looked up in the file's scope, where none is that fits.
-    pub fn refusal_at(&self, name: &Name) -> Option<Refusal>
-        ensures { result ≡ first_in (in_file (file_view self.now.file.now) (name_view name.now)) }
+    /// A name that is looked up in the file's scope, where none is that fits.
+    pub fn use_at(&self, name: &Name) -> Outcome
+        ensures { result ≡ outcome_of (in_file (file_view self.now.file.now) (name_view name.now)) }
     {
-        refusal_in(&self.table, name)
-    }
-
-    /// What a type by name breaks.
-    pub fn type_name_refusal(&self, name: &Name) -> Option<Refusal>
-        ensures { result ≡ first_in (in_type_name (file_view self.now.file.now) (name_view name.now)) }
-    {
-        if is_type(self.standing(name)) {
-            return None;
-        }
-        self.refusal_at(name)
+        use_in(&self.table, name)
     }
 
     /// What the first declared of a name stands for.

@@ -70,8 +70,8 @@ fn shapes(
 }
 
 impl FileTypes<'_> {
-    // Where a type leads to.
-    fn end_of(&self, number: usize) -> usize
+    /// Where a type leads to.
+    pub fn end_of(&self, number: usize) -> usize
         ensures { result ≡ end_of (file_view self.now.names.file.now) number }
     {
         end_at(&self.ends, number)

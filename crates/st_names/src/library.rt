@@ -1,13 +1,8 @@
 // Names that each file's scope has from the start.
 ghost use Rattle.std.specs.Prelude.{◌≡◌, map, option_map};
-ghost use Rattle.std.specs.List.{list_any};
-ghost use Rattle.std.specs.Str.{bytes_eq};
 ghost use Rattle.st_names.specs.Library.{function_in, type_in, after_front, conversion_to, conversion_from, conversion_in, standard_function, is_library};
 
 use st_tree::{Elementary, Shift, StandardFunction};
-
-// The blocks of the prelude.
-const BLOCKS: [&str; 7] = ["R_TRIG", "F_TRIG", "SR", "RS", "CTU", "CTD", "CTUD"];
 
 // The standard functions, but for the conversions.
 const FUNCTIONS: [(&str, StandardFunction); 9] = [
@@ -35,18 +30,6 @@ const ELEMENTARY: [(&str, Elementary); 10] = [
     ("WORD", Elementary::Word),
     ("DWORD", Elementary::Dword),
 ];
-
-// Whether a text in upper case is on a list.
-fn is_listed(list: &[&str], text: &[u8]) -> bool
-    ensures { result ≡ list_any (λ w. bytes_eq w text.now) (map (λ w. w.now) list.now) }
-{
-    for word in list {
-        if word.as_bytes() == text {
-            return true;
-        }
-    }
-    false
-}
 
 // The function of a name, among these.
 fn function_in(functions: &[(&str, StandardFunction)], text: &[u8]) -> Option<StandardFunction>
@@ -141,9 +124,9 @@ pub fn standard_function(text: &str) -> Option<StandardFunction>
     }
 }
 
-/// Whether a text in upper case names a standard function, a conversion, or a block of the prelude.
+/// Whether a text in upper case names a standard function or a conversion.
 pub fn is_library(text: &str) -> bool
     ensures { result ≡ is_library text.now }
 {
-    is_listed(&BLOCKS, text.as_bytes()) || standard_function(text).is_some()
+    standard_function(text).is_some()
 }

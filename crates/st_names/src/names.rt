@@ -1,12 +1,13 @@
-// The types of a file, and all names that it declares.
+// The types and POUs of a file, and all names that it declares.
 ghost use Rattle.std.specs.Prelude.{◌≡◌, ◌++◌, [], ◌∷◌, length, OnOk, IfOk};
-ghost use Rattle.st_tree.specs.SyntaxView.{names_view, specification_view, type_declaration_view, type_declarations_view, item_view, file_view};
-ghost use Rattle.st_names.specs.FileScope.{types_of, names_of, names_of_values, names_in_specification, names_of_types, names_of_items};
+ghost use Rattle.st_tree.specs.SyntaxView.{names_view, specification_view, type_declaration_view, type_declarations_view, item_view, pou_view, file_view};
+ghost use Rattle.st_names.specs.FileScope.{types_of, pous_of, names_of, names_of_values, names_in_specification, names_of_types, names_of_items};
 ghost use Rattle.st_names.specs.FileView.{file_names_view};
-ghost use Rattle.st_names.specs.ScopeView.{types_view};
+ghost use Rattle.st_names.specs.ScopeView.{types_view, pous_view};
+ghost use Rattle.st_names.specs.declared.standing.Standing.TheVariants as standings;
 
 use crate::standing::Standing;
-use st_tree::{Item, Name, SourceFile, Specification, TypeDeclaration};
+use st_tree::{Item, Name, Pou, SourceFile, Specification, TypeDeclaration};
 use std::alloc::{AllocError, Global};
 
 /// A name that a file declares, and what it stands for.
@@ -16,10 +17,11 @@ pub struct FileName<'a> {
     pub standing: Standing,
 }
 
-/// The types that a file declares and all its names, in its order.
+/// The types and the POUs that a file declares and all its names, in its order.
 #[derive(Drop)]
 pub struct Declarations<'a> {
     pub types: Vec<&'a TypeDeclaration>,
+    pub pous: Vec<&'a Pou>,
     pub names: Vec<FileName<'a>>,
 }
 
@@ -67,6 +69,7 @@ fn append_type<'a>(
 ) -> Result<(), AllocError>
     ensures types { OnOk result (types_view list.new.types.items ≡ types_view list.old.types.items ++ type_declaration_view declaration.now ∷ []) }
     ensures names { OnOk result (file_names_view list.new.names.items ≡ file_names_view list.old.names.items ++ names_of_types (length list.old.types.items) (type_declaration_view declaration.now ∷ [])) }
+    ensures pous { list.new.pous ≡ list.old.pous }
 {
     let number = list.types.len();
     list.types.push(declaration)?;
@@ -84,6 +87,7 @@ fn append_types<'a>(
 ) -> Result<(), AllocError>
     ensures types { OnOk result (types_view list.new.types.items ≡ types_view list.old.types.items ++ type_declarations_view declarations.now) }
     ensures names { OnOk result (file_names_view list.new.names.items ≡ file_names_view list.old.names.items ++ names_of_types (length list.old.types.items) (type_declarations_view declarations.now)) }
+    ensures pous { list.new.pous ≡ list.old.pous }
 {
     for declaration in declarations {
         append_type(list, declaration)?;
@@ -91,30 +95,42 @@ fn append_types<'a>(
     Ok(())
 }
 
+// Appends a POU and its name.
+fn append_pou<'a>(list: &mut Declarations<'a>, pou: &'a Pou) -> Result<(), AllocError>
+    ensures types { list.new.types ≡ list.old.types }
+    ensures names { OnOk result (file_names_view list.new.names.items ≡ file_names_view list.old.names.items ++ ((pou_view pou.now).name, standings.Pou (length list.old.pous.items)) ∷ []) }
+    ensures pous { OnOk result (pous_view list.new.pous.items ≡ pous_view list.old.pous.items ++ pou_view pou.now ∷ []) }
+{
+    let number = list.pous.len();
+    list.pous.push(pou)?;
+    list.names.push(FileName {
+        name: &pou.name,
+        standing: Standing::Pou(number),
+    })?;
+    Ok(())
+}
+
 // Appends what a file declares in one place.
 fn append_item<'a>(list: &mut Declarations<'a>, item: &'a Item) -> Result<(), AllocError>
     ensures types { OnOk result (types_view list.new.types.items ≡ types_view list.old.types.items ++ types_of (item_view item.now ∷ [])) }
-    ensures names { OnOk result (file_names_view list.new.names.items ≡ file_names_view list.old.names.items ++ names_of_items (length list.old.types.items) (item_view item.now ∷ [])) }
+    ensures names { OnOk result (file_names_view list.new.names.items ≡ file_names_view list.old.names.items ++ names_of_items (length list.old.types.items) (length list.old.pous.items) (item_view item.now ∷ [])) }
+    ensures pous { OnOk result (pous_view list.new.pous.items ≡ pous_view list.old.pous.items ++ pous_of (item_view item.now ∷ [])) }
 {
     match item {
         Item::Types(declarations) => append_types(list, declarations),
-        Item::Pou(pou) => {
-            list.names.push(FileName {
-                name: &pou.name,
-                standing: Standing::Pou,
-            })?;
-            Ok(())
-        }
+        Item::Pou(pou) => append_pou(list, pou),
     }
 }
 
-/// The types that a file declares and all its names, in its order.
+/// The types and the POUs that a file declares and all its names, in its order.
 pub fn list_declarations(alloc: Global, file: &SourceFile) -> Result<Declarations<'_>, AllocError>
     ensures types { IfOk result (λ list. types_view list.types.items ≡ types_of (file_view file.now)) }
     ensures names { IfOk result (λ list. file_names_view list.names.items ≡ names_of (file_view file.now)) }
+    ensures pous { IfOk result (λ list. pous_view list.pous.items ≡ pous_of (file_view file.now)) }
 {
     let mut list = Declarations {
         types: Vec::new(alloc),
+        pous: Vec::new(alloc),
         names: Vec::new(alloc),
     };
     for item in &file.items {

@@ -1,119 +1,72 @@
-// From a file to its one program, with every name bound.
-ghost use Rattle.std.specs.Prelude.{◌≡◌, ◌++◌, [], ◌∷◌, OnOk, IfOk, IfErr, IsTrue, length, ◌==◌};
-ghost use Rattle.st_tree.specs.Rules.{earlier, first_in};
-ghost use Rattle.st_tree.specs.Syntax.{PouData};
-ghost use Rattle.st_tree.specs.SyntaxView.{body_view, pou_view, items_view, file_view};
+// From a file to its POUs, with every name bound.
+ghost use Rattle.std.specs.Prelude.{◌≡◌, ◌++◌, [], OnOk, IfOk, IfErr, IsTrue, length, map, count_by, option_and_then, ℕ, List};
+ghost use Rattle.std.specs.HashMap.{get_by_text};
+ghost use Rattle.std.specs.List.{slice_get, position_from};
+ghost use Rattle.call_order.specs.Uses.{graph_of, order_of, Reaches};
+ghost use Rattle.st_tree.specs.Rules.{first_in};
+ghost use Rattle.st_tree.specs.SyntaxView.{items_view, pou_view, file_view};
 ghost use Rattle.st_names.specs.Bindings.{AreBindings};
-ghost use Rattle.st_names.specs.Bound.{variables_in_pou, are_typed, IsFaultOf};
-ghost use Rattle.st_names.specs.Broken.{in_body, in_pou, in_pous, variables_twice, not_one, broken_names};
-ghost use Rattle.st_names.specs.FileScope.{types_of, pous_of};
-ghost use Rattle.st_names.specs.NamesView.{file_in, variables_in};
+ghost use Rattle.st_names.specs.Bound.{are_pous_typed, places_from, program_number, IsFaultOf};
+ghost use Rattle.st_names.specs.Broken.{is_program_pou, in_pou, not_one, names_twice, broken_names};
+ghost use Rattle.st_names.specs.Circles.{uses_of, IsBroken};
+ghost use Rattle.st_names.specs.FileScope.{types_of, pous_of, names_of, pou_at};
+ghost use Rattle.st_names.specs.FirstOf.{IsFirstOf};
+ghost use Rattle.st_names.specs.NamesView.{pous_named, scopes_named};
+ghost use Rattle.st_names.specs.Scopes.{scope_of};
+ghost use Rattle.st_names.specs.ScopeView.{types_view, pous_view};
 ghost use Rattle.st_names.specs.Slots.{slot_named};
-ghost use Rattle.st_names.specs.Table.{Holds};
 ghost use Rattle.st_names.specs.Types.{are_whole_types};
 
 use crate::bound::{Bindings, Resolved};
-use crate::declarations::walk_declarations;
-use crate::declared::declared_variables;
+use crate::circles::walk_circles;
 use crate::fault::NameFault;
 use crate::file_scope::{FileScope, file_scope};
-use crate::names::list_declarations;
-use crate::program_names::Names;
-use crate::slots::{Slots, slots};
-use crate::type_declarations::walk_types;
-use crate::walk::walk_stmts;
-use indexmap::IndexMap;
-use st_tree::{Body, Item, Pou, Refusal, Rule, SourceFile};
+use crate::judged::{Judged, all_names, judge_pous};
+use crate::names::{Declarations, list_declarations};
+use crate::names_of_pou::NamesOfPou;
+use crate::slots::Slots;
+use crate::type_declarations::{walk_results, walk_types};
+use call_order::order;
+use st_tree::{Item, Pou, PouKind, Refusal, Rule, SourceFile};
 use std::alloc::{AllocError, Global};
 
-// Keeps what a body breaks, where it comes first.
-fn walk_body(names: &Names<'_>, body: &Body, first: &mut Option<Refusal>)
-    ensures { first.new ≡ earlier first.old (first_in (in_body (file_in names.now) (variables_in names.now) (body_view body.now))) }
+// Whether a POU is a PROGRAM.
+fn is_program(pou: &Pou) -> bool
+    ensures { result ≡ is_program_pou (pou_view pou.now) }
 {
-    match body {
-        Body::Statements(stmts) => walk_stmts(names, stmts, first),
-        Body::Chart(chart) => match *chart {},
-    }
+    matches!(&pou.kind, PouKind::Program)
 }
 
-// The names of a PROGRAM. Keeps the first that is declared twice.
-fn names_of<'a>(
-    alloc: Global,
-    file: &'a FileScope<'a>,
-    pou: &'a Pou,
-    first: &mut Option<Refusal>,
-) -> Result<Names<'a>, AllocError>
-    ensures file { IfOk result (λ names. file_in names ≡ file_view file.now.types.names.file.now) }
-    ensures variables { IfOk result (λ names. variables_in names ≡ variables_in_pou (pou_view pou.now)) }
-    ensures twice { OnOk result (first.new ≡ earlier first.old (first_in (variables_twice [] (variables_in_pou (pou_view pou.now))))) }
+// The number of the first PROGRAM.
+fn program_number(pous: &[&Pou]) -> Option<usize>
+    ensures { result ≡ position_from is_program_pou 0 (pous_view pous.now) }
 {
-    let variables = declared_variables(alloc, &pou.variables)?;
-    let slots = slots(alloc, &variables, first)?;
-    Ok(Names {
-        file,
-        variables,
-        slots,
-    })
-}
-
-// Keeps what a PROGRAM breaks, where it comes first. Answers the slots of its variables.
-fn walk_pou(
-    alloc: Global,
-    file: &FileScope<'_>,
-    pou: &Pou,
-    first: &mut Option<Refusal>,
-) -> Result<Slots, AllocError>
-    ensures held { IfOk result (λ slots. Holds slots (slot_named (variables_in_pou (pou_view pou.now)))) }
-    ensures broken { OnOk result (first.new ≡ earlier first.old (first_in (in_pou (file_view file.now.types.names.file.now) (pou_view pou.now)))) }
-{
-    let names = names_of(alloc, file, pou, first)?;
-    walk_declarations(&names, first);
-    walk_body(&names, &pou.body, first);
-    Ok(names.slots)
-}
-
-// Keeps what the PROGRAMs of a file break, where it comes first. Answers the slots of the last, where there is one.
-fn walk_pous(
-    alloc: Global,
-    file: &FileScope<'_>,
-    items: &[Item],
-    first: &mut Option<Refusal>,
-) -> Result<Slots, AllocError>
-    ensures held { IfOk result (λ slots. (p : PouData) → pous_of (items_view items.now) ≡ p ∷ [] → Holds slots (slot_named (variables_in_pou p))) }
-    ensures broken { OnOk result (first.new ≡ earlier first.old (first_in (in_pous (file_view file.now.types.names.file.now) (pous_of (items_view items.now))))) }
-{
-    let mut slots = IndexMap::new(alloc);
-    for item in items {
-        let Item::Pou(pou) = item else {
-            continue;
-        };
-        slots = walk_pou(alloc, file, pou, first)?;
-    }
-    Ok(slots)
-}
-
-// Whether there is one PROGRAM among items.
-fn has_one_program(items: &[Item]) -> bool
-    ensures { result ≡ (length (pous_of (items_view items.now)) == 1) }
-{
-    let mut is_found = false;
-    for item in items {
-        let Item::Pou(_) = item else {
-            continue;
-        };
-        if is_found {
-            return false;
+    for (number, pou) in pous.iter().enumerate() {
+        if is_program(pou) {
+            return Some(number);
         }
-        is_found = true;
     }
-    is_found
+    None
+}
+
+// How many PROGRAMs there are.
+fn program_count(pous: &[&Pou]) -> usize
+    ensures { result ≡ count_by is_program_pou (pous_view pous.now) }
+{
+    let mut count = 0;
+    for pou in pous {
+        if is_program(pou) {
+            count += 1;
+        }
+    }
+    count
 }
 
 // N5 at 0, where there is not one PROGRAM.
-fn not_one(file: &SourceFile) -> Option<Refusal>
-    ensures { result ≡ first_in (not_one (file_view file.now)) }
+fn not_one(pous: &[&Pou]) -> Option<Refusal>
+    ensures { result ≡ first_in (not_one (pous_view pous.now)) }
 {
-    if has_one_program(&file.items) {
+    if program_count(pous) == 1 {
         return None;
     }
     Some(Refusal {
@@ -122,15 +75,96 @@ fn not_one(file: &SourceFile) -> Option<Refusal>
     })
 }
 
+// The places of POUs among the items of a file.
+fn places(alloc: Global, items: &[Item]) -> Result<Vec<usize>, AllocError>
+    ensures { IfOk result (λ places. places.items ≡ places_from 0 (items_view items.now)) }
+{
+    let mut places = Vec::new(alloc);
+    for (place, item) in items.iter().enumerate() {
+        if let Item::Pou(_) = item {
+            places.push(place)?;
+        }
+    }
+    Ok(places)
+}
+
+// The slots of each POU.
+fn all_slots(alloc: Global, all: Vec<NamesOfPou<'_>>) -> Result<Vec<Slots>, AllocError>
+    ensures { IfOk result (λ slots. slots.items ≡ map (λ n. n.slots) all.entry.items) }
+{
+    let mut slots = Vec::new(alloc);
+    for names in all {
+        slots.push(names.slots)?;
+    }
+    Ok(slots)
+}
+
+// The order of POUs that use one another. Keeps N3 at one that uses itself, where it comes first.
+fn order_of(
+    alloc: Global,
+    file: &SourceFile,
+    pous: &[&Pou],
+    judged: &Judged,
+    first: &mut Option<Refusal>,
+) -> Result<Vec<usize>, AllocError>
+    requires pous { pous_view pous.now ≡ pous_of (file_view file.now) }
+    requires wholes { judged.now.wholes.items ≡ map (λ p. (in_pou (file_view file.now) p).whole) (pous_of (file_view file.now)) }
+    requires uses { graph_of judged.now.uses.items ≡ uses_of (file_view file.now) }
+    requires broken { first.old ≡ first_in (broken_names (file_view file.now)) }
+    ensures order { IfOk result (λ numbers. numbers.items ≡ order_of (uses_of (file_view file.now))) }
+    ensures broken { OnOk result (IsFirstOf (IsBroken (file_view file.now)) first.new) }
+{
+    let numbers = order(alloc, &judged.uses)?;
+    if numbers.as_slice().len() != pous.len() {
+        walk_circles(alloc, file, pous, judged, first)?;
+    }
+    Ok(numbers)
+}
+
+// Keeps what the types and POUs of a file break, where it comes first.
+fn judge_file<'a, 'f>(
+    alloc: Global,
+    scope: &'a FileScope<'f>,
+    list: &Declarations<'_>,
+    all: &'a [NamesOfPou<'f>],
+    first: &mut Option<Refusal>,
+) -> Result<Judged, AllocError>
+    requires types { types_view list.now.types.items ≡ types_of (file_view scope.now.types.names.file.now) }
+    requires pous { pous_view list.now.pous.items ≡ pous_of (file_view scope.now.types.names.file.now) }
+    requires named { pous_named all.now ≡ pous_of (file_view scope.now.types.names.file.now) }
+    requires scopes { scopes_named all.now ≡ map scope_of (pous_of (file_view scope.now.types.names.file.now)) }
+    requires once { let f = file_view scope.now.types.names.file.now in first.old ≡ first_in (not_one (pous_of f) ++ names_twice [] (names_of f)) }
+    ensures broken { OnOk result (first.new ≡ first_in (broken_names (file_view scope.now.types.names.file.now))) }
+    ensures wholes { let f = file_view scope.now.types.names.file.now in IfOk result (λ judged. judged.wholes.items ≡ map (λ p. (in_pou f p).whole) (pous_of f)) }
+    ensures uses { let f = file_view scope.now.types.names.file.now in IfOk result (λ judged. graph_of judged.uses.items ≡ uses_of f) }
+{
+    walk_types(alloc, scope, &list.types, first)?;
+    walk_results(scope, &list.pous, first);
+    let judged = judge_pous(alloc, scope, all, first)?;
+    Ok(judged)
+}
+
 // What is kept of a file's scope.
-fn bindings_of(scope: FileScope<'_>, slots: Slots) -> Bindings
-    requires { (p : PouData) → pous_of (file_view scope.types.names.file.now) ≡ p ∷ [] → Holds slots (slot_named (variables_in_pou p)) }
+fn bindings_of(
+    scope: FileScope<'_>,
+    slots: Vec<Slots>,
+    places: Vec<usize>,
+    order: Vec<usize>,
+    program: Option<usize>,
+) -> Bindings
+    requires slots { (number : ℕ) → (text : List ℕ) → option_and_then (λ s. get_by_text s text) (slice_get slots.items number) ≡ option_and_then (λ p. slot_named (scope_of p) text) (pou_at (file_view scope.types.names.file.now) number) }
+    requires places { places.items ≡ places_from 0 (file_view scope.types.names.file.now) }
+    requires order { order.items ≡ order_of (uses_of (file_view scope.types.names.file.now)) }
+    requires program { program ≡ program_number (file_view scope.types.names.file.now) }
     ensures { AreBindings (file_view scope.entry.types.names.file.now) result }
 {
     let types = scope.types;
     let names = types.names;
     Bindings {
         slots,
+        places,
+        order,
+        program,
         table: names.table,
         ends: types.ends,
     }
@@ -139,27 +173,38 @@ fn bindings_of(scope: FileScope<'_>, slots: Slots) -> Bindings
 // The first of all that a file breaks, and its bindings.
 fn walk_file(alloc: Global, file: &SourceFile) -> Result<(Option<Refusal>, Bindings), AllocError>
     ensures bound { IfOk result (λ r. AreBindings (file_view file.now) r.1) }
-    ensures broken { IfOk result (λ r. r.0 ≡ first_in (broken_names (file_view file.now))) }
+    ensures broken { IfOk result (λ r. IsFirstOf (IsBroken (file_view file.now)) r.0) }
 {
-    let mut first = not_one(file);
     let list = list_declarations(alloc, file)?;
+    let mut first = not_one(&list.pous);
     let scope = file_scope(alloc, file, &list, &mut first)?;
-    walk_types(alloc, &scope, &list.types, &mut first)?;
-    let slots = walk_pous(alloc, &scope, &file.items, &mut first)?;
-    Ok((first, bindings_of(scope, slots)))
+    let all = all_names(alloc, &list.pous)?;
+    let judged = judge_file(alloc, &scope, &list, &all, &mut first)?;
+    let numbers = order_of(alloc, file, &list.pous, &judged, &mut first)?;
+    let program = program_number(&list.pous);
+    let slots = all_slots(alloc, all)?;
+    let places = places(alloc, &file.items)?;
+    Ok((first, bindings_of(scope, slots, places, numbers, program)))
 }
 
-/// The one PROGRAM of a file with every name bound, or the first rule on names that the file breaks.
+/// The POUs of a file with every name bound, or the first rule on names that the file breaks.
 pub fn resolve(alloc: Global, file: SourceFile) -> Result<Resolved, NameFault>
     ensures refused { IfErr result (IsFaultOf (file_view file)) }
     ensures kept { OnOk result (broken_names (file_view file) ≡ []) }
+    ensures ordered { OnOk result (length (order_of (uses_of (file_view file))) ≡ length (pous_of (file_view file))) }
+    ensures acyclic { OnOk result ((k : ℕ) → ¬ (Reaches (uses_of (file_view file)) k k)) }
     ensures file { IfOk result (λ r. file_view r.file ≡ file_view file) }
     ensures types { OnOk result (IsTrue (are_whole_types (file_view file) (types_of (file_view file)))) }
-    ensures typed { OnOk result ((p : PouData) → pous_of (file_view file) ≡ p ∷ [] → IsTrue (are_typed (file_view file) (variables_in_pou p))) }
+    ensures typed { OnOk result (IsTrue (are_pous_typed (file_view file))) }
 {
     let (first, bindings) = walk_file(alloc, &file)?;
     match first {
         Some(refusal) => Err(NameFault::Refused(refusal)),
-        None => Ok(Resolved::new(file, bindings)),
+        None => {
+            if bindings.order.as_slice().len() != bindings.places.as_slice().len() {
+                return Err(NameFault::Memory);
+            }
+            Ok(Resolved::new(file, bindings))
+        }
     }
 }

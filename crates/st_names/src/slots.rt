@@ -1,34 +1,45 @@
-// The names of a PROGRAM, each with the first variable of that name.
-ghost use Rattle.std.specs.Prelude.{◌≡◌, [], OnOk, IfOk, is_some, if◌then◌else◌};
+// The names of a POU, each with the first variable of that name.
+ghost use Rattle.std.specs.Prelude.{◌≡◌, ◌||◌, [], IfOk, is_some, if◌then◌else◌};
 ghost use Rattle.std.specs.HashMap.{get_by_text};
-ghost use Rattle.st_tree.specs.Rules.{earlier, first_in};
 ghost use Rattle.st_tree.specs.SyntaxView.{name_view};
 ghost use Rattle.st_names.specs.Broken.{twice, variables_twice};
+ghost use Rattle.st_names.specs.Judgements.{sound};
+ghost use Rattle.st_names.specs.Outcomes.{outcome_of};
 ghost use Rattle.st_names.specs.Scopes.{is_fault};
 ghost use Rattle.st_names.specs.ScopeView.{variable_view, variables_view};
-ghost use Rattle.st_names.specs.Slots.{slot_named, entered};
+ghost use Rattle.st_names.specs.Slots.{slot_among, entered};
 ghost use Rattle.st_names.specs.Table.{Holds};
 
 use crate::declared::Declared;
+use crate::outcome::Outcome;
+use crate::refusals::twice;
+use crate::role::Role;
 use indexmap::IndexMap;
-use st_tree::{Name, Refusal, Rule, Section};
+use st_tree::Name;
 use std::alloc::{AllocError, Global};
 
-/// What is known of a name: the number in declared order, from 1, and the section of the first variable of that name, and
+/// What is known of a name: the number in declared order, from 1, and the role of the first variable of that name, and
 /// whether the name is declared twice.
 #[derive(Clone, Copy, Debug, PartialEq, Eq)]
 pub struct Slot {
     pub number: usize,
-    pub section: Section,
+    pub role: Role,
     pub is_doubled: bool,
 }
 
-/// The slots of a PROGRAM, by name.
+/// The slots of a POU, by name.
 pub type Slots = IndexMap<String, Slot>;
 
+/// Whether a text is that of FAULT, where a POU has it.
+pub fn is_fault(has_fault: bool, text: &str) -> bool
+    ensures { result ≡ is_fault has_fault text.now }
+{
+    has_fault && text == "FAULT"
+}
+
 // The slot of a name once a variable is declared by it.
-fn entered(variable: &Declared<'_>, number: usize, known: Option<Slot>) -> Slot
-    ensures { result ≡ entered number (variable_view variable.now) known }
+fn entered(has_fault: bool, variable: &Declared<'_>, number: usize, known: Option<Slot>) -> Slot
+    ensures { result ≡ entered has_fault number (variable_view variable.now) known }
 {
     if let Some(slot) = known {
         return Slot {
@@ -38,22 +49,19 @@ fn entered(variable: &Declared<'_>, number: usize, known: Option<Slot>) -> Slot
     }
     Slot {
         number,
-        section: variable.section,
-        is_doubled: variable.name.text.as_str() == "FAULT",
+        role: variable.role,
+        is_doubled: is_fault(has_fault, variable.name.text.as_str()),
     }
 }
 
 // N1 at a name that is known, or FAULT.
-fn declared_twice(known: Option<Slot>, name: &Name) -> Option<Refusal>
-    ensures { result ≡ first_in (if is_fault (name_view name.now).text then twice name.now.at else (if is_some known then twice name.now.at else [])) }
+fn declared_twice(has_fault: bool, known: Option<Slot>, name: &Name) -> Outcome
+    ensures { let n = name_view name.now in result ≡ outcome_of (if is_fault has_fault n.text || is_some known then twice n else sound) }
 {
-    if name.text.as_str() == "FAULT" || known.is_some() {
-        return Some(Refusal {
-            rule: Rule::DeclaredTwice,
-            at: name.at,
-        });
+    if is_fault(has_fault, name.text.as_str()) || known.is_some() {
+        return twice(name);
     }
-    None
+    Outcome::sound()
 }
 
 /// The slot of a name.
@@ -63,22 +71,24 @@ pub fn slot_at(slots: &Slots, text: &str) -> Option<Slot>
     slots.get(text).copied()
 }
 
-/// The slots of a PROGRAM's variables. Keeps the first name that is declared twice.
+/// The slots of a POU's variables, and whether each name is declared once.
+#[tactic(auto, using(crate::proofs::Steps::both_sound, crate::proofs::Steps::sound_both))]
 pub fn slots(
     alloc: Global,
+    has_fault: bool,
     variables: &[Declared<'_>],
-    first: &mut Option<Refusal>,
-) -> Result<Slots, AllocError>
-    ensures held { IfOk result (λ slots. Holds slots (slot_named (variables_view variables.now))) }
-    ensures twice { OnOk result (first.new ≡ earlier first.old (first_in (variables_twice [] (variables_view variables.now)))) }
+) -> Result<(Slots, Outcome), AllocError>
+    ensures held { IfOk result (λ r. Holds r.0 (slot_among has_fault (variables_view variables.now))) }
+    ensures once { IfOk result (λ r. r.1 ≡ outcome_of (variables_twice has_fault [] (variables_view variables.now))) }
 {
     let mut slots = IndexMap::new(alloc);
+    let mut outcome = Outcome::sound();
     for (place, variable) in variables.iter().enumerate() {
         let name = variable.name;
         let known = slot_at(&slots, name.text.as_str());
-        *first = Refusal::earlier(*first, declared_twice(known, name));
-        let slot = entered(variable, place + 1, known);
+        outcome = outcome.also(declared_twice(has_fault, known, name));
+        let slot = entered(has_fault, variable, place + 1, known);
         slots.insert(name.text.clone()?, slot)?;
     }
-    Ok(slots)
+    Ok((slots, outcome))
 }

@@ -1,16 +1,16 @@
 // What the names of a file stand for.
 ghost use Rattle.std.specs.Prelude.{◌≡◌};
 ghost use Rattle.st_names.specs.Ends.{is_value_of};
-ghost use Rattle.st_names.specs.FileScope.{is_type, is_value};
+ghost use Rattle.st_names.specs.FileScope.{is_type, is_value, pou_number};
 ghost use Rattle.st_names.specs.Types.{is_that_value, type_number};
 
 /// What a name of a file stands for: a type, by its number in declared order from 0; a value of an enumeration, by the
-/// numbers of its type and of itself; or a POU.
+/// numbers of its type and of itself; or a POU, by its number among those of the file in the order of the text, from 0.
 #[derive(Clone, Copy, Debug, PartialEq, Eq)]
 pub enum Standing {
     Type(usize),
     Value(usize, usize),
-    Pou,
+    Pou(usize),
 }
 
 /// Whether a name stands for a type.
@@ -53,6 +53,16 @@ pub fn type_number(standing: Option<Standing>) -> Option<usize>
 {
     match standing {
         Some(Standing::Type(number)) => Some(number),
+        _ => None,
+    }
+}
+
+/// The number of the POU that a name stands for.
+pub fn pou_number(standing: Option<Standing>) -> Option<usize>
+    ensures { result ≡ pou_number standing }
+{
+    match standing {
+        Some(Standing::Pou(number)) => Some(number),
         _ => None,
     }
 }

@@ -4,12 +4,16 @@ ghost use Rattle.std.specs.HashMap.{get_by_text};
 ghost use Rattle.st_tree.specs.Rules.{earlier, first_in};
 ghost use Rattle.st_tree.specs.SyntaxView.{name_view};
 ghost use Rattle.st_names.specs.Broken.{twice, names_twice};
+ghost use Rattle.st_names.specs.Judgements.{sound};
+ghost use Rattle.st_names.specs.Outcomes.{outcome_of};
 ghost use Rattle.st_names.specs.FileView.{file_names_view};
 ghost use Rattle.st_names.specs.Library.{is_library};
 ghost use Rattle.st_names.specs.Table.{entry_named, count_in, recounted, is_twice, standing_by, used, Holds};
 
 use crate::library::is_library;
 use crate::names::FileName;
+use crate::outcome::Outcome;
+use crate::refusals::{misused, unknown};
 use crate::standing::Standing;
 use indexmap::IndexMap;
 use st_tree::{Name, Refusal, Rule};
@@ -63,23 +67,17 @@ fn standing_by(is_library: bool, entry: Option<Entry>) -> Option<Standing>
     Some(found.standing)
 }
 
-// What the use of a name breaks of which none is that fits.
-fn used(is_library: bool, entry: Option<Entry>, name: &Name) -> Option<Refusal>
-    ensures { result ≡ first_in (used is_library entry (name_view name.now)) }
+// The use of a name of which none is that fits.
+fn used(is_library: bool, entry: Option<Entry>, name: &Name) -> Outcome
+    ensures { result ≡ outcome_of (used is_library entry (name_view name.now)) }
 {
     if !is_library && entry.is_none() {
-        return Some(Refusal {
-            rule: Rule::UnknownName,
-            at: name.at,
-        });
+        return unknown(name);
     }
     if is_twice(is_library, entry) {
-        return None;
+        return Outcome::silent();
     }
-    Some(Refusal {
-        rule: Rule::WrongKind,
-        at: name.at,
-    })
+    misused(name)
 }
 
 /// Whether a file's scope has a name twice, the library's names among them.
@@ -106,9 +104,9 @@ pub fn first_at(table: &Table, text: &str) -> Option<Standing>
     }
 }
 
-/// What the use of a name breaks, where none is that fits.
-pub fn refusal_in(table: &Table, name: &Name) -> Option<Refusal>
-    ensures { let n = name_view name.now in result ≡ first_in (used (is_library n.text) (get_by_text table.now n.text) n) }
+/// The use of a name, where none is that fits.
+pub fn use_in(table: &Table, name: &Name) -> Outcome
+    ensures { let n = name_view name.now in result ≡ outcome_of (used (is_library n.text) (get_by_text table.now n.text) n) }
 {
     let text = name.text.as_str();
     used(is_library(text), entry_at(table, text), name)
@@ -130,7 +128,7 @@ fn recounted(standing: Standing, known: Option<Entry>) -> Entry
 
 // N1 at a name of the library, or of an earlier declaration.
 fn declared_twice(known: Option<Entry>, name: &Name) -> Option<Refusal>
-    ensures { result ≡ first_in (if is_library (name_view name.now).text || is_some known then twice name.now.at else []) }
+    ensures { let n = name_view name.now in result ≡ first_in (if is_library n.text || is_some known then twice n else sound).broken }
 {
     if is_library(name.text.as_str()) || known.is_some() {
         return Some(Refusal {

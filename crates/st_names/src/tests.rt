@@ -1,8 +1,8 @@
 // Texts with answers that were worked by hand from the rules on names.
-use crate::{Bound, NameFault, declared_variables, is_library, resolve, standard_function};
+use crate::{Bound, NameFault, Role, declared_variables, is_library, resolve, standard_function};
 use st_lexer::lex;
 use st_parser::parse_file;
-use st_tree::{Elementary, NoCharts, Refusal, Rule, Section, Shift, SourceFile, StandardFunction};
+use st_tree::{Elementary, Refusal, Rule, Shift, SourceFile, StandardFunction};
 use std::alloc::Global;
 use std::test::Fail;
 
@@ -90,7 +90,7 @@ const REFUSED: [(&str, Rule, usize); 18] = [
 // The tree of a text.
 pub fn tree_of(alloc: Global, text: &str) -> Result<SourceFile, Fail> {
     let toks = lex(alloc, text.as_bytes())?;
-    Ok(parse_file(alloc, &toks, text.len(), &NoCharts)?)
+    Ok(parse_file(alloc, &toks, text.len())?)
 }
 
 // The first rule on names that a text breaks.
@@ -113,18 +113,24 @@ fn first_broken_rules(rt: HostRuntime) -> Result<(), Fail> {
 #[test]
 fn names_of_a_program(rt: HostRuntime) -> Result<(), Fail> {
     let resolved = resolve(rt.alloc(), tree_of(rt.alloc(), MOTOR)?)?;
-    assert_eq!(rt; resolved.program().name.text.as_str(), "M");
+    let number = resolved.program();
+    assert_eq!(rt; number, 0);
+    assert_eq!(rt; resolved.pou_count(), 1);
+    assert_eq!(rt; resolved.pou(number).name.text.as_str(), "M");
     let rows = [
-        ("A", 1, Section::Input),
-        ("C", 3, Section::Local),
-        ("D", 4, Section::Output),
+        ("A", 1, Role::Input),
+        ("C", 3, Role::Local),
+        ("D", 4, Role::Output),
     ];
-    for (name, number, section) in rows {
-        let want = Some(Bound { number, section });
-        assert_eq!(rt; resolved.variable(name), want, "{name}");
+    for (name, place, role) in rows {
+        let want = Some(Bound {
+            number: place,
+            role,
+        });
+        assert_eq!(rt; resolved.variable(number, name), want, "{name}");
     }
     for name in ["c", "M", "FAULT", ""] {
-        assert_eq!(rt; resolved.variable(name), None, "{name}");
+        assert_eq!(rt; resolved.variable(number, name), None, "{name}");
     }
     Ok(())
 }
@@ -133,19 +139,19 @@ fn names_of_a_program(rt: HostRuntime) -> Result<(), Fail> {
 fn variables_in_declared_order(rt: HostRuntime) -> Result<(), Fail> {
     let file = tree_of(rt.alloc(), MOTOR)?;
     let resolved = resolve(rt.alloc(), file)?;
-    let variables = declared_variables(rt.alloc(), &resolved.program().variables)?;
+    let variables = declared_variables(rt.alloc(), resolved.pou(0))?;
     let rows = [
-        ("A", 20, Section::Input, false),
-        ("B", 42, Section::Local, true),
-        ("C", 45, Section::Local, true),
-        ("D", 78, Section::Output, false),
+        ("A", 20, Role::Input, false),
+        ("B", 42, Role::Local, true),
+        ("C", 45, Role::Local, true),
+        ("D", 78, Role::Output, false),
     ];
     assert_eq!(rt; variables.len(), rows.len());
-    for (variable, (name, at, section, begins)) in variables.iter().zip(rows) {
+    for (variable, (name, at, role, begins)) in variables.iter().zip(rows) {
         assert_eq!(rt; variable.name.text.as_str(), name);
         assert_eq!(rt; variable.name.at, at);
-        assert_eq!(rt; variable.section, section);
-        assert_eq!(rt; variable.declaration.initial.is_some(), begins);
+        assert_eq!(rt; variable.role, role);
+        assert_eq!(rt; variable.initial.is_some(), begins);
     }
     Ok(())
 }
@@ -153,7 +159,7 @@ fn variables_in_declared_order(rt: HostRuntime) -> Result<(), Fail> {
 #[test]
 fn names_of_the_library(rt: HostRuntime) {
     let rows = [
-        ("CTUD", true),
+        ("CTUD", false),
         ("ROR", true),
         ("DWORD_TO_BOOL", true),
         ("BOOL_TO_DWORD", true),
@@ -161,7 +167,6 @@ fn names_of_the_library(rt: HostRuntime) {
         ("INT_TO_REAL", false),
         ("INT_TO_", false),
         ("abs", false),
-        ("CTUDX", false),
         ("", false),
     ];
     for (text, want) in rows {

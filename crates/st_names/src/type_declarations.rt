@@ -1,31 +1,30 @@
-// What the declarations of types break.
-ghost use Rattle.std.specs.Prelude.{◌≡◌, [], OnOk, ◌&&◌, is_some, if◌then◌else◌};
+// What the declarations of types break, and the types of results.
+ghost use Rattle.std.specs.Prelude.{◌≡◌, OnOk, ◌&&◌, is_some, if◌then◌else◌};
 ghost use Rattle.st_tree.specs.Rules.{earlier, first_in};
 ghost use Rattle.st_tree.specs.SyntaxView.{type_declaration_view, file_view};
-ghost use Rattle.st_names.specs.Broken.{circular, in_types};
-ghost use Rattle.st_names.specs.FileScope.{types_of};
-ghost use Rattle.st_names.specs.ScopeView.{types_view};
+ghost use Rattle.st_names.specs.Broken.{circular, in_types, in_results};
+ghost use Rattle.st_names.specs.FileScope.{types_of, pous_of};
+ghost use Rattle.st_names.specs.Judgements.{sound};
+ghost use Rattle.st_names.specs.Outcomes.{outcome_of};
+ghost use Rattle.st_names.specs.ScopeView.{types_view, pous_view};
 ghost use Rattle.st_names.specs.Types.{named_type};
 
 use crate::ends::{is_marked, reached};
 use crate::file_names::FileNames;
 use crate::file_scope::FileScope;
+use crate::outcome::Outcome;
 use crate::refusals::circular;
-use st_tree::{Refusal, TypeDeclaration};
+use st_tree::{Pou, Refusal, TypeDeclaration};
 use std::alloc::{AllocError, Global};
 
 // N3 at a type that is there behind all steps of some way, and still leads on.
-fn circular_refusal(
-    names: &FileNames<'_>,
-    is_reached: bool,
-    declaration: &TypeDeclaration,
-) -> Option<Refusal>
-    ensures { let d = type_declaration_view declaration.now in result ≡ first_in (if is_some (named_type (file_view names.now.file.now) d.specification) && is_reached then circular d.name else []) }
+fn circle_of(names: &FileNames<'_>, is_reached: bool, declaration: &TypeDeclaration) -> Outcome
+    ensures { let d = type_declaration_view declaration.now in result ≡ outcome_of (if is_some (named_type (file_view names.now.file.now) d.specification) && is_reached then circular d.name else sound) }
 {
     if is_reached && names.named_type(&declaration.specification).is_some() {
         return circular(&declaration.name);
     }
-    None
+    Outcome::sound()
 }
 
 /// Keeps what the declarations of types break, where it comes first.
@@ -42,9 +41,20 @@ pub fn walk_types(
     let reached = reached(alloc, &scope.types.ends)?;
     for (number, declaration) in types.iter().enumerate() {
         let is_reached = is_marked(&reached, number);
-        *first = Refusal::earlier(*first, circular_refusal(names, is_reached, declaration));
-        let refusal = scope.specification_refusal(number, &declaration.specification);
-        *first = Refusal::earlier(*first, refusal);
+        let circle = circle_of(names, is_reached, declaration);
+        *first = Refusal::earlier(*first, circle.first);
+        let judged = scope.specification(number, &declaration.specification);
+        *first = Refusal::earlier(*first, judged.first);
     }
     Ok(())
+}
+
+/// Keeps what the types of results break, where it comes first.
+pub fn walk_results(scope: &FileScope<'_>, pous: &[&Pou], first: &mut Option<Refusal>)
+    requires { pous_view pous.now ≡ pous_of (file_view scope.now.types.names.file.now) }
+    ensures { let f = file_view scope.now.types.names.file.now in first.new ≡ earlier first.old (first_in (in_results f 0 (pous_of f))) }
+{
+    for (number, pou) in pous.iter().enumerate() {
+        *first = Refusal::earlier(*first, scope.result(number, &pou.kind).first);
+    }
 }

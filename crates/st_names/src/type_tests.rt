@@ -5,7 +5,7 @@ use st_tree::{Refusal, Rule};
 use std::alloc::Global;
 use std::test::Fail;
 
-const REFUSED: [(&str, Rule, usize); 49] = [
+const REFUSED: [(&str, Rule, usize); 48] = [
     (
         "PROGRAM M VAR x : T; END_VAR x.y := zz; END_PROGRAM TYPE T : UU; END_TYPE",
         Rule::UnknownName,
@@ -17,7 +17,7 @@ const REFUSED: [(&str, Rule, usize); 49] = [
         56,
     ),
     (
-        "TYPE x : R_TRIG; END_TYPE PROGRAM M END_PROGRAM",
+        "TYPE x : B; END_TYPE FUNCTION_BLOCK B END_FUNCTION_BLOCK PROGRAM M END_PROGRAM",
         Rule::WrongKind,
         9,
     ),
@@ -97,11 +97,6 @@ const REFUSED: [(&str, Rule, usize); 49] = [
         "TYPE abs : INT; END_TYPE PROGRAM M END_PROGRAM",
         Rule::DeclaredTwice,
         5,
-    ),
-    (
-        "TYPE E : (ctu); END_TYPE PROGRAM M END_PROGRAM",
-        Rule::DeclaredTwice,
-        10,
     ),
     (
         "PROGRAM M VAR e : E; END_VAR e.x := 1; END_PROGRAM TYPE E : (r, g); E : INT; END_TYPE",
@@ -288,13 +283,15 @@ fn no_broken_rule(rt: HostRuntime) -> Result<(), Fail> {
 #[test]
 fn names_of_a_file(rt: HostRuntime) -> Result<(), Fail> {
     let resolved = resolve(rt.alloc(), tree_of(rt.alloc(), LIGHTS)?)?;
-    assert_eq!(rt; resolved.program().name.text.as_str(), "M");
+    assert_eq!(rt; resolved.program(), 0);
+    assert_eq!(rt; resolved.pou_count(), 1);
+    assert_eq!(rt; resolved.pou(0).name.text.as_str(), "M");
     let rows = [
         ("STOP", Some(Standing::Type(0))),
         ("LIGHT", Some(Standing::Type(1))),
         ("RED", Some(Standing::Value(1, 0))),
         ("GREEN", Some(Standing::Value(1, 1))),
-        ("M", Some(Standing::Pou)),
+        ("M", Some(Standing::Pou(0))),
         ("N", Some(Standing::Type(2))),
         ("red", None),
         ("ABS", None),

@@ -1,164 +1,219 @@
 // The names that expressions and statements use.
 ghost use Rattle.std.specs.Prelude.{◌≡◌};
-ghost use Rattle.st_tree.specs.Rules.{earlier, first_in};
-ghost use Rattle.st_tree.specs.SyntaxView.{tree_view, links_view, initial_view, labels_view, iteration_view, arguments_view, stmt_view, stmts_view, arms_view, entries_view};
-ghost use Rattle.st_names.specs.Broken.{in_tree, in_links, in_labels, in_step, in_iteration, in_arguments, in_stmt, in_stmts, in_arms, in_entries};
-ghost use Rattle.st_names.specs.NamesView.{file_in, variables_in};
+ghost use Rattle.st_tree.specs.SyntaxView.{tree_view, links_view, initial_view, label_view, labels_view, iteration_view, arguments_view, connection_view, connections_view, stmt_view, stmts_view, arms_view, entries_view};
+ghost use Rattle.st_names.specs.Broken.{in_tree, in_links, in_label, in_labels, in_step, in_iteration, in_arguments, in_connection, in_connections, in_stmt, in_stmts, in_arms, in_entries};
+ghost use Rattle.st_names.specs.NamesView.{file_in, pou_in};
+ghost use Rattle.st_names.specs.Outcomes.{outcome_of, both};
 
-use crate::program_names::Names;
-use crate::uses::argument_name_refusal;
-use st_tree::{Argument, Arm, Entry, Expr, Iteration, Label, Link, Refusal, Stmt};
+use crate::callee::Callee;
+use crate::outcome::Outcome;
+use crate::scope::{Scope, instance_of};
+use st_tree::{Argument, Arm, Connection, Entry, Expr, Iteration, Label, Link, Stmt};
 
-/// Keeps what an expression breaks, where it comes first.
+/// Keeps what an expression breaks.
 #[cycle(walk_expr)]
-#[tactic(auto, using(crate::proofs::Steps::earlier_on))]
-pub fn walk_expr(names: &Names<'_>, expr: &Expr, first: &mut Option<Refusal>)
-    ensures { first.new ≡ earlier first.old (first_in (in_tree (file_in names.now) (variables_in names.now) (tree_view expr.now))) }
+#[tactic(auto, using(crate::proofs::Steps::both_on, crate::proofs::Steps::both_sound))]
+pub fn walk_expr(scope: &Scope<'_, '_>, expr: &Expr, outcome: &mut Outcome)
+    ensures { outcome.new ≡ both outcome.old (outcome_of (in_tree (file_in scope.now.names) (pou_in scope.now.names) (tree_view expr.now))) }
 {
     match expr {
         Expr::Literal(_) => {}
-        Expr::Path(path) => *first = Refusal::earlier(*first, names.path_refusal(path)),
+        Expr::Path(path) => *outcome = outcome.also(scope.path(path)),
         Expr::Enumerator(kind, value) => {
-            *first = Refusal::earlier(*first, names.enumerator_refusal(kind, value));
+            *outcome = outcome.also(scope.enumerator(kind, value));
         }
-        Expr::Paren(_, inner) => walk_expr(names, inner, first),
-        Expr::Unary(_, _, inner) => walk_expr(names, inner, first),
+        Expr::Paren(_, inner) => walk_expr(scope, inner, outcome),
+        Expr::Unary(_, _, inner) => walk_expr(scope, inner, outcome),
         Expr::Chain(left, links) => {
-            walk_expr(names, left, first);
-            walk_links(names, links, first);
+            walk_expr(scope, left, outcome);
+            walk_links(scope, links, outcome);
         }
         Expr::Call(function, _, arguments) => {
-            *first = Refusal::earlier(*first, names.called_refusal(function));
-            walk_arguments(names, names.is_known_function(function), arguments, first);
+            let callee = scope.names.file.callee(function);
+            *outcome = outcome.also(scope.called(callee, function));
+            walk_arguments(scope, callee, arguments, outcome);
         }
     }
 }
 
 // Keeps what operands break.
 #[cycle(walk_expr)]
-#[tactic(auto, using(crate::proofs::Steps::earlier_on))]
-fn walk_links(names: &Names<'_>, links: &[Link], first: &mut Option<Refusal>)
-    ensures { first.new ≡ earlier first.old (first_in (in_links (file_in names.now) (variables_in names.now) (links_view links.now))) }
+#[tactic(auto, using(crate::proofs::Steps::both_on, crate::proofs::Steps::both_sound))]
+fn walk_links(scope: &Scope<'_, '_>, links: &[Link], outcome: &mut Outcome)
+    ensures { outcome.new ≡ both outcome.old (outcome_of (in_links (file_in scope.now.names) (pou_in scope.now.names) (links_view links.now))) }
 {
     for link in links {
-        walk_expr(names, &link.right, first);
+        walk_expr(scope, &link.right, outcome);
     }
 }
 
-// Keeps what the arguments of a call break, of a function that is known or not.
+// Keeps what the arguments of a call break, which calls this.
 #[cycle(walk_expr)]
-#[tactic(auto, using(crate::proofs::Steps::earlier_on))]
+#[tactic(auto, using(crate::proofs::Steps::both_on, crate::proofs::Steps::both_sound))]
 fn walk_arguments(
-    names: &Names<'_>,
-    known: bool,
+    scope: &Scope<'_, '_>,
+    callee: Callee,
     arguments: &[Argument],
-    first: &mut Option<Refusal>,
+    outcome: &mut Outcome,
 )
-    ensures { first.new ≡ earlier first.old (first_in (in_arguments (file_in names.now) (variables_in names.now) known (arguments_view arguments.now))) }
+    ensures { outcome.new ≡ both outcome.old (outcome_of (in_arguments (file_in scope.now.names) (pou_in scope.now.names) callee (arguments_view arguments.now))) }
 {
     for argument in arguments {
-        *first = Refusal::earlier(*first, argument_name_refusal(known, &argument.name));
-        walk_expr(names, &argument.value, first);
+        *outcome = outcome.also(scope.argument_name(callee, &argument.name));
+        walk_expr(scope, &argument.value, outcome);
     }
 }
 
-// Keeps what labels break; their constants stand behind all declarations.
-fn walk_labels(names: &Names<'_>, labels: &[Label], first: &mut Option<Refusal>)
-    ensures { first.new ≡ earlier first.old (first_in (in_labels (file_in names.now) (variables_in names.now) (labels_view labels.now))) }
+// A label; its constants stand behind all declarations.
+#[tactic(auto, using(crate::proofs::Steps::outcome_also))]
+fn judged_label(scope: &Scope<'_, '_>, label: &Label) -> Outcome
+    ensures { result ≡ outcome_of (in_label (file_in scope.now.names) (pou_in scope.now.names) (label_view label.now)) }
 {
-    let place = names.variables.len();
+    let names = &scope.names;
+    let place = names.own.variables.len();
+    let low = names.constant(place, &label.low);
+    low.also(names.written(place, &label.high))
+}
+
+// Keeps what labels break.
+#[tactic(auto, using(crate::proofs::Steps::both_on, crate::proofs::Steps::both_sound))]
+fn walk_labels(scope: &Scope<'_, '_>, labels: &[Label], outcome: &mut Outcome)
+    ensures { outcome.new ≡ both outcome.old (outcome_of (in_labels (file_in scope.now.names) (pou_in scope.now.names) (labels_view labels.now))) }
+{
     for label in labels {
-        *first = Refusal::earlier(*first, names.constant_refusal(place, &label.low));
-        *first = Refusal::earlier(*first, names.initial_refusal(place, &label.high));
+        *outcome = outcome.also(judged_label(scope, label));
     }
 }
 
 // Keeps what the step of a FOR breaks.
-fn walk_step(names: &Names<'_>, step: &Option<Expr>, first: &mut Option<Refusal>)
-    ensures { first.new ≡ earlier first.old (first_in (in_step (file_in names.now) (variables_in names.now) (initial_view step.now))) }
+#[tactic(auto, using(crate::proofs::Steps::both_on, crate::proofs::Steps::both_sound))]
+fn walk_step(scope: &Scope<'_, '_>, step: &Option<Expr>, outcome: &mut Outcome)
+    ensures { outcome.new ≡ both outcome.old (outcome_of (in_step (file_in scope.now.names) (pou_in scope.now.names) (initial_view step.now))) }
 {
     match step {
-        Some(step) => walk_expr(names, step, first),
+        Some(step) => walk_expr(scope, step, outcome),
         None => {}
     }
 }
 
 // Keeps what stands between FOR and DO breaks.
-#[tactic(auto, using(crate::proofs::Steps::earlier_on))]
-fn walk_iteration(names: &Names<'_>, iteration: &Iteration, first: &mut Option<Refusal>)
-    ensures { first.new ≡ earlier first.old (first_in (in_iteration (file_in names.now) (variables_in names.now) (iteration_view iteration.now))) }
+#[tactic(auto, using(crate::proofs::Steps::both_on, crate::proofs::Steps::both_sound))]
+fn walk_iteration(scope: &Scope<'_, '_>, iteration: &Iteration, outcome: &mut Outcome)
+    ensures { outcome.new ≡ both outcome.old (outcome_of (in_iteration (file_in scope.now.names) (pou_in scope.now.names) (iteration_view iteration.now))) }
 {
-    *first = Refusal::earlier(*first, names.control_refusal(&iteration.control));
-    walk_expr(names, &iteration.first, first);
-    walk_expr(names, &iteration.last, first);
-    walk_step(names, &iteration.step, first);
+    *outcome = outcome.also(scope.control(&iteration.control));
+    walk_expr(scope, &iteration.first, outcome);
+    walk_expr(scope, &iteration.last, outcome);
+    walk_step(scope, &iteration.step, outcome);
 }
 
-/// Keeps what statements break, where it comes first.
+// Keeps what a connection of a call of a block breaks.
+#[tactic(auto, using(crate::proofs::Steps::both_on, crate::proofs::Steps::both_sound))]
+fn walk_connection(
+    scope: &Scope<'_, '_>,
+    block: Option<usize>,
+    connection: &Connection,
+    outcome: &mut Outcome,
+)
+    ensures { outcome.new ≡ both outcome.old (outcome_of (in_connection (file_in scope.now.names) (pou_in scope.now.names) block (connection_view connection.now))) }
+{
+    match connection {
+        Connection::Input(name, value) => {
+            *outcome = outcome.also(scope.connected(block, name));
+            walk_expr(scope, value, outcome);
+        }
+        Connection::Output(name, target) => {
+            *outcome = outcome.also(scope.connected(block, name));
+            *outcome = outcome.also(scope.target(target));
+        }
+    }
+}
+
+// Keeps what the connections of a call of a block break.
+#[tactic(auto, using(crate::proofs::Steps::both_on, crate::proofs::Steps::both_sound))]
+fn walk_connections(
+    scope: &Scope<'_, '_>,
+    block: Option<usize>,
+    connections: &[Connection],
+    outcome: &mut Outcome,
+)
+    ensures { outcome.new ≡ both outcome.old (outcome_of (in_connections (file_in scope.now.names) (pou_in scope.now.names) block (connections_view connections.now))) }
+{
+    for connection in connections {
+        walk_connection(scope, block, connection, outcome);
+    }
+}
+
+/// Keeps what statements break.
 #[cycle(walk_stmts)]
-#[tactic(auto, using(crate::proofs::Steps::earlier_on))]
-pub fn walk_stmts(names: &Names<'_>, stmts: &[Stmt], first: &mut Option<Refusal>)
-    ensures { first.new ≡ earlier first.old (first_in (in_stmts (file_in names.now) (variables_in names.now) (stmts_view stmts.now))) }
+#[tactic(auto, using(crate::proofs::Steps::both_on, crate::proofs::Steps::both_sound))]
+pub fn walk_stmts(scope: &Scope<'_, '_>, stmts: &[Stmt], outcome: &mut Outcome)
+    ensures { outcome.new ≡ both outcome.old (outcome_of (in_stmts (file_in scope.now.names) (pou_in scope.now.names) (stmts_view stmts.now))) }
 {
     for stmt in stmts {
-        walk_stmt(names, stmt, first);
+        walk_stmt(scope, stmt, outcome);
     }
 }
 
 // Keeps what a statement breaks.
 #[cycle(walk_stmts)]
-#[tactic(auto, using(crate::proofs::Steps::earlier_on))]
-fn walk_stmt(names: &Names<'_>, stmt: &Stmt, first: &mut Option<Refusal>)
-    ensures { first.new ≡ earlier first.old (first_in (in_stmt (file_in names.now) (variables_in names.now) (stmt_view stmt.now))) }
+#[tactic(auto, using(crate::proofs::Steps::both_on, crate::proofs::Steps::both_sound))]
+fn walk_stmt(scope: &Scope<'_, '_>, stmt: &Stmt, outcome: &mut Outcome)
+    ensures { outcome.new ≡ both outcome.old (outcome_of (in_stmt (file_in scope.now.names) (pou_in scope.now.names) (stmt_view stmt.now))) }
 {
     match stmt {
         Stmt::Empty => {}
         Stmt::Assign(target, value) => {
-            *first = Refusal::earlier(*first, names.target_refusal(target));
-            walk_expr(names, value, first);
+            *outcome = outcome.also(scope.target(target));
+            walk_expr(scope, value, outcome);
+        }
+        Stmt::Call(name, _, connections) => {
+            let seen = scope.names.seen(name);
+            *outcome = outcome.also(scope.instance(seen, name));
+            walk_connections(scope, instance_of(seen), connections, outcome);
         }
         Stmt::If(arms, other) => {
-            walk_arms(names, arms, first);
+            walk_arms(scope, arms, outcome);
             match other {
-                Some(stmts) => walk_stmts(names, stmts, first),
+                Some(stmts) => walk_stmts(scope, stmts, outcome),
                 None => {}
             }
         }
         Stmt::Case(selector, entries, other) => {
-            walk_expr(names, selector, first);
-            walk_entries(names, entries, first);
+            walk_expr(scope, selector, outcome);
+            walk_entries(scope, entries, outcome);
             match other {
-                Some(stmts) => walk_stmts(names, stmts, first),
+                Some(stmts) => walk_stmts(scope, stmts, outcome),
                 None => {}
             }
         }
         Stmt::For(iteration, body) => {
-            walk_iteration(names, iteration, first);
-            walk_stmts(names, body, first);
+            walk_iteration(scope, iteration, outcome);
+            walk_stmts(scope, body, outcome);
         }
     }
 }
 
 // Keeps what the arms of an IF break.
 #[cycle(walk_stmts)]
-#[tactic(auto, using(crate::proofs::Steps::earlier_on))]
-fn walk_arms(names: &Names<'_>, arms: &[Arm], first: &mut Option<Refusal>)
-    ensures { first.new ≡ earlier first.old (first_in (in_arms (file_in names.now) (variables_in names.now) (arms_view arms.now))) }
+#[tactic(auto, using(crate::proofs::Steps::both_on, crate::proofs::Steps::both_sound))]
+fn walk_arms(scope: &Scope<'_, '_>, arms: &[Arm], outcome: &mut Outcome)
+    ensures { outcome.new ≡ both outcome.old (outcome_of (in_arms (file_in scope.now.names) (pou_in scope.now.names) (arms_view arms.now))) }
 {
     for arm in arms {
-        walk_expr(names, &arm.condition, first);
-        walk_stmts(names, &arm.body, first);
+        walk_expr(scope, &arm.condition, outcome);
+        walk_stmts(scope, &arm.body, outcome);
     }
 }
 
 // Keeps what the entries of a CASE break.
 #[cycle(walk_stmts)]
-#[tactic(auto, using(crate::proofs::Steps::earlier_on))]
-fn walk_entries(names: &Names<'_>, entries: &[Entry], first: &mut Option<Refusal>)
-    ensures { first.new ≡ earlier first.old (first_in (in_entries (file_in names.now) (variables_in names.now) (entries_view entries.now))) }
+#[tactic(auto, using(crate::proofs::Steps::both_on, crate::proofs::Steps::both_sound))]
+fn walk_entries(scope: &Scope<'_, '_>, entries: &[Entry], outcome: &mut Outcome)
+    ensures { outcome.new ≡ both outcome.old (outcome_of (in_entries (file_in scope.now.names) (pou_in scope.now.names) (entries_view entries.now))) }
 {
     for entry in entries {
-        walk_labels(names, &entry.labels, first);
-        walk_stmts(names, &entry.body, first);
+        walk_labels(scope, &entry.labels, outcome);
+        walk_stmts(scope, &entry.body, outcome);
     }
 }

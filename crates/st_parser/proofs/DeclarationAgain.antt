@@ -1,5 +1,5 @@
 -- What declarations print is read as those declarations.
-use Rattle.std.proofs.Common.{◌≡◌, ℕ, zero, suc, ◌<◌, ◌≤◌, List, [], ◌∷◌, ◌++◌, map, length, Option, Some, None, refl, sym, ap, ◌∙◌, append_assoc, arith, length-append}
+use Rattle.std.proofs.Common.{◌≡◌, ℕ, zero, suc, ◌<◌, ◌≤◌, Bool, true, false, List, [], ◌∷◌, ◌++◌, map, length, Option, Some, None, refl, sym, ap, ◌∙◌, append_assoc, arith, length-append}
 use Rattle.std.proofs.lemmas.List.{append-nil, length-map}
 use Rattle.st_tree.specs.declared.elementary.Elementary.{Elementary}
 use Rattle.st_tree.specs.declared.token.Mark.TheVariants.{Close, Comma, Colon, Semicolon, Range, Hash, Constant, EndVar}
@@ -13,9 +13,9 @@ use Rattle.st_tree.specs.Prints.{name_symbol, print_members, print_literal, prin
 use Rattle.st_tree.specs.Levels.{IsConstant, IsInitialFormed, IsTypeFormed, AreDeclarationsFormed, AreVariablesFormed}
 use Rattle.st_parser.specs.Marks.{same_mark}
 use Rattle.st_parser.specs.Reading.{after, named, minus, opened}
-use Rattle.st_parser.specs.Declarations.{named_value, literal_value, initial_value, initial, bounds, ranged, type_of, others, local, section_of, declared, declaration, declarations, variables}
+use Rattle.st_parser.specs.Declarations.{named_value, literal_value, initial_value, initial, bounds, ranged, type_of, others, local, section_of, section_where, declared, declaration, declarations, variables}
 use Rattle.st_parser.proofs.Again.{constant_again}
-use Rattle.st_parser.proofs.DeclarationSound.{bounds_shape, declaration_shape}
+use Rattle.st_parser.proofs.DeclarationSound.{bounds_shape, declaration_shape, IsSectionWhere, AreSectionsWhere}
 
 -- ---- initial values
 
@@ -193,6 +193,23 @@ module _ (turns : ℕ) where
   section_again sections.Temporary rest none = refl
   section_again sections.Constant rest none = refl
 
+  section_where_again : (of_function : Bool) (s : Section) (rest : List Symbol) → IsSectionWhere of_function s → after Constant rest ≡ None → section_where of_function (map mark (section_marks s) ++ rest) ≡ Some (s, rest)
+  unfolding section_where
+  section_where_again true s rest is none = rw (section_again s rest none, is) refl
+  section_where_again false s rest is none = rw (section_again s rest none) refl
+
+  no_section_where : (of_function : Bool) (rest : List Symbol) → section_of rest ≡ None → section_where of_function rest ≡ None
+  unfolding section_where
+  no_section_where of_function rest none = rw none refl
+
+  first_section : (of_function : Bool) (v : VariablesData) (vs : List VariablesData) → AreSectionsWhere of_function (v ∷ vs) → IsSectionWhere of_function v.section
+  first_section true v vs are = are.0
+  first_section false v vs are = tt
+
+  other_sections : (of_function : Bool) (v : VariablesData) (vs : List VariablesData) → AreSectionsWhere of_function (v ∷ vs) → AreSectionsWhere of_function vs
+  other_sections true v vs are = are.1
+  other_sections false v vs are = tt
+
   some_marks : (s : Section) → 1 ≤ length (section_marks s)
   some_marks sections.Input = omega arith
   some_marks sections.Output = omega arith
@@ -211,18 +228,18 @@ module _ (turns : ℕ) where
       let inner : List Symbol = print_declarations v.declarations ++ mark EndVar ∷ (print_variables vs ++ rest) in
       omega (arith, ap length (variables_shape v vs rest), length-append (map mark (section_marks v.section)) inner, length-map (section_marks v.section) mark, some_marks v.section)
 
-  pub variables_again : (n : ℕ) (before vs : List VariablesData) (rest : List Symbol) → AreVariablesFormed vs → section_of rest ≡ None → length (print_variables vs ++ rest) ≤ n → length (print_variables vs ++ rest) ≤ turns
-      → variables turns n before (print_variables vs ++ rest) ≡ Some (before ++ vs, rest)
+  pub variables_again : (of_function : Bool) (n : ℕ) (before vs : List VariablesData) (rest : List Symbol) → AreVariablesFormed vs → AreSectionsWhere of_function vs → section_of rest ≡ None → length (print_variables vs ++ rest) ≤ n → length (print_variables vs ++ rest) ≤ turns
+      → variables turns of_function n before (print_variables vs ++ rest) ≡ Some (before ++ vs, rest)
   unfolding variables
-  variables_again zero before [] rest is ends le len = ap (λ (vs : List VariablesData). Some (vs, rest)) (sym (append-nil before))
-  variables_again zero before (v ∷ vs) rest is ends le len = absurd (omega (arith, variables_length v vs rest))
-  variables_again (suc n) before [] rest is ends le len = rw ends (ap (λ (vs : List VariablesData). Some (vs, rest)) (sym (append-nil before)))
-  variables_again (suc n) before (v ∷ vs) rest is ends le len =
+  variables_again of_function zero before [] rest is are ends le len = ap (λ (vs : List VariablesData). Some (vs, rest)) (sym (append-nil before))
+  variables_again of_function zero before (v ∷ vs) rest is are ends le len = absurd (omega (arith, variables_length v vs rest))
+  variables_again of_function (suc n) before [] rest is are ends le len = rw (no_section_where of_function rest ends) (ap (λ (vs : List VariablesData). Some (vs, rest)) (sym (append-nil before)))
+  variables_again of_function (suc n) before (v ∷ vs) rest is are ends le len =
       let tail : List Symbol = print_variables vs ++ rest in
       let inner : List Symbol = print_declarations v.declarations ++ mark EndVar ∷ tail in
       let shape : print_variables (v ∷ vs) ++ rest ≡ map mark (section_marks v.section) ++ inner = variables_shape v vs rest in
       let whole : length inner ≤ turns = omega (arith, variables_length v vs rest) in
       let less : length tail ≤ n = omega (arith, variables_length v vs rest, length-append (print_declarations v.declarations) (mark EndVar ∷ tail)) in
       let fewer : length tail ≤ turns = omega (arith, length-append (print_declarations v.declarations) (mark EndVar ∷ tail)) in
-      rw (shape, section_again v.section inner (no_constant v.declarations tail), declarations_again turns [] v.declarations tail is.0 whole whole)
-      (variables_again n (before ++ v ∷ []) vs rest is.1 ends less fewer ∙ ap (λ (x : List VariablesData). Some (x, rest)) (append_assoc before (v ∷ []) vs))
+      rw (shape, section_where_again of_function v.section inner (first_section of_function v vs are) (no_constant v.declarations tail), declarations_again turns [] v.declarations tail is.0 whole whole)
+      (variables_again of_function n (before ++ v ∷ []) vs rest is.1 (other_sections of_function v vs are) ends less fewer ∙ ap (λ (x : List VariablesData). Some (x, rest)) (append_assoc before (v ∷ []) vs))

@@ -1,5 +1,5 @@
 -- What is read of declarations prints the symbols that were taken.
-use Rattle.std.proofs.Common.{◌≡◌, ℕ, zero, suc, Bool, true, false, cond, List, [], ◌∷◌, ◌++◌, map, Option, Some, None, refl, sym, ap, subst, ◌∙◌, append_assoc}
+use Rattle.std.proofs.Common.{◌≡◌, ℕ, zero, suc, Bool, true, false, cond, ◌&&◌, not, List, [], ◌∷◌, ◌++◌, map, Option, Some, None, refl, sym, ap, subst, ◌∙◌, append_assoc}
 use Rattle.std.proofs.lemmas.List.{append-nil}
 use Rattle.st_tree.specs.declared.elementary.Elementary.{Elementary}
 use Rattle.st_tree.specs.declared.token.Mark.{Mark}
@@ -11,11 +11,11 @@ use Rattle.st_tree.specs.declared.syntax.Section.{Section}
 use Rattle.st_tree.specs.declared.syntax.Section.TheVariants as sections
 use Rattle.st_tree.specs.Syntax.{Symbol, name, elementary, operator, opening, mark, Named, Tree, literal, path, enumerator, unary, BoundsData, TypeData, of_elementary, of_subrange, of_name, DeclarationData, VariablesData}
 use Rattle.st_tree.specs.Prints.{name_symbol, print, print_others, print_bounds, print_type, print_initial, print_declaration, print_declarations, section_marks, print_variables}
-use Rattle.st_tree.specs.Levels.{IsConstant, IsInitialFormed, IsTypeFormed, AreDeclarationsFormed, AreVariablesFormed}
+use Rattle.st_tree.specs.Levels.{IsConstant, IsInitialFormed, IsTypeFormed, AreDeclarationsFormed, AreVariablesFormed, is_section_of_function, AreSectionsOfFunction}
 use Rattle.st_parser.specs.Marks.{same_mark}
 use Rattle.st_parser.specs.Reading.{after, named, minus, opened}
 use Rattle.st_parser.specs.Expressions.{constant}
-use Rattle.st_parser.specs.Declarations.{named_or, named_value, literal_or, literal_value, initial_value, initial_or, initial, bounds, ranged_or, ranged, type_of, others_step, others, local_or, local, section_of, declared, declaration, declarations_step, declarations, variables_step, variables}
+use Rattle.st_parser.specs.Declarations.{named_or, named_value, literal_or, literal_value, initial_value, initial_or, initial, bounds, ranged_or, ranged, type_of, others_step, others, local_or, local, section_of, section_or, section_where, declared, declaration, declarations_step, declarations, variables_step, variables}
 use Rattle.st_parser.proofs.Steps.{bind_some, some_is, same_mark-is, after_is, named_is, minus_is, opened_is}
 use Rattle.st_parser.proofs.Sound.{constant_is}
 
@@ -168,6 +168,23 @@ declaration_shape d rest =
     append_assoc (print_others d.others) (mark Colon ∷ (kind ++ value ++ mark Semicolon ∷ [])) rest
     ∙ ap (λ (x : List Symbol). print_others d.others ++ mark Colon ∷ x) (append_assoc (kind ++ value) (mark Semicolon ∷ []) rest ∙ append_assoc kind value (mark Semicolon ∷ rest)))
 
+-- a section that a FUNCTION may have, and such sections, where they are of one
+abbrev pub IsSectionWhere : Bool → Section → Type 0
+IsSectionWhere true s = is_section_of_function s ≡ true
+IsSectionWhere false s = Unit {0}
+
+abbrev pub AreSectionsWhere : Bool → List VariablesData → Type 0
+AreSectionsWhere true vs = AreSectionsOfFunction vs
+AreSectionsWhere false vs = Unit {0}
+
+no_sections : (of_function : Bool) → AreSectionsWhere of_function []
+no_sections true = tt
+no_sections false = tt
+
+more_sections : (of_function : Bool) (v : VariablesData) (vs : List VariablesData) → IsSectionWhere of_function v.section → AreSectionsWhere of_function vs → AreSectionsWhere of_function (v ∷ vs)
+more_sections true v vs is are = (is, are)
+more_sections false v vs is are = tt
+
 module _ (turns : ℕ) where
   declared_is : (n : Named) (ns : List Named) (ts : List Symbol) (y : DeclarationData × List Symbol) → declared turns n ns ts ≡ Some y → DeclarationIs (name_symbol n ∷ (print_others ns ++ ts)) y
   unfolding declared
@@ -249,34 +266,53 @@ module _ (turns : ℕ) where
   section_is (mark m ∷ ts) y e = section_go m ts y (same_mark m VarInput) (same_mark m VarOutput) (same_mark m VarTemp) (same_mark m Var) refl refl refl refl e
   section_is ts y e = absurd cc
 
-  abbrev pub VariablesAre : List VariablesData → List Symbol → List VariablesData × List Symbol → Type 0
-  VariablesAre before ts y = (extra : List VariablesData) × (y.0 ≡ before ++ extra) × (ts ≡ print_variables extra ++ y.1) × AreVariablesFormed extra
+  abbrev FoundWhere : Bool → Option (Section × List Symbol) → Section × List Symbol → Type 0
+  FoundWhere of_function o s = (o ≡ Some s) × IsSectionWhere of_function s.0
 
-  variables_stop : (before : List VariablesData) (ts : List Symbol) (y : List VariablesData × List Symbol) → (let o : Option (List VariablesData × List Symbol) = Some (before, ts) in o) ≡ Some y → VariablesAre before ts y
-  variables_stop before ts y e =
-      let whole : VariablesAre before ts (before, ts) = ([], sym (append-nil before), refl, tt) in
-      subst (VariablesAre before ts) (some_is (before, ts) y e) whole
+  section_kept : (of_function allowed : Bool) (x s : Section × List Symbol) → is_section_of_function x.0 ≡ allowed → cond (of_function && not allowed) None (Some x) ≡ Some s → FoundWhere of_function (Some x) s
+  section_kept true true x s is e =
+      let p = some_is x s e in (ap (λ (y : Section × List Symbol). Some y) p, subst (λ (y : Section × List Symbol). is_section_of_function y.0 ≡ true) p is)
+  section_kept true false x s is e = absurd cc
+  section_kept false allowed x s is e = (ap (λ (y : Section × List Symbol). Some y) (some_is x s e), tt)
 
-  variables_go : (n : ℕ) (before : List VariablesData) (ts : List Symbol) (y : List VariablesData × List Symbol) (o : Option (Section × List Symbol)) → section_of ts ≡ o → variables_step turns (variables turns n) before ts o ≡ Some y
-      → ((before : List VariablesData) (ts : List Symbol) → variables turns n before ts ≡ Some y → VariablesAre before ts y) → VariablesAre before ts y
-  variables_go n before ts y None is e below = variables_stop before ts y e
-  variables_go n before ts y (Some s) is e below =
-      let a = bind_some (declarations turns turns [] s.1) (λ (ds : List DeclarationData × List Symbol). variables turns n (before ++ record { section = s.0; declarations = ds.0 } ∷ []) ds.1) y e in
+  section_where_go : (of_function : Bool) (o : Option (Section × List Symbol)) (s : Section × List Symbol) → section_or of_function o ≡ Some s → FoundWhere of_function o s
+  section_where_go of_function None s e = absurd cc
+  section_where_go of_function (Some x) s e = section_kept of_function (is_section_of_function x.0) x s refl e
+
+  section_where_is : (of_function : Bool) (ts : List Symbol) (s : Section × List Symbol) → section_where of_function ts ≡ Some s → FoundWhere of_function (section_of ts) s
+  unfolding section_where
+  section_where_is of_function ts s e = section_where_go of_function (section_of ts) s e
+
+  abbrev pub VariablesAre : Bool → List VariablesData → List Symbol → List VariablesData × List Symbol → Type 0
+  VariablesAre of_function before ts y = (extra : List VariablesData) × (y.0 ≡ before ++ extra) × (ts ≡ print_variables extra ++ y.1) × AreVariablesFormed extra × AreSectionsWhere of_function extra
+
+  variables_stop : (of_function : Bool) (before : List VariablesData) (ts : List Symbol) (y : List VariablesData × List Symbol) → (let o : Option (List VariablesData × List Symbol) = Some (before, ts) in o) ≡ Some y → VariablesAre of_function before ts y
+  variables_stop of_function before ts y e =
+      let whole : VariablesAre of_function before ts (before, ts) = ([], sym (append-nil before), refl, tt, no_sections of_function) in
+      subst (VariablesAre of_function before ts) (some_is (before, ts) y e) whole
+
+  variables_go : (of_function : Bool) (n : ℕ) (before : List VariablesData) (ts : List Symbol) (y : List VariablesData × List Symbol) (o : Option (Section × List Symbol)) → section_where of_function ts ≡ o → variables_step turns (variables turns of_function n) before ts o ≡ Some y
+      → ((before : List VariablesData) (ts : List Symbol) → variables turns of_function n before ts ≡ Some y → VariablesAre of_function before ts y) → VariablesAre of_function before ts y
+  variables_go of_function n before ts y None is e below = variables_stop of_function before ts y e
+  variables_go of_function n before ts y (Some s) is e below =
+      let a = bind_some (declarations turns turns [] s.1) (λ (ds : List DeclarationData × List Symbol). variables turns of_function n (before ++ record { section = s.0; declarations = ds.0 } ∷ []) ds.1) y e in
       let v : VariablesData = record { section = s.0; declarations = a.0.0 } in
       let d = declarations_are turns [] s.1 a.0 a.1 in
+      let found = section_where_is of_function ts s is in
       let b = below (before ++ v ∷ []) a.0.1 a.2 in
       let formed : AreDeclarationsFormed a.0.0 = subst AreDeclarationsFormed (sym d.1) d.3 in
       let printed : s.1 ≡ print_declarations a.0.0 ++ mark EndVar ∷ a.0.1 = d.2 ∙ ap (λ (x : List DeclarationData). print_declarations x ++ mark EndVar ∷ a.0.1) (sym d.1) in (
         v ∷ b.0,
         b.1 ∙ append_assoc before (v ∷ []) b.0,
-        section_is ts s is ∙ ap (λ (x : List Symbol). map mark (section_marks s.0) ++ x) (
+        section_is ts s found.0 ∙ ap (λ (x : List Symbol). map mark (section_marks s.0) ++ x) (
             printed ∙ ap (λ (x : List Symbol). print_declarations a.0.0 ++ mark EndVar ∷ x) b.2
             ∙ sym (append_assoc (print_declarations a.0.0) (mark EndVar ∷ print_variables b.0) y.1))
             ∙ sym (append_assoc (map mark (section_marks s.0)) (print_declarations a.0.0 ++ mark EndVar ∷ print_variables b.0) y.1),
         (formed, b.3),
+        more_sections of_function v b.0 found.1 b.4,
       )
 
-  pub variables_are : (n : ℕ) (before : List VariablesData) (ts : List Symbol) (y : List VariablesData × List Symbol) → variables turns n before ts ≡ Some y → VariablesAre before ts y
+  pub variables_are : (of_function : Bool) (n : ℕ) (before : List VariablesData) (ts : List Symbol) (y : List VariablesData × List Symbol) → variables turns of_function n before ts ≡ Some y → VariablesAre of_function before ts y
   unfolding variables
-  variables_are zero before ts y e = variables_stop before ts y e
-  variables_are (suc n) before ts y e = variables_go n before ts y (section_of ts) refl e (λ before ts e. variables_are n before ts y e)
+  variables_are of_function zero before ts y e = variables_stop of_function before ts y e
+  variables_are of_function (suc n) before ts y e = variables_go of_function n before ts y (section_where of_function ts) refl e (λ before ts e. variables_are of_function n before ts y e)

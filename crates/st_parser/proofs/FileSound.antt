@@ -1,30 +1,20 @@
 -- What is read of files prints the symbols that were taken.
-use Rattle.std.proofs.Common.{◌≡◌, ℕ, zero, suc, List, [], ◌∷◌, ◌++◌, false, Option, Some, None, refl, sym, ap, subst, ◌∙◌, append_assoc}
+use Rattle.std.proofs.Common.{◌≡◌, ℕ, zero, suc, List, [], ◌∷◌, ◌++◌, Option, Some, None, refl, sym, ap, subst, ◌∙◌, append_assoc}
 use Rattle.std.proofs.lemmas.List.{append-nil}
 use Rattle.st_tree.specs.declared.token.Mark.TheVariants as marks
-use Rattle.st_tree.specs.declared.token.Mark.TheVariants.{Program, EndType, EndProgram}
-use Rattle.st_tree.specs.Syntax.{Symbol, mark, Stmts, TypeDeclarationData, VariablesData, BodyData, statements as statement_body, chart as chart_body, PouData, ItemData, types as types_item, pou as pou_item, FileData}
-use Rattle.st_tree.specs.Prints.{name_symbol, print_variables, print_body, print_pou, print_types, print_item, print_file}
-use Rattle.st_tree.specs.Levels.{AreTypesFormed, AreVariablesFormed}
-use Rattle.st_parser.specs.Reading.{◌>>=◌, after, named}
-use Rattle.st_parser.specs.Fits.{StmtsFit}
-use Rattle.st_parser.specs.Statements.{statements}
-use Rattle.st_parser.specs.Declarations.{variables}
+use Rattle.st_tree.specs.declared.token.Mark.TheVariants.{EndType}
+use Rattle.st_tree.specs.Syntax.{Symbol, mark, TypeDeclarationData, PouData, ItemData, types as types_item, pou as pou_item, FileData}
+use Rattle.st_tree.specs.Prints.{print_types, print_item, print_file}
+use Rattle.st_tree.specs.Levels.{AreTypesFormed}
+use Rattle.st_parser.specs.Reading.{◌>>=◌, after}
 use Rattle.st_parser.specs.Types.{types}
-use Rattle.st_parser.specs.Files.{body, program, item_or, item, items_step, items, ended, file}
-use Rattle.st_parser.proofs.Steps.{bind_some, some_is, after_is, named_is}
-use Rattle.st_parser.proofs.StatementSound.{statements_are}
-use Rattle.st_parser.proofs.DeclarationSound.{variables_are}
+use Rattle.st_parser.specs.Pous.{pou_begun}
+use Rattle.st_parser.specs.Files.{item_or, item, items_step, items, ended, file}
+use Rattle.st_parser.proofs.Steps.{bind_some, some_is, after_is}
 use Rattle.st_parser.proofs.TypesSound.{types_are}
+use Rattle.st_parser.proofs.PouSound.{PouFits, pou_begun_is}
 
 -- ---- files whose statements nest within a depth
-
-abbrev pub BodyFits : BodyData → ℕ → Type 0
-BodyFits (statement_body ss) d = StmtsFit ss d
-BodyFits (chart_body c) d = ⊥
-
-abbrev pub PouFits : PouData → ℕ → Type 0
-PouFits p d = AreVariablesFormed p.variables × BodyFits p.body d
 
 abbrev pub ItemFits : ItemData → ℕ → Type 0
 ItemFits (types_item ds) d = AreTypesFormed ds
@@ -34,46 +24,11 @@ abbrev pub FileFits : FileData → ℕ → Type 0
 FileFits [] d = Unit {0}
 FileFits (i ∷ is) d = ItemFits i d × FileFits is d
 
--- how a program's symbols stand before others
-pub pou_shape : (p : PouData) (rest : List Symbol) → print_pou p ++ rest ≡ mark Program ∷ name_symbol p.name ∷ (print_variables p.variables ++ (print_body p.body ++ mark EndProgram ∷ rest))
-pou_shape p rest =
-    ap (λ (x : List Symbol). mark Program ∷ name_symbol p.name ∷ x) (
-    append_assoc (print_variables p.variables) (print_body p.body ++ mark EndProgram ∷ []) rest
-    ∙ ap (λ (x : List Symbol). print_variables p.variables ++ x) (append_assoc (print_body p.body) (mark EndProgram ∷ []) rest))
-
 -- how a block of types stands before others
 pub types_item_shape : (ds : List TypeDeclarationData) (rest : List Symbol) → print_item (types_item ds) ++ rest ≡ mark marks.Type ∷ (print_types ds ++ mark EndType ∷ rest)
 types_item_shape ds rest = ap (λ (x : List Symbol). mark marks.Type ∷ x) (append_assoc (print_types ds) (mark EndType ∷ []) rest)
 
 module _ (turns depth : ℕ) where
-  body_is : (ts : List Symbol) (y : BodyData × List Symbol) → body turns depth ts ≡ Some y → (ts ≡ print_body y.0 ++ y.1) × BodyFits y.0 depth
-  unfolding body
-  body_is ts y e =
-      let a = bind_some (statements turns depth false ts) (λ (ss : Stmts × List Symbol). Some (statement_body ss.0, ss.1)) y e in
-      let whole = statements_are turns depth false ts a.0.0 a.0.1 a.1 in
-      subst (λ (z : BodyData × List Symbol). (ts ≡ print_body z.0 ++ z.1) × BodyFits z.0 depth) (some_is (statement_body a.0.0, a.0.1) y a.2) whole
-
-  abbrev ProgramIs : List Symbol → PouData × List Symbol → Type 0
-  ProgramIs ts y = (mark Program ∷ ts ≡ print_pou y.0 ++ y.1) × PouFits y.0 depth
-
-  program_is : (ts : List Symbol) (y : PouData × List Symbol) → program turns depth ts ≡ Some y → ProgramIs ts y
-  unfolding program
-  program_is ts y e =
-      let a = bind_some (named ts) _ y e in
-      let v = bind_some (variables turns turns [] a.0.1) _ y a.2 in
-      let b = bind_some (body turns depth v.0.1) _ y v.2 in
-      let c = bind_some (after EndProgram b.0.1) _ y b.2 in
-      let vs = variables_are turns turns [] a.0.1 v.0 v.1 in
-      let bs = body_is v.0.1 b.0 b.1 in
-      let found : PouData = record { name = a.0.0; variables = v.0.0; body = b.0.0 } in
-      let sections : a.0.1 ≡ print_variables v.0.0 ++ v.0.1 = vs.2 ∙ ap (λ (x : List VariablesData). print_variables x ++ v.0.1) (sym vs.1) in
-      let formed : AreVariablesFormed v.0.0 = subst AreVariablesFormed (sym vs.1) vs.3 in
-      let printed = named_is ts a.0.0 a.0.1 a.1 ∙ ap (λ (x : List Symbol). name_symbol a.0.0 ∷ x) (sections ∙ ap (λ (x : List Symbol). print_variables v.0.0 ++ x) (bs.0 ∙ ap (λ (x : List Symbol). print_body b.0.0 ++ x) (after_is EndProgram b.0.1 c.0 c.1))) in
-      let whole : ProgramIs ts (found, c.0) = (ap (λ (x : List Symbol). mark Program ∷ x) printed ∙ sym (pou_shape found c.0), (formed, bs.1)) in
-      subst (ProgramIs ts) (some_is (found, c.0) y c.2) whole
-
-  -- ---- items
-
   abbrev ItemIs : List Symbol → ItemData × List Symbol → Type 0
   ItemIs ts y = (ts ≡ print_item y.0 ++ y.1) × ItemFits y.0 depth
 
@@ -86,23 +41,22 @@ module _ (turns depth : ℕ) where
       let whole : ItemIs (mark marks.Type ∷ ts) (types_item a.0.0, a.0.1) = (ap (λ (x : List Symbol). mark marks.Type ∷ x) printed ∙ sym (types_item_shape a.0.0 a.0.1), formed) in
       subst (ItemIs (mark marks.Type ∷ ts)) (some_is (types_item a.0.0, a.0.1) y a.2) whole
 
-  pou_item_is : (ts : List Symbol) (y : ItemData × List Symbol) → (program turns depth ts >>= λ p. Some (pou_item p.0, p.1)) ≡ Some y → ItemIs (mark Program ∷ ts) y
-  pou_item_is ts y e =
-      let a = bind_some (program turns depth ts) (λ (p : PouData × List Symbol). Some (pou_item p.0, p.1)) y e in
-      let whole : ItemIs (mark Program ∷ ts) (pou_item a.0.0, a.0.1) = program_is ts a.0 a.1 in
-      subst (ItemIs (mark Program ∷ ts)) (some_is (pou_item a.0.0, a.0.1) y a.2) whole
+  pou_item_is : (ts : List Symbol) (q : Option (PouData × List Symbol)) (y : ItemData × List Symbol) → pou_begun turns depth ts ≡ Some q → (q >>= λ p. Some (pou_item p.0, p.1)) ≡ Some y → ItemIs ts y
+  pou_item_is ts q y is e =
+      let a = bind_some q (λ (p : PouData × List Symbol). Some (pou_item p.0, p.1)) y e in
+      let whole : ItemIs ts (pou_item a.0.0, a.0.1) = pou_begun_is turns depth ts q a.0 is a.1 in
+      subst (ItemIs ts) (some_is (pou_item a.0.0, a.0.1) y a.2) whole
 
-  item_go : (ts : List Symbol) (found : Option (ItemData × List Symbol)) (y : ItemData × List Symbol) (t p : Option (List Symbol)) → after marks.Type ts ≡ t → after Program ts ≡ p
+  item_go : (ts : List Symbol) (found : Option (ItemData × List Symbol)) (y : ItemData × List Symbol) (t : Option (List Symbol)) (p : Option (Option (PouData × List Symbol))) → after marks.Type ts ≡ t → pou_begun turns depth ts ≡ p
       → item_or turns depth t p ≡ Some found → found ≡ Some y → ItemIs ts y
-  item_go ts found y (Some r) p type_is program_is e f =
+  item_go ts found y (Some r) p type_is pou_is e f =
       subst (λ (x : List Symbol). ItemIs x y) (sym (after_is marks.Type ts r type_is)) (types_item_is r y (some_is (types turns turns [] r >>= λ ds. Some (types_item ds.0, ds.1)) found e ∙ f))
-  item_go ts found y None (Some r) type_is program_is e f =
-      subst (λ (x : List Symbol). ItemIs x y) (sym (after_is Program ts r program_is)) (pou_item_is r y (some_is (program turns depth r >>= λ p. Some (pou_item p.0, p.1)) found e ∙ f))
-  item_go ts found y None None type_is program_is e f = absurd cc
+  item_go ts found y None (Some q) type_is pou_is e f = pou_item_is ts q y pou_is (some_is (q >>= λ p. Some (pou_item p.0, p.1)) found e ∙ f)
+  item_go ts found y None None type_is pou_is e f = absurd cc
 
   item_is : (ts : List Symbol) (found : Option (ItemData × List Symbol)) (y : ItemData × List Symbol) → item turns depth ts ≡ Some found → found ≡ Some y → ItemIs ts y
   unfolding item
-  item_is ts found y e f = item_go ts found y (after marks.Type ts) (after Program ts) refl refl e f
+  item_is ts found y e f = item_go ts found y (after marks.Type ts) (pou_begun turns depth ts) refl refl e f
 
   abbrev ItemsAre : FileData → List Symbol → FileData × List Symbol → Type 0
   ItemsAre before ts y = (extra : FileData) × (y.0 ≡ before ++ extra) × (ts ≡ print_file extra ++ y.1) × FileFits extra depth

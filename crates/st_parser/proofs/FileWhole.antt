@@ -2,10 +2,9 @@
 use Rattle.std.proofs.Common.{◌≡◌, ◌≢◌, ℕ, ◌-◌, ◌≤◌, List, [], ◌∷◌, ◌++◌, length, Some, None, refl, sym, ap, subst, ◌∙◌, arith, inr}
 use Rattle.std.proofs.lemmas.List.{length-map}
 use Rattle.st_tree.specs.declared.token.Tok.{Tok}
-use Rattle.st_tree.specs.declared.token.Mark.TheVariants.{Program, EndProgram}
 use Rattle.st_tree.specs.Syntax.{Symbol, mark, BodyData, statements as statement_body, chart as chart_body, ItemData, types as types_item, pou as pou_item, FileData}
 use Rattle.st_tree.specs.SyntaxView as view
-use Rattle.st_tree.specs.Prints.{name_symbol, print_variables, print_body, print_item, print_file}
+use Rattle.st_tree.specs.Prints.{name_symbol, print_variables, print_body, beginning_of, end_of, print_result, print_item, print_file}
 use Rattle.st_tree.specs.Levels.{IsBodyLevelled, IsItemLevelled, IsFileLevelled}
 use Rattle.st_parser.specs.declared.fault.Stop.{Stop}
 use Rattle.st_parser.specs.declared.fault.Stop.TheVariants as stops
@@ -19,7 +18,9 @@ use Rattle.st_parser.specs.WholeFile.{IsFile, IsFileFault}
 use Rattle.st_parser.proofs.Steps.{some_is}
 use Rattle.st_parser.proofs.Nests.{nests-behind, nests-length}
 use Rattle.st_parser.proofs.Nested.{stmts_nested, stmts_levelled}
-use Rattle.st_parser.proofs.FileSound.{BodyFits, ItemFits, FileFits, pou_shape, file_is}
+use Rattle.st_parser.proofs.ChartWhole.{chart_fits, chart_levelled}
+use Rattle.st_parser.proofs.PouSound.{BodyFits, pou_shape}
+use Rattle.st_parser.proofs.FileSound.{ItemFits, FileFits, file_is}
 use Rattle.st_parser.proofs.FileAgain.{file_again}
 
 -- ---- a levelled file fits what its symbols nest within
@@ -28,16 +29,17 @@ body_fits : (limit : ℕ) (b : BodyData) (rest : List Symbol) → IsBodyLevelled
 body_fits limit (statement_body ss) rest levelled h =
     let all : limit - 0 ≡ limit = omega arith in
     subst (StmtsFit ss) all (stmts_nested limit ss nothing_open rest levelled h).0
-body_fits limit (chart_body c) rest levelled h = absurd c
+body_fits limit (chart_body ps) rest levelled h = chart_fits limit ps rest levelled h
 
 -- types fit any depth
 item_fits : (limit : ℕ) (i : ItemData) (rest : List Symbol) → IsItemLevelled i → NestsWithin limit nothing_open (print_item i ++ rest) → ItemFits i limit
 item_fits limit (types_item ds) rest levelled h = levelled
 item_fits limit (pou_item p) rest levelled h =
-    let front : List Symbol = mark Program ∷ name_symbol p.name ∷ print_variables p.variables in
-    let last : List Symbol = mark EndProgram ∷ rest in
-    let inner = nests-behind limit front (print_body p.body ++ last) nothing_open (subst (NestsWithin limit nothing_open) (pou_shape p rest) h) in
-    (levelled.0, body_fits limit p.body last levelled.1 inner)
+    let heading : List Symbol = mark (beginning_of p.kind) ∷ name_symbol p.name ∷ print_result p.kind in
+    let last : List Symbol = mark (end_of p.kind) ∷ rest in
+    let behind_heading = nests-behind limit heading (print_variables p.variables ++ (print_body p.body ++ last)) nothing_open (subst (NestsWithin limit nothing_open) (pou_shape p rest) h) in
+    let inner = nests-behind limit (print_variables p.variables) (print_body p.body ++ last) nothing_open behind_heading in
+    (levelled.0, levelled.1, levelled.2, levelled.3, body_fits limit p.body last levelled.4 inner)
 
 file_fits : (limit : ℕ) (f : FileData) → IsFileLevelled f → NestsWithin limit nothing_open (print_file f) → FileFits f limit
 file_fits limit [] levelled h = tt
@@ -46,11 +48,11 @@ file_fits limit (i ∷ is) levelled h =
 
 body_levelled : (b : BodyData) (d : ℕ) → BodyFits b d → IsBodyLevelled b
 body_levelled (statement_body ss) d fits = stmts_levelled ss d fits
-body_levelled (chart_body c) d fits = absurd c
+body_levelled (chart_body ps) d fits = chart_levelled ps d fits
 
 item_levelled : (i : ItemData) (d : ℕ) → ItemFits i d → IsItemLevelled i
 item_levelled (types_item ds) d fits = fits
-item_levelled (pou_item p) d fits = (fits.0, body_levelled p.body d fits.1)
+item_levelled (pou_item p) d fits = (fits.0, fits.1, fits.2, fits.3, body_levelled p.body d fits.4)
 
 file_levelled : (f : FileData) (d : ℕ) → FileFits f d → IsFileLevelled f
 file_levelled [] d fits = tt

@@ -2,20 +2,21 @@
 use Rattle.std.proofs.Common.{◌≡◌, ℕ, zero, suc, ◌+◌, ◌-◌, ◌≤◌, Bool, List, [], ◌∷◌, ◌++◌, length, Option, Some, None, is_some, refl, sym, subst, ◌∙◌, append_assoc, arith}
 use Rattle.st_tree.specs.declared.token.Operator.{Operator}
 use Rattle.st_tree.specs.declared.token.Mark.{Mark}
-use Rattle.st_tree.specs.declared.token.Mark.TheVariants.{Close, Comma, Semicolon, Colon, Assign, Range, If, Then, Elsif, Else, EndIf, Case, Of, EndCase, To, By, Do, EndFor}
+use Rattle.st_tree.specs.declared.token.Mark.TheVariants.{Close, Comma, Semicolon, Colon, Assign, Arrow, Range, If, Then, Elsif, Else, EndIf, Case, Of, EndCase, To, By, Do, EndFor}
 use Rattle.st_tree.specs.declared.syntax.UnaryOperator.{UnaryOperator}
 use Rattle.st_tree.specs.declared.syntax.UnaryOperator.TheVariants as signs
 use Rattle.st_tree.specs.declared.syntax.Literal.{Literal}
 use Rattle.st_tree.specs.declared.syntax.Literal.TheVariants as literals
-use Rattle.st_tree.specs.Syntax.{Symbol, opening, iteration, mark, Named, PathData, Tree, literal, path, enumerator, paren, unary, chain, call, Links, no_links, link, LabelData, IterationData, Arguments, no_arguments, argument, Stmt, empty, assign, branch, cases, iterate, Stmts, no_stmts, stmt, Arms, no_arms, arm, Entries, no_entries, entry, Otherwise, no_else, else_stmts}
-use Rattle.st_tree.specs.Prints.{unary_symbol, print_members, print_path, print_literal, print_argument_name, print, print_links, print_high, print_label, print_more_labels, print_labels, print_step, print_arguments, print_more_arguments, print_stmt, print_stmts, print_arms, print_entries, print_otherwise, name_symbol}
-use Rattle.st_tree.specs.Levels.{level_of, IsLevelled, AreOfLevel, IsConstant, IsInitialFormed, IsLabelFormed, AreLabelsFormed, AreLabels, IsStepLevelled, IsIterationLevelled, are_named, AreOfForm, IsStmtLevelled, AreStmtsLevelled, AreArmsLevelled, AreEntriesLevelled, IsElseLevelled}
+use Rattle.st_tree.specs.Syntax.{Symbol, opening, iteration, mark, Named, PathData, Tree, literal, path, enumerator, paren, unary, chain, call, Links, no_links, link, LabelData, IterationData, Arguments, no_arguments, argument, ConnectionData, input, output, Stmt, empty, assign, invoke, branch, cases, iterate, Stmts, no_stmts, stmt, Arms, no_arms, arm, Entries, no_entries, entry, Otherwise, no_else, else_stmts}
+use Rattle.st_tree.specs.Prints.{unary_symbol, print_members, print_path, print_literal, print_argument_name, print, print_links, print_high, print_label, print_more_labels, print_labels, print_step, print_arguments, print_more_arguments, print_connection, print_more_connections, print_connections, print_stmt, print_stmts, print_arms, print_entries, print_otherwise, name_symbol}
+use Rattle.st_tree.specs.Levels.{level_of, IsLevelled, AreOfLevel, IsConstant, IsInitialFormed, IsLabelFormed, AreLabelsFormed, AreLabels, IsStepLevelled, IsIterationLevelled, are_named, AreOfForm, AreConnectionsLevelled, IsStmtLevelled, AreStmtsLevelled, AreArmsLevelled, AreEntriesLevelled, IsElseLevelled}
 use Rattle.st_parser.specs.Marks.{same_mark}
-use Rattle.st_parser.specs.Fits.{Fits, LinksFit, StepFits, IterationFits, ArgumentsFit, StmtFits, StmtsFit, ArmsFit, EntriesFit, ElseFits}
+use Rattle.st_parser.specs.Fits.{Fits, LinksFit, StepFits, IterationFits, ArgumentsFit, ConnectionsFit, StmtFits, StmtsFit, ArmsFit, EntriesFit, ElseFits}
 use Rattle.st_parser.specs.declared.nesting.Open.{Open}
 use Rattle.st_parser.specs.Nesting.{open_parentheses, open_ifs, open_cases, open_iterations, nothing_open, total, behind, NestsWithin, Shallow}
 use Rattle.st_parser.proofs.ArgumentsSound.{argument_shape}
 use Rattle.st_parser.proofs.Iterations.{iteration_shape}
+use Rattle.st_parser.proofs.Connections.{invoke_shape}
 use Rattle.st_parser.proofs.StatementSound.{arm_shape, branch_shape, entry_shape, cases_shape, iterate_shape, assign_shape}
 use Rattle.st_parser.proofs.Nests.{nests-length}
 
@@ -181,6 +182,10 @@ module _ (limit : ℕ) where
   unfolding open_parentheses open_ifs open_cases open_iterations same_mark
   plain_assign o = refl
 
+  plain_arrow : IsPlain Arrow
+  unfolding open_parentheses open_ifs open_cases open_iterations same_mark
+  plain_arrow o = refl
+
   plain_comma : IsPlain Comma
   unfolding open_parentheses open_ifs open_cases open_iterations same_mark
   plain_comma o = refl
@@ -285,6 +290,32 @@ module _ (limit : ℕ) where
   labels_nested (l ∷ ls) o rest is h =
       more_labels_nested ls o rest is.1 (label_nested l o (print_more_labels ls ++ rest) is.0 (subst (Within o) (append_assoc (print_label l) (print_more_labels ls) rest) h))
 
+  -- ---- connections, inside parentheses
+
+  abbrev ConnectionsNested : List ConnectionData → Type 0
+  ConnectionsNested cs = (o : Open) (rest : List Symbol) → AreConnectionsLevelled cs → Within o (print_more_connections cs ++ rest) → ConnectionsFit cs (suc (left o)) × Within o rest
+
+  connection_nested : (c : ConnectionData) (cs : List ConnectionData) → ConnectionsNested cs → (o : Open) (rest : List Symbol) → AreConnectionsLevelled (c ∷ cs) → Within o ((print_connection c ++ print_more_connections cs) ++ rest)
+      → ConnectionsFit (c ∷ cs) (suc (left o)) × Within o rest
+  connection_nested (input n e) cs p o rest l h =
+      let value = past Assign o ((print e ++ print_more_connections cs) ++ rest) plain_assign (behind_name n o (mark Assign ∷ ((print e ++ print_more_connections cs) ++ rest)) h) in
+      let first = nested e o (print_more_connections cs ++ rest) l.0 (subst (Within o) (append_assoc (print e) (print_more_connections cs) rest) value) in
+      let others = p o rest l.1 first.1 in
+      ((first.0, others.0), others.1)
+  connection_nested (output n v) cs p o rest l h =
+      let target = past Arrow o ((print_path v ++ print_more_connections cs) ++ rest) plain_arrow (behind_name n o (mark Arrow ∷ ((print_path v ++ print_more_connections cs) ++ rest)) h) in
+      let behind_target = path_nested v o (print_more_connections cs ++ rest) (subst (Within o) (append_assoc (print_path v) (print_more_connections cs) rest) target) in
+      let others = p o rest l behind_target in
+      ((tt, others.0), others.1)
+
+  more_connections_nested : (cs : List ConnectionData) → ConnectionsNested cs
+  more_connections_nested [] o rest l h = (tt, h)
+  more_connections_nested (c ∷ cs) o rest l h = connection_nested c cs (more_connections_nested cs) o rest l (behind_comma o ((print_connection c ++ print_more_connections cs) ++ rest) h)
+
+  connections_nested : (cs : List ConnectionData) (o : Open) (rest : List Symbol) → AreConnectionsLevelled cs → Within o (print_connections cs ++ rest) → ConnectionsFit cs (suc (left o)) × Within o rest
+  connections_nested [] o rest l h = (tt, h)
+  connections_nested (c ∷ cs) o rest l h = connection_nested c cs (more_connections_nested cs) o rest l h
+
   -- ---- statements
 
   abbrev StmtNested : Stmt → Type 0
@@ -321,6 +352,15 @@ module _ (limit : ℕ) where
       let value = past Assign o (print e ++ mark Semicolon ∷ rest) plain_assign (path_nested p o (mark Assign ∷ (print e ++ mark Semicolon ∷ rest)) parts) in
       let found = nested e o (mark Semicolon ∷ rest) l value in
       (found.0, past Semicolon o rest plain_semicolon found.1)
+
+  invoke_nested : (n : Named) (at : ℕ) (cs : List ConnectionData) → StmtNested (invoke n at cs)
+  invoke_nested n at cs o rest l h =
+      let end : List Symbol = mark Close ∷ mark Semicolon ∷ rest in
+      let parts = behind_name n o (opening at ∷ (print_connections cs ++ end)) (subst (Within o) (invoke_shape n at cs rest) h) in
+      let body = behind_opening at o (print_connections cs ++ end) parts in
+      let inner = connections_nested cs (in_parentheses o) end l body.1 in
+      let found : StmtFits (invoke n at cs) (suc (left (in_parentheses o))) = inner.0 in
+      (subst (StmtFits (invoke n at cs)) (sym (one_less o (in_parentheses o) (omega arith) body.0)) found, past Semicolon o rest plain_semicolon (closed o (mark Semicolon ∷ rest) inner.1))
 
   branch_nested : (e : Tree) (ss : Stmts) (arms : Arms) (other : Otherwise) → StmtsNested ss → ArmsNested arms → OtherwiseNested other → StmtNested (branch (arm e ss arms) other)
   branch_nested e ss arms other p q r o rest l h =
@@ -370,6 +410,7 @@ module _ (limit : ℕ) where
     stmt_nested : (s : Stmt) → StmtNested s
     stmt_nested empty = λ o rest l h. (tt, past Semicolon o rest plain_semicolon h)
     stmt_nested (assign p e) = assign_nested p e
+    stmt_nested (invoke n at cs) = invoke_nested n at cs
     stmt_nested (branch no_arms other) = λ o rest l h. absurd l
     stmt_nested (branch (arm e ss arms) other) = branch_nested e ss arms other (stmts_nested ss) (arms_nested arms) (otherwise_nested other)
     stmt_nested (cases e no_entries other) = λ o rest l h. absurd l
@@ -448,10 +489,17 @@ step_levelled (Some e) d h = fits_levelled e d h
 iteration_levelled : (i : IterationData) (d : ℕ) → IterationFits i d → IsIterationLevelled i
 iteration_levelled i d h = (fits_levelled i.first d h.0, fits_levelled i.last d h.1, step_levelled i.step d h.2)
 
+connections_levelled : (cs : List ConnectionData) (d : ℕ) → ConnectionsFit cs d → AreConnectionsLevelled cs
+connections_levelled [] d h = tt
+connections_levelled (input n e ∷ cs) zero h = absurd h.0
+connections_levelled (input n e ∷ cs) (suc d) h = (fits_levelled e d h.0, connections_levelled cs (suc d) h.1)
+connections_levelled (output n p ∷ cs) d h = connections_levelled cs d h.1
+
 mutual
   stmt_levelled : (s : Stmt) (d : ℕ) → StmtFits s d → IsStmtLevelled s
   stmt_levelled empty d h = tt
   stmt_levelled (assign p e) d h = fits_levelled e d h
+  stmt_levelled (invoke n at cs) d h = connections_levelled cs d h
   stmt_levelled (branch no_arms other) d h = absurd h
   stmt_levelled (branch (arm e ss arms) other) zero h = absurd h
   stmt_levelled (branch (arm e ss arms) other) (suc d) h = (fits_levelled e d h.0, stmts_levelled ss d h.1, arms_levelled arms d h.2, else_levelled other d h.3)

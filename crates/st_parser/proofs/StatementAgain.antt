@@ -1,21 +1,22 @@
 -- What fitting statements print is read as those statements, where no statement begins behind them.
 use Rattle.std.proofs.Common.{◌≡◌, ℕ, zero, suc, ◌≤◌, Bool, true, false, ◌||◌, ◌&&◌, not, List, [], ◌∷◌, ◌++◌, length, Option, Some, None, refl, sym, ap, subst, ◌∙◌, append_assoc, arith, length-append}
 use Rattle.st_tree.specs.declared.token.Mark.{Mark}
-use Rattle.st_tree.specs.declared.token.Mark.TheVariants.{Semicolon, Colon, Assign, If, Then, Elsif, Else, EndIf, Case, Of, EndCase, EndFor, Do, To, Point}
-use Rattle.st_tree.specs.Syntax.{Symbol, name, iteration, mark, Named, PathData, Tree, LabelData, IterationData, Stmt, empty, assign, branch, cases, iterate, Stmts, no_stmts, stmt, Arms, no_arms, arm, Entries, no_entries, entry, Otherwise, no_else, else_stmts}
-use Rattle.st_tree.specs.Prints.{name_symbol, print_members, print_path, print, print_labels, print_step, print_stmt, print_stmts, print_arms, print_entries, print_otherwise}
+use Rattle.st_tree.specs.declared.token.Mark.TheVariants.{Close, Semicolon, Colon, Assign, If, Then, Elsif, Else, EndIf, Case, Of, EndCase, EndFor, Do, To, Point}
+use Rattle.st_tree.specs.Syntax.{Symbol, name, opening, iteration, mark, Named, PathData, Tree, ConnectionData, LabelData, IterationData, Stmt, empty, assign, invoke, branch, cases, iterate, Stmts, no_stmts, stmt, Arms, no_arms, arm, Entries, no_entries, entry, Otherwise, no_else, else_stmts}
+use Rattle.st_tree.specs.Prints.{name_symbol, print_members, print_path, print, print_labels, print_step, print_connections, print_stmt, print_stmts, print_arms, print_entries, print_otherwise}
 use Rattle.st_tree.specs.Levels.{AreLabels}
 use Rattle.st_parser.specs.Marks.{same_mark}
 use Rattle.st_parser.specs.Ends.{is_label, goes_on, begins_where, ends_entries}
-use Rattle.st_parser.specs.Fits.{Fits, StmtFits, StmtsFit, ArmsFit, EntriesFit, ElseFits}
+use Rattle.st_parser.specs.Fits.{Fits, ConnectionsFit, StmtFits, StmtsFit, ArmsFit, EntriesFit, ElseFits}
 use Rattle.st_parser.specs.declared.statement.Opener.{Opener}
-use Rattle.st_parser.specs.Reading.{Read, after}
+use Rattle.st_parser.specs.Reading.{Read, after, opened as parenthesis}
 use Rattle.st_parser.specs.Expressions.{expression}
-use Rattle.st_parser.specs.Statements.{add_stmt, add_arm, add_entry, assigned, begun, statements_from, arms_from, otherwise, branched, repeated, entries_from, selected, opened, nested, statements}
+use Rattle.st_parser.specs.Statements.{add_stmt, add_arm, add_entry, assigned, simple, begun, statements_from, arms_from, otherwise, branched, repeated, entries_from, selected, opened, nested, statements}
 use Rattle.st_parser.proofs.Fronts.{neither_first, neither_second}
 use Rattle.st_parser.proofs.Again.{path_again, expression_again}
 use Rattle.st_parser.proofs.Selections.{labels_again, labels_begin, labels_end}
 use Rattle.st_parser.proofs.Iterations.{iteration_shape, iteration_again}
+use Rattle.st_parser.proofs.Connections.{invoke_shape, invoked_again}
 use Rattle.st_parser.proofs.StatementSound.{join_stmts, join_stmts-none, join_stmts-add, join_arms, join_arms-none, join_arms-add, join_entries, join_entries-none, join_entries-add, arm_shape, branch_shape, entry_shape, cases_shape, iterate_shape, assign_shape}
 
 -- ---- single marks
@@ -132,6 +133,7 @@ otherwise_some m (else_stmts ss) = omega arith
 stmt_some : (s : Stmt) → 1 ≤ length (print_stmt s)
 stmt_some empty = omega arith
 stmt_some (assign p e) = omega arith
+stmt_some (invoke n at cs) = omega arith
 stmt_some (branch arms other) = omega (arith, length-append (print_arms If arms) (print_otherwise EndIf other), otherwise_some EndIf other)
 stmt_some (cases e es other) = omega arith
 stmt_some (iterate i ss) = omega arith
@@ -149,9 +151,9 @@ count_entries-le no_entries = omega arith
 count_entries-le (entry ls ss es) = omega (arith, count_entries-le es, length-append (print_labels ls) (mark Colon ∷ (print_stmts ss ++ print_entries es)), length-append (print_stmts ss) (print_entries es))
 
 -- where no statement begins, none is begun
-no_mark_begun : (labelled : Bool) (turns : ℕ) (expr : Read Tree) (other : Opener → Read Stmt) (m : Mark) (ts : List Symbol) → (same_mark m Semicolon || same_mark m If || same_mark m Case) ≡ false → begun labelled turns expr other (mark m ∷ ts) ≡ None
+no_mark_begun : (labelled : Bool) (simple_of : Named → Read Stmt) (other : Opener → Read Stmt) (m : Mark) (ts : List Symbol) → (same_mark m Semicolon || same_mark m If || same_mark m Case) ≡ false → begun labelled simple_of other (mark m ∷ ts) ≡ None
 unfolding begun
-no_mark_begun labelled turns expr other m ts h =
+no_mark_begun labelled simple_of other m ts h =
     let first : (same_mark m Semicolon || same_mark m If) ≡ false = neither_first (same_mark m Semicolon || same_mark m If) (same_mark m Case) h in
     let ends : same_mark m Semicolon ≡ false = neither_first (same_mark m Semicolon) (same_mark m If) first in
     let opens : same_mark m If ≡ false = neither_second (same_mark m Semicolon) (same_mark m If) first in
@@ -162,16 +164,16 @@ not_false : (b : Bool) → not b ≡ false → b ≡ true
 not_false true h = refl
 not_false false h = absurd cc
 
-no_name_begun : (labelled : Bool) (turns : ℕ) (expr : Read Tree) (other : Opener → Read Stmt) (n : Named) (ts : List Symbol) → (labelled && is_label ts) ≡ true → begun labelled turns expr other (name_symbol n ∷ ts) ≡ None
+no_name_begun : (labelled : Bool) (simple_of : Named → Read Stmt) (other : Opener → Read Stmt) (n : Named) (ts : List Symbol) → (labelled && is_label ts) ≡ true → begun labelled simple_of other (name_symbol n ∷ ts) ≡ None
 unfolding begun
-no_name_begun labelled turns expr other n ts h = rw h refl
+no_name_begun labelled simple_of other n ts h = rw h refl
 
-pub none_begun : (labelled : Bool) (turns : ℕ) (expr : Read Tree) (other : Opener → Read Stmt) (ts : List Symbol) → begins_where labelled ts ≡ false → begun labelled turns expr other ts ≡ None
+pub none_begun : (labelled : Bool) (simple_of : Named → Read Stmt) (other : Opener → Read Stmt) (ts : List Symbol) → begins_where labelled ts ≡ false → begun labelled simple_of other ts ≡ None
 unfolding begun
-none_begun labelled turns expr other (name t at ∷ ts) h = no_name_begun labelled turns expr other (record { text = t; at = at }) ts (not_false (labelled && is_label ts) h)
-none_begun labelled turns expr other (iteration at ∷ ts) h = absurd cc
-none_begun labelled turns expr other (mark m ∷ ts) h = no_mark_begun labelled turns expr other m ts h
-none_begun labelled turns expr other ts h = refl
+none_begun labelled simple_of other (name t at ∷ ts) h = no_name_begun labelled simple_of other (record { text = t; at = at }) ts (not_false (labelled && is_label ts) h)
+none_begun labelled simple_of other (iteration at ∷ ts) h = absurd cc
+none_begun labelled simple_of other (mark m ∷ ts) h = no_mark_begun labelled simple_of other m ts h
+none_begun labelled simple_of other ts h = refl
 
 -- behind the first name of a target no label's sign stands
 never : (b : Bool) → (b && false) ≡ false
@@ -183,15 +185,18 @@ unfolding same_mark
 target_is_none [] rest = refl
 target_is_none (n ∷ ns) rest = refl
 
-name_begun : (labelled : Bool) (turns : ℕ) (expr : Read Tree) (other : Opener → Read Stmt) (n : Named) (ts : List Symbol) → is_label ts ≡ false → begun labelled turns expr other (name_symbol n ∷ ts) ≡ Some (assigned turns expr n ts)
+name_begun : (labelled : Bool) (simple_of : Named → Read Stmt) (other : Opener → Read Stmt) (n : Named) (ts : List Symbol) → is_label ts ≡ false → begun labelled simple_of other (name_symbol n ∷ ts) ≡ Some (simple_of n ts)
 unfolding begun
-name_begun labelled turns expr other n ts h = rw (h, never labelled) refl
+name_begun labelled simple_of other n ts h = rw (h, never labelled) refl
 
 -- ---- the round trip
 
 module _ (turns : ℕ) where
   unfoldable pub E : ℕ → Read Tree
   E d = expression turns d
+
+  unfoldable pub S : ℕ → Named → Read Stmt
+  S d = simple turns d
 
   unfoldable pub C : ℕ → Opener → Read Stmt
   C d = nested turns d
@@ -201,14 +206,14 @@ module _ (turns : ℕ) where
   value_again e d rest fits h len = expression_again turns e d rest fits h len
 
   abbrev StmtAgain : Stmt → Type 0
-  StmtAgain s = (labelled : Bool) (d : ℕ) (rest : List Symbol) → StmtFits s d → length (print_stmt s ++ rest) ≤ turns → begun labelled turns (E d) (C d) (print_stmt s ++ rest) ≡ Some (Some (s, rest))
+  StmtAgain s = (labelled : Bool) (d : ℕ) (rest : List Symbol) → StmtFits s d → length (print_stmt s ++ rest) ≤ turns → begun labelled (S d) (C d) (print_stmt s ++ rest) ≡ Some (Some (s, rest))
 
   abbrev StmtsAgain : Stmts → Type 0
   StmtsAgain ss = (labelled : Bool) (d n : ℕ) (before : Stmts) (rest : List Symbol) → StmtsFit ss d → begins_where labelled rest ≡ false → count_stmts ss ≤ n → length (print_stmts ss ++ rest) ≤ turns
-      → statements_from labelled turns (E d) (C d) n before (print_stmts ss ++ rest) ≡ Some (join_stmts before ss, rest)
+      → statements_from labelled (S d) (C d) n before (print_stmts ss ++ rest) ≡ Some (join_stmts before ss, rest)
 
   body_again : (ss : Stmts) (labelled : Bool) (d : ℕ) (rest : List Symbol) → StmtsAgain ss → StmtsFit ss d → begins_where labelled rest ≡ false → length (print_stmts ss ++ rest) ≤ turns → statements turns d labelled (print_stmts ss ++ rest) ≡ Some (ss, rest)
-  unfolding statements E C
+  unfolding statements S C
   body_again ss labelled d rest a fits ends len = a labelled d turns no_stmts rest fits ends (omega (arith, count_stmts-le ss, length-append (print_stmts ss) rest)) len
 
   empty_again : StmtAgain empty
@@ -227,19 +232,44 @@ module _ (turns : ℕ) where
         after_semicolon,
       ) refl
 
+  no_parenthesis : (ns : List Named) (rest : List Symbol) → parenthesis (print_members ns ++ mark Assign ∷ rest) ≡ None
+  unfolding parenthesis
+  no_parenthesis [] rest = refl
+  no_parenthesis (n ∷ ns) rest = refl
+
+  plain_again : (d : ℕ) (n : Named) (ts : List Symbol) → parenthesis ts ≡ None → S d n ts ≡ assigned turns (E d) n ts
+  unfolding S E simple
+  plain_again d n ts none = rw none refl
+
   assign_again : (p : PathData) (e : Tree) → StmtAgain (assign p e)
   assign_again p e labelled d rest fits len =
       let behind : List Symbol = mark Assign ∷ (print e ++ mark Semicolon ∷ rest) in
       let shape : print_stmt (assign p e) ++ rest ≡ print_path p ++ behind = assign_shape p e rest in
       let longer : length (print_path p ++ behind) ≤ turns = omega (arith, ap length shape) in
-      ap (begun labelled turns (E d) (C d)) shape
-      ∙ name_begun labelled turns (E d) (C d) p.first (print_members p.members ++ behind) (target_is_none p.members (print e ++ mark Semicolon ∷ rest))
-      ∙ ap (λ (x : Option (Stmt × List Symbol)). Some x) (assigned_again p e d rest fits longer)
+      ap (begun labelled (S d) (C d)) shape
+      ∙ name_begun labelled (S d) (C d) p.first (print_members p.members ++ behind) (target_is_none p.members (print e ++ mark Semicolon ∷ rest))
+      ∙ ap (λ (x : Option (Stmt × List Symbol)). Some x) (plain_again d p.first (print_members p.members ++ behind) (no_parenthesis p.members (print e ++ mark Semicolon ∷ rest)) ∙ assigned_again p e d rest fits longer)
+
+  here : (at : ℕ) (ts : List Symbol) → parenthesis (opening at ∷ ts) ≡ Some (at, ts)
+  unfolding parenthesis
+  here at ts = refl
+
+  call_again : (n : Named) (at : ℕ) (cs : List ConnectionData) (d : ℕ) (rest : List Symbol) → ConnectionsFit cs d → length (print_connections cs ++ mark Close ∷ mark Semicolon ∷ rest) ≤ turns
+      → S d n (opening at ∷ (print_connections cs ++ mark Close ∷ mark Semicolon ∷ rest)) ≡ Some (invoke n at cs, rest)
+  unfolding S simple
+  call_again n at cs d rest fits len = rw (here at (print_connections cs ++ mark Close ∷ mark Semicolon ∷ rest)) (invoked_again turns d n at cs rest fits len)
+
+  invoke_again : (n : Named) (at : ℕ) (cs : List ConnectionData) → StmtAgain (invoke n at cs)
+  invoke_again n at cs labelled d rest fits len =
+      let behind : List Symbol = opening at ∷ (print_connections cs ++ mark Close ∷ mark Semicolon ∷ rest) in
+      let shape : print_stmt (invoke n at cs) ++ rest ≡ name_symbol n ∷ behind = invoke_shape n at cs rest in
+      let shorter : length (print_connections cs ++ mark Close ∷ mark Semicolon ∷ rest) ≤ turns = omega (arith, ap length shape) in
+      ap (begun labelled (S d) (C d)) shape ∙ name_begun labelled (S d) (C d) n behind refl ∙ ap (λ (x : Option (Stmt × List Symbol)). Some x) (call_again n at cs d rest fits shorter)
 
   stmts_none : StmtsAgain no_stmts
   unfolding statements_from
   stmts_none labelled d zero before rest fits ends le len = ap (λ (x : Stmts). Some (x, rest)) (sym (join_stmts-none before))
-  stmts_none labelled d (suc n) before rest fits ends le len = rw (none_begun labelled turns (E d) (C d) rest ends) (ap (λ (x : Stmts). Some (x, rest)) (sym (join_stmts-none before)))
+  stmts_none labelled d (suc n) before rest fits ends le len = rw (none_begun labelled (S d) (C d) rest ends) (ap (λ (x : Stmts). Some (x, rest)) (sym (join_stmts-none before)))
 
   stmts_more : (s : Stmt) (ss : Stmts) → StmtAgain s → StmtsAgain ss → StmtsAgain (stmt s ss)
   unfolding statements_from
@@ -290,7 +320,7 @@ module _ (turns : ℕ) where
       (b x xs d n (add_arm before e ss) rest ax more.0 more.1 more.2 ends last (omega arith) least ∙ ap (λ (y : Arms). Some (y, rest)) (join_arms-add before e ss (arm x xs arms)))
 
   branch_again : (e : Tree) (ss : Stmts) (arms : Arms) (other : Otherwise) → StmtsAgain ss → ArmsAgain arms → OtherwiseAgain other → StmtAgain (branch (arm e ss arms) other)
-  unfolding begun same_mark nested opened branched E C statements
+  unfolding begun same_mark nested opened branched E S C statements
   branch_again e ss arms other a b o labelled zero rest fits len = absurd fits
   branch_again e ss arms other a b o labelled (suc d) rest fits len =
       let end : List Symbol = print_otherwise EndIf other ++ rest in
@@ -302,7 +332,7 @@ module _ (turns : ℕ) where
       let l3 = length-append (print_arms Elsif arms) end in
       let enough : suc (count_arms arms) ≤ turns = omega (arith, count_arms-le Elsif arms, l1, l2, l3) in
       let last : length end ≤ turns = omega (arith, l1, l2, l3) in
-      ap (begun labelled turns (E (suc d)) (C (suc d))) shape ∙ rw (b e ss d turns no_arms end a fits.0 fits.1 fits.2 (begins_otherwise other rest) (no_elsif other rest) enough shorter, o EndIf d rest closing_if fits.3 last) refl
+      ap (begun labelled (S (suc d)) (C (suc d))) shape ∙ rw (b e ss d turns no_arms end a fits.0 fits.1 fits.2 (begins_otherwise other rest) (no_elsif other rest) enough shorter, o EndIf d rest closing_if fits.3 last) refl
 
   -- entries from the labels of the first on
   abbrev EntriesAgain : Entries → Type 0
@@ -331,7 +361,7 @@ module _ (turns : ℕ) where
       (b ks xs d n (add_entry before ls ss) rest ax more.0 more.1 more.2 ends last (omega arith) least ∙ ap (λ (y : Entries). Some (y, rest)) (join_entries-add before ls ss (entry ks xs es)))
 
   cases_again : (e : Tree) (ls : List LabelData) (ss : Stmts) (es : Entries) (other : Otherwise) → StmtsAgain ss → EntriesAgain es → OtherwiseAgain other → StmtAgain (cases e (entry ls ss es) other)
-  unfolding begun same_mark nested opened selected E C statements
+  unfolding begun same_mark nested opened selected E S C statements
   cases_again e ls ss es other a b o labelled zero rest fits len = absurd fits
   cases_again e ls ss es other a b o labelled (suc d) rest fits len =
       let end : List Symbol = print_otherwise EndCase other ++ rest in
@@ -347,7 +377,7 @@ module _ (turns : ℕ) where
       let shorter : length tail ≤ turns = omega (arith, l1) in
       let enough : suc (count_entries es) ≤ turns = omega (arith, count_entries-le es, l1, l2, l3, l4) in
       let last : length end ≤ turns = omega (arith, l1, l2, l3, l4) in
-      ap (begun labelled turns (E (suc d)) (C (suc d))) shape ∙ rw (
+      ap (begun labelled (S (suc d)) (C (suc d))) shape ∙ rw (
         value_again e d (mark Of ∷ tail) fits.0 (ends_of tail) longer,
         after_of tail,
         b ls ss d turns no_entries end a fits.1 fits.2 fits.3 (begins_last other rest) (ends_otherwise other rest) enough shorter,
@@ -355,7 +385,7 @@ module _ (turns : ℕ) where
       ) refl
 
   iterate_again : (i : IterationData) (ss : Stmts) → StmtsAgain ss → StmtAgain (iterate i ss)
-  unfolding begun nested opened repeated E C statements
+  unfolding begun nested opened repeated E S C statements
   iterate_again i ss a labelled zero rest fits len = absurd fits
   iterate_again i ss a labelled (suc d) rest fits len =
       let end : List Symbol = print_stmts ss ++ mark EndFor ∷ rest in
@@ -366,7 +396,7 @@ module _ (turns : ℕ) where
       let l3 = length-append (print_step i.step) (mark Do ∷ end) in
       let longer : length front ≤ turns = omega (arith, ap length shape) in
       let shorter : length end ≤ turns = omega (arith, l1, l2, l3) in
-      ap (begun labelled turns (E (suc d)) (C (suc d))) shape ∙ rw (
+      ap (begun labelled (S (suc d)) (C (suc d))) shape ∙ rw (
         iteration_again (E d) turns d (λ e rest fits h len. value_again e d rest fits h len) i end fits.0 longer,
         body_again ss false d (mark EndFor ∷ rest) a fits.1 (ends_end_for rest) shorter,
         after_end_for rest,
@@ -376,6 +406,7 @@ module _ (turns : ℕ) where
     pub stmt_again : (s : Stmt) → StmtAgain s
     stmt_again empty = empty_again
     stmt_again (assign p e) = assign_again p e
+    stmt_again (invoke n at cs) = invoke_again n at cs
     stmt_again (branch no_arms other) = λ labelled d rest fits len. absurd fits
     stmt_again (branch (arm e ss arms) other) = branch_again e ss arms other (stmts_again ss) (arms_again arms) (otherwise_again other)
     stmt_again (cases e no_entries other) = λ labelled d rest fits len. absurd fits

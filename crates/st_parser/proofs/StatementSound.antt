@@ -10,15 +10,16 @@ use Rattle.st_parser.specs.Ends.{is_label, begins_where, ends_entries}
 use Rattle.st_parser.specs.Fits.{Fits, StmtFits, StmtsFit, ArmsFit, EntriesFit, ElseFits}
 use Rattle.st_parser.specs.declared.statement.Opener.{Opener}
 use Rattle.st_parser.specs.declared.statement.Opener.TheVariants as openers
-use Rattle.st_parser.specs.Reading.{Read, ◌>>=◌, after}
-use Rattle.st_parser.specs.Expressions.{path_from, expression}
+use Rattle.st_parser.specs.Reading.{Read, ◌>>=◌, after, opened as parenthesis}
+use Rattle.st_parser.specs.Expressions.{path_from, inside, expression}
 use Rattle.st_parser.specs.Labels.{labels}
 use Rattle.st_parser.specs.Iterations.{iteration_from}
-use Rattle.st_parser.specs.Statements.{add_stmt, add_arm, add_entry, assigned, Begun, begun, statements_step, statements_from, arms_step, arms_from, otherwise_or, otherwise, branched, repeated, entries_step, entries_from, selected, opened, nested, statements}
-use Rattle.st_parser.proofs.Steps.{bind_some, some_is, after_is, same_mark-is}
-use Rattle.st_parser.proofs.Sound.{path_from_is, expression_is}
+use Rattle.st_parser.specs.Statements.{add_stmt, add_arm, add_entry, assigned, simple_or, simple, Begun, begun, statements_step, statements_from, arms_step, arms_from, otherwise_or, otherwise, branched, repeated, entries_step, entries_from, selected, opened, nested, statements}
+use Rattle.st_parser.proofs.Steps.{bind_some, some_is, after_is, same_mark-is, opened_is as parenthesis_is}
+use Rattle.st_parser.proofs.Sound.{path_from_is, inside_is, expression_is}
 use Rattle.st_parser.proofs.Selections.{labels_is}
 use Rattle.st_parser.proofs.Iterations.{iteration_is}
+use Rattle.st_parser.proofs.Connections.{invoked_is}
 
 -- ---- lists behind lists
 
@@ -105,26 +106,44 @@ opener_symbol (openers.For at) = iteration at
 abbrev NestedIs : ℕ → Opener → List Symbol → Stmt → List Symbol → Type 0
 NestedIs d o ts s rest = (opener_symbol o ∷ ts ≡ print_stmt s ++ rest) × StmtFits s d
 
-module _ (labelled : Bool) (turns : ℕ) (expr : Read Tree) (other : Opener → Read Stmt) (d : ℕ)
-    (sound : (ts : List Symbol) (e : Tree) (rest : List Symbol) → expr ts ≡ Some (e, rest) → (ts ≡ print e ++ rest) × Fits e d)
-    (inner : (o : Opener) (ts : List Symbol) (s : Stmt) (rest : List Symbol) → other o ts ≡ Some (s, rest) → NestedIs d o ts s rest) where
-  assigned_is : (n : Named) (ts : List Symbol) (o : Option (Stmt × List Symbol)) → assigned turns expr n ts ≡ o → BegunIs labelled d (name_symbol n ∷ ts) (Some o)
+-- the same for a statement that a name begins, behind the name
+abbrev SimpleIs : ℕ → Named → List Symbol → Stmt × List Symbol → Type 0
+SimpleIs d n ts s = (name_symbol n ∷ ts ≡ print_stmt s.0 ++ s.1) × StmtFits s.0 d
+
+module _ (turns d : ℕ) where
+  assigned_is : (n : Named) (ts : List Symbol) (s : Stmt × List Symbol) → assigned turns (expression turns d) n ts ≡ Some s → SimpleIs d n ts s
   unfolding assigned
-  assigned_is n ts None e = tt
-  assigned_is n ts (Some s) e =
-      let p = bind_some (path_from turns n ts) (λ (p : PathData × List Symbol). after Assign p.1 >>= λ (ts : List Symbol). expr ts >>= λ (e : Tree × List Symbol). after Semicolon e.1 >>= λ (rest : List Symbol). Some (assign p.0 e.0, rest)) s e in
-      let a = bind_some (after Assign p.0.1) (λ (ts : List Symbol). expr ts >>= λ (e : Tree × List Symbol). after Semicolon e.1 >>= λ (rest : List Symbol). Some (assign p.0.0 e.0, rest)) s p.2 in
-      let b = bind_some (expr a.0) (λ (e : Tree × List Symbol). after Semicolon e.1 >>= λ (rest : List Symbol). Some (assign p.0.0 e.0, rest)) s a.2 in
+  assigned_is n ts s e =
+      let p = bind_some (path_from turns n ts) (λ (p : PathData × List Symbol). after Assign p.1 >>= λ (ts : List Symbol). expression turns d ts >>= λ (e : Tree × List Symbol). after Semicolon e.1 >>= λ (rest : List Symbol). Some (assign p.0 e.0, rest)) s e in
+      let a = bind_some (after Assign p.0.1) (λ (ts : List Symbol). expression turns d ts >>= λ (e : Tree × List Symbol). after Semicolon e.1 >>= λ (rest : List Symbol). Some (assign p.0.0 e.0, rest)) s p.2 in
+      let b = bind_some (expression turns d a.0) (λ (e : Tree × List Symbol). after Semicolon e.1 >>= λ (rest : List Symbol). Some (assign p.0.0 e.0, rest)) s a.2 in
       let c = bind_some (after Semicolon b.0.1) (λ (rest : List Symbol). Some (assign p.0.0 b.0.0, rest)) s b.2 in
-      let f = sound a.0 b.0.0 b.0.1 b.1 in
+      let f = expression_is turns d a.0 b.0.0 b.0.1 b.1 in
       let value : a.0 ≡ print b.0.0 ++ mark Semicolon ∷ c.0 = f.0 ∙ ap (λ (r : List Symbol). print b.0.0 ++ r) (after_is Semicolon b.0.1 c.0 c.1) in
       let all : name_symbol n ∷ ts ≡ print_path p.0.0 ++ mark Assign ∷ (print b.0.0 ++ mark Semicolon ∷ c.0) =
       path_from_is turns n ts p.0 p.1 ∙ ap (λ (r : List Symbol). print_path p.0.0 ++ r) (after_is Assign p.0.1 a.0 a.1 ∙ ap (λ (r : List Symbol). mark Assign ∷ r) value) in
-      subst (λ (s : Stmt × List Symbol). BegunIs labelled d (name_symbol n ∷ ts) (Some (Some s))) (some_is (assign p.0.0 b.0.0, c.0) s c.2) (all ∙ sym (assign_shape p.0.0 b.0.0 c.0), f.1)
+      subst (SimpleIs d n ts) (some_is (assign p.0.0 b.0.0, c.0) s c.2) (all ∙ sym (assign_shape p.0.0 b.0.0 c.0), f.1)
 
-  name_begun : (n : Named) (ts : List Symbol) (follows : Bool) → (labelled && is_label ts) ≡ follows → BegunIs labelled d (name_symbol n ∷ ts) (cond follows None (Some (assigned turns expr n ts)))
+  simple_go : (n : Named) (ts : List Symbol) (s : Stmt × List Symbol) (o : Option (ℕ × List Symbol)) → parenthesis ts ≡ o → simple_or turns d n ts o ≡ Some s → SimpleIs d n ts s
+  simple_go n ts s None is e = assigned_is n ts s e
+  simple_go n ts s (Some p) is e =
+      let f = invoked_is turns d (inside turns d) (inside_is turns d) n p.0 p.1 s e in
+      (ap (λ (r : List Symbol). name_symbol n ∷ r) (parenthesis_is ts p.0 p.1 is) ∙ f.0, f.1)
+
+  simple_is : (n : Named) (ts : List Symbol) (s : Stmt × List Symbol) → simple turns d n ts ≡ Some s → SimpleIs d n ts s
+  unfolding simple
+  simple_is n ts s e = simple_go n ts s (parenthesis ts) refl e
+
+module _ (labelled : Bool) (simple_of : Named → Read Stmt) (other : Opener → Read Stmt) (d : ℕ)
+    (simply : (n : Named) (ts : List Symbol) (s : Stmt × List Symbol) → simple_of n ts ≡ Some s → SimpleIs d n ts s)
+    (inner : (o : Opener) (ts : List Symbol) (s : Stmt) (rest : List Symbol) → other o ts ≡ Some (s, rest) → NestedIs d o ts s rest) where
+  simple_begun : (n : Named) (ts : List Symbol) (r : Option (Stmt × List Symbol)) → simple_of n ts ≡ r → BegunIs labelled d (name_symbol n ∷ ts) (Some r)
+  simple_begun n ts None e = tt
+  simple_begun n ts (Some s) e = simply n ts s e
+
+  name_begun : (n : Named) (ts : List Symbol) (follows : Bool) → (labelled && is_label ts) ≡ follows → BegunIs labelled d (name_symbol n ∷ ts) (cond follows None (Some (simple_of n ts)))
   name_begun n ts true p = rw p refl
-  name_begun n ts false p = assigned_is n ts (assigned turns expr n ts) refl
+  name_begun n ts false p = simple_begun n ts (simple_of n ts) refl
 
   nested_begun : (o : Opener) (ts : List Symbol) (r : Option (Stmt × List Symbol)) → other o ts ≡ r → BegunIs labelled d (opener_symbol o ∷ ts) (Some r)
   nested_begun o ts None e = tt
@@ -137,7 +156,7 @@ module _ (labelled : Bool) (turns : ℕ) (expr : Read Tree) (other : Opener → 
   mark_begun m ts false false true p q r = subst (λ (k : Mark). BegunIs labelled d (mark k ∷ ts) (Some (other openers.Case ts))) (sym (same_mark-is m Case r)) (nested_begun openers.Case ts (other openers.Case ts) refl)
   mark_begun m ts false false false p q r = rw (p, q, r) refl
 
-  begun_is : (ts : List Symbol) → BegunIs labelled d ts (begun labelled turns expr other ts)
+  begun_is : (ts : List Symbol) → BegunIs labelled d ts (begun labelled simple_of other ts)
   unfolding begun
   begun_is (name t at ∷ ts) = name_begun (record { text = t; at = at }) ts (labelled && is_label ts) refl
   begun_is (iteration at ∷ ts) = nested_begun (openers.For at) ts (other (openers.For at) ts) refl
@@ -151,18 +170,18 @@ module _ (labelled : Bool) (turns : ℕ) (expr : Read Tree) (other : Opener → 
   listed_stop before ts ss rest e =
       let p = some_is (before, ts) (ss, rest) e in (no_stmts, sym (ap (λ (x : Stmts × List Symbol). x.0) p) ∙ sym (join_stmts-none before), ap (λ (x : Stmts × List Symbol). x.1) p, tt)
 
-  step_is : (n : ℕ) (before : Stmts) (ts : List Symbol) (ss : Stmts) (rest : List Symbol) (o : Begun) → BegunIs labelled d ts o → statements_step (statements_from labelled turns expr other n) before ts o ≡ Some (ss, rest)
-      → ((before : Stmts) (ts : List Symbol) → statements_from labelled turns expr other n before ts ≡ Some (ss, rest) → Listed before ts ss rest) → Listed before ts ss rest
+  step_is : (n : ℕ) (before : Stmts) (ts : List Symbol) (ss : Stmts) (rest : List Symbol) (o : Begun) → BegunIs labelled d ts o → statements_step (statements_from labelled simple_of other n) before ts o ≡ Some (ss, rest)
+      → ((before : Stmts) (ts : List Symbol) → statements_from labelled simple_of other n before ts ≡ Some (ss, rest) → Listed before ts ss rest) → Listed before ts ss rest
   step_is n before ts ss rest None is e below = listed_stop before ts ss rest e
   step_is n before ts ss rest (Some None) is e below = absurd cc
   step_is n before ts ss rest (Some (Some s)) is e below =
       let b = below (add_stmt before s.0) s.1 e in
       (stmt s.0 b.0, b.1 ∙ join_stmts-add before s.0 b.0, is.0 ∙ ap (λ (r : List Symbol). print_stmt s.0 ++ r) b.2 ∙ sym (append_assoc (print_stmt s.0) (print_stmts b.0) rest), (is.1, b.3))
 
-  statements_from_are : (n : ℕ) (before : Stmts) (ts : List Symbol) (ss : Stmts) (rest : List Symbol) → statements_from labelled turns expr other n before ts ≡ Some (ss, rest) → Listed before ts ss rest
+  statements_from_are : (n : ℕ) (before : Stmts) (ts : List Symbol) (ss : Stmts) (rest : List Symbol) → statements_from labelled simple_of other n before ts ≡ Some (ss, rest) → Listed before ts ss rest
   unfolding statements_from
   statements_from_are zero before ts ss rest e = listed_stop before ts ss rest e
-  statements_from_are (suc n) before ts ss rest e = step_is n before ts ss rest (begun labelled turns expr other ts) (begun_is ts) e (λ before ts e. statements_from_are n before ts ss rest e)
+  statements_from_are (suc n) before ts ss rest e = step_is n before ts ss rest (begun labelled simple_of other ts) (begun_is ts) e (λ before ts e. statements_from_are n before ts ss rest e)
 
 -- ---- IF
 
@@ -336,16 +355,16 @@ module _ (turns d : ℕ) (expr : Read Tree) (body : Bool → Read Stmts)
 -- ---- statements in statements
 
 list_is : (turns d : ℕ) → ((o : Opener) (ts : List Symbol) (s : Stmt) (rest : List Symbol) → nested turns d o ts ≡ Some (s, rest) → NestedIs d o ts s rest)
-    → (labelled : Bool) (ts : List Symbol) (ss : Stmts) (rest : List Symbol) → statements_from labelled turns (expression turns d) (nested turns d) turns no_stmts ts ≡ Some (ss, rest) → (ts ≡ print_stmts ss ++ rest) × StmtsFit ss d
+    → (labelled : Bool) (ts : List Symbol) (ss : Stmts) (rest : List Symbol) → statements_from labelled (simple turns d) (nested turns d) turns no_stmts ts ≡ Some (ss, rest) → (ts ≡ print_stmts ss ++ rest) × StmtsFit ss d
 list_is turns d inner labelled ts ss rest e =
-    let l = statements_from_are labelled turns (expression turns d) (nested turns d) d (expression_is turns d) inner turns no_stmts ts ss rest e in
+    let l = statements_from_are labelled (simple turns d) (nested turns d) d (simple_is turns d) inner turns no_stmts ts ss rest e in
     subst (λ (x : Stmts). (ts ≡ print_stmts x ++ rest) × StmtsFit x d) (sym l.1) (l.2, l.3)
 
 nested_is : (turns d : ℕ) (o : Opener) (ts : List Symbol) (s : Stmt) (rest : List Symbol) → nested turns d o ts ≡ Some (s, rest) → NestedIs d o ts s rest
 unfolding nested
 nested_is turns zero o ts s rest e = absurd cc
 nested_is turns (suc d) o ts s rest e =
-    opened_is turns d (expression turns d) (λ labelled ts. statements_from labelled turns (expression turns d) (nested turns d) turns no_stmts ts) (expression_is turns d) (list_is turns d (nested_is turns d)) o ts s rest e
+    opened_is turns d (expression turns d) (λ labelled ts. statements_from labelled (simple turns d) (nested turns d) turns no_stmts ts) (expression_is turns d) (list_is turns d (nested_is turns d)) o ts s rest e
 
 -- statements that are read
 pub statements_are : (turns d : ℕ) (labelled : Bool) (ts : List Symbol) (ss : Stmts) (rest : List Symbol) → statements turns d labelled ts ≡ Some (ss, rest) → (ts ≡ print_stmts ss ++ rest) × StmtsFit ss d

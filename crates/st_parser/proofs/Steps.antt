@@ -6,13 +6,14 @@ use Rattle.st_tree.specs.contracts.token.Mark.{the_type}
 use Rattle.st_tree.specs.declared.token.Operator.{Operator}
 use Rattle.st_tree.specs.declared.token.Operator.TheVariants as operators
 use Rattle.st_tree.specs.declared.token.Mark.{Mark}
+use Rattle.st_tree.specs.declared.token.PartWord.{PartWord}
 use Rattle.st_tree.specs.declared.syntax.UnaryOperator.{UnaryOperator}
 use Rattle.st_tree.specs.declared.syntax.UnaryOperator.TheVariants as signs
-use Rattle.st_tree.specs.Syntax.{Symbol, name, number, negation, operator, opening, mark, Named}
+use Rattle.st_tree.specs.Syntax.{Symbol, name, number, negation, operator, opening, part, mark, Named}
 use Rattle.st_tree.specs.Prints.{name_symbol, unary_symbol}
 use Rattle.st_tree.specs.Levels.{level_of}
 use Rattle.st_parser.specs.Marks.{same_mark}
-use Rattle.st_parser.specs.Reading.{◌>>=◌, after, named, numbered, minus, opened, operator_of, sign}
+use Rattle.st_parser.specs.Reading.{◌>>=◌, after, named, numbered, minus, opened, part_word, operator_of, sign}
 
 pub bind_some : {A B : Type 0} (o : Option A) (f : A → Option B) (y : B) → (o >>= f) ≡ Some y → (x : A) × (o ≡ Some x) × (f x ≡ Some y)
 bind_some (Some x) f y e = (x, refl, e)
@@ -55,6 +56,11 @@ pub opened_is : (ts : List Symbol) (at : ℕ) (rest : List Symbol) → opened ts
 unfolding opened
 opened_is (opening p ∷ ts) at rest e = ap (λ (x : ℕ × List Symbol). opening x.0 ∷ x.1) (some_is (p, ts) (at, rest) e)
 opened_is ts at rest e = absurd cc
+
+pub part_word_is : (ts : List Symbol) (w : PartWord) (at : ℕ) (rest : List Symbol) → part_word ts ≡ Some ((w, at), rest) → ts ≡ part w at ∷ rest
+unfolding part_word
+part_word_is (part v p ∷ ts) w at rest e = ap (λ (x : (PartWord × ℕ) × List Symbol). part x.0.0 x.0.1 ∷ x.1) (some_is ((v, p), ts) ((w, at), rest) e)
+part_word_is ts w at rest e = absurd cc
 
 pub operator_of_is : (k : ℕ) (ts : List Symbol) (o : Operator) (at : ℕ) (rest : List Symbol) → operator_of k ts ≡ Some ((o, at), rest) → (ts ≡ operator o at ∷ rest) × (level_of o ≡ k)
 unfolding operator_of

@@ -77,7 +77,7 @@ stmts_found n ts rest ss e ends = let f = statements_are n 64 false ts ss rest e
 
 -- ---- one tree at most
 
-same_parts : {A : Type 0} (x y : A × List Symbol) → (let o : Option (A × List Symbol) = Some x in o) ≡ Some y → (x.0 ≡ y.0) × (x.1 ≡ y.1)
+pub same_parts : {A : Type 0} (x y : A × List Symbol) → (let o : Option (A × List Symbol) = Some x in o) ≡ Some y → (x.0 ≡ y.0) × (x.1 ≡ y.1)
 same_parts x y e = let same : x ≡ y = cc in (ap (λ (z : _ × List Symbol). z.0) same, ap (λ (z : _ × List Symbol). z.1) same)
 
 read_whole : (ts rest : List Symbol) (t : Tree) → IsExpression t ts rest → expression (length ts) (length ts) ts ≡ Some (t, rest)

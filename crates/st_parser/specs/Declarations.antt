@@ -1,11 +1,12 @@
 -- Reading declarations of variables, the types that are spelled there, and sections of declarations.
-use Rattle.std.specs.Prelude.{ℕ, zero, suc, List, [], ◌∷◌, ◌++◌, Option, Some, None, if◌then◌else◌}
+use Rattle.std.specs.Prelude.{ℕ, zero, suc, List, [], ◌∷◌, ◌++◌, Bool, ◌&&◌, not, Option, Some, None, if◌then◌else◌}
 use Rattle.st_tree.specs.declared.elementary.Elementary.{Elementary}
 use Rattle.st_tree.specs.declared.token.Mark.TheVariants.{Close, Comma, Colon, Semicolon, Assign, Range, Hash, Var, VarInput, VarOutput, VarTemp, Constant, EndVar}
 use Rattle.st_tree.specs.declared.syntax.UnaryOperator.TheVariants as signs
 use Rattle.st_tree.specs.declared.syntax.Section.{Section}
 use Rattle.st_tree.specs.declared.syntax.Section.TheVariants as sections
 use Rattle.st_tree.specs.Syntax.{Symbol, name, elementary, mark, Named, Tree, literal, path, enumerator, unary, BoundsData, TypeData, of_elementary, of_subrange, of_name, DeclarationData, VariablesData}
+use Rattle.st_tree.specs.Levels.{is_section_of_function}
 use Rattle.st_parser.specs.Marks.{same_mark}
 use Rattle.st_parser.specs.Reading.{Read, ◌>>=◌, after, named, minus, opened}
 use Rattle.st_parser.specs.Expressions.{constant}
@@ -85,6 +86,14 @@ section_of (mark m ∷ ts) =
     else (if same_mark m Var then Some (local ts) else None)))
 section_of ts = None
 
+abbrev pub section_or : Bool → Option (Section × List Symbol) → Option (Section × List Symbol)
+section_or of_function None = None
+section_or of_function (Some s) = if of_function && not (is_section_of_function s.0) then None else Some s
+
+-- the section that a word begins, but none that a FUNCTION may not have, where it is of one
+unfoldable pub section_where : Bool → Read Section
+section_where of_function ts = section_or of_function (section_of ts)
+
 -- The first number bounds the turns of each loop: that of the tokens is always enough.
 module _ (turns : ℕ) where
   -- what stands behind the names of a declaration
@@ -110,7 +119,7 @@ module _ (turns : ℕ) where
   variables_step more_of vs ts None = Some (vs, ts)
   variables_step more_of vs ts (Some s) = declarations turns [] s.1 >>= λ ds. more_of (vs ++ record { section = s.0; declarations = ds.0 } ∷ []) ds.1
 
-  -- the sections, after those that were read
-  unfoldable pub variables : ℕ → List VariablesData → Read (List VariablesData)
-  variables zero vs ts = Some (vs, ts)
-  variables (suc n) vs ts = variables_step (variables n) vs ts (section_of ts)
+  -- the sections, after those that were read. The truth value is whether they are of a FUNCTION.
+  unfoldable pub variables : Bool → ℕ → List VariablesData → Read (List VariablesData)
+  variables of_function zero vs ts = Some (vs, ts)
+  variables of_function (suc n) vs ts = variables_step (variables of_function n) vs ts (section_where of_function ts)

@@ -1,7 +1,7 @@
--- Which symbols go on with an expression, and which begin a statement.
+-- Which symbols go on with an expression, and which begin a statement or a part of a chart.
 use Rattle.std.specs.Prelude.{ℕ, Bool, true, false, List, ◌∷◌, nat_le, ◌||◌, ◌&&◌, not}
 use Rattle.st_tree.specs.declared.token.Mark.TheVariants.{Comma, Semicolon, Colon, Range, If, Else, Case, EndCase, Point, Hash}
-use Rattle.st_tree.specs.Syntax.{Symbol, name, operator, opening, iteration, mark}
+use Rattle.st_tree.specs.Syntax.{Symbol, name, operator, opening, iteration, part, mark}
 use Rattle.st_tree.specs.Levels.{level_of}
 use Rattle.st_parser.specs.Marks.{same_mark}
 
@@ -32,3 +32,8 @@ begins ts = begins_where false ts
 abbrev pub ends_entries : List Symbol → Bool
 ends_entries (mark m ∷ ts) = same_mark m Else || same_mark m EndCase
 ends_entries ts = false
+
+-- the next symbol begins a part of a chart
+abbrev pub begins_part : List Symbol → Bool
+begins_part (part w at ∷ ts) = true
+begins_part ts = false

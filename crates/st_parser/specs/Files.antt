@@ -1,37 +1,25 @@
 -- Reading whole files.
-use Rattle.std.specs.Prelude.{◌≡◌, ◌≢◌, ℕ, zero, suc, List, [], ◌∷◌, ◌++◌, false, Option, Some, None, Result, Ok, Err}
+use Rattle.std.specs.Prelude.{◌≡◌, ◌≢◌, ℕ, zero, suc, List, [], ◌∷◌, ◌++◌, Option, Some, None, Result, Ok, Err}
 use Rattle.st_tree.specs.declared.syntax.SourceFile.{SourceFile}
 use Rattle.st_tree.specs.SyntaxView.{file_view}
 use Rattle.st_parser.specs.declared.fault.Stop.{Stop}
 use Rattle.st_parser.specs.declared.fault.Stop.TheVariants.{Memory}
 use Rattle.st_tree.specs.declared.token.Mark.TheVariants as marks
-use Rattle.st_tree.specs.declared.token.Mark.TheVariants.{Program, EndProgram}
-use Rattle.st_tree.specs.Syntax.{Symbol, BodyData, statements as statement_body, PouData, ItemData, types as types_item, pou as pou_item, FileData}
-use Rattle.st_parser.specs.Reading.{Read, ◌>>=◌, after, named}
-use Rattle.st_parser.specs.Statements.{statements}
-use Rattle.st_parser.specs.Declarations.{variables}
+use Rattle.st_tree.specs.Syntax.{Symbol, PouData, ItemData, types as types_item, pou as pou_item, FileData}
+use Rattle.st_parser.specs.Reading.{Read, ◌>>=◌, after}
+use Rattle.st_parser.specs.Pous.{pou_begun}
 use Rattle.st_parser.specs.Types.{types}
 
 -- The first number bounds the turns of each loop: that of the tokens is always enough. The second is how deep parentheses and statements nest.
 module _ (turns depth : ℕ) where
-  -- what a program does
-  unfoldable pub body : Read BodyData
-  body ts = statements turns depth false ts >>= λ ss. Some (statement_body ss.0, ss.1)
-
-  -- behind PROGRAM
-  unfoldable pub program : Read PouData
-  program ts =
-      named ts >>= λ n. variables turns turns [] n.1 >>= λ vs. body vs.1 >>= λ b. after EndProgram b.1 >>= λ rest.
-      Some (record { name = n.0; variables = vs.0; body = b.0 }, rest)
-
-  abbrev pub item_or : Option (List Symbol) → Option (List Symbol) → Option (Option (ItemData × List Symbol))
+  abbrev pub item_or : Option (List Symbol) → Option (Option (PouData × List Symbol)) → Option (Option (ItemData × List Symbol))
   item_or (Some rest) p = Some (types turns turns [] rest >>= λ ds. Some (types_item ds.0, ds.1))
-  item_or None (Some rest) = Some (program rest >>= λ p. Some (pou_item p.0, p.1))
+  item_or None (Some p) = Some (p >>= λ p. Some (pou_item p.0, p.1))
   item_or None None = None
 
-  -- types behind TYPE, or a program behind PROGRAM, which is read or not; or None where neither word stands
+  -- types behind TYPE, or a POU behind its word, which is read or not; or None where no such word stands
   unfoldable pub item : List Symbol → Option (Option (ItemData × List Symbol))
-  item ts = item_or (after marks.Type ts) (after Program ts)
+  item ts = item_or (after marks.Type ts) (pou_begun turns depth ts)
 
   abbrev pub items_step : (FileData → Read FileData) → FileData → List Symbol → Option (Option (ItemData × List Symbol)) → Option (FileData × List Symbol)
   items_step more_of found ts None = Some (found, ts)

@@ -1,6 +1,6 @@
 -- Levelled trees that nest within a depth.
-use Rattle.std.specs.Prelude.{◌≡◌, ◌<◌, ℕ, zero, suc, Option, Some, None, Bool, is_some}
-use Rattle.st_tree.specs.Syntax.{Tree, literal, path, enumerator, paren, unary, chain, call, Links, no_links, link, Arguments, no_arguments, argument, Stmt, empty, assign, branch, cases, iterate, Stmts, no_stmts, stmt, Arms, no_arms, arm, Entries, no_entries, entry, Otherwise, no_else, else_stmts, IterationData}
+use Rattle.std.specs.Prelude.{◌≡◌, ◌<◌, ℕ, zero, suc, List, [], ◌∷◌, Option, Some, None, Bool, is_some}
+use Rattle.st_tree.specs.Syntax.{Tree, literal, path, enumerator, paren, unary, chain, call, Links, no_links, link, Arguments, no_arguments, argument, ConnectionData, input, output, Stmt, empty, assign, invoke, branch, cases, iterate, Stmts, no_stmts, stmt, Arms, no_arms, arm, Entries, no_entries, entry, Otherwise, no_else, else_stmts, IterationData}
 use Rattle.st_tree.specs.Levels.{level_of, level, IsPrimary, AreLabels, are_named}
 
 -- a levelled tree in which no expression stands inside more parentheses than the number, those of calls among them
@@ -34,11 +34,22 @@ StepFits (Some e) d = Fits e d
 abbrev pub IterationFits : IterationData → ℕ → Type 0
 IterationFits i d = Fits i.first d × Fits i.last d × StepFits i.step d
 
+-- a connection inside the parentheses of a call
+abbrev pub ConnectionFits : ConnectionData → ℕ → Type 0
+ConnectionFits (input n e) zero = ⊥
+ConnectionFits (input n e) (suc d) = Fits e d
+ConnectionFits (output n p) d = Unit {0}
+
+abbrev pub ConnectionsFit : List ConnectionData → ℕ → Type 0
+ConnectionsFit [] d = Unit {0}
+ConnectionsFit (c ∷ cs) d = ConnectionFits c d × ConnectionsFit cs d
+
 -- statements of fitting expressions, in which parentheses and statements nest no deeper than the number
 abbrev mutual
   pub StmtFits : Stmt → ℕ → Type 0
   StmtFits empty d = Unit {0}
   StmtFits (assign p e) d = Fits e d
+  StmtFits (invoke n at cs) d = ConnectionsFit cs d
   StmtFits (branch no_arms other) d = ⊥
   StmtFits (branch (arm e ss arms) other) zero = ⊥
   StmtFits (branch (arm e ss arms) other) (suc d) = Fits e d × StmtsFit ss d × ArmsFit arms d × ElseFits other d

@@ -7,11 +7,15 @@ pub mod Fits
 pub mod Expressions
 pub mod Labels
 pub mod Iterations
+pub mod Connections
 pub mod Statements
 pub mod Whole
 pub mod FirstFault
 pub mod Declarations
 pub mod Types
+pub mod ChartSteps
+pub mod Charts
+pub mod Pous
 pub mod Files
 pub mod WholeFile
 pub mod Same

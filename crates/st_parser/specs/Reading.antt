@@ -4,9 +4,10 @@ use Rattle.st_tree.specs.declared.token.Tok.{Tok}
 use Rattle.st_tree.specs.declared.token.Operator.{Operator}
 use Rattle.st_tree.specs.declared.token.Operator.TheVariants.{Minus}
 use Rattle.st_tree.specs.declared.token.Mark.{Mark}
+use Rattle.st_tree.specs.declared.token.PartWord.{PartWord}
 use Rattle.st_tree.specs.declared.syntax.UnaryOperator.{UnaryOperator}
 use Rattle.st_tree.specs.declared.syntax.UnaryOperator.TheVariants as signs
-use Rattle.st_tree.specs.Syntax.{Symbol, name, number, negation, operator, opening, mark, Named}
+use Rattle.st_tree.specs.Syntax.{Symbol, name, number, negation, operator, opening, part, mark, Named}
 use Rattle.st_tree.specs.SyntaxView.{symbols}
 use Rattle.st_tree.specs.Levels.{level_of}
 use Rattle.st_parser.specs.Marks.{same_mark}
@@ -48,6 +49,11 @@ minus ts = None
 unfoldable pub opened : Read ℕ
 opened (opening at ∷ ts) = Some (at, ts)
 opened ts = None
+
+-- a word that begins a part of a chart, and its place
+unfoldable pub part_word : Read (PartWord × ℕ)
+part_word (part w at ∷ ts) = Some ((w, at), ts)
+part_word ts = None
 
 -- an operator of this level, and its place
 unfoldable pub operator_of : ℕ → Read (Operator × ℕ)

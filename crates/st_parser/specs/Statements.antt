@@ -7,8 +7,9 @@ use Rattle.st_tree.specs.declared.token.Mark.TheVariants.{Semicolon, Colon, Assi
 use Rattle.st_tree.specs.Syntax.{Symbol, name, iteration, mark, Named, Tree, LabelData, Stmt, empty, assign, branch, cases, iterate, Stmts, no_stmts, stmt, Arms, no_arms, arm, Entries, no_entries, entry, Otherwise, no_else, else_stmts}
 use Rattle.st_parser.specs.Marks.{same_mark}
 use Rattle.st_parser.specs.Ends.{is_label, ends_entries}
-use Rattle.st_parser.specs.Reading.{Read, ◌>>=◌, after}
-use Rattle.st_parser.specs.Expressions.{path_from, expression}
+use Rattle.st_parser.specs.Reading.{Read, ◌>>=◌, after, opened as parenthesis}
+use Rattle.st_parser.specs.Expressions.{path_from, inside, expression}
+use Rattle.st_parser.specs.Connections.{invoked}
 use Rattle.st_parser.specs.Labels.{labels}
 use Rattle.st_parser.specs.Iterations.{iteration_from}
 
@@ -28,28 +29,36 @@ add_entry (entry k xs es) ls ss = entry k xs (add_entry es ls ss)
 unfoldable pub assigned : ℕ → Read Tree → Named → Read Stmt
 assigned turns expr n ts = path_from turns n ts >>= λ p. after Assign p.1 >>= λ ts. expr ts >>= λ e. after Semicolon e.1 >>= λ rest. Some (assign p.0 e.0, rest)
 
+abbrev pub simple_or : ℕ → ℕ → Named → List Symbol → Option (ℕ × List Symbol) → Option (Stmt × List Symbol)
+simple_or turns depth n ts (Some o) = invoked turns (inside turns depth) n o.0 o.1
+simple_or turns depth n ts None = assigned turns (expression turns depth) n ts
+
+-- behind the name that begins a statement: a call of a block where `(` follows, or an assignment. Parentheses nest no deeper than the second number.
+unfoldable pub simple : ℕ → ℕ → Named → Read Stmt
+simple turns depth n ts = simple_or turns depth n ts (parenthesis ts)
+
 -- what the next symbol begins: a statement that is read or not, or None where it begins no statement
 abbrev pub Begun : Type 0
 Begun = Option (Option (Stmt × List Symbol))
 
 -- the truth value is whether labels may follow
-unfoldable pub begun : Bool → ℕ → Read Tree → (Opener → Read Stmt) → List Symbol → Begun
-begun labelled turns expr nested_of (name t at ∷ ts) = if labelled && is_label ts then None else Some (assigned turns expr (record { text = t; at = at }) ts)
-begun labelled turns expr nested_of (iteration at ∷ ts) = Some (nested_of (openers.For at) ts)
-begun labelled turns expr nested_of (mark m ∷ ts) =
+unfoldable pub begun : Bool → (Named → Read Stmt) → (Opener → Read Stmt) → List Symbol → Begun
+begun labelled simple_of nested_of (name t at ∷ ts) = if labelled && is_label ts then None else Some (simple_of (record { text = t; at = at }) ts)
+begun labelled simple_of nested_of (iteration at ∷ ts) = Some (nested_of (openers.For at) ts)
+begun labelled simple_of nested_of (mark m ∷ ts) =
     if same_mark m Semicolon then Some (Some (empty, ts))
     else (if same_mark m If then Some (nested_of openers.If ts)
     else (if same_mark m Case then Some (nested_of openers.Case ts) else None))
-begun labelled turns expr nested_of ts = None
+begun labelled simple_of nested_of ts = None
 
 abbrev pub statements_step : (Stmts → Read Stmts) → Stmts → List Symbol → Begun → Option (Stmts × List Symbol)
 statements_step more_of ss ts None = Some (ss, ts)
 statements_step more_of ss ts (Some s) = s >>= λ s. more_of (add_stmt ss s.0) s.1
 
--- the statements after those that were read
-unfoldable pub statements_from : Bool → ℕ → Read Tree → (Opener → Read Stmt) → ℕ → Stmts → Read Stmts
-statements_from labelled turns expr nested_of zero ss ts = Some (ss, ts)
-statements_from labelled turns expr nested_of (suc n) ss ts = statements_step (statements_from labelled turns expr nested_of n) ss ts (begun labelled turns expr nested_of ts)
+-- the statements after those that were read. The number bounds the turns.
+unfoldable pub statements_from : Bool → (Named → Read Stmt) → (Opener → Read Stmt) → ℕ → Stmts → Read Stmts
+statements_from labelled simple_of nested_of zero ss ts = Some (ss, ts)
+statements_from labelled simple_of nested_of (suc n) ss ts = statements_step (statements_from labelled simple_of nested_of n) ss ts (begun labelled simple_of nested_of ts)
 
 module _ (turns : ℕ) (expr : Read Tree) (body : Read Stmts) where
   abbrev pub arms_step : (Arms → Read Arms) → Arms → List Symbol → Option (List Symbol) → Option (Arms × List Symbol)
@@ -102,8 +111,8 @@ module _ (turns : ℕ) (expr : Read Tree) (body : Bool → Read Stmts) where
 -- the rest of an IF, CASE or FOR that may hold parentheses and statements down to this depth, itself among them
 unfoldable pub nested : ℕ → ℕ → Opener → Read Stmt
 nested turns zero o ts = None
-nested turns (suc depth) o ts = opened turns (expression turns depth) (λ labelled ts. statements_from labelled turns (expression turns depth) (nested turns depth) turns no_stmts ts) o ts
+nested turns (suc depth) o ts = opened turns (expression turns depth) (λ labelled ts. statements_from labelled (simple turns depth) (nested turns depth) turns no_stmts ts) o ts
 
 -- statements in which parentheses and statements nest no deeper than the second number
 unfoldable pub statements : ℕ → ℕ → Bool → Read Stmts
-statements turns depth labelled ts = statements_from labelled turns (expression turns depth) (nested turns depth) turns no_stmts ts
+statements turns depth labelled ts = statements_from labelled (simple turns depth) (nested turns depth) turns no_stmts ts

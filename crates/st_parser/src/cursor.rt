@@ -8,7 +8,7 @@ ghost use Rattle.st_parser.specs.Reading as spec;
 ghost use Rattle.st_parser.specs.Reading.{Gives, GivesPlace, given, ahead};
 
 use crate::fault::Stop;
-use st_tree::{Mark, Name, Operator, Terminal, Tok, UnaryOperator};
+use st_tree::{Mark, Name, Operator, PartWord, Terminal, Tok, UnaryOperator};
 use std::alloc::{AllocError, Global};
 
 /// The token at a place.
@@ -108,6 +108,18 @@ pub fn opened(toks: &[Tok<'_>], at: usize) -> Option<(usize, usize)>
     let first = token(toks, at)?;
     match first.terminal {
         Terminal::Open => Some((first.at, at + 1)),
+        _ => None,
+    }
+}
+
+/// A word that begins a part of a chart and its place, and the place behind it.
+#[tactic(auto, unfolding(crate::specs::Reading::part_word))]
+pub fn part_word(toks: &[Tok<'_>], at: usize) -> Option<((PartWord, usize), usize)>
+    ensures { given (λ w. w) toks.now result ≡ spec.part_word (ahead toks.now at) }
+{
+    let first = token(toks, at)?;
+    match first.terminal {
+        Terminal::Part(word) => Some(((word, first.at), at + 1)),
         _ => None,
     }
 }

@@ -1,6 +1,7 @@
 // Declarations of variables (IEC 61131-3, 2.4.3), and the types that are spelled there.
 ghost use Rattle.std.specs.Prelude.{◌≡◌, [], length};
 ghost use Rattle.st_tree.specs.SyntaxView as view;
+ghost use Rattle.st_tree.specs.Levels as levels;
 ghost use Rattle.st_parser.specs.Declarations as spec;
 ghost use Rattle.st_parser.specs.Reading.{Gives, ahead, given};
 
@@ -188,18 +189,42 @@ fn section_of(toks: &[Tok<'_>], at: usize) -> Option<(Section, usize)>
     Some((section, at + 1))
 }
 
-/// The sections of variables that follow.
+/// Whether a FUNCTION may have a section: it has VAR_INPUT, VAR and VAR CONSTANT alone.
+fn is_section_of_function(section: Section) -> bool
+    ensures { result ≡ levels.is_section_of_function section }
+{
+    match section {
+        Section::Input | Section::Local | Section::Constant => true,
+        Section::Output | Section::Temporary => false,
+    }
+}
+
+/// The section that a word begins, and the place behind its words; but none that a FUNCTION may not have, where it is
+/// of one.
+#[tactic(auto, unfolding(crate::specs::Declarations::section_where))]
+fn section_where(of_function: bool, toks: &[Tok<'_>], at: usize) -> Option<(Section, usize)>
+    ensures { given (λ s. s) toks.now result ≡ spec.section_where of_function (ahead toks.now at) }
+{
+    let (section, next) = section_of(toks, at)?;
+    if of_function && !is_section_of_function(section) {
+        return None;
+    }
+    Some((section, next))
+}
+
+/// The sections of variables that follow, of a FUNCTION or of another POU.
 pub fn variables(
     alloc: Global,
+    of_function: bool,
     toks: &[Tok<'_>],
     end: usize,
     mut at: usize,
 ) -> Result<(Vec<Variables>, usize), Stop>
-    ensures { Gives (λ v. view.all_variables_view v.items) toks.now result (spec.variables (length toks.now) (length toks.now) [] (ahead toks.now at)) }
+    ensures { Gives (λ v. view.all_variables_view v.items) toks.now result (spec.variables (length toks.now) of_function (length toks.now) [] (ahead toks.now at)) }
 {
     let mut found = Vec::new(alloc);
     for _turn in 0..toks.len() {
-        let Some((section, next)) = section_of(toks, at) else {
+        let Some((section, next)) = section_where(of_function, toks, at) else {
             return Ok((found, at));
         };
         let (declarations, next) = declarations(alloc, toks, end, next)?;

@@ -10,43 +10,16 @@ ghost use Rattle.st_parser.specs.Files.{GivesFile};
 ghost use Rattle.st_parser.specs.WholeFile.{IsFile, IsFileFault};
 ghost use Rattle.st_parser.specs.Reading.{Begins, Gives, ahead};
 
-use crate::cursor::{after, expect, named, token};
-use crate::declaration::variables;
+use crate::cursor::{after, token};
 use crate::fault::Stop;
 use crate::nesting::first_fault;
 use crate::parse::DEPTH;
-use crate::statement::statements;
+use crate::pou::pou_begun;
 use crate::types::types;
-use st_tree::{Body, ChartReader, Item, Mark, ParseFault, Pou, SourceFile, Tok};
+use st_tree::{Item, Mark, ParseFault, SourceFile, Tok};
 use std::alloc::Global;
 
-/// What a program does: so far statements, since the words of charts are left out.
-#[tactic(auto, unfolding(crate::specs::Files::body))]
-fn body(alloc: Global, toks: &[Tok<'_>], end: usize, at: usize) -> Result<(Body, usize), Stop>
-    ensures { Gives view.body_view toks.now result (spec.body (length toks.now) DEPTH (ahead toks.now at)) }
-{
-    let (found, at) = statements(alloc, toks, end, at, DEPTH, false)?;
-    Ok((Body::Statements(found), at))
-}
-
-/// A program, from the place behind PROGRAM.
-#[tactic(auto, unfolding(crate::specs::Files::program))]
-fn program(alloc: Global, toks: &[Tok<'_>], end: usize, at: usize) -> Result<(Pou, usize), Stop>
-    ensures { Gives view.pou_view toks.now result (spec.program (length toks.now) DEPTH (ahead toks.now at)) }
-{
-    let (name, at) = named(alloc, toks, end, at)?;
-    let (variables, at) = variables(alloc, toks, end, at)?;
-    let (body, at) = body(alloc, toks, end, at)?;
-    let at = expect(Mark::EndProgram, toks, end, at)?;
-    let found = Pou {
-        name,
-        variables,
-        body,
-    };
-    Ok((found, at))
-}
-
-/// What the word at a place begins, types or a program, or None where it is neither TYPE nor PROGRAM.
+/// What the word at a place begins, types or a POU, or None where it begins neither.
 #[tactic(auto, unfolding(crate::specs::Files::item))]
 fn item(
     alloc: Global,
@@ -60,14 +33,13 @@ fn item(
         let (found, at) = types(alloc, toks, end, at)?;
         return Ok(Some((Item::Types(found), at)));
     }
-    let Some(at) = after(Mark::Program, toks, at) else {
+    let Some((found, at)) = pou_begun(alloc, toks, end, at)? else {
         return Ok(None);
     };
-    let (found, at) = program(alloc, toks, end, at)?;
     Ok(Some((Item::Pou(found), at)))
 }
 
-/// The types and programs that follow.
+/// The types and POUs that follow.
 fn items(
     alloc: Global,
     toks: &[Tok<'_>],
@@ -99,18 +71,12 @@ fn whole(alloc: Global, toks: &[Tok<'_>], end: usize) -> Result<SourceFile, Stop
     }
 }
 
-/// The file that tokens are, whose text has a length of `end` bytes. Charts are read by `charts`; so far none is
-/// asked for, since the words that begin one are left out.
+/// The file that tokens are, whose text has a length of `end` bytes.
 ///
 /// # Errors
 ///
 /// X1 and G2 come first, by place; then G1, at the first token with which no file goes on, else at `end`.
-pub fn parse_file<C: ChartReader>(
-    alloc: Global,
-    toks: &[Tok<'_>],
-    end: usize,
-    _charts: &C,
-) -> Result<SourceFile, ParseFault>
+pub fn parse_file(alloc: Global, toks: &[Tok<'_>], end: usize) -> Result<SourceFile, ParseFault>
     ensures read { IfOk result (λ f. IsFile toks.now (file_view f)) }
     ensures refused { IfErr result (IsFileFault toks.now) }
 {

@@ -1,18 +1,19 @@
-// Whole expressions and whole lists of statements.
+// Whole expressions, whole lists of statements and whole charts.
 ghost use Rattle.std.specs.Prelude.{◌≡◌, ◌≢◌, List, IfOk, IfErr};
-ghost use Rattle.st_tree.specs.Syntax.{Symbol, Tree, Stmts};
-ghost use Rattle.st_tree.specs.SyntaxView.{tree_view, stmts_view};
+ghost use Rattle.st_tree.specs.Syntax.{Symbol, Tree, Stmts, PartData};
+ghost use Rattle.st_tree.specs.SyntaxView.{tree_view, stmts_view, parts_view};
 ghost use Rattle.st_tree.specs.declared.parse_fault.ParseFault.TheVariants.{Memory};
 ghost use Rattle.st_parser.specs.Ends as ends;
 ghost use Rattle.st_parser.specs.Faults.{IsNoTree};
 ghost use Rattle.st_parser.specs.Nesting.{Shallow};
 ghost use Rattle.st_parser.specs.Reading.{ahead};
-ghost use Rattle.st_parser.specs.Whole.{IsExpression, AreStatements};
+ghost use Rattle.st_parser.specs.Whole.{IsExpression, AreStatements, IsChart};
 
+use crate::chart::chart;
 use crate::cursor::{refuse, same_mark, token};
 use crate::expression::expression;
 use crate::statement::statements;
-use st_tree::{Expr, Mark, ParseFault, Stmt, Terminal, Tok};
+use st_tree::{Chart, Expr, Mark, ParseFault, Stmt, Terminal, Tok};
 use std::alloc::Global;
 
 /// How deep parentheses and statements nest, together.
@@ -95,6 +96,24 @@ pub fn parse_statements(
     Ok((found, behind))
 }
 
+/// The chart that the tokens from a place on print (IEC 61131-3, 2.6), up to a token that begins no part, and that
+/// token's place in the list; `end` is the length of their text. A refusal stands at the first token with which no
+/// chart goes on.
+pub fn parse_chart(
+    alloc: Global,
+    toks: &[Tok<'_>],
+    end: usize,
+    at: usize,
+) -> Result<(Chart, usize), ParseFault>
+    // The parts of a levelled chart print the tokens from `at` to the place behind, and the token there begins none.
+    ensures found { IfOk result (λ x. IsChart (parts_view x.0.parts.items) (ahead toks.now at) (ahead toks.now x.1)) }
+    ensures rule { IfErr result IsNoTree }
+    // Where no more than 64 parentheses and statements are open at once, a refusal comes only where there is no such chart.
+    ensures none { IfErr result (λ e. e ≢ Memory → Shallow (ahead toks.now at) → (ps : List PartData) (rest : List Symbol) → IsChart ps (ahead toks.now at) rest → ⊥) }
+{
+    Ok(chart(alloc, toks, end, at)?)
+}
+
 /// At most one levelled tree prints symbols up to a symbol that does not go on with it.
 pub fn one_expression()
     ensures { (t u : Tree) (ts rest behind : List Symbol) → IsExpression t ts rest → IsExpression u ts behind → (t ≡ u) × (rest ≡ behind) }
@@ -103,4 +122,9 @@ pub fn one_expression()
 /// At most one list of levelled statements prints symbols up to a symbol that begins none.
 pub fn one_statements()
     ensures { (ss us : Stmts) (ts rest behind : List Symbol) → AreStatements ss ts rest → AreStatements us ts behind → (ss ≡ us) × (rest ≡ behind) }
+{}
+
+/// At most one levelled chart prints symbols up to a symbol that begins no part.
+pub fn one_chart()
+    ensures { (ps qs : List PartData) (ts rest behind : List Symbol) → IsChart ps ts rest → IsChart qs ts behind → (ps ≡ qs) × (rest ≡ behind) }
 {}

@@ -6,7 +6,8 @@ ghost use Rattle.st_parser.specs.Reading.{Begins, Gives, ahead};
 ghost use Rattle.st_parser.specs.Expressions.{expression};
 ghost use Rattle.st_parser.specs.Statements as spec;
 
-use crate::cursor::{after, expect, refuse, same_mark, token, upper};
+use crate::connection::invoked;
+use crate::cursor::{after, expect, opened, refuse, same_mark, token, upper};
 use crate::expression::expression;
 use crate::fault::Stop;
 use crate::iteration::iteration;
@@ -42,6 +43,25 @@ fn assigned(
     Ok((Stmt::Assign(target, value), at))
 }
 
+/// The rest of a statement from behind the name that begins it: a call of a block where a parenthesis follows, or an
+/// assignment.
+#[tactic(auto, unfolding(crate::specs::Statements::simple))]
+fn simple(
+    alloc: Global,
+    name: Name,
+    toks: &[Tok<'_>],
+    end: usize,
+    at: usize,
+    depth: usize,
+) -> Result<(Stmt, usize), Stop>
+    ensures { Gives view.stmt_view toks.now result (spec.simple (length toks.now) depth (view.name_view name) (ahead toks.now at)) }
+{
+    match opened(toks, at) {
+        Some((place, at)) => invoked(alloc, name, place, toks, end, at, depth),
+        None => assigned(alloc, name, toks, end, at, depth),
+    }
+}
+
 /// The statement that the token at a place begins, or None where it begins none. Where labels may follow, a name
 /// that is one begins none.
 #[cycle(statement)]
@@ -54,7 +74,7 @@ fn begun(
     depth: usize,
     labelled: bool,
 ) -> Result<Option<(Stmt, usize)>, Stop>
-    ensures { Begins view.stmt_view toks.now result (spec.begun labelled (length toks.now) (expression (length toks.now) depth) (spec.nested (length toks.now) depth) (ahead toks.now at)) }
+    ensures { Begins view.stmt_view toks.now result (spec.begun labelled (spec.simple (length toks.now) depth) (spec.nested (length toks.now) depth) (ahead toks.now at)) }
 {
     let Some(first) = token(toks, at) else {
         return Ok(None);
@@ -65,7 +85,7 @@ fn begun(
                 return Ok(None);
             }
             let name = upper(alloc, first.slice, first.at)?;
-            Ok(Some(assigned(alloc, name, toks, end, at + 1, depth)?))
+            Ok(Some(simple(alloc, name, toks, end, at + 1, depth)?))
         }
         Terminal::For => {
             let opener = Opener::For(first.at);

@@ -1,14 +1,14 @@
 // Tokens of which the tree, or the place of the refusal, was worked by hand.
-use crate::{one_expression, one_statements, parse_expr, parse_statements};
+use crate::{one_expression, one_statements, parse_expr, parse_file, parse_statements};
 use st_tree::{
-    Elementary, Expr, Kind, Literal, Mark, Operator, ParseFault, Refusal, Rule, Stmt, Terminal,
-    Tok, UnaryOperator,
+    Elementary, Expr, Kind, Literal, Mark, Operator, ParseFault, PartWord, Refusal, Rule, Stmt,
+    Terminal, Tok, UnaryOperator,
 };
 use std::alloc::{AllocError, Global};
 use std::test::Fail;
 
 /// The length of each text.
-const END: usize = 99;
+pub const END: usize = 99;
 
 fn terminal(slice: &str) -> Terminal {
     match slice {
@@ -29,6 +29,7 @@ fn terminal(slice: &str) -> Terminal {
         ")" => Terminal::Mark(Mark::Close),
         ";" => Terminal::Mark(Mark::Semicolon),
         ":=" => Terminal::Mark(Mark::Assign),
+        "=>" => Terminal::Mark(Mark::Arrow),
         "," => Terminal::Mark(Mark::Comma),
         "." => Terminal::Mark(Mark::Point),
         "#" => Terminal::Mark(Mark::Hash),
@@ -49,28 +50,59 @@ fn terminal(slice: &str) -> Terminal {
         "END_FOR" => Terminal::Mark(Mark::EndFor),
         "PROGRAM" => Terminal::Mark(Mark::Program),
         "END_PROGRAM" => Terminal::Mark(Mark::EndProgram),
+        "FUNCTION" => Terminal::Mark(Mark::Function),
+        "END_FUNCTION" => Terminal::Mark(Mark::EndFunction),
+        "FUNCTION_BLOCK" => Terminal::Mark(Mark::FunctionBlock),
+        "END_FUNCTION_BLOCK" => Terminal::Mark(Mark::EndFunctionBlock),
         "VAR" => Terminal::Mark(Mark::Var),
+        "VAR_INPUT" => Terminal::Mark(Mark::VarInput),
+        "VAR_OUTPUT" => Terminal::Mark(Mark::VarOutput),
+        "VAR_TEMP" => Terminal::Mark(Mark::VarTemp),
+        "CONSTANT" => Terminal::Mark(Mark::Constant),
         "END_VAR" => Terminal::Mark(Mark::EndVar),
         "TYPE" => Terminal::Mark(Mark::Type),
         "END_TYPE" => Terminal::Mark(Mark::EndType),
+        "INITIAL_STEP" => Terminal::Part(PartWord::InitialStep),
+        "STEP" => Terminal::Part(PartWord::Step),
+        "END_STEP" => Terminal::Mark(Mark::EndStep),
+        "TRANSITION" => Terminal::Part(PartWord::Transition),
+        "FROM" => Terminal::Mark(Mark::From),
+        "END_TRANSITION" => Terminal::Mark(Mark::EndTransition),
+        "ACTION" => Terminal::Part(PartWord::Action),
+        "END_ACTION" => Terminal::Mark(Mark::EndAction),
         "WHILE" => Terminal::LeftOut,
         _ => Terminal::Name,
+    }
+}
+
+fn token(slice: &str, at: usize) -> Tok<'_> {
+    let kind = match slice {
+        "0" | "1" | "3" | "5" => Kind::Number,
+        _ => Kind::Word,
+    };
+    Tok {
+        kind,
+        slice,
+        terminal: terminal(slice),
+        at,
     }
 }
 
 pub fn tokens<'a>(alloc: Global, words: &[(&'a str, usize)]) -> Result<Vec<Tok<'a>>, AllocError> {
     let mut found = Vec::new(alloc);
     for &(slice, at) in words {
-        let kind = match slice {
-            "0" | "1" | "3" | "5" => Kind::Number,
-            _ => Kind::Word,
-        };
-        found.push(Tok {
-            kind,
-            slice,
-            terminal: terminal(slice),
-            at,
-        })?;
+        found.push(token(slice, at))?;
+    }
+    Ok(found)
+}
+
+/// The tokens of a text in which one space stands between them.
+pub fn spaced<'a>(alloc: Global, text: &'a str) -> Result<Vec<Tok<'a>>, AllocError> {
+    let mut found = Vec::new(alloc);
+    let mut at: usize = 0;
+    for slice in text.split(' ') {
+        found.push(token(slice, at))?;
+        at = at.saturating_add(slice.len()).saturating_add(1);
     }
     Ok(found)
 }
@@ -90,9 +122,17 @@ fn refused_expression(alloc: Global, words: &[(&str, usize)]) -> Result<Option<R
     }
 }
 
-fn refused_statements(alloc: Global, words: &[(&str, usize)]) -> Result<Option<Refusal>, Fail> {
+pub fn refused_statements(alloc: Global, words: &[(&str, usize)]) -> Result<Option<Refusal>, Fail> {
     let toks = tokens(alloc, words)?;
     match parse_statements(alloc, &toks, END, 0) {
+        Err(ParseFault::Refused(refusal)) => Ok(Some(refusal)),
+        _ => Ok(None),
+    }
+}
+
+pub fn refused_file(alloc: Global, words: &[(&str, usize)]) -> Result<Option<Refusal>, Fail> {
+    let toks = tokens(alloc, words)?;
+    match parse_file(alloc, &toks, END) {
         Err(ParseFault::Refused(refusal)) => Ok(Some(refusal)),
         _ => Ok(None),
     }

@@ -17,7 +17,7 @@ stays_behind a b c h k = grind (arith, nat_tests)
 -- the rule of a rank
 rule_at : ℕ → Rule
 rule_at n =
-    if n == 0 then rules_of.TooLong else (if n == 1 then rules_of.StrayByte else (if n == 2 then rules_of.OpenComment else (if n == 3 then rules_of.NumberForm else (if n == 4 then rules_of.NumberSize else (if n == 5 then rules_of.WordLength else (if n == 6 then rules_of.LeftOutWord else (if n == 7 then rules_of.TooDeep else (if n == 8 then rules_of.NoTree else (if n == 9 then rules_of.LineOrder else (if n == 10 then rules_of.NumberLimits else (if n == 11 then rules_of.NoSide else (if n == 12 then rules_of.DeclaredTwice else (if n == 13 then rules_of.UnknownName else (if n == 14 then rules_of.InTermsOfItself else (if n == 15 then rules_of.WrongKind else (if n == 16 then rules_of.NotOneProgram else (if n == 17 then rules_of.InputsDiffer else (if n == 18 then rules_of.InputCount else (if n == 19 then rules_of.OperandType else (if n == 20 then rules_of.ValueType else (if n == 21 then rules_of.OutsideType else (if n == 22 then rules_of.NotAssignable else (if n == 23 then rules_of.ArgumentCount else (if n == 24 then rules_of.Overlap else (if n == 25 then rules_of.NotConstant else (if n == 26 then rules_of.StepZero else (if n == 27 then rules_of.TooManyTurns else (if n == 28 then rules_of.OutsideControl else (if n == 29 then rules_of.TooManyValues else (if n == 30 then rules_of.NotBool else (if n == 31 then rules_of.TooManyCells else (if n == 32 then rules_of.TooManyStatements else (if n == 33 then rules_of.TooManyCandidates else rules_of.NoTrace)))))))))))))))))))))))))))))))))
+    if n == 0 then rules_of.TooLong else (if n == 1 then rules_of.StrayByte else (if n == 2 then rules_of.OpenComment else (if n == 3 then rules_of.NumberForm else (if n == 4 then rules_of.NumberSize else (if n == 5 then rules_of.WordLength else (if n == 6 then rules_of.LeftOutWord else (if n == 7 then rules_of.TooDeep else (if n == 8 then rules_of.NoTree else (if n == 9 then rules_of.LineOrder else (if n == 10 then rules_of.NumberLimits else (if n == 11 then rules_of.NoSide else (if n == 12 then rules_of.DeclaredTwice else (if n == 13 then rules_of.UnknownName else (if n == 14 then rules_of.InTermsOfItself else (if n == 15 then rules_of.WrongKind else (if n == 16 then rules_of.NotOneProgram else (if n == 17 then rules_of.NotOneInitialStep else (if n == 18 then rules_of.UnknownStep else (if n == 19 then rules_of.UnknownAction else (if n == 20 then rules_of.StepTwice else (if n == 21 then rules_of.UnknownQualifier else (if n == 22 then rules_of.InputsDiffer else (if n == 23 then rules_of.InputCount else (if n == 24 then rules_of.OperandType else (if n == 25 then rules_of.ValueType else (if n == 26 then rules_of.OutsideType else (if n == 27 then rules_of.NotAssignable else (if n == 28 then rules_of.ArgumentCount else (if n == 29 then rules_of.Overlap else (if n == 30 then rules_of.NotConstant else (if n == 31 then rules_of.StepZero else (if n == 32 then rules_of.TooManyTurns else (if n == 33 then rules_of.OutsideControl else (if n == 34 then rules_of.TooManyValues else (if n == 35 then rules_of.NotBool else (if n == 36 then rules_of.TooManyCells else (if n == 37 then rules_of.TooManyStatements else (if n == 38 then rules_of.TooManyCandidates else rules_of.NoTrace))))))))))))))))))))))))))))))))))))))
 
 rule_at-rank_of : (r : Rule) → rule_at (rank_of r) ≡ r
 unfolding rule_at
@@ -38,6 +38,11 @@ rule_at-rank_of rules_of.UnknownName = refl
 rule_at-rank_of rules_of.InTermsOfItself = refl
 rule_at-rank_of rules_of.WrongKind = refl
 rule_at-rank_of rules_of.NotOneProgram = refl
+rule_at-rank_of rules_of.NotOneInitialStep = refl
+rule_at-rank_of rules_of.UnknownStep = refl
+rule_at-rank_of rules_of.UnknownAction = refl
+rule_at-rank_of rules_of.StepTwice = refl
+rule_at-rank_of rules_of.UnknownQualifier = refl
 rule_at-rank_of rules_of.InputsDiffer = refl
 rule_at-rank_of rules_of.InputCount = refl
 rule_at-rank_of rules_of.OperandType = refl

@@ -4,7 +4,9 @@ use Rattle.st_tree.specs.declared.token.Operator.{Operator}
 use Rattle.st_tree.specs.declared.token.Operator.TheVariants as ops
 use Rattle.st_tree.specs.declared.syntax.UnaryOperator.TheVariants as signs
 use Rattle.st_tree.specs.declared.syntax.Literal.TheVariants as literals
-use Rattle.st_tree.specs.Syntax.{Tree, literal, path, enumerator, paren, unary, chain, call, Links, no_links, link, Arguments, no_arguments, argument, Stmt, empty, assign, branch, cases, iterate, Stmts, no_stmts, stmt, Arms, no_arms, arm, Entries, no_entries, entry, Otherwise, no_else, else_stmts, LabelData, IterationData, TypeData, of_elementary, of_subrange, of_name, SpecificationData, of_type, of_values, TypeDeclarationData, DeclarationData, VariablesData, BodyData, statements, chart as chart_body, PouData, ItemData, types, pou, FileData}
+use Rattle.st_tree.specs.declared.syntax.Section.{Section}
+use Rattle.st_tree.specs.declared.syntax.Section.TheVariants as sections
+use Rattle.st_tree.specs.Syntax.{Tree, literal, path, enumerator, paren, unary, chain, call, Links, no_links, link, Arguments, no_arguments, argument, ConnectionData, input, output, Stmt, empty, assign, invoke, branch, cases, iterate, Stmts, no_stmts, stmt, Arms, no_arms, arm, Entries, no_entries, entry, Otherwise, no_else, else_stmts, LabelData, IterationData, TypeData, of_elementary, of_subrange, of_name, SpecificationData, of_type, of_values, TypeDeclarationData, DeclarationData, VariablesData, PartData, step_part, transition_part, action_part, BodyData, statements, chart as chart_body, PouKindData, function, function_block, program, PouData, ItemData, types, pou, FileData}
 
 -- how loosely an operator binds
 abbrev pub level_of : Operator → ℕ
@@ -72,6 +74,11 @@ abbrev mutual
   AreOfForm named no_arguments = Unit {0}
   AreOfForm named (argument n e args) = (is_some n ≡ named) × IsLevelled e × AreOfForm named args
 
+abbrev pub AreConnectionsLevelled : List ConnectionData → Type 0
+AreConnectionsLevelled [] = Unit {0}
+AreConnectionsLevelled (input n e ∷ cs) = IsLevelled e × AreConnectionsLevelled cs
+AreConnectionsLevelled (output n p ∷ cs) = AreConnectionsLevelled cs
+
 -- what may be an initial value or a label: a literal, `-` and a literal, a name, or `type#value`
 abbrev pub IsConstant : Tree → Type 0
 IsConstant (literal l) = Unit {0}
@@ -111,6 +118,7 @@ abbrev mutual
   pub IsStmtLevelled : Stmt → Type 0
   IsStmtLevelled empty = Unit {0}
   IsStmtLevelled (assign p e) = IsLevelled e
+  IsStmtLevelled (invoke n at cs) = AreConnectionsLevelled cs
   IsStmtLevelled (branch no_arms other) = ⊥
   IsStmtLevelled (branch (arm e ss arms) other) = IsLevelled e × AreStmtsLevelled ss × AreArmsLevelled arms × IsElseLevelled other
   IsStmtLevelled (cases e no_entries other) = ⊥
@@ -155,13 +163,57 @@ abbrev pub AreVariablesFormed : List VariablesData → Type 0
 AreVariablesFormed [] = Unit {0}
 AreVariablesFormed (v ∷ vs) = AreDeclarationsFormed v.declarations × AreVariablesFormed vs
 
+-- a FUNCTION's result is no subrange that is spelled out
+abbrev pub IsResultFormed : PouKindData → Type 0
+IsResultFormed (function (of_elementary kind at)) = Unit {0}
+IsResultFormed (function (of_subrange kind at b)) = ⊥
+IsResultFormed (function (of_name n)) = Unit {0}
+IsResultFormed function_block = Unit {0}
+IsResultFormed program = Unit {0}
+
+-- a FUNCTION has VAR_INPUT, VAR and VAR CONSTANT alone
+abbrev pub is_section_of_function : Section → Bool
+is_section_of_function sections.Input = true
+is_section_of_function sections.Output = false
+is_section_of_function sections.Local = true
+is_section_of_function sections.Temporary = false
+is_section_of_function sections.Constant = true
+
+abbrev pub AreSectionsOfFunction : List VariablesData → Type 0
+AreSectionsOfFunction [] = Unit {0}
+AreSectionsOfFunction (v ∷ vs) = (is_section_of_function v.section ≡ true) × AreSectionsOfFunction vs
+
+abbrev pub HasSections : PouKindData → List VariablesData → Type 0
+HasSections (function t) vs = AreSectionsOfFunction vs
+HasSections function_block vs = Unit {0}
+HasSections program vs = Unit {0}
+
+-- the conditions of transitions and the statements of actions are levelled
+abbrev pub IsPartLevelled : PartData → Type 0
+IsPartLevelled (step_part s) = Unit {0}
+IsPartLevelled (transition_part t) = IsLevelled t.condition
+IsPartLevelled (action_part a) = AreStmtsLevelled a.body
+
+abbrev pub ArePartsLevelled : List PartData → Type 0
+ArePartsLevelled [] = Unit {0}
+ArePartsLevelled (p ∷ ps) = IsPartLevelled p × ArePartsLevelled ps
+
+-- a chart has at least one part
 abbrev pub IsBodyLevelled : BodyData → Type 0
 IsBodyLevelled (statements ss) = AreStmtsLevelled ss
-IsBodyLevelled (chart_body c) = ⊥
+IsBodyLevelled (chart_body []) = ⊥
+IsBodyLevelled (chart_body (p ∷ ps)) = IsPartLevelled p × ArePartsLevelled ps
+
+-- what a FUNCTION does is no chart
+abbrev pub MayDo : PouKindData → BodyData → Type 0
+MayDo k (statements ss) = Unit {0}
+MayDo (function t) (chart_body ps) = ⊥
+MayDo function_block (chart_body ps) = Unit {0}
+MayDo program (chart_body ps) = Unit {0}
 
 abbrev pub IsItemLevelled : ItemData → Type 0
 IsItemLevelled (types ds) = AreTypesFormed ds
-IsItemLevelled (pou p) = AreVariablesFormed p.variables × IsBodyLevelled p.body
+IsItemLevelled (pou p) = IsResultFormed p.kind × HasSections p.kind p.variables × AreVariablesFormed p.variables × MayDo p.kind p.body × IsBodyLevelled p.body
 
 abbrev pub IsFileLevelled : FileData → Type 0
 IsFileLevelled [] = Unit {0}

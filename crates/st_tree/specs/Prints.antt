@@ -1,15 +1,16 @@
 -- What a tree prints (the grammar of the profile, after IEC 61131-3, annex B).
-use Rattle.std.specs.Prelude.{ℕ, List, [], ◌∷◌, ◌++◌, map, Bool, Option, Some, None}
+use Rattle.std.specs.Prelude.{ℕ, List, [], ◌∷◌, ◌++◌, map, codes, Bool, if◌then◌else◌, Option, Some, None}
 use Rattle.st_tree.specs.declared.token.Operator.TheVariants.{Minus}
 use Rattle.st_tree.specs.declared.token.Mark.{Mark}
 use Rattle.st_tree.specs.declared.token.Mark.TheVariants as marks
+use Rattle.st_tree.specs.declared.token.PartWord.TheVariants as words
 use Rattle.st_tree.specs.declared.syntax.Literal.{Literal}
 use Rattle.st_tree.specs.declared.syntax.Literal.TheVariants as literals
 use Rattle.st_tree.specs.declared.syntax.UnaryOperator.{UnaryOperator}
 use Rattle.st_tree.specs.declared.syntax.UnaryOperator.TheVariants as signs
 use Rattle.st_tree.specs.declared.syntax.Section.{Section}
 use Rattle.st_tree.specs.declared.syntax.Section.TheVariants as sections
-use Rattle.st_tree.specs.Syntax.{Symbol, name, number, truth, elementary, negation, operator, opening, iteration, mark, Named, PathData, Tree, literal, path, enumerator, paren, unary, chain, call, Links, no_links, link, Arguments, no_arguments, argument, Stmt, empty, assign, branch, cases, iterate, Stmts, no_stmts, stmt, Arms, no_arms, arm, Entries, no_entries, entry, Otherwise, no_else, else_stmts, LabelData, IterationData, BoundsData, TypeData, of_elementary, of_subrange, of_name, SpecificationData, of_type, of_values, TypeDeclarationData, DeclarationData, VariablesData, BodyData, statements, chart as chart_body, PouData, ItemData, types, pou, FileData}
+use Rattle.st_tree.specs.Syntax.{Symbol, name, number, truth, elementary, negation, operator, opening, iteration, part, mark, Named, PathData, Tree, literal, path, enumerator, paren, unary, chain, call, Links, no_links, link, Arguments, no_arguments, argument, ConnectionData, input, output, Stmt, empty, assign, invoke, branch, cases, iterate, Stmts, no_stmts, stmt, Arms, no_arms, arm, Entries, no_entries, entry, Otherwise, no_else, else_stmts, LabelData, IterationData, BoundsData, TypeData, of_elementary, of_subrange, of_name, SpecificationData, of_type, of_values, TypeDeclarationData, DeclarationData, VariablesData, BracketsData, StepActionData, ChartStepData, StepsData, one_step, several_steps, PriorityData, ChartTransitionData, ChartActionData, PartData, step_part, transition_part, action_part, BodyData, statements, chart as chart_body, PouKindData, function, function_block, program, PouData, ItemData, types, pou, FileData}
 
 abbrev pub name_symbol : Named → Symbol
 name_symbol n = name n.text n.at
@@ -64,6 +65,20 @@ abbrev mutual
   print_more_arguments no_arguments = []
   print_more_arguments (argument n e args) = mark marks.Comma ∷ (print_argument_name n ++ print e ++ print_more_arguments args)
 
+-- `x := e` or `y => v`
+abbrev pub print_connection : ConnectionData → List Symbol
+print_connection (input n e) = name_symbol n ∷ mark marks.Assign ∷ print e
+print_connection (output n p) = name_symbol n ∷ mark marks.Arrow ∷ print_path p
+
+-- connections with commas between them
+abbrev pub print_more_connections : List ConnectionData → List Symbol
+print_more_connections [] = []
+print_more_connections (c ∷ cs) = mark marks.Comma ∷ (print_connection c ++ print_more_connections cs)
+
+abbrev pub print_connections : List ConnectionData → List Symbol
+print_connections [] = []
+print_connections (c ∷ cs) = print_connection c ++ print_more_connections cs
+
 abbrev pub print_high : Option Tree → List Symbol
 print_high None = []
 print_high (Some e) = mark marks.Range ∷ print e
@@ -91,6 +106,7 @@ abbrev mutual
   pub print_stmt : Stmt → List Symbol
   print_stmt empty = mark marks.Semicolon ∷ []
   print_stmt (assign p e) = print_path p ++ mark marks.Assign ∷ (print e ++ mark marks.Semicolon ∷ [])
+  print_stmt (invoke n at cs) = name_symbol n ∷ opening at ∷ (print_connections cs ++ mark marks.Close ∷ mark marks.Semicolon ∷ [])
   print_stmt (branch arms other) = print_arms marks.If arms ++ print_otherwise marks.EndIf other
   print_stmt (cases e es other) = mark marks.Case ∷ (print e ++ mark marks.Of ∷ (print_entries es ++ print_otherwise marks.EndCase other))
   print_stmt (iterate i ss) = print_iteration i ++ (print_stmts ss ++ mark marks.EndFor ∷ [])
@@ -148,12 +164,77 @@ abbrev pub print_variables : List VariablesData → List Symbol
 print_variables [] = []
 print_variables (v ∷ vs) = map mark (section_marks v.section) ++ (print_declarations v.declarations ++ mark marks.EndVar ∷ print_variables vs)
 
+-- a name, where there is one
+abbrev pub print_name : Option Named → List Symbol
+print_name None = []
+print_name (Some n) = name_symbol n ∷ []
+
+-- `(word)` or `()`, where there are parentheses
+abbrev pub print_brackets : Option BracketsData → List Symbol
+print_brackets None = []
+print_brackets (Some b) = opening b.at ∷ (print_name b.word ++ mark marks.Close ∷ [])
+
+abbrev pub print_step_actions : List StepActionData → List Symbol
+print_step_actions [] = []
+print_step_actions (a ∷ rest) = name_symbol a.action ∷ (print_brackets a.brackets ++ mark marks.Semicolon ∷ print_step_actions rest)
+
+abbrev pub print_chart_step : ChartStepData → List Symbol
+print_chart_step s =
+    part (if s.is_initial then words.InitialStep else words.Step) s.at ∷ name_symbol s.name ∷ mark marks.Colon
+    ∷ (print_step_actions s.actions ++ mark marks.EndStep ∷ [])
+
+abbrev pub print_steps : StepsData → List Symbol
+print_steps (one_step n) = name_symbol n ∷ []
+print_steps (several_steps at first others) = opening at ∷ name_symbol first ∷ (print_others others ++ mark marks.Close ∷ [])
+
+-- `(PRIORITY := number)`; PRIORITY is a name like any other elsewhere
+abbrev pub print_priority : Option PriorityData → List Symbol
+print_priority None = []
+print_priority (Some p) = opening p.at ∷ name (codes "PRIORITY") p.word_at ∷ mark marks.Assign ∷ number p.value p.value_at ∷ mark marks.Close ∷ []
+
+abbrev pub print_transition : ChartTransitionData → List Symbol
+print_transition t =
+    part words.Transition t.at
+    ∷ (print_name t.name ++ (print_priority t.priority ++ mark marks.From ∷ (print_steps t.from ++ mark marks.To
+    ∷ (print_steps t.to ++ mark marks.Assign ∷ (print t.condition ++ mark marks.Semicolon ∷ mark marks.EndTransition ∷ [])))))
+
+abbrev pub print_chart_action : ChartActionData → List Symbol
+print_chart_action a = part words.Action a.at ∷ name_symbol a.name ∷ mark marks.Colon ∷ (print_stmts a.body ++ mark marks.EndAction ∷ [])
+
+abbrev pub print_part : PartData → List Symbol
+print_part (step_part s) = print_chart_step s
+print_part (transition_part t) = print_transition t
+print_part (action_part a) = print_chart_action a
+
+abbrev pub print_parts : List PartData → List Symbol
+print_parts [] = []
+print_parts (p ∷ ps) = print_part p ++ print_parts ps
+
 abbrev pub print_body : BodyData → List Symbol
 print_body (statements ss) = print_stmts ss
-print_body (chart_body c) = absurd c
+print_body (chart_body ps) = print_parts ps
+
+-- the word that a POU begins with, and the one that it ends with
+abbrev pub beginning_of : PouKindData → Mark
+beginning_of (function t) = marks.Function
+beginning_of function_block = marks.FunctionBlock
+beginning_of program = marks.Program
+
+abbrev pub end_of : PouKindData → Mark
+end_of (function t) = marks.EndFunction
+end_of function_block = marks.EndFunctionBlock
+end_of program = marks.EndProgram
+
+-- `: type` behind the name of a FUNCTION
+abbrev pub print_result : PouKindData → List Symbol
+print_result (function t) = mark marks.Colon ∷ print_type t
+print_result function_block = []
+print_result program = []
 
 abbrev pub print_pou : PouData → List Symbol
-print_pou p = mark marks.Program ∷ name_symbol p.name ∷ (print_variables p.variables ++ (print_body p.body ++ mark marks.EndProgram ∷ []))
+print_pou p =
+    mark (beginning_of p.kind) ∷ name_symbol p.name
+    ∷ (print_result p.kind ++ (print_variables p.variables ++ (print_body p.body ++ mark (end_of p.kind) ∷ [])))
 
 abbrev pub print_specification : SpecificationData → List Symbol
 print_specification (of_type t) = print_type t

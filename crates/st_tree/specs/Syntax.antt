@@ -3,6 +3,7 @@ use Rattle.std.specs.Prelude.{ℕ, Bool, List, Option}
 use Rattle.st_tree.specs.declared.elementary.Elementary.{Elementary}
 use Rattle.st_tree.specs.declared.token.Operator.{Operator}
 use Rattle.st_tree.specs.declared.token.Mark.{Mark}
+use Rattle.st_tree.specs.declared.token.PartWord.{PartWord}
 use Rattle.st_tree.specs.declared.syntax.Literal.{Literal}
 use Rattle.st_tree.specs.declared.syntax.UnaryOperator.{UnaryOperator}
 use Rattle.st_tree.specs.declared.syntax.Section.{Section}
@@ -17,6 +18,7 @@ pub data Symbol : Type 0 where
   operator : Operator → ℕ → Symbol
   opening : ℕ → Symbol
   iteration : ℕ → Symbol
+  part : PartWord → ℕ → Symbol
   mark : Mark → Symbol
   left_out : ℕ → Symbol
 
@@ -49,6 +51,11 @@ mutual
     no_arguments : Arguments
     argument : Option Named → Tree → Arguments → Arguments
 
+-- what stands in the parentheses of a block's call: the value of an input, or the target that an output is copied to
+pub data ConnectionData : Type 0 where
+  input : Named → Tree → ConnectionData
+  output : Named → PathData → ConnectionData
+
 -- a label of a CASE: a constant, or a range from one to another
 pub record LabelData : Type 0 where
   pub low : Tree
@@ -62,12 +69,13 @@ pub record IterationData : Type 0 where
   pub last : Tree
   pub step : Option Tree
 
--- Statements. An IF has an arm for IF and for each ELSIF, and then what stands behind ELSE; a CASE has
--- entries, each with its labels.
+-- Statements. A call of a block has the name of an instance and the place of its parenthesis; an IF has an arm for IF and for
+-- each ELSIF, and then what stands behind ELSE; a CASE has entries, each with its labels.
 mutual
   pub data Stmt : Type 0 where
     empty : Stmt
     assign : PathData → Tree → Stmt
+    invoke : Named → ℕ → List ConnectionData → Stmt
     branch : Arms → Otherwise → Stmt
     cases : Tree → Entries → Otherwise → Stmt
     iterate : IterationData → Stmts → Stmt
@@ -122,12 +130,69 @@ pub record VariablesData : Type 0 where
   pub section : Section
   pub declarations : List DeclarationData
 
--- what a program does: statements, or a chart, of which there is none so far
+-- parentheses behind the name of an action in a step, by the place of the first, and the word in them, where there is one
+pub record BracketsData : Type 0 where
+  pub at : ℕ
+  pub word : Option Named
+
+-- an action that is associated with a step
+pub record StepActionData : Type 0 where
+  pub action : Named
+  pub brackets : Option BracketsData
+
+-- a step, and the place of the word that begins it
+pub record ChartStepData : Type 0 where
+  pub at : ℕ
+  pub is_initial : Bool
+  pub name : Named
+  pub actions : List StepActionData
+
+-- the steps before or behind a transition: one; or in parentheses, by the place of the first, a first and others
+pub data StepsData : Type 0 where
+  one_step : Named → StepsData
+  several_steps : ℕ → Named → List Named → StepsData
+
+-- a priority: the places of the parenthesis and of the word, and the number with its place
+pub record PriorityData : Type 0 where
+  pub at : ℕ
+  pub word_at : ℕ
+  pub value : ℕ
+  pub value_at : ℕ
+
+-- a transition, and the place of TRANSITION
+pub record ChartTransitionData : Type 0 where
+  pub at : ℕ
+  pub name : Option Named
+  pub priority : Option PriorityData
+  pub from : StepsData
+  pub to : StepsData
+  pub condition : Tree
+
+-- an action, and the place of ACTION
+pub record ChartActionData : Type 0 where
+  pub at : ℕ
+  pub name : Named
+  pub body : Stmts
+
+-- a part of a chart
+pub data PartData : Type 0 where
+  step_part : ChartStepData → PartData
+  transition_part : ChartTransitionData → PartData
+  action_part : ChartActionData → PartData
+
+-- what a POU does: statements, or a chart, by its parts in the order of the text
 pub data BodyData : Type 0 where
   statements : Stmts → BodyData
-  chart : ⊥ → BodyData
+  chart : List PartData → BodyData
+
+-- what a POU is: a FUNCTION, with the type of its result, a FUNCTION_BLOCK, or a PROGRAM
+pub data PouKindData : Type 0 where
+  function : TypeData → PouKindData
+  function_block : PouKindData
+  program : PouKindData
 
 pub record PouData : Type 0 where
+  pub kind : PouKindData
   pub name : Named
   pub variables : List VariablesData
   pub body : BodyData

@@ -16,6 +16,8 @@ use Rattle.st_tree.specs.declared.syntax.Expr.TheFolds.{fold-Expr, fold-Link, fo
 use Rattle.st_tree.specs.declared.syntax.Stmt.{Stmt as StmtTree}
 use Rattle.st_tree.specs.declared.syntax.Arm.{Arm}
 use Rattle.st_tree.specs.declared.syntax.Entry.{Entry}
+use Rattle.st_tree.specs.declared.syntax.Connection.{Connection}
+use Rattle.st_tree.specs.declared.syntax.Connection.TheVariants as connections
 use Rattle.st_tree.specs.declared.syntax.Label.{Label}
 use Rattle.st_tree.specs.declared.syntax.Iteration.{Iteration}
 use Rattle.st_tree.specs.declared.syntax.Stmt.TheOpen.{Stmt-F, Arm-F, Entry-F}
@@ -28,14 +30,26 @@ use Rattle.st_tree.specs.declared.syntax.Specification.TheVariants as specificat
 use Rattle.st_tree.specs.declared.syntax.TypeDeclaration.{TypeDeclaration}
 use Rattle.st_tree.specs.declared.syntax.Declaration.{Declaration}
 use Rattle.st_tree.specs.declared.syntax.Variables.{Variables}
+use Rattle.st_tree.specs.declared.syntax.Brackets.{Brackets}
+use Rattle.st_tree.specs.declared.syntax.StepAction.{StepAction}
+use Rattle.st_tree.specs.declared.syntax.ChartStep.{ChartStep}
+use Rattle.st_tree.specs.declared.syntax.Steps.{Steps}
+use Rattle.st_tree.specs.declared.syntax.Steps.TheVariants as step_lists
+use Rattle.st_tree.specs.declared.syntax.Priority.{Priority}
+use Rattle.st_tree.specs.declared.syntax.ChartTransition.{ChartTransition}
+use Rattle.st_tree.specs.declared.syntax.ChartAction.{ChartAction}
+use Rattle.st_tree.specs.declared.syntax.ChartPart.{ChartPart}
+use Rattle.st_tree.specs.declared.syntax.ChartPart.TheVariants as chart_parts
 use Rattle.st_tree.specs.declared.syntax.Chart.{Chart}
 use Rattle.st_tree.specs.declared.syntax.Body.{Body}
 use Rattle.st_tree.specs.declared.syntax.Body.TheVariants as bodies
+use Rattle.st_tree.specs.declared.syntax.PouKind.{PouKind}
+use Rattle.st_tree.specs.declared.syntax.PouKind.TheVariants as pou_kinds
 use Rattle.st_tree.specs.declared.syntax.Pou.{Pou}
 use Rattle.st_tree.specs.declared.syntax.Item.{Item}
 use Rattle.st_tree.specs.declared.syntax.Item.TheVariants as items
 use Rattle.st_tree.specs.declared.syntax.SourceFile.{SourceFile}
-use Rattle.st_tree.specs.Syntax.{Symbol, name, number, truth, elementary, negation, operator, opening, iteration, mark, left_out, Named, PathData, Tree, literal, path, enumerator, paren, unary, chain, call, Links, no_links, link, Arguments, no_arguments, argument, Stmt, empty, assign, branch, cases, iterate, Stmts, no_stmts, stmt, Arms, no_arms, arm, Entries, no_entries, entry, Otherwise, no_else, else_stmts, LabelData, IterationData, BoundsData, TypeData, of_elementary, of_subrange, of_name, SpecificationData, of_type, of_values, TypeDeclarationData, DeclarationData, VariablesData, BodyData, statements, chart as chart_body, PouData, ItemData, types, pou, FileData}
+use Rattle.st_tree.specs.Syntax.{Symbol, name, number, truth, elementary, negation, operator, opening, iteration, part, mark, left_out, Named, PathData, Tree, literal, path, enumerator, paren, unary, chain, call, Links, no_links, link, Arguments, no_arguments, argument, ConnectionData, input, output, Stmt, empty, assign, invoke, branch, cases, iterate, Stmts, no_stmts, stmt, Arms, no_arms, arm, Entries, no_entries, entry, Otherwise, no_else, else_stmts, LabelData, IterationData, BoundsData, TypeData, of_elementary, of_subrange, of_name, SpecificationData, of_type, of_values, TypeDeclarationData, DeclarationData, VariablesData, BracketsData, StepActionData, ChartStepData, StepsData, one_step, several_steps, PriorityData, ChartTransitionData, ChartActionData, PartData, step_part, transition_part, action_part, BodyData, statements, chart as chart_body, PouKindData, function, function_block, program, PouData, ItemData, types, pou, FileData}
 
 -- a text in upper case
 abbrev pub upper : List ℕ → List ℕ
@@ -50,6 +64,7 @@ symbol_of terminals.Not text at = negation at
 symbol_of (terminals.Operator o) text at = operator o at
 symbol_of terminals.Open text at = opening at
 symbol_of terminals.For text at = iteration at
+symbol_of (terminals.Part w) text at = part w at
 symbol_of (terminals.Mark m) text at = mark m
 symbol_of terminals.LeftOut text at = left_out at
 
@@ -114,6 +129,13 @@ links_view ls = links_of (map link_view ls)
 abbrev pub arguments_view : List Argument → Arguments
 arguments_view args = arguments_of (map argument_view args)
 
+abbrev pub connection_view : Connection → ConnectionData
+connection_view (connections.Input n e) = input (name_view n) (tree_view e)
+connection_view (connections.Output n p) = output (name_view n) (path_view p)
+
+abbrev pub connections_view : List Connection → List ConnectionData
+connections_view cs = map connection_view cs
+
 abbrev pub stmts_of : List Stmt → Stmts
 stmts_of [] = no_stmts
 stmts_of (s ∷ ss) = stmt s (stmts_of ss)
@@ -155,6 +177,7 @@ entries_of (e ∷ es) = entry e.0 e.1 (entries_of es)
 abbrev pub stmt_step : Stmt-F Stmt ArmData EntryData → Stmt
 stmt_step Stmt-F.Empty = empty
 stmt_step (Stmt-F.Assign p e) = assign (path_view p) (tree_view e)
+stmt_step (Stmt-F.Call n at cs) = invoke (name_view n) at (connections_view cs.items)
 stmt_step (Stmt-F.If arms other) = branch (arms_of arms.items) (otherwise_of other)
 stmt_step (Stmt-F.Case e es other) = cases (tree_view e) (entries_of es.items) (otherwise_of other)
 stmt_step (Stmt-F.For i ss) = iterate (iteration_view i.value) (stmts_of ss.items)
@@ -217,12 +240,57 @@ variables_view v = record { section = v.section; declarations = declarations_vie
 abbrev pub all_variables_view : List Variables → List VariablesData
 all_variables_view vs = map variables_view vs
 
+abbrev pub brackets_view : Brackets → BracketsData
+brackets_view b = record { at = b.at; word = option_map name_view b.word }
+
+abbrev pub step_action_view : StepAction → StepActionData
+step_action_view a = record { action = name_view a.action; brackets = option_map brackets_view a.brackets }
+
+abbrev pub step_actions_view : List StepAction → List StepActionData
+step_actions_view ss = map step_action_view ss
+
+abbrev pub chart_step_view : ChartStep → ChartStepData
+chart_step_view s = record { at = s.at; is_initial = s.is_initial; name = name_view s.name; actions = step_actions_view s.actions.items }
+
+abbrev pub steps_view : Steps → StepsData
+steps_view (step_lists.One n) = one_step (name_view n)
+steps_view (step_lists.Several at first others) = several_steps at (name_view first) (names_view others.items)
+
+abbrev pub priority_view : Priority → PriorityData
+priority_view p = record { at = p.at; word_at = p.word_at; value = p.value; value_at = p.value_at }
+
+abbrev pub chart_transition_view : ChartTransition → ChartTransitionData
+chart_transition_view t = record {
+  at = t.at;
+  name = option_map name_view t.name;
+  priority = option_map priority_view t.priority;
+  from = steps_view t.from;
+  to = steps_view t.to;
+  condition = tree_view t.condition;
+}
+
+abbrev pub chart_action_view : ChartAction → ChartActionData
+chart_action_view a = record { at = a.at; name = name_view a.name; body = stmts_view a.body.items }
+
+abbrev pub part_view : ChartPart → PartData
+part_view (chart_parts.Step s) = step_part (chart_step_view s)
+part_view (chart_parts.Transition t) = transition_part (chart_transition_view t.value)
+part_view (chart_parts.Action a) = action_part (chart_action_view a)
+
+abbrev pub parts_view : List ChartPart → List PartData
+parts_view ps = map part_view ps
+
 abbrev pub body_view : Body → BodyData
 body_view (bodies.Statements ss) = statements (stmts_view ss.items)
-body_view (bodies.Chart c) = elim c [ ]
+body_view (bodies.Chart c) = chart_body (parts_view c.parts.items)
+
+abbrev pub pou_kind_view : PouKind → PouKindData
+pou_kind_view (pou_kinds.Function t) = function (type_view t)
+pou_kind_view pou_kinds.FunctionBlock = function_block
+pou_kind_view pou_kinds.Program = program
 
 abbrev pub pou_view : Pou → PouData
-pou_view p = record { name = name_view p.name; variables = all_variables_view p.variables.items; body = body_view p.body }
+pou_view p = record { kind = pou_kind_view p.kind; name = name_view p.name; variables = all_variables_view p.variables.items; body = body_view p.body }
 
 abbrev pub item_view : Item → ItemData
 item_view (items.Types ds) = types (type_declarations_view ds.items)

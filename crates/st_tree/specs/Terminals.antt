@@ -3,6 +3,7 @@ use Rattle.std.specs.Prelude.{◌≡◌, ℕ, List, [], ◌∷◌, ◌++◌, map
 use Rattle.st_tree.specs.declared.elementary.Elementary.TheVariants as types
 use Rattle.st_tree.specs.declared.token.Operator.TheVariants as operators
 use Rattle.st_tree.specs.declared.token.Mark.TheVariants as marks
+use Rattle.st_tree.specs.declared.token.PartWord.TheVariants as part_words
 use Rattle.st_tree.specs.declared.token.Kind.{Kind}
 use Rattle.st_tree.specs.declared.token.Kind.TheVariants as kinds
 use Rattle.st_tree.specs.declared.token.Terminal.{Terminal}
@@ -22,6 +23,10 @@ mark_words =
     ∷ (codes "END_TYPE", terminals.Mark marks.EndType)
     ∷ (codes "PROGRAM", terminals.Mark marks.Program)
     ∷ (codes "END_PROGRAM", terminals.Mark marks.EndProgram)
+    ∷ (codes "FUNCTION", terminals.Mark marks.Function)
+    ∷ (codes "END_FUNCTION", terminals.Mark marks.EndFunction)
+    ∷ (codes "FUNCTION_BLOCK", terminals.Mark marks.FunctionBlock)
+    ∷ (codes "END_FUNCTION_BLOCK", terminals.Mark marks.EndFunctionBlock)
     ∷ (codes "VAR", terminals.Mark marks.Var)
     ∷ (codes "VAR_INPUT", terminals.Mark marks.VarInput)
     ∷ (codes "VAR_OUTPUT", terminals.Mark marks.VarOutput)
@@ -41,6 +46,18 @@ mark_words =
     ∷ (codes "DO", terminals.Mark marks.Do)
     ∷ (codes "END_FOR", terminals.Mark marks.EndFor)
     ∷ (codes "FROM", terminals.Mark marks.From)
+    ∷ (codes "END_STEP", terminals.Mark marks.EndStep)
+    ∷ (codes "END_TRANSITION", terminals.Mark marks.EndTransition)
+    ∷ (codes "END_ACTION", terminals.Mark marks.EndAction)
+    ∷ []
+
+-- the words that begin the parts of charts
+abbrev pub chart_words : List Entry
+chart_words =
+    (codes "INITIAL_STEP", terminals.Part part_words.InitialStep)
+    ∷ (codes "STEP", terminals.Part part_words.Step)
+    ∷ (codes "TRANSITION", terminals.Part part_words.Transition)
+    ∷ (codes "ACTION", terminals.Part part_words.Action)
     ∷ []
 
 -- reserved words that are operators or values, and FOR
@@ -83,20 +100,12 @@ left_out_words =
     ∷ codes "CONFIGURATION" ∷ codes "RESOURCE" ∷ codes "TASK" ∷ codes "R_EDGE" ∷ codes "F_EDGE"
     ∷ []
 
--- words of the language that are not let in yet
-abbrev pub later_words : List (List ℕ)
-later_words =
-    codes "FUNCTION" ∷ codes "END_FUNCTION" ∷ codes "FUNCTION_BLOCK" ∷ codes "END_FUNCTION_BLOCK"
-    ∷ codes "INITIAL_STEP" ∷ codes "STEP" ∷ codes "END_STEP" ∷ codes "TRANSITION" ∷ codes "END_TRANSITION"
-    ∷ codes "ACTION" ∷ codes "END_ACTION"
-    ∷ []
-
 abbrev pub left_out : List (List ℕ) → List Entry
 left_out ws = map (λ w. (w, terminals.LeftOut)) ws
 
 -- all words that are no names
 unfoldable pub words : List Entry
-words = mark_words ++ operator_words ++ type_words ++ left_out left_out_words ++ left_out later_words
+words = mark_words ++ chart_words ++ operator_words ++ type_words ++ left_out left_out_words
 
 -- the signs
 unfoldable pub signs : List Entry

@@ -2,7 +2,7 @@
 #![tactic(auto)]
 
 mod cells;
-mod chart_reader;
+mod chart_copies;
 mod data_type;
 mod elementary;
 mod function;
@@ -15,18 +15,19 @@ mod type_copies;
 mod typed;
 mod typed_copies;
 
-pub use chart_reader::{ChartReader, NoCharts};
 pub use data_type::DataType;
 pub use elementary::Elementary;
 pub use function::{Function, Shift, StandardFunction};
 pub use parse_fault::ParseFault;
 pub use rule::{Refusal, Rule};
 pub use syntax::{
-    Argument, Arm, Body, Bounds, Chart, Declaration, Entry, Expr, Item, Iteration, Label, Link,
-    Literal, Name, Path, Pou, Section, SourceFile, Specification, Stmt, TypeDeclaration, TypeName,
-    UnaryOperator, Variables,
+    Argument, Arm, Body, Bounds, Brackets, Chart, ChartAction, ChartPart, ChartStep,
+    ChartTransition, Connection, Declaration, Entry, Expr, Item, Iteration, Label, Link, Literal,
+    Name, Path, Pou, PouKind, Priority, Section, SourceFile, Specification, StepAction, Steps,
+    Stmt, TypeDeclaration, TypeName, UnaryOperator, Variables,
 };
-pub use token::{Kind, Mark, Operator, Terminal, Tok};
+pub use token::{Kind, Mark, Operator, PartWord, Terminal, Tok};
 pub use typed::{
-    Cell, Operand, Part, Program, Range, Turns, TypedArm, TypedEntry, TypedExpr, TypedStmt,
+    Association, Called, Cell, Frame, Operand, Part, Program, Qualifier, Range, StepCells, Turns,
+    TypedAction, TypedArm, TypedEntry, TypedExpr, TypedStmt, TypedTransition,
 };

@@ -41,6 +41,16 @@ pub enum Rule {
     WrongKind,
     /// N5: there is not exactly one PROGRAM. Its place is 0.
     NotOneProgram,
+    /// C1: a chart has not exactly one initial step. Its place is that of the chart's first part.
+    NotOneInitialStep,
+    /// C2: a name before or behind a transition is no step of the chart. Its place is the name's.
+    UnknownStep,
+    /// C3: a name in a step is no action of the chart. Its place is the name's.
+    UnknownAction,
+    /// C4: a step stands twice before a transition, or behind it. Its place is that of the second name.
+    StepTwice,
+    /// C5: a word in an action's parentheses is no qualifier. Its place is the word's.
+    UnknownQualifier,
     /// P1: paired inputs differ in type. Its place is the first name's.
     InputsDiffer,
     /// P2: an input is listed twice, or not at all.
@@ -103,6 +113,11 @@ impl Rule {
             Rule::InTermsOfItself => "N3",
             Rule::WrongKind => "N4",
             Rule::NotOneProgram => "N5",
+            Rule::NotOneInitialStep => "C1",
+            Rule::UnknownStep => "C2",
+            Rule::UnknownAction => "C3",
+            Rule::StepTwice => "C4",
+            Rule::UnknownQualifier => "C5",
             Rule::InputsDiffer => "P1",
             Rule::InputCount => "P2",
             Rule::OperandType => "Y1",

@@ -84,13 +84,23 @@ pub struct Argument {
     pub value: Expr,
 }
 
-/// A statement (IEC 61131-3, 3.3.2). An IF has an arm for IF and for each ELSIF, and what stands behind ELSE; a
-/// CASE its selector, its entries, and what stands behind ELSE; a FOR its values and its body.
+/// What stands in the parentheses of a block's call (IEC 61131-3, 2.5.2.1): the value of an input, `x := e`, or the target
+/// that an output is copied to, `y => v`.
+#[derive(Drop)]
+pub enum Connection {
+    Input(Name, Expr),
+    Output(Name, Path),
+}
+
+/// A statement (IEC 61131-3, 3.3.2). A call of a block has the name of the instance, the place of its parenthesis, and its
+/// connections; an IF an arm for IF and for each ELSIF, and what stands behind ELSE; a CASE its selector, its entries, and what
+/// stands behind ELSE; a FOR its values and its body.
 #[derive(Drop)]
 #[cycle(stmt)]
 pub enum Stmt {
     Empty,
     Assign(Path, Expr),
+    Call(Name, usize, Vec<Connection>),
     If(Vec<Arm>, Option<Vec<Stmt>>),
     Case(Expr, Vec<Entry>, Option<Vec<Stmt>>),
     For(Box<Iteration>, Vec<Stmt>),
@@ -187,26 +197,106 @@ pub struct Variables {
     pub declarations: Vec<Declaration>,
 }
 
-/// A sequential function chart (IEC 61131-3, 2.6). So far there is none.
+/// Parentheses behind the name of an action in a step, by the place of the first; a word may stand in them, which is the
+/// qualifier of the association (IEC 61131-3, table 45).
 #[derive(Drop)]
-pub enum Chart {}
+pub struct Brackets {
+    pub at: usize,
+    pub word: Option<Name>,
+}
 
-/// What a program does: statements, or a chart.
+/// An action that is associated with a step, by its name (IEC 61131-3, 2.6.4.2).
+#[derive(Drop)]
+pub struct StepAction {
+    pub action: Name,
+    pub brackets: Option<Brackets>,
+}
+
+/// A step (IEC 61131-3, 2.6.2): the place of INITIAL_STEP or STEP, which of them it is, its name, and its actions.
+#[derive(Drop)]
+pub struct ChartStep {
+    pub at: usize,
+    pub is_initial: bool,
+    pub name: Name,
+    pub actions: Vec<StepAction>,
+}
+
+/// The steps before or behind a transition: one; or in parentheses, by the place of the first, a first and others.
+#[derive(Drop)]
+pub enum Steps {
+    One(Name),
+    Several(usize, Name, Vec<Name>),
+}
+
+/// `(PRIORITY := number)` behind TRANSITION: the places of the parenthesis and of the word, and the number with its own.
+#[derive(Clone, Copy, Debug, PartialEq, Eq)]
+pub struct Priority {
+    pub at: usize,
+    pub word_at: usize,
+    pub value: u64,
+    pub value_at: usize,
+}
+
+/// A transition (IEC 61131-3, 2.6.3): the place of TRANSITION, its name and its priority, where it has them, the steps before
+/// and behind it, and its condition.
+#[derive(Drop)]
+pub struct ChartTransition {
+    pub at: usize,
+    pub name: Option<Name>,
+    pub priority: Option<Priority>,
+    pub from: Steps,
+    pub to: Steps,
+    pub condition: Expr,
+}
+
+/// An action (IEC 61131-3, 2.6.4.1): the place of ACTION, its name, and its statements.
+#[derive(Drop)]
+pub struct ChartAction {
+    pub at: usize,
+    pub name: Name,
+    pub body: Vec<Stmt>,
+}
+
+/// A part of a chart.
+#[derive(Drop)]
+pub enum ChartPart {
+    Step(ChartStep),
+    Transition(Box<ChartTransition>),
+    Action(ChartAction),
+}
+
+/// A sequential function chart (IEC 61131-3, 2.6): its parts in the order of the text, of which there is at least one.
+#[derive(Drop)]
+pub struct Chart {
+    pub parts: Vec<ChartPart>,
+}
+
+/// What a POU does: statements, or a chart.
 #[derive(Drop)]
 pub enum Body {
     Statements(Vec<Stmt>),
     Chart(Chart),
 }
 
-/// A program organization unit (IEC 61131-3, 2.5): so far a PROGRAM.
+/// What a program organization unit is (IEC 61131-3, 2.5): a FUNCTION, with the type of its result, which is no subrange that
+/// is spelled out; a FUNCTION_BLOCK; or a PROGRAM.
+#[derive(Drop)]
+pub enum PouKind {
+    Function(TypeName),
+    FunctionBlock,
+    Program,
+}
+
+/// A program organization unit, or POU (IEC 61131-3, 2.5).
 #[derive(Drop)]
 pub struct Pou {
+    pub kind: PouKind,
     pub name: Name,
     pub variables: Vec<Variables>,
     pub body: Body,
 }
 
-/// What a file declares in one place: types, from TYPE to END_TYPE, or a program organization unit.
+/// What a file declares in one place: types, from TYPE to END_TYPE, or a POU.
 #[derive(Drop)]
 pub enum Item {
     Types(Vec<TypeDeclaration>),

@@ -1,10 +1,10 @@
 // Copies of trees of a text: each stands for the same data.
 ghost use Rattle.std.specs.Prelude.{◌≡◌, map, option_map, IfOk};
-ghost use Rattle.st_tree.specs.SyntaxView.{name_view, names_view, path_view, tree_view, link_view, links_view, argument_view, arguments_view, stmt_view, stmts_view, arm_view, arms_view, label_view, labels_view, entry_view, entries_view, iteration_view, else_view, initial_view, declaration_view, declarations_view, variables_view, all_variables_view, body_view, pou_view, item_view, items_view, file_view};
+ghost use Rattle.st_tree.specs.SyntaxView.{name_view, names_view, path_view, tree_view, link_view, links_view, argument_view, arguments_view, connection_view, stmt_view, stmts_view, arm_view, arms_view, label_view, labels_view, entry_view, entries_view, iteration_view, else_view, initial_view, declaration_view, declarations_view, variables_view, all_variables_view, body_view, pou_kind_view, pou_view, item_view, items_view, file_view};
 
 use crate::syntax::{
-    Argument, Arm, Body, Declaration, Entry, Expr, Item, Iteration, Label, Link, Name, Path, Pou,
-    SourceFile, Stmt, Variables,
+    Argument, Arm, Body, Connection, Declaration, Entry, Expr, Item, Iteration, Label, Link, Name,
+    Path, Pou, PouKind, SourceFile, Stmt, Variables,
 };
 use crate::type_copies::copy_types;
 use std::alloc::{AllocError, Global};
@@ -32,7 +32,7 @@ pub(crate) fn copy_names(alloc: Global, names: &[Name]) -> Result<Vec<Name>, All
     Ok(copies)
 }
 
-fn copy_name(alloc: Global, name: &Option<Name>) -> Result<Option<Name>, AllocError>
+pub(crate) fn copy_name(alloc: Global, name: &Option<Name>) -> Result<Option<Name>, AllocError>
     ensures { IfOk result (λ n. option_map name_view n ≡ option_map name_view name.now) }
 {
     match name {
@@ -117,6 +117,39 @@ fn copy_arguments(alloc: Global, arguments: &[Argument]) -> Result<Vec<Argument>
     Ok(copies)
 }
 
+impl Connection {
+    /// The same connection.
+    pub fn copy(&self, alloc: Global) -> Result<Connection, AllocError>
+        ensures { IfOk result (λ c. connection_view c ≡ connection_view self.now) }
+    {
+        match self {
+            Connection::Input(name, value) => {
+                let name = name.copy(alloc)?;
+                let value = value.copy(alloc)?;
+                Ok(Connection::Input(name, value))
+            }
+            Connection::Output(name, target) => {
+                let name = name.copy(alloc)?;
+                let target = target.copy(alloc)?;
+                Ok(Connection::Output(name, target))
+            }
+        }
+    }
+}
+
+fn copy_connections(
+    alloc: Global,
+    connections: &[Connection],
+) -> Result<Vec<Connection>, AllocError>
+    ensures { IfOk result (λ v. map connection_view v.items ≡ map connection_view connections.now) }
+{
+    let mut copies = Vec::new(alloc);
+    for connection in connections {
+        copies.push(connection.copy(alloc)?)?;
+    }
+    Ok(copies)
+}
+
 impl Stmt {
     /// The same statement.
     #[cycle(copy_stmt)]
@@ -129,6 +162,11 @@ impl Stmt {
                 let target = target.copy(alloc)?;
                 let value = value.copy(alloc)?;
                 Ok(Stmt::Assign(target, value))
+            }
+            Stmt::Call(instance, at, connections) => {
+                let instance = instance.copy(alloc)?;
+                let connections = copy_connections(alloc, connections)?;
+                Ok(Stmt::Call(instance, *at, connections))
             }
             Stmt::If(arms, otherwise) => {
                 let arms = copy_arms(alloc, arms)?;
@@ -161,7 +199,7 @@ impl Stmt {
 }
 
 #[cycle(copy_stmt)]
-fn copy_stmts(alloc: Global, stmts: &[Stmt]) -> Result<Vec<Stmt>, AllocError>
+pub(crate) fn copy_stmts(alloc: Global, stmts: &[Stmt]) -> Result<Vec<Stmt>, AllocError>
     ensures { IfOk result (λ v. map stmt_view v.items ≡ map stmt_view stmts.now) }
 {
     let mut copies = Vec::new(alloc);
@@ -287,13 +325,26 @@ impl Body {
     {
         match self {
             Body::Statements(stmts) => Ok(Body::Statements(copy_stmts(alloc, stmts)?)),
-            Body::Chart(chart) => match *chart {},
+            Body::Chart(chart) => Ok(Body::Chart(chart.copy(alloc)?)),
+        }
+    }
+}
+
+impl PouKind {
+    /// The same kind.
+    pub fn copy(&self, alloc: Global) -> Result<PouKind, AllocError>
+        ensures { IfOk result (λ k. pou_kind_view k ≡ pou_kind_view self.now) }
+    {
+        match self {
+            PouKind::Function(result) => Ok(PouKind::Function(result.copy(alloc)?)),
+            PouKind::FunctionBlock => Ok(PouKind::FunctionBlock),
+            PouKind::Program => Ok(PouKind::Program),
         }
     }
 }
 
 impl Pou {
-    /// The same program organization unit.
+    /// The same POU.
     pub fn copy(&self, alloc: Global) -> Result<Pou, AllocError>
         ensures { IfOk result (λ p. pou_view p ≡ pou_view self.now) }
     {
@@ -302,8 +353,10 @@ impl Pou {
         for section in &self.variables {
             variables.push(section.copy(alloc)?)?;
         }
+        let kind = self.kind.copy(alloc)?;
         let body = self.body.copy(alloc)?;
         Ok(Pou {
+            kind,
             name,
             variables,
             body,

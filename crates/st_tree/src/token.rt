@@ -36,6 +36,10 @@ pub enum Mark {
     EndType,
     Program,
     EndProgram,
+    Function,
+    EndFunction,
+    FunctionBlock,
+    EndFunctionBlock,
     Var,
     VarInput,
     VarOutput,
@@ -55,6 +59,18 @@ pub enum Mark {
     Do,
     EndFor,
     From,
+    EndStep,
+    EndTransition,
+    EndAction,
+}
+
+/// A word that begins a part of a chart (IEC 61131-3, 2.6): INITIAL_STEP, STEP, TRANSITION or ACTION.
+#[derive(Clone, Copy, Debug, PartialEq, Eq)]
+pub enum PartWord {
+    InitialStep,
+    Step,
+    Transition,
+    Action,
 }
 
 /// What a token is: a word, a number or a sign (IEC 61131-3, 2.1).
@@ -66,8 +82,8 @@ pub enum Kind {
 }
 
 /// What a token is for the grammar (IEC 61131-3, annexes B and C): a name; a number, by its value; a truth
-/// value; an elementary type; NOT; a binary operator, `-` among them; `(`; FOR; another word or sign that is let
-/// in; or a word that is left out.
+/// value; an elementary type; NOT; a binary operator, `-` among them; `(`; FOR; a word that begins a part of a chart; another
+/// word or sign that is let in; or a word that is left out.
 #[derive(Clone, Copy, Debug, PartialEq, Eq)]
 pub enum Terminal {
     Name,
@@ -78,6 +94,7 @@ pub enum Terminal {
     Operator(Operator),
     Open,
     For,
+    Part(PartWord),
     Mark(Mark),
     LeftOut,
 }

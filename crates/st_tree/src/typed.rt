@@ -5,8 +5,9 @@ use crate::function::Function;
 use crate::syntax::UnaryOperator;
 use crate::token::Operator;
 
-/// An expression over the cells of a state, each by its place. An operator has the type of its operands, and a
-/// call that of its result.
+/// An expression over the cells of a POU, each by its place. An operator has the type of its operands, and a call of a
+/// standard function that of its result. An answer is that of a FUNCTION, by its number among the POUs that the program may
+/// call, with the values of all its inputs in declared order.
 #[derive(Drop)]
 #[cycle(typed_expr)]
 pub enum TypedExpr {
@@ -15,6 +16,7 @@ pub enum TypedExpr {
     Unary(UnaryOperator, Elementary, Box<TypedExpr>),
     Chain(Box<TypedExpr>, Vec<Operand>),
     Call(Function, Elementary, Vec<TypedExpr>),
+    Answer(usize, Vec<TypedExpr>),
 }
 
 /// An operator, the type of its operands, and what stands to its right.
@@ -26,14 +28,61 @@ pub struct Operand {
     pub right: TypedExpr,
 }
 
-/// A statement. A target is the place of its cell.
+/// How an action is associated with a step (IEC 61131-3, table 45): it is not stored, by N or without a word; set by S; reset by R;
+/// runs once where the step becomes active, by P or P1; or once where it ceases to be, by P0.
+#[derive(Clone, Copy, Debug, PartialEq, Eq)]
+pub enum Qualifier {
+    NonStored,
+    Set,
+    Reset,
+    Pulse,
+    FallingPulse,
+}
+
+/// An association of an action with a step, by the step's number in the chart, from 0 (IEC 61131-3, 2.6.4.3).
+#[derive(Clone, Copy, Debug, PartialEq, Eq)]
+pub struct Association {
+    pub qualifier: Qualifier,
+    pub step: usize,
+}
+
+/// The cells of a step: whether it is active, and whether it was where the run before this one started.
+#[derive(Clone, Copy, Debug, PartialEq, Eq)]
+pub struct StepCells {
+    pub active: usize,
+    pub before: usize,
+}
+
+/// A transition (IEC 61131-3, 2.6.3): the steps before and behind it, by their numbers, and its condition.
+#[derive(Drop)]
+pub struct TypedTransition {
+    pub from: Vec<usize>,
+    pub to: Vec<usize>,
+    pub condition: TypedExpr,
+}
+
+/// A statement. A target is the place of its cell. A run is one of a FUNCTION_BLOCK's body, by its number among the POUs that the
+/// program may call, over the cells of an instance, which begin at a place. A chart is what a POU does whose body is one
+/// (IEC 61131-3, 2.6): its steps and its actions in the order of the text, and its transitions in the order in which they fire.
 #[derive(Drop)]
 #[cycle(typed_stmt)]
 pub enum TypedStmt {
     Assign(usize, TypedExpr),
+    Run { block: usize, offset: usize },
     If(Vec<TypedArm>, Vec<TypedStmt>),
     Case(TypedExpr, Vec<TypedEntry>, Vec<TypedStmt>),
     For(Turns, Vec<TypedStmt>),
+    Chart(Vec<StepCells>, Vec<TypedAction>, Vec<TypedTransition>),
+}
+
+/// An action of a chart (IEC 61131-3, 2.6.4): the cell of its latch, where some step sets or resets it; its associations in the order
+/// of the text; and its statements.
+#[derive(Drop)]
+#[cycle(typed_stmt)]
+pub struct TypedAction {
+    pub latch: Option<usize>,
+    pub associations: Vec<Association>,
+    pub body: Vec<TypedStmt>,
 }
 
 /// A condition, and the statements that run where it is the first that is TRUE.
@@ -90,14 +139,32 @@ pub struct Cell {
     pub initial: i64,
 }
 
-/// A PROGRAM (IEC 61131-3, 2.5.3): its name, its cells, FAULT first and then the variables as declared, the
-/// names of its constants, which have no cells, its file's types, each by the names of its values, which only an
-/// enumeration has, and its body.
+/// The cells of a FUNCTION, which each call has anew: FAULT, what it answers, its inputs in declared order, and then its other
+/// variables. Each has a range and the value that it begins with.
+#[derive(Drop)]
+pub struct Frame {
+    pub ranges: Vec<Range>,
+    pub start: Vec<i64>,
+}
+
+/// A POU that may be called (IEC 61131-3, 2.5.1 and 2.5.2). A FUNCTION_BLOCK has a body over the cells of an instance, from place
+/// 0 on, and a FUNCTION one over a frame of its own.
+#[derive(Drop)]
+pub enum Called {
+    Block(Vec<TypedStmt>),
+    Function(Frame, Vec<TypedStmt>),
+}
+
+/// A PROGRAM (IEC 61131-3, 2.5.3): its name; its cells, FAULT first and then the variables as declared, an instance of a block
+/// giving its own cells in its place; the names of those of its variables that are no cells, which are its constants and instances;
+/// its file's types, each by the names of its values, which only an enumeration has; the POUs that it may call, each of which calls
+/// only those before it; and its body.
 #[derive(Drop)]
 pub struct Program {
     pub name: String,
     pub cells: Vec<Cell>,
-    pub constants: Vec<String>,
+    pub without_cell: Vec<String>,
     pub types: Vec<Vec<String>>,
+    pub called: Vec<Called>,
     pub body: Vec<TypedStmt>,
 }

@@ -1,8 +1,11 @@
 // Copies of typed programs.
 ghost use Rattle.std.specs.Prelude.{◌≡◌, map, IfOk};
-ghost use Rattle.st_tree.specs.View.{expr_view, operand_view, stmt_view, arm_view, entry_view, cell_view, texts_view, lists_of_texts, program_view};
+ghost use Rattle.st_tree.specs.View.{expr_view, operand_view, stmt_view, arm_view, entry_view, action_view, transition_view, cell_view, texts_view, lists_of_texts, called_view, all_called_view, program_view};
 
-use crate::typed::{Cell, Operand, Program, Range, TypedArm, TypedEntry, TypedExpr, TypedStmt};
+use crate::typed::{
+    Association, Called, Cell, Frame, Operand, Program, Range, StepCells, TypedAction, TypedArm,
+    TypedEntry, TypedExpr, TypedStmt, TypedTransition,
+};
 use std::alloc::{AllocError, Global};
 
 impl TypedExpr {
@@ -26,6 +29,10 @@ impl TypedExpr {
             TypedExpr::Call(function, kind, operands) => {
                 let operands = copy_expressions(operands, alloc)?;
                 Ok(TypedExpr::Call(*function, *kind, operands))
+            }
+            TypedExpr::Answer(function, inputs) => {
+                let inputs = copy_expressions(inputs, alloc)?;
+                Ok(TypedExpr::Answer(*function, inputs))
             }
         }
     }
@@ -67,6 +74,10 @@ impl TypedStmt {
     {
         match self {
             TypedStmt::Assign(target, expr) => Ok(TypedStmt::Assign(*target, expr.copy(alloc)?)),
+            TypedStmt::Run { block, offset } => Ok(TypedStmt::Run {
+                block: *block,
+                offset: *offset,
+            }),
             TypedStmt::If(arms, other) => {
                 let arms = copy_arms(arms, alloc)?;
                 let other = copy_statements(other, alloc)?;
@@ -81,8 +92,87 @@ impl TypedStmt {
             TypedStmt::For(turns, body) => {
                 Ok(TypedStmt::For(*turns, copy_statements(body, alloc)?))
             }
+            TypedStmt::Chart(steps, actions, transitions) => {
+                let steps = copy_steps(steps, alloc)?;
+                let actions = copy_actions(actions, alloc)?;
+                let transitions = copy_transitions(transitions, alloc)?;
+                Ok(TypedStmt::Chart(steps, actions, transitions))
+            }
         }
     }
+}
+
+fn copy_steps(steps: &[StepCells], alloc: Global) -> Result<Vec<StepCells>, AllocError>
+    ensures { IfOk result (λ copies. copies.items ≡ steps.now) }
+{
+    let mut copies = Vec::new(alloc);
+    for step in steps {
+        copies.push(*step)?;
+    }
+    Ok(copies)
+}
+
+fn copy_associations(list: &[Association], alloc: Global) -> Result<Vec<Association>, AllocError>
+    ensures { IfOk result (λ copies. copies.items ≡ list.now) }
+{
+    let mut copies = Vec::new(alloc);
+    for association in list {
+        copies.push(*association)?;
+    }
+    Ok(copies)
+}
+
+fn copy_numbers_of_steps(numbers: &[usize], alloc: Global) -> Result<Vec<usize>, AllocError>
+    ensures { IfOk result (λ copies. copies.items ≡ numbers.now) }
+{
+    let mut copies = Vec::new(alloc);
+    for number in numbers {
+        copies.push(*number)?;
+    }
+    Ok(copies)
+}
+
+impl TypedTransition {
+    /// An equal transition.
+    pub fn copy(&self, alloc: Global) -> Result<TypedTransition, AllocError>
+        ensures { IfOk result (λ copy. transition_view copy ≡ transition_view self.now) }
+    {
+        Ok(TypedTransition {
+            from: copy_numbers_of_steps(&self.from, alloc)?,
+            to: copy_numbers_of_steps(&self.to, alloc)?,
+            condition: self.condition.copy(alloc)?,
+        })
+    }
+}
+
+fn copy_transitions(
+    transitions: &[TypedTransition],
+    alloc: Global,
+) -> Result<Vec<TypedTransition>, AllocError>
+    ensures { IfOk result (λ copies. map transition_view copies.items ≡ map transition_view transitions.now) }
+{
+    let mut copies = Vec::new(alloc);
+    for transition in transitions {
+        copies.push(transition.copy(alloc)?)?;
+    }
+    Ok(copies)
+}
+
+#[cycle(copy_typed_stmt)]
+fn copy_actions(actions: &[TypedAction], alloc: Global) -> Result<Vec<TypedAction>, AllocError>
+    ensures { IfOk result (λ copies. map action_view copies.items ≡ map action_view actions.now) }
+{
+    let mut copies = Vec::new(alloc);
+    for action in actions {
+        let associations = copy_associations(&action.associations, alloc)?;
+        let body = copy_statements(&action.body, alloc)?;
+        copies.push(TypedAction {
+            latch: action.latch,
+            associations,
+            body,
+        })?;
+    }
+    Ok(copies)
 }
 
 #[cycle(copy_typed_stmt)]
@@ -117,6 +207,16 @@ fn copy_labels(labels: &[Range], alloc: Global) -> Result<Vec<Range>, AllocError
     let mut copies = Vec::new(alloc);
     for label in labels {
         copies.push(*label)?;
+    }
+    Ok(copies)
+}
+
+fn copy_numbers(numbers: &[i64], alloc: Global) -> Result<Vec<i64>, AllocError>
+    ensures { IfOk result (λ copies. copies.items ≡ numbers.now) }
+{
+    let mut copies = Vec::new(alloc);
+    for number in numbers {
+        copies.push(*number)?;
     }
     Ok(copies)
 }
@@ -180,6 +280,46 @@ fn copy_lists(lists: &[Vec<String>], alloc: Global) -> Result<Vec<Vec<String>>, 
     Ok(copies)
 }
 
+impl Frame {
+    /// An equal frame.
+    pub fn copy(&self, alloc: Global) -> Result<Frame, AllocError>
+        ensures ranges { IfOk result (λ copy. copy.ranges.items ≡ self.now.ranges.items) }
+        ensures start { IfOk result (λ copy. copy.start.items ≡ self.now.start.items) }
+    {
+        Ok(Frame {
+            ranges: copy_labels(&self.ranges, alloc)?,
+            start: copy_numbers(&self.start, alloc)?,
+        })
+    }
+}
+
+impl Called {
+    /// An equal POU.
+    pub fn copy(&self, alloc: Global) -> Result<Called, AllocError>
+        ensures { IfOk result (λ copy. called_view copy ≡ called_view self.now) }
+    {
+        match self {
+            Called::Block(body) => Ok(Called::Block(copy_statements(body, alloc)?)),
+            Called::Function(frame, body) => {
+                let frame = frame.copy(alloc)?;
+                let body = copy_statements(body, alloc)?;
+                Ok(Called::Function(frame, body))
+            }
+        }
+    }
+}
+
+fn copy_called(list: &[Called], alloc: Global) -> Result<Vec<Called>, AllocError>
+    ensures { IfOk result (λ copies. all_called_view copies.items ≡ all_called_view list.now) }
+{
+    let mut copies = Vec::new(alloc);
+    for called in list {
+        let copy = called.copy(alloc)?;
+        copies.push(copy)?;
+    }
+    Ok(copies)
+}
+
 impl Program {
     /// An equal program.
     pub fn copy(&self, alloc: Global) -> Result<Program, AllocError>
@@ -188,8 +328,9 @@ impl Program {
         Ok(Program {
             name: String::from_str(alloc, &self.name)?,
             cells: copy_cells(&self.cells, alloc)?,
-            constants: copy_texts(&self.constants, alloc)?,
+            without_cell: copy_texts(&self.without_cell, alloc)?,
             types: copy_lists(&self.types, alloc)?,
+            called: copy_called(&self.called, alloc)?,
             body: copy_statements(&self.body, alloc)?,
         })
     }

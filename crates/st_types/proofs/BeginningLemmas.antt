@@ -1,10 +1,10 @@
 -- A body behind the assignments that it begins with.
-use Rattle.std.proofs.Common.{◌≡◌, ℕ, List, [], ◌∷◌, ◌++◌, Bool, true, false, if◌then◌else◌, refl, ap}
+use Rattle.std.proofs.Common.{◌≡◌, List, [], ◌∷◌, ◌++◌, Bool, true, false, if◌then◌else◌, refl, ap}
 use Rattle.st_tree.specs.Tree.{Statement, Statements, statement}
 use Rattle.st_tree.specs.View.{statements_of}
 use Rattle.st_tree.specs.Syntax.{FileData}
 use Rattle.st_names.specs.Scopes.{Variable}
-use Rattle.st_types.specs.Programs.{cell_behind}
+use Rattle.st_types.specs.Places.{Next, sizes_of, first_place, places_behind}
 use Rattle.st_types.specs.TypedPrograms.{is_temporary, begun}
 use Rattle.st_types.specs.Beginnings.{beginning, beginnings}
 
@@ -13,7 +13,8 @@ one_more : (b : Bool) (s : Statement) (list ss : List Statement) (all : Statemen
 one_more true s list ss all behind = ap (statement s) behind
 one_more false s list ss all behind = behind
 
-pub begun-list : (f : FileData) (cell : ℕ) (vs : List Variable) (ss : List Statement) → statements_of (beginnings f cell vs ++ ss) ≡ begun f cell vs (statements_of ss)
-begun-list f cell [] ss = refl
-begun-list f cell (v ∷ vs) ss =
-    one_more (is_temporary v.section) (beginning f cell v) (beginnings f (cell_behind cell v) vs) ss (begun f (cell_behind cell v) vs (statements_of ss)) (begun-list f (cell_behind cell v) vs ss)
+pub begun-list : (f : FileData) (next : Next) (vs : List Variable) (ss : List Statement) → statements_of (beginnings f next vs ++ ss) ≡ begun f next vs (statements_of ss)
+begun-list f next [] ss = refl
+begun-list f next (v ∷ vs) ss =
+    let behind = places_behind f (sizes_of f) next v in
+    one_more (is_temporary v.role) (beginning f (first_place next v) v) (beginnings f behind vs) ss (begun f behind vs (statements_of ss)) (begun-list f behind vs ss)

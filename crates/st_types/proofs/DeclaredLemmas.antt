@@ -1,16 +1,17 @@
 -- What declarations break, from what each of them breaks.
-use Rattle.std.proofs.Common.{◌≡◌, ℕ, Bool, List, [], ◌∷◌, sym, ap, ◌∙◌}
+use Rattle.std.proofs.Common.{◌≡◌, ℕ, ◌+◌, Bool, List, [], ◌∷◌, sym, ap, ◌∙◌}
 use Rattle.st_tree.specs.declared.rule.Rule.{Rule}
 use Rattle.st_tree.specs.Rules.{first_in}
 use Rattle.st_tree.specs.Syntax.{TypeDeclarationData, FileData, PouData}
-use Rattle.st_names.specs.FileScope.{types_of}
-use Rattle.st_names.specs.Scopes.{Variable}
-use Rattle.st_names.specs.Bound.{variables_in_pou}
+use Rattle.st_names.specs.FileScope.{types_of, pous_of}
+use Rattle.st_names.specs.Scopes.{Variable, variables_in_pou}
 use Rattle.st_types.specs.declared.outcome.Outcome.{Outcome}
 use Rattle.st_types.specs.Judged.{Judgement, sound, also, tested}
 use Rattle.st_types.specs.Domains.{judged_specification, judged_types}
-use Rattle.st_types.specs.Programs.{judged_variable, judged_variables, scope_of, judged_body, broken_types}
-use Rattle.st_types.specs.Outcomes.{outcome_of, both, tried, types_outcome, variables_outcome}
+use Rattle.st_types.specs.Variables.{judged_variable, judged_variables}
+use Rattle.st_types.specs.Members.{scope_of}
+use Rattle.st_types.specs.Pous.{judged_body, judged_pou, judged_pous, broken_types}
+use Rattle.st_types.specs.Outcomes.{outcome_of, both, tried, types_outcome, variables_outcome, pous_outcome}
 use Rattle.st_types.proofs.Judging.{outcome_of-also, outcome_of-tested, both-assoc, both-sound, sound-both}
 
 -- two parts, and two tests of them
@@ -33,19 +34,29 @@ variables_outcome-is f o (v ∷ vs) =
     let j = judged_variable f v in
     variables_outcome-is f (both o (outcome_of j)) vs ∙ both-assoc o (outcome_of j) (outcome_of (judged_variables f vs)) ∙ ap (both o) (sym (outcome_of-also j (judged_variables f vs)))
 
--- a program breaks what its file's types, its declarations and its body break
-pub first_of_program : (f : FileData) (p : PouData) (vs : List Variable) (t d b r : Outcome) → vs ≡ variables_in_pou p → t ≡ types_outcome f (outcome_of sound) (types_of f) → d ≡ variables_outcome f t vs
-    → b ≡ outcome_of (judged_body (scope_of f (variables_in_pou p)) p.body) → r ≡ both d b → r.first ≡ first_in (broken_types f p)
+pub pous_outcome-is : (f : FileData) (number : ℕ) (o : Outcome) (ps : List PouData) → pous_outcome f number o ps ≡ both o (outcome_of (judged_pous f number ps))
+pous_outcome-is f number o [] = sym (both-sound o)
+pous_outcome-is f number o (p ∷ ps) =
+    let j = judged_pou f number p in
+    let k = judged_pous f (number + 1) ps in
+    pous_outcome-is f (number + 1) (both o (outcome_of j)) ps ∙ both-assoc o (outcome_of j) (outcome_of k) ∙ ap (both o) (sym (outcome_of-also j k))
+
+-- the declarations and the body of a POU
+pub outcome_of-pou : (f : FileData) (number : ℕ) (p : PouData) (vs : List Variable) (s d b r : Outcome) → vs ≡ variables_in_pou p → s ≡ outcome_of sound → d ≡ variables_outcome f s vs
+    → b ≡ outcome_of (judged_body (scope_of f number) p.body) → r ≡ both d b → r ≡ outcome_of (judged_pou f number p)
+outcome_of-pou f number p vs s d b r same start declared body whole =
+    let jv = judged_variables f (variables_in_pou p) in
+    let jb = judged_body (scope_of f number) p.body in
+    let of_declared : d ≡ outcome_of jv =
+    declared ∙ ap (variables_outcome f s) same ∙ ap (λ (x : Outcome). variables_outcome f x (variables_in_pou p)) start ∙ variables_outcome-is f (outcome_of sound) (variables_in_pou p) ∙ sound-both (outcome_of jv) in
+    whole ∙ ap (λ (x : Outcome). both x b) of_declared ∙ ap (both (outcome_of jv)) body ∙ sym (outcome_of-also jv jb)
+
+-- a file breaks what its types and its POUs break
+pub first_of_file : (f : FileData) (t r : Outcome) → t ≡ types_outcome f (outcome_of sound) (types_of f) → r ≡ pous_outcome f 0 t (pous_of f) → r.first ≡ first_in (broken_types f)
 unfolding outcome_of
-first_of_program f p vs t d b r same types declared body whole =
-    let ws = variables_in_pou p in
+first_of_file f t r types pous =
     let jt = judged_types f (types_of f) in
-    let jv = judged_variables f ws in
-    let jb = judged_body (scope_of f ws) p.body in
+    let jp = judged_pous f 0 (pous_of f) in
     let of_types : t ≡ outcome_of jt = types ∙ types_outcome-is f (outcome_of sound) (types_of f) ∙ sound-both (outcome_of jt) in
-    let of_declared : d ≡ both (outcome_of jt) (outcome_of jv) =
-    declared ∙ ap (variables_outcome f t) same ∙ variables_outcome-is f t ws ∙ ap (λ (x : Outcome). both x (outcome_of jv)) of_types in
-    let all : r ≡ outcome_of (also jt (also jv jb)) =
-    whole ∙ ap (λ (x : Outcome). both x b) of_declared ∙ ap (both (both (outcome_of jt) (outcome_of jv))) body ∙ both-assoc (outcome_of jt) (outcome_of jv) (outcome_of jb)
-    ∙ ap (both (outcome_of jt)) (sym (outcome_of-also jv jb)) ∙ sym (outcome_of-also jt (also jv jb)) in
+    let all : r ≡ outcome_of (also jt jp) = pous ∙ pous_outcome-is f 0 t (pous_of f) ∙ ap (λ (x : Outcome). both x (outcome_of jp)) of_types ∙ sym (outcome_of-also jt jp) in
     ap (λ (x : Outcome). x.first) all

@@ -1,5 +1,6 @@
 -- What judging tells of a construct, from what it tells of the parts.
-use Rattle.std.proofs.Common.{◌≡◌, ℕ, suc, length, map, arith, Bool, true, false, ◌&&◌, ◌+◌, if◌then◌else◌, List, [], ◌∷◌, ◌++◌, Option, Some, None, refl, sym, ap, ◌∙◌}
+use Rattle.std.proofs.Common.{◌≡◌, ℕ, suc, length, map, arith, Bool, true, false, ◌&&◌, ◌+◌, if◌then◌else◌, List, [], ◌∷◌, ◌++◌, Option, Some, None, refl, sym, ap, ◌∙◌, Result, Ok, Err}
+use Rattle.std.specs.Prelude.{IfOk}
 use Rattle.st_tree.specs.declared.data_type.DataType.{DataType}
 use Rattle.st_tree.specs.DataTypes.{is_same_type}
 use Rattle.st_tree.specs.declared.rule.Rule.{Rule}
@@ -9,18 +10,18 @@ use Rattle.st_tree.specs.declared.rule.Refusal.{Refusal}
 use Rattle.st_tree.specs.declared.typed.Range.{Range}
 use Rattle.st_tree.specs.declared.syntax.Literal.{Literal}
 use Rattle.st_tree.specs.declared.syntax.UnaryOperator.{UnaryOperator}
-use Rattle.st_tree.specs.Syntax.{PathData, Tree, unary, chain, Links, no_links, link, Arguments, no_arguments, argument, Stmt, empty, assign, branch, cases, iterate, Stmts, no_stmts, stmt, Arms, no_arms, arm, Entries, no_entries, entry, Otherwise, no_else, else_stmts, LabelData, IterationData}
+use Rattle.st_tree.specs.Syntax.{Named, PathData, Tree, unary, chain, Links, no_links, link, Arguments, no_arguments, argument, ConnectionData, Stmt, empty, assign, invoke, branch, cases, iterate, Stmts, no_stmts, stmt, Arms, no_arms, arm, Entries, no_entries, entry, Otherwise, no_else, else_stmts, LabelData, IterationData}
 use Rattle.std.proofs.lemmas.List.{length-map}
 use Rattle.st_tree.specs.declared.syntax.Argument.{Argument}
 use Rattle.st_tree.specs.SyntaxView.{ArgumentData, argument_view, arguments_view, arguments_of}
 use Rattle.st_tree.proofs.Refusals.{earlier-none, earlier-assoc, earlier-swap, first_in-append}
 use Rattle.st_names.specs.Broken.{alone}
 use Rattle.st_types.specs.declared.outcome.Outcome.{Outcome}
-use Rattle.st_types.specs.Typing.{Meaning, Scope, by_path, kind_at, or_dint, type_of, operand_type, takes, next_type, Parameter, fixed, common, amount, parameter_of, common_type, takes_operands, takes_count, count_of, is_amount, place_of}
-use Rattle.st_types.specs.Judged.{Judgement, sound, also, breaks, tested, takes_sign, negative_literal, judged_unary, wanted_at, fit_from, judged_amount, judged_call, judged, judged_links, judged_arguments, judged_alone, judged_condition}
+use Rattle.st_types.specs.Typing.{Meaning, Port, Signature, Scope, by_path, kind_at, or_dint, type_of, operand_type, takes, next_type, Parameter, fixed, common, amount, parameter_of, common_type, takes_operands, takes_count, count_of, is_amount, place_of}
+use Rattle.st_types.specs.Judged.{Judgement, judged_meaning, sound, also, breaks, tested, takes_sign, negative_literal, judged_unary, wanted_at, fit_from, judged_amount, judged_call, place_for, gives_all, wanted_by, judged_port, fits_port, judged_named, fit_placed, judged_answer, judged_user_call, judged, judged_links, judged_arguments, judged_given, judged_alone, judged_condition}
 use Rattle.st_types.specs.Labels.{judged_label, judged_labels, seen_with, seen_behind}
-use Rattle.st_types.specs.JudgedStatements.{judged_target, judged_assign, judged_control, judged_bound, judged_step, is_typed, step_is_typed, judged_iteration, turns_rule, broken_by, with_control, judged_selector, judged_labels_if, judged_stmt, judged_stmts, judged_arms, judged_entries, judged_else}
-use Rattle.st_types.specs.Outcomes.{outcome_of, both, tried, ruled, links_outcome, labels_outcome, all_labels, judged_selection, judged_turns, amount_outcome, arguments_outcome, alone_outcome, stmt_outcome, stmts_outcome, arms_outcome, bodies_outcome, else_outcome}
+use Rattle.st_types.specs.JudgedStatements.{judged_input, judged_target, judged_assign, judged_connection, judged_connections, judged_invoke, judged_control, judged_bound, judged_step, is_typed, step_is_typed, judged_iteration, turns_rule, broken_by, with_control, judged_selector, judged_labels_if, judged_stmt, judged_stmts, judged_arms, judged_entries, judged_else}
+use Rattle.st_types.specs.Outcomes.{outcome_of, both, tried, ruled, links_outcome, labels_outcome, all_labels, judged_selection, judged_turns, amount_outcome, arguments_outcome, named_outcome, given_outcome, answer_outcome, connections_outcome, alone_outcome, stmt_outcome, stmts_outcome, arms_outcome, bodies_outcome, else_outcome}
 
 pub outcome_of-also : (j k : Judgement) → outcome_of (also j k) ≡ both (outcome_of j) (outcome_of k)
 unfolding outcome_of both
@@ -82,6 +83,52 @@ arguments_outcome-is scope f t place o (argument n e args) =
     ∙ ap (λ (x : Outcome). both (both o x) (outcome_of rest)) (outcome_of-amount scope p e value)
     ∙ both-assoc o (outcome_of own) (outcome_of rest)
     ∙ ap (both o) (sym (outcome_of-also own rest))
+
+outcome_of-named : (n : Option Named) (fits : Bool) (j : Judgement) → outcome_of (judged_named n fits j) ≡ named_outcome n fits (outcome_of j)
+outcome_of-named None fits j = refl
+outcome_of-named (Some n) fits j = outcome_of-tested j fits ValueType n.at
+
+pub given_outcome-is : (scope : Scope) (s : Signature) (place : ℕ) (o : Outcome) (args : Arguments) → given_outcome scope s place o args ≡ both o (outcome_of (judged_given scope s place args))
+given_outcome-is scope s place o no_arguments = sym (both-sound o)
+given_outcome-is scope s place o (argument n e args) =
+    let p : Option Port = scope.port s.function (place_for scope s place n) in
+    let value = judged scope (wanted_by p) e in
+    let fits = fits_port scope p e in
+    let inner = also value (judged_port p) in
+    let own = judged_named n fits inner in
+    let rest = judged_given scope s (place + 1) args in
+    given_outcome-is scope s (place + 1) (both o (named_outcome n fits (both (outcome_of value) (outcome_of (judged_port p))))) args
+    ∙ ap (λ (x : Outcome). both (both o x) (outcome_of rest)) (ap (named_outcome n fits) (sym (outcome_of-also value (judged_port p))) ∙ sym (outcome_of-named n fits inner))
+    ∙ both-assoc o (outcome_of own) (outcome_of rest)
+    ∙ ap (both o) (sym (outcome_of-also own rest))
+
+-- a call of a FUNCTION whose arguments were judged
+outcome_of-answer : (scope : Scope) (at : ℕ) (s : Signature) (args : Arguments) (j : Judgement) → outcome_of (judged_answer scope at s args j) ≡ answer_outcome scope at s args (outcome_of j)
+outcome_of-answer scope at s args j =
+    let all = gives_all scope s args in
+    let fit = fit_placed scope s 0 args in
+    let counted = tested j all ArgumentCount at in
+    let port = judged_port (Some s.result) in
+    outcome_of-also (tested counted fit OperandType at) port
+    ∙ ap (λ (x : Outcome). both x (outcome_of port)) (outcome_of-tested counted fit OperandType at ∙ ap (λ (x : Outcome). tried x fit OperandType at) (outcome_of-tested j all ArgumentCount at))
+
+pub outcome_of-user_call : (scope : Scope) (at : ℕ) (s : Signature) (args : Arguments) (parts r : Outcome) → parts ≡ given_outcome scope s 0 (outcome_of sound) args → r ≡ answer_outcome scope at s args parts
+    → r ≡ outcome_of (judged_user_call scope at (Some s) args (λ t. judged_given scope t 0 args))
+outcome_of-user_call scope at s args parts r given is =
+    is
+    ∙ ap (answer_outcome scope at s args) (given ∙ given_outcome-is scope s 0 (outcome_of sound) args ∙ sound-both (outcome_of (judged_given scope s 0 args)))
+    ∙ sym (outcome_of-answer scope at s args (judged_given scope s 0 args))
+
+-- connections behind what was judged so far
+connections_outcome-is : (scope : Scope) (controls : List ℕ) (n : Named) (o : Outcome) (cs : List ConnectionData) → connections_outcome scope controls n o cs ≡ both o (outcome_of (judged_connections scope controls n cs))
+connections_outcome-is scope controls n o [] = sym (both-sound o)
+connections_outcome-is scope controls n o (c ∷ cs) =
+    let j = judged_connection scope controls n c in
+    let k = judged_connections scope controls n cs in
+    connections_outcome-is scope controls n (both o (outcome_of j)) cs ∙ both-assoc o (outcome_of j) (outcome_of k) ∙ ap (both o) (sym (outcome_of-also j k))
+
+pub connections_outcome-all : (scope : Scope) (controls : List ℕ) (n : Named) (cs : List ConnectionData) → connections_outcome scope controls n (outcome_of sound) cs ≡ outcome_of (judged_connections scope controls n cs)
+connections_outcome-all scope controls n cs = connections_outcome-is scope controls n (outcome_of sound) cs ∙ sound-both (outcome_of (judged_connections scope controls n cs))
 
 pub alone_outcome-is : (scope : Scope) (o : Outcome) (args : Arguments) → alone_outcome scope o args ≡ both o (outcome_of (judged_alone scope args))
 alone_outcome-is scope o no_arguments = sym (both-sound o)
@@ -221,6 +268,7 @@ mutual
   pub stmt_outcome-is : (scope : Scope) (controls : List ℕ) (o : Outcome) (s : Stmt) → stmt_outcome scope controls o s ≡ both o (outcome_of (judged_stmt scope controls s))
   stmt_outcome-is scope controls o empty = sym (both-sound o)
   stmt_outcome-is scope controls o (assign p e) = refl
+  stmt_outcome-is scope controls o (invoke n at cs) = refl
   stmt_outcome-is scope controls o (branch arms other) =
       after_both o (judged_arms scope controls arms) (judged_else scope controls other) _ _ (arms_outcome-is scope controls o arms) (else_outcome-is scope controls (arms_outcome scope controls o arms) other)
   stmt_outcome-is scope controls o (cases e es other) =
@@ -240,7 +288,7 @@ mutual
       ∙ ap (λ (x : Outcome). both o (both (outcome_of s) x)) (sym (outcome_of-also j f))
       ∙ ap (both o) (sym (outcome_of-also s (also j f)))
   stmt_outcome-is scope controls o (iterate i ss) =
-      let inner = with_control controls (scope (by_path (alone i.control))) in
+      let inner = with_control controls (scope.means (by_path (alone i.control))) in
       let head = judged_iteration scope controls i in
       let body = judged_stmts scope inner ss in
       ap (λ (x : Outcome). both o (ruled x (turns_rule scope i) i.at)) (stmts_outcome-is scope inner (outcome_of head) ss ∙ sym (outcome_of-also head body))
@@ -273,7 +321,7 @@ mutual
   else_outcome-is scope controls o no_else = sym (both-sound o)
   else_outcome-is scope controls o (else_stmts ss) = stmts_outcome-is scope controls o ss
 
-pub ruleset judging = (outcome_of-also, outcome_of-tested, sound-both, stmts_outcome-is)
+pub ruleset judging = (outcome_of-also, outcome_of-tested, sound-both, stmts_outcome-is, connections_outcome-all)
 
 -- a unary operator without a literal behind it
 pub outcome_of-unary : (scope : Scope) (wanted : Option DataType) (o : UnaryOperator) (at : ℕ) (e : Tree) (t : DataType) (l r : Outcome) → t ≡ type_of scope wanted e → negative_literal o e ≡ None → l ≡ outcome_of (judged scope (Some t) e) → r ≡ tried l (takes_sign o t) OperandType at → r ≡ outcome_of (judged scope wanted (unary o at e))
@@ -293,9 +341,9 @@ pub count_of_arguments : (args : List Argument) → count_of (arguments_view arg
 count_of_arguments args = count_of-list (map argument_view args) ∙ length-map args argument_view
 
 -- a call of a function with as many arguments as it takes, and with more or fewer
-module _ (scope : Scope) (wanted : Option DataType) (at : ℕ) (f : StandardFunction) (args : Arguments) where
+module _ (scope : Scope) (wanted : Option DataType) (at : ℕ) (f : StandardFunction) (signature : Option Signature) (args : Arguments) where
   abbrev a_call : Judgement
-  a_call = judged_call scope wanted at (Some f) args (judged_alone scope args) (λ g t. judged_arguments scope g t 0 args)
+  a_call = judged_call scope wanted at (Some f) signature args (judged_alone scope args) (λ g t. judged_arguments scope g t 0 args) (λ s. judged_given scope s 0 args)
 
   abbrev right_call : DataType → Judgement
   right_call t = tested (judged_arguments scope f t 0 args) (takes_operands f t && fit_from scope f t 0 args) OperandType at
@@ -325,10 +373,29 @@ outcome_of-chain scope wanted e ls t l r is left links =
     links ∙ ap (λ (x : Outcome). links_outcome scope t x ls) left ∙ sym (outcome_of-links scope t (judged scope (Some t) e) ls) ∙ ap (λ (x : DataType). outcome_of (judged_links scope x (judged scope (Some x) e) ls)) is
 
 -- an assignment
-pub outcome_of-assign : (scope : Scope) (controls : List ℕ) (p : PathData) (e : Tree) (m : Option Meaning) (w : Option DataType) (l k b r : Outcome) (fits : Bool) → m ≡ scope (by_path p) → w ≡ kind_at m → l ≡ outcome_of (judged_target controls m p.first.at) → k ≡ outcome_of (judged scope w e) → b ≡ both l k → fits ≡ is_same_type (type_of scope w e) (or_dint w) → r ≡ tried b fits ValueType p.first.at → r ≡ outcome_of (judged_assign scope controls p e)
+pub outcome_of-assign : (scope : Scope) (controls : List ℕ) (p : PathData) (e : Tree) (m : Option Meaning) (w : Option DataType) (l k b r : Outcome) (fits : Bool) → m ≡ scope.means (by_path p) → w ≡ kind_at m → l ≡ outcome_of (judged_target controls m p.first.at) → k ≡ outcome_of (judged scope w e) → b ≡ both l k → fits ≡ is_same_type (type_of scope w e) (or_dint w) → r ≡ tried b fits ValueType p.first.at → r ≡ outcome_of (judged_assign scope controls p e)
 outcome_of-assign scope controls p e m w l k b r fits means wanted target value parts same is =
-    let whole : (n : Option Meaning) → scope (by_path p) ≡ n → r ≡ outcome_of (tested (also (judged_target controls n p.first.at) (judged scope (kind_at n) e)) (is_same_type (type_of scope (kind_at n) e) (or_dint (kind_at n))) ValueType p.first.at) = λ n f.
+    let whole : (n : Option Meaning) → scope.means (by_path p) ≡ n → r ≡ outcome_of (tested (also (judged_target controls n p.first.at) (judged scope (kind_at n) e)) (is_same_type (type_of scope (kind_at n) e) (or_dint (kind_at n))) ValueType p.first.at) = λ n f.
     let h : m ≡ n = means ∙ f in
     is
     ∙ rw (same, parts, target, value, wanted, h) (sym (outcome_of-tested (also (judged_target controls n p.first.at) (judged scope (kind_at n) e)) (is_same_type (type_of scope (kind_at n) e) (or_dint (kind_at n))) ValueType p.first.at ∙ ap (λ (x : Outcome). tried x (is_same_type (type_of scope (kind_at n) e) (or_dint (kind_at n))) ValueType p.first.at) (outcome_of-also (judged_target controls n p.first.at) (judged scope (kind_at n) e)))) in
-    whole (scope (by_path p)) refl
+    whole (scope.means (by_path p)) refl
+
+-- two parts and a test
+pub outcome_of-parts : (j k : Judgement) (o p q r : Outcome) (b fits : Bool) (rule : Rule) (at : ℕ) → o ≡ outcome_of j → p ≡ outcome_of k → q ≡ both o p → fits ≡ b → r ≡ tried q fits rule at
+    → r ≡ outcome_of (tested (also j k) b rule at)
+outcome_of-parts j k o p q r b fits rule at of_j of_k parts same is =
+    let whole : q ≡ outcome_of (also j k) = parts ∙ ap (λ (x : Outcome). both x p) of_j ∙ ap (both (outcome_of j)) of_k ∙ sym (outcome_of-also j k) in
+    is ∙ ap (λ (x : Outcome). tried x fits rule at) whole ∙ ap (λ (c : Bool). tried (outcome_of (also j k)) c rule at) same ∙ sym (outcome_of-tested (also j k) b rule at)
+
+-- the value of an input
+pub outcome_of-input : (scope : Scope) (m : Option Meaning) (x : Named) (e : Tree) (w : Option DataType) (o p q r : Outcome) (fits : Bool) → w ≡ kind_at m → o ≡ outcome_of (judged_meaning m) → p ≡ outcome_of (judged scope w e)
+    → q ≡ both o p → fits ≡ is_same_type (type_of scope w e) (or_dint w) → r ≡ tried q fits ValueType x.at → r ≡ outcome_of (judged_input scope m x e)
+outcome_of-input scope m x e w o p q r fits wanted mean value parts same is =
+    outcome_of-parts (judged_meaning m) (judged scope (kind_at m) e) o p q r (is_same_type (type_of scope (kind_at m) e) (or_dint (kind_at m))) fits ValueType x.at mean
+    (value ∙ ap (λ (v : Option DataType). outcome_of (judged scope v e)) wanted) parts (same ∙ ap (λ (v : Option DataType). is_same_type (type_of scope v e) (or_dint v)) wanted) is
+
+-- what is said of a result, from what else is said of it
+pub on_ok : {A E : Type 0} → (r : Result A E) (P Q : A → Type 0) → ((a : A) → P a → Q a) → IfOk r P → IfOk r Q
+on_ok (Ok a) P Q f h = f a h
+on_ok (Err e) P Q f h = h

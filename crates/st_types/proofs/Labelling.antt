@@ -8,7 +8,10 @@ use Rattle.st_tree.specs.declared.data_type.DataType.{DataType}
 use Rattle.st_tree.specs.declared.rule.Rule.{Rule}
 use Rattle.st_tree.specs.declared.rule.Rule.TheVariants.{OperandType, OutsideType, Overlap}
 use Rattle.st_tree.specs.declared.typed.Range.{Range}
-use Rattle.st_tree.specs.Syntax.{LabelData, Stmts, Entries, entry}
+use Rattle.st_tree.specs.declared.syntax.Entry.{Entry as EntryTree, out-Entry}
+use Rattle.st_tree.specs.declared.syntax.Stmt.TheFolds.{fold_out-Entry}
+use Rattle.st_tree.specs.SyntaxView.{ArmData, EntryData, stmt_step, arm_step, entry_step, labels_view, stmts_view, entry_view}
+use Rattle.st_tree.specs.Syntax.{Stmt, LabelData, Stmts, Entries, entry}
 use Rattle.st_types.specs.declared.outcome.Outcome.{Outcome}
 use Rattle.st_types.specs.Typing.{Scope, place_of}
 use Rattle.st_types.specs.Judged.{Judgement, also, tested, judged}
@@ -29,16 +32,15 @@ ordered : Scope → DataType → LabelData → Judgement
 ordered scope t l = tested (formed scope t l) (int_le (label_range scope t l).low (label_range scope t l).high) OutsideType (place_of l.low)
 
 -- what a label tells, from what its parts tell
-pub outcome_of-label : (scope : Scope) (t : DataType) (seen : List Range) (l : LabelData) (fits order new : Bool) (low high b x y z : Outcome)
+pub outcome_of-label : (scope : Scope) (t : DataType) (seen : List Range) (l : LabelData) (fits order new : Bool) (b x y z : Outcome)
     → fits ≡ (is_of_type scope t l.low && high_is_of_type scope t l.high) → order ≡ int_le (label_range scope t l).low (label_range scope t l).high → new ≡ not (overlaps seen (label_range scope t l))
-    → low ≡ outcome_of (judged scope (Some t) l.low) → high ≡ outcome_of (judged_high scope t l.high) → b ≡ both low high
+    → b ≡ outcome_of (also (judged scope (Some t) l.low) (judged_high scope t l.high))
     → x ≡ tried b fits OperandType (place_of l.low) → y ≡ tried x order OutsideType (place_of l.low) → z ≡ tried y new Overlap (place_of l.low)
     → z ≡ outcome_of (judged_label scope t seen l)
 unfolding parts formed ordered
-outcome_of-label scope t seen l fits order new low high b x y z fits_is order_is new_is low_is high_is b_is x_is y_is z_is =
+outcome_of-label scope t seen l fits order new b x y z fits_is order_is new_is b_is x_is y_is z_is =
     let at = place_of l.low in
-    let b_told : b ≡ outcome_of (parts scope t l) = b_is ∙ ap (λ (o : Outcome). both o high) low_is ∙ ap (both (outcome_of (judged scope (Some t) l.low))) high_is ∙ sym (outcome_of-also (judged scope (Some t) l.low) (judged_high scope t l.high)) in
-    let x_told : x ≡ outcome_of (formed scope t l) = x_is ∙ ap (λ (o : Outcome). tried o fits OperandType at) b_told ∙ ap (λ (h : Bool). tried (outcome_of (parts scope t l)) h OperandType at) fits_is ∙ sym (outcome_of-tested (parts scope t l) (is_of_type scope t l.low && high_is_of_type scope t l.high) OperandType at) in
+    let x_told : x ≡ outcome_of (formed scope t l) = x_is ∙ ap (λ (o : Outcome). tried o fits OperandType at) b_is ∙ ap (λ (h : Bool). tried (outcome_of (parts scope t l)) h OperandType at) fits_is ∙ sym (outcome_of-tested (parts scope t l) (is_of_type scope t l.low && high_is_of_type scope t l.high) OperandType at) in
     let y_told : y ≡ outcome_of (ordered scope t l) = y_is ∙ ap (λ (o : Outcome). tried o order OutsideType at) x_told ∙ ap (λ (h : Bool). tried (outcome_of (formed scope t l)) h OutsideType at) order_is ∙ sym (outcome_of-tested (formed scope t l) (int_le (label_range scope t l).low (label_range scope t l).high) OutsideType at) in
     z_is ∙ ap (λ (o : Outcome). tried o new Overlap at) y_told ∙ ap (λ (h : Bool). tried (outcome_of (ordered scope t l)) h Overlap at) new_is ∙ sym (outcome_of-tested (ordered scope t l) (not (overlaps seen (label_range scope t l))) Overlap at)
 
@@ -98,3 +100,7 @@ pub label_step : (scope : Scope) (t : DataType) (now : List Range) (o p q z : Ou
 label_step scope t now o p q z behind l ls all split told is left seen =
     let q_is : q ≡ both o (outcome_of (judged_label scope t now l)) = is ∙ ap (both o) told in
     (ap (λ (x : Outcome). labels_outcome scope t (seen_with scope t now l) x ls) q_is ∙ ap (labels_outcome scope t now o) (sym split) ∙ left, ap (seen_behind scope t now) (sym split) ∙ seen)
+
+-- the data of an entry, by its fields
+pub entry_view-out : (e : EntryTree) → entry_view e ≡ (labels_view (out-Entry e).labels.items, stmts_view (out-Entry e).body.items)
+entry_view-out = fold_out-Entry Stmt ArmData EntryData stmt_step arm_step entry_step

@@ -1,5 +1,8 @@
 pub mod Ranges
 pub mod Judging
+pub mod Marks
+pub mod Connecting
+pub mod TableLemmas
 pub mod Apart
 pub mod Counting
 pub mod TurnLaws
@@ -15,3 +18,4 @@ pub mod ValueLemmas
 pub mod PairLemmas
 pub mod ReadyLemmas
 pub mod OnlyPou
+pub mod ChartLemmas

@@ -1,7 +1,7 @@
 -- A typed program begins in range: each start lies in the range of its domain.
-use Rattle.std.proofs.Common.{◌≡◌, ℕ, Bool, true, false, ◌&&◌, if◌then◌else◌, List, [], ◌∷◌, Option, Some, None, refl, sym, subst, arith, Result, Ok, Err}
+use Rattle.std.proofs.Common.{◌≡◌, ℕ, zero, suc, ◌==◌, ◌++◌, length, Bool, true, false, ◌&&◌, if◌then◌else◌, List, [], ◌∷◌, Option, Some, None, refl, sym, subst, arith, Result, Ok, Err}
 use Rattle.std.proofs.Math.IntN.{ℤ, pos}
-use Rattle.std.specs.Prelude.{IfOk, int_le}
+use Rattle.std.specs.Prelude.{IfOk, codes, int_le}
 use Rattle.std.specs.List.{AllByRecursion}
 use Rattle.std.proofs.lemmas.Int.{ints}
 use Rattle.num_core.specs.Ranges.{Fits}
@@ -16,15 +16,19 @@ use Rattle.st_tree.specs.Syntax.{Named, Tree, BoundsData, TypeData, of_elementar
 use Rattle.st_tree.specs.View.{program_view}
 use Rattle.st_names.specs.declared.standing.Standing.{Standing}
 use Rattle.st_names.specs.declared.standing.Standing.TheVariants as standings
-use Rattle.st_names.specs.FileScope.{standing}
 use Rattle.st_names.specs.Types.{end_of, end_specification}
-use Rattle.st_names.specs.Scopes.{Variable, variables_of}
+use Rattle.st_names.specs.FileScope.{pous_of, standing}
+use Rattle.st_names.specs.declared.role.Role.{Role}
+use Rattle.st_names.specs.declared.role.Role.TheVariants as roles
+use Rattle.st_names.specs.Scopes.{Variable, variables_in_pou, is_step, block_of}
 use Rattle.st_types.specs.Typing.{type_of, place_of}
 use Rattle.st_types.specs.Judged.{Judgement, also, breaks, tested, judged}
 use Rattle.st_types.specs.Typed.{constant_of}
 use Rattle.st_types.specs.Domains.{Domain, has_few, values_scope, bounds_of, judged_bound_of, judged_subrange, no_domain, enumeration_domain, end_domain, named_domain, domain_of}
-use Rattle.st_types.specs.Programs.{has_cell, domain_of_variable, judged_initial, given_value, start_of}
-use Rattle.st_types.specs.TypedPrograms.{cell_for, cells_of, typed_program}
+use Rattle.st_tree.specs.Tree.{CellData}
+use Rattle.st_types.specs.Variables.{domain_if, domain_of_variable, judged_initial, given_value, start_of}
+use Rattle.st_types.specs.Places.{has_cell, is_stored_action, in_order, size_among, sizes_of, variables_at}
+use Rattle.st_types.specs.TypedPrograms.{path_behind, cell_for, flag_cell, active_first, cells_for, cells_of_variable, cells_of, block_cells, typed_program}
 use Rattle.st_types.specs.Ready.{StartsInRange, IsReady}
 use Rattle.st_types.proofs.Apart.{le_true}
 
@@ -96,12 +100,17 @@ named-fits : (f : FileData) (s : Option Standing) → StartFits (named_domain f 
 named-fits f None = no_domain-fits
 named-fits f (Some (standings.Type t)) = end-fits f (end_of f t) (end_specification f t)
 named-fits f (Some (standings.Value t k)) = no_domain-fits
-named-fits f (Some standings.Pou) = no_domain-fits
+named-fits f (Some (standings.Pou p)) = no_domain-fits
 
 domain-fits : (f : FileData) (t : TypeData) → StartFits (domain_of f t)
 domain-fits f (of_elementary k at) = elementary-fits f k at
 domain-fits f (of_subrange k at b) = subrange_by (judged_subrange f k at b).whole f k at b refl
 domain-fits f (of_name n) = named-fits f (standing f n.text)
+
+domain_if-fits : (f : FileData) (t : Option TypeData) → StartFits (domain_if f t)
+unfolding StartFits
+domain_if-fits f None = zero_fits types.Bool
+domain_if-fits f (Some t) = domain-fits f t
 
 -- ---- what a variable begins with
 
@@ -121,23 +130,95 @@ unfolding StartFits
 start_by true f d at initial e fits = rw e (given-fits f d at initial fits e)
 start_by false f d at initial e fits = rw e fits
 
-cell-fits : (f : FileData) (v : Variable) → StartsInRange (cell_for f v)
-cell-fits f v = start_by (judged_initial f (domain_of_variable f v) v.name.at v.initial).whole f (domain_of_variable f v) v.name.at v.initial refl (domain-fits f v.kind)
+cell-fits : (f : FileData) (inside : Bool) (before : Option (List ℕ)) (v : Variable) → StartsInRange (cell_for f inside before v)
+cell-fits f inside before v =
+    start_by (judged_initial f (domain_of_variable f v) v.name.at v.initial).whole f (domain_of_variable f v) v.name.at v.initial refl (domain_if-fits f v.kind)
 
-one_more : (b : Bool) (f : FileData) (v : Variable) (vs : List Variable) → AllByRecursion StartsInRange (cells_of f vs) → AllByRecursion StartsInRange (if b then cell_for f v ∷ cells_of f vs else cells_of f vs)
-one_more true f v vs all = (cell-fits f v, all)
-one_more false f v vs all = all
+-- ---- the cells of a chart
 
-all_fit : (f : FileData) (vs : List Variable) → AllByRecursion StartsInRange (cells_of f vs)
-all_fit f [] = tt
-all_fit f (v ∷ vs) = one_more (has_cell v.section) f v vs (all_fit f vs)
+active_first-fits : (role : Role) → Fits (least_of types.Bool) (greatest_of types.Bool) (active_first role)
+active_first-fits roles.Input = (omega (arith, ints), omega (arith, ints))
+active_first-fits roles.Output = (omega (arith, ints), omega (arith, ints))
+active_first-fits roles.Local = (omega (arith, ints), omega (arith, ints))
+active_first-fits roles.Temporary = (omega (arith, ints), omega (arith, ints))
+active_first-fits roles.Constant = (omega (arith, ints), omega (arith, ints))
+active_first-fits roles.Result = (omega (arith, ints), omega (arith, ints))
+active_first-fits roles.Step = (omega (arith, ints), omega (arith, ints))
+active_first-fits roles.InitialStep = (omega (arith, ints), omega (arith, ints))
+active_first-fits roles.Action = (omega (arith, ints), omega (arith, ints))
+active_first-fits roles.StoredAction = (omega (arith, ints), omega (arith, ints))
+active_first-fits roles.Transition = (omega (arith, ints), omega (arith, ints))
 
-pub typed_program-ready : (f : FileData) (p : PouData) → IsReady (typed_program f p)
-typed_program-ready f p = record {
+flag-fits : (before : Option (List ℕ)) (n : Named) (text : List ℕ) (initial : ℤ) → Fits (least_of types.Bool) (greatest_of types.Bool) initial → StartsInRange (flag_cell before n text initial)
+flag-fits before n text initial fits = fits
+
+-- ---- the cells of instances too
+
+AllFit : List CellData → Type 0
+AllFit cs = AllByRecursion StartsInRange cs
+
+append_fit : (cs ds : List CellData) → AllFit cs → AllFit ds → AllFit (cs ++ ds)
+unfolding AllFit
+append_fit [] ds a b = b
+append_fit (c ∷ cs) ds a b = (a.0, append_fit cs ds a.1 b)
+
+if_fit : (b : Bool) (cs : List CellData) → AllFit cs → AllFit (if b then cs else [])
+unfolding AllFit
+if_fit true cs all = all
+if_fit false cs all = tt
+
+unless_fit : (b : Bool) (cs : List CellData) → AllFit cs → AllFit (if b then [] else cs)
+unfolding AllFit
+unless_fit true cs all = tt
+unless_fit false cs all = all
+
+else_fit : (b : Bool) (cs ds : List CellData) → AllFit cs → AllFit ds → AllFit (if b then cs else ds)
+unfolding AllFit
+else_fit true cs ds all others = all
+else_fit false cs ds all others = others
+
+cells_for-fit : (f : FileData) (inside : Bool) (before : Option (List ℕ)) (v : Variable) → AllFit (cells_for f inside before v)
+unfolding AllFit
+cells_for-fit f inside before v =
+    let active = flag_cell before v.name (codes "X") (active_first v.role) in
+    let latest = flag_cell before v.name (codes "L") (pos 0) in
+    let stored = flag_cell before v.name (codes "S") (pos 0) in
+    let zero_fit : Fits (least_of types.Bool) (greatest_of types.Bool) (pos 0) = zero_fits types.Bool in
+    else_fit (is_step v.role) (active ∷ latest ∷ []) (if is_stored_action v.role then stored ∷ [] else cell_for f inside before v ∷ [])
+    (flag-fits before v.name (codes "X") (active_first v.role) (active_first-fits v.role), (flag-fits before v.name (codes "L") (pos 0) zero_fit, tt))
+    (else_fit (is_stored_action v.role) (stored ∷ []) (cell_for f inside before v ∷ []) (flag-fits before v.name (codes "S") (pos 0) zero_fit, tt) (cell-fits f inside before v, tt))
+
+BlocksFit : (Option (List ℕ) → ℕ → List CellData) → Type 0
+BlocksFit of_block = (before : Option (List ℕ)) (b : ℕ) → AllFit (of_block before b)
+
+variable_fit : (f : FileData) (of_block : Option (List ℕ) → ℕ → List CellData) (inside : Bool) (before : Option (List ℕ)) (v : Variable) (block : Option ℕ) → BlocksFit of_block
+    → AllFit (cells_of_variable f of_block inside before v block)
+unfolding AllFit BlocksFit
+variable_fit f of_block inside before v None blocks = cells_for-fit f inside before v
+variable_fit f of_block inside before v (Some b) blocks =
+    unless_fit (size_among (sizes_of f) (Some b) == 0) (of_block (path_behind before v.name) b) (blocks (path_behind before v.name) b)
+
+all_fit : (f : FileData) (of_block : Option (List ℕ) → ℕ → List CellData) (inside : Bool) (before : Option (List ℕ)) (vs : List Variable) → BlocksFit of_block
+    → AllFit (cells_of f of_block inside before vs)
+unfolding AllFit
+all_fit f of_block inside before [] blocks = tt
+all_fit f of_block inside before (v ∷ vs) blocks =
+    append_fit (if has_cell v.role then cells_of_variable f of_block inside before v (block_of f v) else []) (cells_of f of_block inside before vs)
+    (if_fit (has_cell v.role) (cells_of_variable f of_block inside before v (block_of f v)) (variable_fit f of_block inside before v (block_of f v) blocks))
+    (all_fit f of_block inside before vs blocks)
+
+blocks_fit : (f : FileData) (depth : ℕ) → BlocksFit (block_cells f depth)
+unfolding AllFit BlocksFit
+blocks_fit f zero before b = tt
+blocks_fit f (suc depth) before b = all_fit f (block_cells f depth) true before (in_order false (variables_at f b)) (blocks_fit f depth)
+
+pub typed_program-ready : (f : FileData) (k : ℕ) (p : PouData) → IsReady (typed_program f k p)
+unfolding AllFit
+typed_program-ready f k p = record {
   begins_with_fault = (refl, refl, refl);
-  start_in_range = (zero_fits types.Bool, all_fit f (variables_of p.variables));
+  start_in_range = (zero_fits types.Bool, all_fit f (block_cells f (length (pous_of f))) false (Some []) (in_order false (variables_in_pou p)) (blocks_fit f (length (pous_of f))));
 }
 
-pub ready_of : {E : Type 0} (f : FileData) (p : PouData) (r : Result Program E) → IfOk r (λ q. program_view q ≡ typed_program f p) → IfOk r (λ q. IsReady (program_view q))
-ready_of f p (Ok q) typed = subst IsReady (sym typed) (typed_program-ready f p)
-ready_of f p (Err e) typed = tt
+pub ready_of : {E : Type 0} (f : FileData) (k : ℕ) (p : PouData) (r : Result Program E) → IfOk r (λ q. program_view q ≡ typed_program f k p) → IfOk r (λ q. IsReady (program_view q))
+ready_of f k p (Ok q) typed = subst IsReady (sym typed) (typed_program-ready f k p)
+ready_of f k p (Err e) typed = tt

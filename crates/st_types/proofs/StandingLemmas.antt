@@ -21,7 +21,7 @@ count_at (Some d) = count_of_values d.specification
 IsWithin : List TypeDeclarationData → Standing → Type 0
 IsWithin all (standings.Type t) = Unit {0}
 IsWithin all (standings.Value t k) = k < count_at (slice_get all t)
-IsWithin all standings.Pou = Unit {0}
+IsWithin all (standings.Pou p) = Unit {0}
 
 AreWithin : List TypeDeclarationData → List DeclaredName → Type 0
 AreWithin all [] = Unit {0}
@@ -57,14 +57,14 @@ types_within all before (d ∷ ds) rest number is place =
           (types_within all (before ++ d ∷ []) ds rest (number + 1) (is ∙ sym (append_assoc before (d ∷ []) (ds ++ rest))) after),
     )
 
-items_within : (all before : List TypeDeclarationData) (is : FileData) (number : ℕ) → all ≡ before ++ types_of is → number ≡ length before → AreWithin all (names_of_items number is)
+items_within : (all before : List TypeDeclarationData) (is : FileData) (number k : ℕ) → all ≡ before ++ types_of is → number ≡ length before → AreWithin all (names_of_items number k is)
 unfolding AreWithin IsWithin
-items_within all before [] number e place = tt
-items_within all before (types ds ∷ is) number e place =
+items_within all before [] number k e place = tt
+items_within all before (types ds ∷ is) number k e place =
     let after : number + length ds ≡ length (before ++ ds) = ap (λ k. k + length ds) place ∙ sym (length-append before ds) in
-    within-append all (names_of_types number ds) (names_of_items (number + length ds) is) (types_within all before ds (types_of is) number e place)
-    (items_within all (before ++ ds) is (number + length ds) (e ∙ sym (append_assoc before ds (types_of is))) after)
-items_within all before (pou p ∷ is) number e place = (tt, items_within all before is number e place)
+    within-append all (names_of_types number ds) (names_of_items (number + length ds) k is) (types_within all before ds (types_of is) number e place)
+    (items_within all (before ++ ds) is (number + length ds) k (e ∙ sym (append_assoc before ds (types_of is))) after)
+items_within all before (pou q ∷ is) number k e place = (tt, items_within all before is number (k + 1) e place)
 
 here_or_later : (b : Bool) (all : List TypeDeclarationData) (x s : Standing) (rest : Option Standing) → (if b then Some x else rest) ≡ Some s → IsWithin all x → (rest ≡ Some s → IsWithin all s) → IsWithin all s
 here_or_later true all x s rest e here later = let same : x ≡ s = cc in subst (IsWithin all) same here
@@ -82,7 +82,7 @@ once false o s e = e
 standing_within : (f : FileData) (text : List ℕ) (s : Standing) → standing f text ≡ Some s → IsWithin (types_of f) s
 unfolding standing
 standing_within f text s e =
-    first_within (types_of f) text (names_of f) s (once (is_doubled_in_file f text) (first_standing text (names_of f)) s e) (items_within (types_of f) [] f 0 refl refl)
+    first_within (types_of f) text (names_of f) s (once (is_doubled_in_file f text) (first_standing text (names_of f)) s e) (items_within (types_of f) [] f 0 0 refl refl)
 
 -- ---- the types of a file as code has them
 

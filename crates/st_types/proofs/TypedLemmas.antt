@@ -1,17 +1,17 @@
 -- Typed lists are those of the definition.
-use Rattle.std.proofs.Common.{◌≡◌, ℕ, ◌+◌, List, refl, ap, map, ◌∙◌}
+use Rattle.std.proofs.Common.{◌≡◌, ℕ, ◌+◌, List, [], ◌∷◌, ◌++◌, refl, ap, map, ◌∙◌}
 use Rattle.std.specs.Prelude.{Some, None}
 use Rattle.st_tree.specs.declared.data_type.DataType.{DataType}
 use Rattle.st_tree.specs.DataTypes.{carrier}
 use Rattle.st_tree.specs.declared.function.StandardFunction.{StandardFunction}
-use Rattle.st_tree.specs.Syntax.{Links, no_links, link, Arguments, no_arguments, argument, Stmts, no_stmts, stmt, empty, assign, branch, cases, iterate, Arms, no_arms, arm, Entries, no_entries, entry}
-use Rattle.st_tree.specs.Tree.{Expression, operand, assign as typed_assign, choice, cases as typed_cases, repeat, statement, choose, entry as typed_entry}
+use Rattle.st_tree.specs.Syntax.{Links, no_links, link, Arguments, no_arguments, argument, Stmts, no_stmts, stmt, empty, assign, invoke, branch, cases, iterate, Arms, no_arms, arm, Entries, no_entries, entry}
+use Rattle.st_tree.specs.Tree.{Expression, Statement, operand, assign as typed_assign, choice, cases as typed_cases, repeat, statement, choose, entry as typed_entry}
 use Rattle.st_tree.specs.View.{operands_of, expressions_of, statements_of, choices_of, entries_of}
 use Rattle.st_types.specs.Typing.{Scope, by_path, kind_at, next_type, type_of, Parameter, fixed, common, amount, parameter_of}
 use Rattle.st_types.specs.Judged.{wanted_at}
 use Rattle.st_types.specs.Typed.{with_operand, typed, typed_links, typed_operands}
 use Rattle.st_types.specs.Labels.{label_range}
-use Rattle.st_types.specs.TypedStatements.{cell_of, turns_of, typed_stmts, typed_arms, typed_entries, typed_else}
+use Rattle.st_types.specs.TypedStatements.{cell_of, typed_invoke, and_then, turns_of, typed_stmts, typed_arms, typed_entries, typed_else}
 use Rattle.st_types.specs.TypedLists.{operand_list, before_operands, expression_list, statement_list, choice_list, entry_list}
 
 pub operands_of-list : (scope : Scope) (t : DataType) (ls : Links) → operands_of (operand_list scope t ls) ≡ typed_links scope t ls
@@ -30,10 +30,16 @@ expressions_of-list scope f t place (argument n e args) =
     let value = typed scope (wanted_at p t) e in
     expressions_of-before p value (expression_list scope f t (place + 1) args) ∙ ap (with_operand p value) (expressions_of-list scope f t (place + 1) args)
 
+statements_of-and_then : (ss ts : List Statement) → statements_of (ss ++ ts) ≡ and_then ss (statements_of ts)
+statements_of-and_then [] ts = refl
+statements_of-and_then (s ∷ ss) ts = ap (statement s) (statements_of-and_then ss ts)
+
 pub statements_of-list : (scope : Scope) (ss : Stmts) → statements_of (statement_list scope ss) ≡ typed_stmts scope ss
 statements_of-list scope no_stmts = refl
 statements_of-list scope (stmt empty ss) = statements_of-list scope ss
-statements_of-list scope (stmt (assign p e) ss) = ap (statement (typed_assign (cell_of (scope (by_path p))) (typed scope (kind_at (scope (by_path p))) e))) (statements_of-list scope ss)
+statements_of-list scope (stmt (assign p e) ss) = ap (statement (typed_assign (cell_of (scope.means (by_path p))) (typed scope (kind_at (scope.means (by_path p))) e))) (statements_of-list scope ss)
+statements_of-list scope (stmt (invoke n at cs) ss) =
+    statements_of-and_then (typed_invoke scope n cs) (statement_list scope ss) ∙ ap (and_then (typed_invoke scope n cs)) (statements_of-list scope ss)
 statements_of-list scope (stmt (branch arms other) ss) = ap (statement (choice (typed_arms scope arms) (typed_else scope other))) (statements_of-list scope ss)
 statements_of-list scope (stmt (cases e es other) ss) =
     ap (statement (typed_cases (typed scope None e) (typed_entries scope (type_of scope None e) es) (typed_else scope other))) (statements_of-list scope ss)

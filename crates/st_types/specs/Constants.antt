@@ -6,7 +6,7 @@ use Rattle.st_tree.specs.declared.rule.Rule.TheVariants.{StepZero, TooManyTurns,
 use Rattle.st_tree.specs.declared.typed.Range.{Range}
 use Rattle.st_tree.specs.Types.{in_range}
 use Rattle.st_tree.specs.Syntax.{Tree, literal, path, enumerator, paren, unary, chain, call, Links, no_links, link}
-use Rattle.expression_value.specs.Values.{value_of, faults, is_zero}
+use Rattle.effects.specs.Values.{value_of, faults, no_callees, is_zero}
 use Rattle.st_types.specs.declared.scope.Place.{Place}
 use Rattle.st_types.specs.declared.scope.Place.TheVariants as places
 use Rattle.st_types.specs.Typing.{Meaning, Scope, by_path, by_value}
@@ -24,8 +24,8 @@ means_value (Some m) = is_value m.place
 abbrev mutual
   pub is_constant : Scope → Tree → Bool
   is_constant scope (literal l) = true
-  is_constant scope (path p) = means_value (scope (by_path p))
-  is_constant scope (enumerator t v) = means_value (scope (by_value v))
+  is_constant scope (path p) = means_value (scope.means (by_path p))
+  is_constant scope (enumerator t v) = means_value (scope.means (by_value v))
   is_constant scope (paren at e) = is_constant scope e
   is_constant scope (unary o at e) = is_constant scope e
   is_constant scope (chain e ls) = is_constant scope e && are_constant scope ls
@@ -38,7 +38,7 @@ abbrev mutual
 -- The value of a constant expression where a type is wanted: there is one where its evaluation meets no fault.
 abbrev pub constant_value : Scope → Option DataType → Tree → Option ℤ
 constant_value scope wanted e =
-    if is_constant scope e && not (faults (typed scope wanted e) []) then Some (value_of (typed scope wanted e) []) else None
+    if is_constant scope e && not (faults no_callees 0 (typed scope wanted e) []) then Some (value_of no_callees 0 (typed scope wanted e) []) else None
 
 -- a turn begins with a value that does not pass the last one, in the direction of the step
 abbrev pub goes_on : ℤ → ℤ → ℤ → Bool

@@ -13,7 +13,7 @@ use Rattle.st_names.specs.declared.standing.Standing.TheVariants as standings
 use Rattle.st_names.specs.FileScope.{standing}
 use Rattle.st_names.specs.Types.{specification_at, end_of, end_specification}
 use Rattle.st_types.specs.declared.scope.Place.TheVariants as places
-use Rattle.st_types.specs.Typing.{Meaning, Scope, by_path, by_value, type_of, place_of}
+use Rattle.st_types.specs.Typing.{Meaning, Reference, Scope, without_calls, by_path, by_value, type_of, place_of}
 use Rattle.st_types.specs.Judged.{Judgement, sound, silent, also, breaks, tested, judged}
 use Rattle.st_types.specs.Typed.{constant_of}
 pub use Rattle.st_types.specs.declared.domain.Domain.{Domain}
@@ -25,7 +25,7 @@ has_few others = nat_lt (length others) 256
 -- a value of the enumeration of a number
 abbrev pub value_meaning : ℕ → ℕ → Bool → Meaning
 value_meaning t k whole =
-    record { place = places.Value (pos k); kind = Enumeration t; range = record { low = pos k; high = pos k }; whole = whole; assignable = false }
+    record { place = places.Value (pos k); kind = Enumeration t; range = record { low = pos k; high = pos k }; whole = whole; assignable = false; control = false }
 
 abbrev pub is_few : Option SpecificationData → Bool
 is_few None = false
@@ -37,12 +37,15 @@ abbrev pub value_at : FileData → Option Standing → Option Meaning
 value_at f None = None
 value_at f (Some (standings.Type t)) = None
 value_at f (Some (standings.Value t k)) = Some (value_meaning t k (is_few (specification_at f t)))
-value_at f (Some standings.Pou) = None
+value_at f (Some (standings.Pou p)) = None
 
 -- constants name nothing but values of enumerations
+abbrev pub value_means : FileData → Reference → Option Meaning
+value_means f (by_path p) = value_at f (standing f p.first.text)
+value_means f (by_value n) = value_at f (standing f n.text)
+
 abbrev pub values_scope : FileData → Scope
-values_scope f (by_path p) = value_at f (standing f p.first.text)
-values_scope f (by_value n) = value_at f (standing f n.text)
+values_scope f = without_calls (value_means f)
 
 abbrev pub bounds_of : FileData → ElementaryType → BoundsData → Range
 bounds_of f k b = record { low = constant_of (values_scope f) (Elementary k) b.low; high = constant_of (values_scope f) (Elementary k) b.high }
@@ -87,7 +90,7 @@ abbrev pub named_domain : FileData → Option Standing → Domain
 named_domain f None = no_domain
 named_domain f (Some (standings.Type t)) = end_domain f (end_of f t) (end_specification f t)
 named_domain f (Some (standings.Value t k)) = no_domain
-named_domain f (Some standings.Pou) = no_domain
+named_domain f (Some (standings.Pou p)) = no_domain
 
 abbrev pub domain_of : FileData → TypeData → Domain
 domain_of f (of_elementary k at) = elementary_domain k

@@ -1,19 +1,20 @@
 -- The rules on the types of expressions. A construct one of whose parts breaks a rule, or which uses a name whose declaration does,
 -- breaks none itself.
-use Rattle.std.specs.Prelude.{ℕ, ◌+◌, List, [], ◌∷◌, ◌++◌, Bool, true, false, ◌&&◌, Option, Some, None, if◌then◌else◌}
+use Rattle.std.specs.Prelude.{ℕ, zero, suc, ◌+◌, ◌==◌, unwrap_or, List, [], ◌∷◌, ◌++◌, Bool, true, false, ◌&&◌, Option, Some, None, if◌then◌else◌}
+use Rattle.std.specs.List.{list_any}
 use Rattle.st_tree.specs.declared.data_type.DataType.{DataType}
 use Rattle.st_tree.specs.declared.data_type.DataType.TheVariants.{Elementary}
 use Rattle.st_tree.specs.DataTypes.{is_same_type, is_integer_type}
 use Rattle.st_tree.specs.declared.rule.Rule.{Rule}
 use Rattle.st_tree.specs.declared.function.StandardFunction.{StandardFunction}
 use Rattle.st_names.specs.Library.{standard_function}
-use Rattle.st_tree.specs.declared.rule.Rule.TheVariants.{OperandType, ArgumentCount, OutsideType, NotBool}
+use Rattle.st_tree.specs.declared.rule.Rule.TheVariants.{OperandType, ValueType, ArgumentCount, OutsideType, NotBool}
 use Rattle.st_tree.specs.declared.rule.Refusal.{Refusal}
 use Rattle.st_tree.specs.declared.syntax.Literal.{Literal}
 use Rattle.st_tree.specs.declared.syntax.UnaryOperator.{UnaryOperator}
 use Rattle.st_tree.specs.declared.syntax.UnaryOperator.TheVariants as signs
-use Rattle.st_tree.specs.Syntax.{Tree, literal, path, enumerator, paren, unary, chain, call, Links, no_links, link, Arguments, no_arguments, argument}
-use Rattle.st_types.specs.Typing.{Meaning, Scope, by_path, by_value, bool_type, is_unknown, has_bits, type_of, operand_type, next_type, takes, Parameter, fixed, common, amount, parameter_of, common_type, takes_operands, takes_count, count_of, is_amount, is_literal_of, is_number, place_of_literal, place_of}
+use Rattle.st_tree.specs.Syntax.{Named, Tree, literal, path, enumerator, paren, unary, chain, call, Links, no_links, link, Arguments, no_arguments, argument}
+use Rattle.st_types.specs.Typing.{Meaning, Port, Signature, Scope, by_path, by_value, bool_type, is_unknown, has_bits, port_type, type_of, operand_type, next_type, takes, Parameter, fixed, common, amount, parameter_of, common_type, takes_operands, takes_count, count_of, is_amount, is_literal_of, is_number, place_of_literal, place_of}
 
 -- what is broken in a construct, and whether it is whole
 pub record Judgement : Type 0 where
@@ -82,11 +83,68 @@ judged_amount scope (fixed k) e j = j
 judged_amount scope common e j = j
 judged_amount scope amount e j = tested j (is_amount scope e) OutsideType (place_of e)
 
--- A call has as many arguments as its function takes, each of the type that is wanted at its place. Where there are more or
+-- the place of the input that an argument is for: by place its own, and by name that of the name; there is no input from the number of
+-- the inputs on
+abbrev pub place_for : Scope → Signature → ℕ → Option Named → ℕ
+place_for scope s place None = place
+place_for scope s place (Some n) = unwrap_or (scope.input s.function n.text) s.count
+
+abbrev pub places_for : Scope → Signature → ℕ → Arguments → List ℕ
+places_for scope s place no_arguments = []
+places_for scope s place (argument n e args) = place_for scope s place n ∷ places_for scope s (place + 1) args
+
+-- all numbers below one are among some numbers
+abbrev pub has_all_below : ℕ → List ℕ → Bool
+has_all_below zero numbers = true
+has_all_below (suc k) numbers = has_all_below k numbers && list_any (λ n. n == k) numbers
+
+-- there are as many arguments as inputs, and one for each
+abbrev pub gives_all : Scope → Signature → Arguments → Bool
+gives_all scope s args = count_of args == s.count && has_all_below s.count (places_for scope s 0 args)
+
+-- the type that is wanted of an argument for an input; where there is no such input, none is
+abbrev pub wanted_by : Option Port → Option DataType
+wanted_by None = None
+wanted_by (Some p) = Some (port_type p)
+
+-- an argument for an input whose declaration breaks a rule says nothing
+abbrev pub judged_port : Option Port → Judgement
+judged_port None = sound
+judged_port (Some p) = if p.whole then sound else silent
+
+abbrev pub fits_port : Scope → Option Port → Tree → Bool
+fits_port scope None e = true
+fits_port scope (Some p) e = is_same_type (type_of scope (Some (port_type p)) e) (port_type p)
+
+-- an argument by name is of its input's type
+abbrev pub judged_named : Option Named → Bool → Judgement → Judgement
+judged_named None fits j = j
+judged_named (Some n) fits j = tested j fits ValueType n.at
+
+-- so are the arguments by place from a place on
+abbrev pub fits_placed : Scope → Signature → ℕ → Option Named → Tree → Bool
+fits_placed scope s place None e = fits_port scope (scope.port s.function place) e
+fits_placed scope s place (Some n) e = true
+
+abbrev pub fit_placed : Scope → Signature → ℕ → Arguments → Bool
+fit_placed scope s place no_arguments = true
+fit_placed scope s place (argument n e args) = fits_placed scope s place n e && fit_placed scope s (place + 1) args
+
+-- A call of a FUNCTION whose arguments were judged has one for each input, and those by place are of the types of their inputs; where
+-- the type of its result breaks a rule it says nothing more.
+abbrev pub judged_answer : Scope → ℕ → Signature → Arguments → Judgement → Judgement
+judged_answer scope at s args parts =
+    also (tested (tested parts (gives_all scope s args) ArgumentCount at) (fit_placed scope s 0 args) OperandType at) (judged_port (Some s.result))
+
+abbrev pub judged_user_call : Scope → ℕ → Option Signature → Arguments → (Signature → Judgement) → Judgement
+judged_user_call scope at None args of_inputs = silent
+judged_user_call scope at (Some s) args of_inputs = judged_answer scope at s args (of_inputs s)
+
+-- A call of a standard function has as many arguments as it takes, each of the type that is wanted at its place. Where there are more or
 -- fewer, each is judged alone.
-abbrev pub judged_call : Scope → Option DataType → ℕ → Option StandardFunction → Arguments → Judgement → (StandardFunction → DataType → Judgement) → Judgement
-judged_call scope wanted at None args alone of_operands = silent
-judged_call scope wanted at (Some f) args alone of_operands =
+abbrev pub judged_call : Scope → Option DataType → ℕ → Option StandardFunction → Option Signature → Arguments → Judgement → (StandardFunction → DataType → Judgement) → (Signature → Judgement) → Judgement
+judged_call scope wanted at None s args alone of_operands of_inputs = judged_user_call scope at s args of_inputs
+judged_call scope wanted at (Some f) s args alone of_operands of_inputs =
     let t = common_type scope wanted f args in
     if takes_count f (count_of args) then tested (of_operands f t) (takes_operands f t && fit_from scope f t 0 args) OperandType at
     else tested alone false ArgumentCount at
@@ -96,15 +154,15 @@ judged_call scope wanted at (Some f) args alone of_operands =
 abbrev mutual
   pub judged : Scope → Option DataType → Tree → Judgement
   judged scope wanted (literal l) = judged_literal (type_of scope wanted (literal l)) false (place_of_literal l) l
-  judged scope wanted (path p) = judged_meaning (scope (by_path p))
-  judged scope wanted (enumerator t v) = judged_meaning (scope (by_value v))
+  judged scope wanted (path p) = judged_meaning (scope.means (by_path p))
+  judged scope wanted (enumerator t v) = judged_meaning (scope.means (by_value v))
   judged scope wanted (paren at e) = judged scope wanted e
   judged scope wanted (unary o at e) = judged_unary (type_of scope wanted e) o at (negative_literal o e) (judged scope (Some (type_of scope wanted e)) e)
   judged scope wanted (chain e ls) =
       let t = operand_type scope wanted e ls in
       judged_links scope t (judged scope (Some t) e) ls
   judged scope wanted (call n at args) =
-      judged_call scope wanted n.at (standard_function n.text) args (judged_alone scope args) (λ f t. judged_arguments scope f t 0 args)
+      judged_call scope wanted n.at (standard_function n.text) (scope.signature n.text) args (judged_alone scope args) (λ f t. judged_arguments scope f t 0 args) (λ s. judged_given scope s 0 args)
 
   -- operators behind a left operand that was judged
   pub judged_links : Scope → DataType → Judgement → Links → Judgement
@@ -117,6 +175,13 @@ abbrev mutual
   judged_arguments scope f t place no_arguments = sound
   judged_arguments scope f t place (argument n e args) =
       also (judged_amount scope (parameter_of f place) e (judged scope (wanted_at (parameter_of f place) t) e)) (judged_arguments scope f t (place + 1) args)
+
+  -- arguments of a FUNCTION from a place on, each where the type of its input is wanted
+  pub judged_given : Scope → Signature → ℕ → Arguments → Judgement
+  judged_given scope s place no_arguments = sound
+  judged_given scope s place (argument n e args) =
+      let p = scope.port s.function (place_for scope s place n) in
+      also (judged_named n (fits_port scope p e) (also (judged scope (wanted_by p) e) (judged_port p))) (judged_given scope s (place + 1) args)
 
   -- arguments each alone
   pub judged_alone : Scope → Arguments → Judgement

@@ -1,15 +1,16 @@
 -- The rules on the types of statements. Statements are judged inside FORs, whose control variables are these cells.
-use Rattle.std.specs.Prelude.{ℕ, List, [], ◌∷◌, Bool, true, false, not, ◌&&◌, ◌==◌, Option, Some, None, is_some, if◌then◌else◌, ℤ, pos}
-use Rattle.std.specs.List.{list_any}
+use Rattle.std.specs.Prelude.{ℕ, List, [], ◌∷◌, Bool, true, false, not, ◌&&◌, ◌||◌, ◌==◌, Option, Some, None, is_some, if◌then◌else◌, ℤ, pos}
+use Rattle.std.specs.List.{list_any, list_all}
+use Rattle.std.specs.Str.{bytes_eq}
 use Rattle.st_tree.specs.declared.elementary.Elementary.TheVariants as types
 use Rattle.st_tree.specs.declared.data_type.DataType.{DataType}
 use Rattle.st_tree.specs.declared.data_type.DataType.TheVariants.{Elementary, Enumeration, Unknown}
 use Rattle.st_tree.specs.DataTypes.{is_same_type, is_integer_type}
 use Rattle.st_tree.specs.declared.rule.Rule.{Rule}
-use Rattle.st_tree.specs.declared.rule.Rule.TheVariants.{OperandType, ValueType, NotAssignable, NotConstant}
+use Rattle.st_tree.specs.declared.rule.Rule.TheVariants.{OperandType, ValueType, ArgumentCount, NotAssignable, NotConstant}
 use Rattle.st_tree.specs.declared.typed.Range.{Range}
 use Rattle.st_tree.specs.Types.{is_integer, range_of}
-use Rattle.st_tree.specs.Syntax.{PathData, Tree, Stmt, empty, assign, branch, cases, iterate, Stmts, no_stmts, stmt, Arms, no_arms, arm, Entries, no_entries, entry, Otherwise, no_else, else_stmts, LabelData, IterationData}
+use Rattle.st_tree.specs.Syntax.{Named, PathData, Tree, ConnectionData, input, output, Stmt, empty, assign, invoke, branch, cases, iterate, Stmts, no_stmts, stmt, Arms, no_arms, arm, Entries, no_entries, entry, Otherwise, no_else, else_stmts, LabelData, IterationData}
 use Rattle.st_names.specs.Broken.{alone}
 use Rattle.st_types.specs.declared.scope.Place.{Place}
 use Rattle.st_types.specs.declared.scope.Place.TheVariants as places
@@ -34,12 +35,63 @@ judged_target controls m at = tested (judged_meaning m) (is_assignable controls 
 -- an assignment's value is of its target's type
 abbrev pub judged_assign : Scope → List ℕ → PathData → Tree → Judgement
 judged_assign scope controls p e =
-    let wanted = kind_at (scope (by_path p)) in
-    tested (also (judged_target controls (scope (by_path p)) p.first.at) (judged scope wanted e)) (is_same_type (type_of scope wanted e) (or_dint wanted)) ValueType p.first.at
+    let wanted = kind_at (scope.means (by_path p)) in
+    tested (also (judged_target controls (scope.means (by_path p)) p.first.at) (judged scope wanted e)) (is_same_type (type_of scope wanted e) (or_dint wanted)) ValueType p.first.at
+
+-- what a FUNCTION answers may not control a FOR
+abbrev pub is_control : Option Meaning → Bool
+is_control None = false
+is_control (Some m) = m.control
+
+-- the path of an instance's input or output
+abbrev pub member : Named → Named → PathData
+member n x = record { first = n; members = x ∷ [] }
+
+-- the value of an input is of its type
+abbrev pub judged_input : Scope → Option Meaning → Named → Tree → Judgement
+judged_input scope m x e =
+    tested (also (judged_meaning m) (judged scope (kind_at m) e)) (is_same_type (type_of scope (kind_at m) e) (or_dint (kind_at m))) ValueType x.at
+
+-- an output is of the type of the target that it is copied to, whose first name stands at a place
+abbrev pub judged_output : List ℕ → Option Meaning → Option Meaning → ℕ → Judgement
+judged_output controls m target at =
+    tested (also (judged_meaning m) (judged_target controls target at)) (is_same_type (or_dint (kind_at target)) (or_dint (kind_at m))) ValueType at
+
+abbrev pub judged_connection : Scope → List ℕ → Named → ConnectionData → Judgement
+judged_connection scope controls n (input x e) = judged_input scope (scope.means (by_path (member n x))) x e
+judged_connection scope controls n (output y p) = judged_output controls (scope.means (by_path (member n y))) (scope.means (by_path p)) p.first.at
+
+abbrev pub judged_connections : Scope → List ℕ → Named → List ConnectionData → Judgement
+judged_connections scope controls n [] = sound
+judged_connections scope controls n (c ∷ cs) = also (judged_connection scope controls n c) (judged_connections scope controls n cs)
+
+abbrev pub connected : ConnectionData → Named
+connected (input x e) = x
+connected (output y p) = y
+
+-- a name is connected that was connected before, or twice
+abbrev pub connects_twice : List (List ℕ) → List ConnectionData → Bool
+connects_twice before [] = false
+connects_twice before (c ∷ cs) =
+    list_any (λ text. bytes_eq text (connected c).text) before || connects_twice ((connected c).text ∷ before) cs
+
+-- from outside, an instance's inputs may be assigned, and its outputs may not
+abbrev pub is_input_of_instance : Option Meaning → Bool
+is_input_of_instance None = false
+is_input_of_instance (Some m) = m.assignable
+
+abbrev pub has_right_arrow : Scope → Named → ConnectionData → Bool
+has_right_arrow scope n (input x e) = is_input_of_instance (scope.means (by_path (member n x)))
+has_right_arrow scope n (output y p) = not (is_input_of_instance (scope.means (by_path (member n y))))
+
+-- a call of an instance connects each name once, inputs by `:=` and outputs by `=>`
+abbrev pub judged_invoke : Scope → List ℕ → Named → List ConnectionData → Judgement
+judged_invoke scope controls n cs =
+    tested (judged_connections scope controls n cs) (not (connects_twice [] cs) && list_all (has_right_arrow scope n) cs) ArgumentCount n.at
 
 -- the control variable of a FOR may be assigned, and is of an integer type
 abbrev pub may_control : List ℕ → Option Meaning → Bool
-may_control controls m = is_assignable controls m && is_integer_type (or_dint (kind_at m))
+may_control controls m = is_assignable controls m && is_control m && is_integer_type (or_dint (kind_at m))
 
 abbrev pub judged_control : List ℕ → Option Meaning → ℕ → Judgement
 judged_control controls m at = tested (judged_meaning m) (may_control controls m) NotAssignable at
@@ -62,7 +114,7 @@ step_is_typed scope t (Some e) = is_typed scope t e
 -- what stands between FOR and DO; the bounds and the step are of the control variable's type
 abbrev pub judged_iteration : Scope → List ℕ → IterationData → Judgement
 judged_iteration scope controls i =
-    let m = scope (by_path (alone i.control)) in
+    let m = scope.means (by_path (alone i.control)) in
     let t = or_dint (kind_at m) in
     tested
     (also (judged_control controls m i.control.at) (also (judged_bound scope t i.first) (also (judged_bound scope t i.last) (judged_step scope t i.step))))
@@ -88,7 +140,7 @@ range_at (Some m) = m.range
 -- the rule that the turns of a FOR break
 abbrev pub turns_rule : Scope → IterationData → Option Rule
 turns_rule scope i =
-    let m = scope (by_path (alone i.control)) in
+    let m = scope.means (by_path (alone i.control)) in
     let t = or_dint (kind_at m) in
     broken_by_turns (range_at m) (bound_value scope t i.first) (bound_value scope t i.last) (step_value scope t i.step)
 
@@ -123,12 +175,13 @@ abbrev mutual
   pub judged_stmt : Scope → List ℕ → Stmt → Judgement
   judged_stmt scope controls empty = sound
   judged_stmt scope controls (assign p e) = judged_assign scope controls p e
+  judged_stmt scope controls (invoke n at cs) = judged_invoke scope controls n cs
   judged_stmt scope controls (branch arms other) = also (judged_arms scope controls arms) (judged_else scope controls other)
   judged_stmt scope controls (cases e es other) =
       also (judged_selector scope e)
       (also (judged_entries scope controls (judged_selector scope e).whole (type_of scope None e) [] es) (judged_else scope controls other))
   judged_stmt scope controls (iterate i ss) =
-      broken_by (also (judged_iteration scope controls i) (judged_stmts scope (with_control controls (scope (by_path (alone i.control)))) ss)) (turns_rule scope i) i.at
+      broken_by (also (judged_iteration scope controls i) (judged_stmts scope (with_control controls (scope.means (by_path (alone i.control)))) ss)) (turns_rule scope i) i.at
 
   pub judged_stmts : Scope → List ℕ → Stmts → Judgement
   judged_stmts scope controls no_stmts = sound

@@ -7,11 +7,18 @@ pub mod Turns
 pub mod Labels
 pub mod JudgedStatements
 pub mod Domains
+pub mod Variables
+pub mod Places
+pub mod Members
+pub mod JudgedCharts
+pub mod Pous
+pub mod PouTables
 pub mod Programs
 pub mod TypedStatements
+pub mod TypedCharts
 pub mod TypedPrograms
 pub mod Outcomes
-pub mod Meanings
+pub mod ChartOutcomes
 pub mod TypedLists
 pub mod Seen
 pub mod OwnDomains
@@ -19,6 +26,7 @@ pub mod Sides
 pub mod PairedTypes
 pub mod Pairs
 pub mod Bodies
+pub mod PouScopes
 pub mod Faults
 pub mod Ready
 pub mod Beginnings

@@ -3,20 +3,21 @@ use Rattle.std.specs.Prelude.{ℕ, ◌+◌, List, [], ◌∷◌, ◌++◌, Bool,
 use Rattle.st_tree.specs.declared.data_type.DataType.{DataType}
 use Rattle.st_tree.specs.DataTypes.{is_same_type}
 use Rattle.st_tree.specs.declared.rule.Rule.{Rule}
-use Rattle.st_tree.specs.declared.rule.Rule.TheVariants.{OperandType, ValueType, OutsideType}
+use Rattle.st_tree.specs.declared.rule.Rule.TheVariants.{OperandType, ValueType, ArgumentCount, OutsideType}
 use Rattle.st_tree.specs.declared.function.StandardFunction.{StandardFunction}
 use Rattle.st_tree.specs.declared.typed.Range.{Range}
 use Rattle.st_tree.specs.Rules.{earlier, first_in}
 use Rattle.st_names.specs.Scopes.{Variable}
 use Rattle.st_names.specs.Broken.{alone}
 use Rattle.st_types.specs.declared.outcome.Outcome.{Outcome}
-use Rattle.st_tree.specs.Syntax.{Tree, Links, no_links, link, Arguments, no_arguments, argument, Stmt, empty, assign, branch, cases, iterate, Stmts, no_stmts, stmt, Arms, no_arms, arm, Entries, no_entries, entry, Otherwise, no_else, else_stmts, LabelData, IterationData, TypeDeclarationData, FileData}
-use Rattle.st_types.specs.Typing.{Scope, by_path, kind_at, or_dint, type_of, takes, next_type, Parameter, fixed, common, amount, parameter_of, is_amount, place_of, Meaning}
-use Rattle.st_types.specs.Judged.{Judgement, also, breaks, tested, wanted_at, judged, judged_condition}
+use Rattle.st_tree.specs.Syntax.{Named, Tree, Links, no_links, link, Arguments, no_arguments, argument, ConnectionData, Stmt, empty, assign, invoke, branch, cases, iterate, Stmts, no_stmts, stmt, Arms, no_arms, arm, Entries, no_entries, entry, Otherwise, no_else, else_stmts, LabelData, IterationData, TypeDeclarationData, PouData, FileData}
+use Rattle.st_types.specs.Typing.{Scope, by_path, kind_at, or_dint, type_of, takes, next_type, Parameter, fixed, common, amount, parameter_of, is_amount, place_of, Meaning, Signature}
+use Rattle.st_types.specs.Judged.{Judgement, also, breaks, tested, wanted_at, place_for, gives_all, wanted_by, judged_port, fits_port, fit_placed, judged, judged_condition}
 use Rattle.st_types.specs.Labels.{judged_label, seen_with}
-use Rattle.st_types.specs.JudgedStatements.{judged_assign, judged_control, judged_bound, judged_step, is_typed, step_is_typed, turns_rule, with_control, judged_selector, judged_labels_if}
+use Rattle.st_types.specs.JudgedStatements.{judged_assign, judged_connection, judged_invoke, judged_control, judged_bound, judged_step, is_typed, step_is_typed, turns_rule, with_control, judged_selector, judged_labels_if}
 use Rattle.st_types.specs.Domains.{judged_specification}
-use Rattle.st_types.specs.Programs.{judged_variable}
+use Rattle.st_types.specs.Variables.{judged_variable}
+use Rattle.st_types.specs.Pous.{judged_pou}
 
 unfoldable pub outcome_of : Judgement → Outcome
 outcome_of j = record { whole = j.whole; first = first_in j.broken }
@@ -46,6 +47,22 @@ abbrev pub arguments_outcome : Scope → StandardFunction → DataType → ℕ �
 arguments_outcome scope f t place o no_arguments = o
 arguments_outcome scope f t place o (argument n e args) =
     arguments_outcome scope f t (place + 1) (both o (amount_outcome scope (parameter_of f place) e (outcome_of (judged scope (wanted_at (parameter_of f place) t) e)))) args
+
+-- of arguments of a FUNCTION from a place on, behind what was judged so far
+abbrev pub named_outcome : Option Named → Bool → Outcome → Outcome
+named_outcome None fits o = o
+named_outcome (Some n) fits o = tried o fits ValueType n.at
+
+abbrev pub given_outcome : Scope → Signature → ℕ → Outcome → Arguments → Outcome
+given_outcome scope s place o no_arguments = o
+given_outcome scope s place o (argument n e args) =
+    let p = scope.port s.function (place_for scope s place n) in
+    given_outcome scope s (place + 1) (both o (named_outcome n (fits_port scope p e) (both (outcome_of (judged scope (wanted_by p) e)) (outcome_of (judged_port p))))) args
+
+-- of a call of a FUNCTION whose arguments were judged
+abbrev pub answer_outcome : Scope → ℕ → Signature → Arguments → Outcome → Outcome
+answer_outcome scope at s args parts =
+    both (tried (tried parts (gives_all scope s args) ArgumentCount at) (fit_placed scope s 0 args) OperandType at) (outcome_of (judged_port (Some s.result)))
 
 -- of arguments each alone, behind what was judged so far
 abbrev pub alone_outcome : Scope → Outcome → Arguments → Outcome
@@ -80,16 +97,22 @@ judged_turns scope controls m i =
     (also (judged_control controls m i.control.at) (also (judged_bound scope t i.first) (also (judged_bound scope t i.last) (judged_step scope t i.step))))
     (is_typed scope t i.first && is_typed scope t i.last && step_is_typed scope t i.step) ValueType i.control.at
 
+-- of connections behind what was judged so far
+abbrev pub connections_outcome : Scope → List ℕ → Named → Outcome → List ConnectionData → Outcome
+connections_outcome scope controls n o [] = o
+connections_outcome scope controls n o (c ∷ cs) = connections_outcome scope controls n (both o (outcome_of (judged_connection scope controls n c))) cs
+
 -- of statements behind what was judged so far, inside FORs with these control variables
 abbrev mutual
   pub stmt_outcome : Scope → List ℕ → Outcome → Stmt → Outcome
   stmt_outcome scope controls o empty = o
   stmt_outcome scope controls o (assign p e) = both o (outcome_of (judged_assign scope controls p e))
+  stmt_outcome scope controls o (invoke n at cs) = both o (outcome_of (judged_invoke scope controls n cs))
   stmt_outcome scope controls o (branch arms other) = else_outcome scope controls (arms_outcome scope controls o arms) other
   stmt_outcome scope controls o (cases e es other) =
       else_outcome scope controls (bodies_outcome scope controls (both o (outcome_of (judged_selection scope e es))) es) other
   stmt_outcome scope controls o (iterate i ss) =
-      let m = scope (by_path (alone i.control)) in
+      let m = scope.means (by_path (alone i.control)) in
       both o (ruled (stmts_outcome scope (with_control controls m) (outcome_of (judged_turns scope controls m i)) ss) (turns_rule scope i) i.at)
 
   pub stmts_outcome : Scope → List ℕ → Outcome → Stmts → Outcome
@@ -114,6 +137,11 @@ abbrev mutual
 abbrev pub variables_outcome : FileData → Outcome → List Variable → Outcome
 variables_outcome f o [] = o
 variables_outcome f o (v ∷ vs) = variables_outcome f (both o (outcome_of (judged_variable f v))) vs
+
+-- of POUs that are counted from a number on, behind what was judged so far
+abbrev pub pous_outcome : FileData → ℕ → Outcome → List PouData → Outcome
+pous_outcome f number o [] = o
+pous_outcome f number o (p ∷ ps) = pous_outcome f (number + 1) (both o (outcome_of (judged_pou f number p))) ps
 
 -- of types behind what was judged so far
 abbrev pub types_outcome : FileData → Outcome → List TypeDeclarationData → Outcome

@@ -14,7 +14,7 @@ use Rattle.st_types.specs.Programs.{cell_among}
 
 -- what a value of the type of a number stands for
 abbrev pub valued : ℕ → ℤ → Bool → Meaning
-valued t v whole = record { place = places.Value v; kind = Enumeration t; range = record { low = v; high = v }; whole = whole; assignable = false }
+valued t v whole = record { place = places.Value v; kind = Enumeration t; range = record { low = v; high = v }; whole = whole; assignable = false; control = false }
 
 abbrev pub whole_value : EnumerationValue → Meaning
 whole_value v = valued v.kind v.value true

@@ -1,5 +1,5 @@
 -- The typed expression that a tree stands for.
-use Rattle.std.specs.Prelude.{ℕ, ◌+◌, Bool, true, false, Option, Some, None, ℤ, pos}
+use Rattle.std.specs.Prelude.{ℕ, ◌+◌, List, [], ◌∷◌, slice_set, replicate, Bool, true, false, Option, Some, None, ℤ, pos}
 use Rattle.st_tree.specs.declared.data_type.DataType.{DataType}
 use Rattle.st_tree.specs.DataTypes.{carrier}
 use Rattle.st_tree.specs.declared.function.Function.{Function}
@@ -11,9 +11,10 @@ use Rattle.st_tree.specs.declared.syntax.Literal.{Literal}
 use Rattle.st_tree.specs.declared.syntax.UnaryOperator.{UnaryOperator}
 use Rattle.st_tree.specs.Types.{wrap_to}
 use Rattle.st_tree.specs.Syntax.{Tree, literal, path, enumerator, paren, unary, chain, call, Links, no_links, link, Arguments, no_arguments, argument}
-use Rattle.st_tree.specs.Tree.{Expression, number, cell, unary as typed_unary, chain as typed_chain, call as typed_call, Operands, no_operands, operand, Expressions, no_expressions, expression}
-use Rattle.st_types.specs.Typing.{Meaning, Scope, by_path, by_value, type_of, operand_type, next_type, literal_value, negated, or_else, or_dint, Parameter, fixed, common, amount, parameter_of, result_of, common_type, number_in, amount_value}
-use Rattle.st_types.specs.Judged.{negative_literal, wanted_at}
+use Rattle.st_tree.specs.Tree.{Expression, number, cell, unary as typed_unary, chain as typed_chain, call as typed_call, answer, Operands, no_operands, operand, Expressions, no_expressions, expression}
+use Rattle.st_tree.specs.View.{expressions_of}
+use Rattle.st_types.specs.Typing.{Meaning, Signature, Scope, by_path, by_value, type_of, operand_type, next_type, literal_value, negated, or_else, or_dint, Parameter, fixed, common, amount, parameter_of, result_of, common_type, number_in, amount_value}
+use Rattle.st_types.specs.Judged.{negative_literal, wanted_at, place_for, wanted_by}
 use Rattle.st_types.specs.declared.scope.Place.{Place}
 use Rattle.st_types.specs.declared.scope.Place.TheVariants as places
 
@@ -56,24 +57,39 @@ with_operand (fixed k) e es = expression e es
 with_operand common e es = expression e es
 with_operand amount e es = es
 
+-- a typed argument, and the place of the input that it is for
+abbrev pub PlacedData : Type 0
+PlacedData = ℕ × Expression
+
+-- arguments at their places
+abbrev pub placed : List Expression → List PlacedData → List Expression
+placed es [] = es
+placed es (g ∷ gs) = placed (slice_set es g.0 g.1) gs
+
+-- an answer, for values of all inputs in declared order; an input that is not given has 0
+abbrev pub typed_answer : Option Signature → (Signature → List PlacedData) → Expression
+typed_answer None given = number (pos 0)
+typed_answer (Some s) given = answer s.number (expressions_of (placed (replicate s.count (number (pos 0))) (given s)))
+
 -- a call, where its operands are known by its function and their type
-abbrev pub typed_result : Scope → Option DataType → Option StandardFunction → Arguments → (StandardFunction → DataType → Expressions) → Expression
-typed_result scope wanted None args operands = number (pos 0)
-typed_result scope wanted (Some f) args operands =
+abbrev pub typed_result : Scope → Option DataType → Option StandardFunction → Option Signature → Arguments → (StandardFunction → DataType → Expressions) → (Signature → List PlacedData) → Expression
+typed_result scope wanted None s args operands given = typed_answer s given
+typed_result scope wanted (Some f) s args operands given =
     let t = common_type scope wanted f args in
     typed_call (function_of f args) (carrier (or_dint (or_else (result_of f) (Some t)))) (operands f t)
 
 abbrev mutual
   pub typed : Scope → Option DataType → Tree → Expression
   typed scope wanted (literal l) = number_of (type_of scope wanted (literal l)) false l
-  typed scope wanted (path p) = meaning_read (scope (by_path p))
-  typed scope wanted (enumerator t v) = meaning_read (scope (by_value v))
+  typed scope wanted (path p) = meaning_read (scope.means (by_path p))
+  typed scope wanted (enumerator t v) = meaning_read (scope.means (by_value v))
   typed scope wanted (paren at e) = typed scope wanted e
   typed scope wanted (unary o at e) = typed_signed (type_of scope wanted e) o (negative_literal o e) (typed scope (Some (type_of scope wanted e)) e)
   typed scope wanted (chain e ls) =
       let t = operand_type scope wanted e ls in
       typed_chain (typed scope (Some t) e) (typed_links scope t ls)
-  typed scope wanted (call n at args) = typed_result scope wanted (standard_function n.text) args (λ f t. typed_operands scope f t 0 args)
+  typed scope wanted (call n at args) =
+      typed_result scope wanted (standard_function n.text) (scope.signature n.text) args (λ f t. typed_operands scope f t 0 args) (λ s. typed_given scope s 0 args)
 
   pub typed_links : Scope → DataType → Links → Operands
   typed_links scope t no_links = no_operands
@@ -85,12 +101,19 @@ abbrev mutual
   typed_operands scope f t place (argument n e args) =
       with_operand (parameter_of f place) (typed scope (wanted_at (parameter_of f place) t) e) (typed_operands scope f t (place + 1) args)
 
+  -- arguments of a FUNCTION from a place on
+  pub typed_given : Scope → Signature → ℕ → Arguments → List PlacedData
+  typed_given scope s place no_arguments = []
+  typed_given scope s place (argument n e args) =
+      let to = place_for scope s place n in (to, typed scope (wanted_by (scope.port s.function to)) e) ∷ typed_given scope s (place + 1) args
+
 abbrev pub value_of_number : Expression → ℤ
 value_of_number (number v) = v
 value_of_number (cell place) = pos 0
 value_of_number (typed_unary o t e) = pos 0
 value_of_number (typed_chain e os) = pos 0
 value_of_number (typed_call f t es) = pos 0
+value_of_number (answer f es) = pos 0
 
 -- the value of a constant where a type is wanted
 abbrev pub constant_of : Scope → DataType → Tree → ℤ

@@ -1,16 +1,16 @@
 -- Typed operands, statements, arms and entries as lists.
-use Rattle.std.specs.Prelude.{ℕ, ◌+◌, List, [], ◌∷◌, map, Option, Some, None}
+use Rattle.std.specs.Prelude.{ℕ, ◌+◌, List, [], ◌∷◌, ◌++◌, map, Option, Some, None}
 use Rattle.st_tree.specs.declared.data_type.DataType.{DataType}
 use Rattle.st_tree.specs.DataTypes.{carrier}
 use Rattle.st_tree.specs.declared.function.StandardFunction.{StandardFunction}
-use Rattle.st_tree.specs.Syntax.{Links, no_links, link, Arguments, no_arguments, argument, Stmt, Stmts, no_stmts, stmt, empty, assign, branch, cases, iterate, Arms, no_arms, arm, Entries, no_entries, entry}
+use Rattle.st_tree.specs.Syntax.{Links, no_links, link, Arguments, no_arguments, argument, Stmt, Stmts, no_stmts, stmt, empty, assign, invoke, branch, cases, iterate, Arms, no_arms, arm, Entries, no_entries, entry}
 use Rattle.st_tree.specs.Tree.{Expression, Statement, assign as typed_assign, choice, cases as typed_cases, repeat}
 use Rattle.st_tree.specs.View.{OperandData, ChoiceData, EntryData}
 use Rattle.st_types.specs.Typing.{Scope, by_path, kind_at, next_type, type_of, Parameter, fixed, common, amount, parameter_of}
 use Rattle.st_types.specs.Judged.{wanted_at}
 use Rattle.st_types.specs.Typed.{typed}
 use Rattle.st_types.specs.Labels.{label_range}
-use Rattle.st_types.specs.TypedStatements.{cell_of, turns_of, typed_stmts, typed_arms, typed_entries, typed_else}
+use Rattle.st_types.specs.TypedStatements.{cell_of, typed_invoke, turns_of, typed_stmts, typed_arms, typed_entries, typed_else}
 
 abbrev pub operand_list : Scope → DataType → Links → List OperandData
 operand_list scope t no_links = []
@@ -28,22 +28,19 @@ expression_list scope f t place no_arguments = []
 expression_list scope f t place (argument n e args) =
     before_operands (parameter_of f place) (typed scope (wanted_at (parameter_of f place) t) e) (expression_list scope f t (place + 1) args)
 
--- an empty statement leaves nothing
-abbrev pub statement_of : Scope → Stmt → Option Statement
-statement_of scope empty = None
-statement_of scope (assign p e) = Some (typed_assign (cell_of (scope (by_path p))) (typed scope (kind_at (scope (by_path p))) e))
-statement_of scope (branch arms other) = Some (choice (typed_arms scope arms) (typed_else scope other))
-statement_of scope (cases e es other) =
-    Some (typed_cases (typed scope None e) (typed_entries scope (type_of scope None e) es) (typed_else scope other))
-statement_of scope (iterate i body) = Some (repeat (turns_of scope i) (typed_stmts scope body))
-
-abbrev pub before : Option Statement → List Statement → List Statement
-before None ss = ss
-before (Some s) ss = s ∷ ss
+-- an empty statement leaves nothing, and a call of an instance several
+abbrev pub statements_for : Scope → Stmt → List Statement
+statements_for scope empty = []
+statements_for scope (assign p e) = typed_assign (cell_of (scope.means (by_path p))) (typed scope (kind_at (scope.means (by_path p))) e) ∷ []
+statements_for scope (invoke n at cs) = typed_invoke scope n cs
+statements_for scope (branch arms other) = choice (typed_arms scope arms) (typed_else scope other) ∷ []
+statements_for scope (cases e es other) =
+    typed_cases (typed scope None e) (typed_entries scope (type_of scope None e) es) (typed_else scope other) ∷ []
+statements_for scope (iterate i body) = repeat (turns_of scope i) (typed_stmts scope body) ∷ []
 
 abbrev pub statement_list : Scope → Stmts → List Statement
 statement_list scope no_stmts = []
-statement_list scope (stmt s ss) = before (statement_of scope s) (statement_list scope ss)
+statement_list scope (stmt s ss) = statements_for scope s ++ statement_list scope ss
 
 abbrev pub choice_list : Scope → Arms → List ChoiceData
 choice_list scope no_arms = []

@@ -1,17 +1,17 @@
 -- The typed statements that statements stand for.
-use Rattle.std.specs.Prelude.{ℕ, map, Option, Some, None}
+use Rattle.std.specs.Prelude.{ℕ, List, [], ◌∷◌, ◌++◌, map, Option, Some, None}
 use Rattle.st_tree.specs.declared.data_type.DataType.{DataType}
 use Rattle.st_tree.specs.declared.typed.Turns.{Turns}
-use Rattle.st_tree.specs.Syntax.{empty, assign, branch, cases, iterate, Stmts, no_stmts, stmt, Arms, no_arms, arm, Entries, no_entries, entry, Otherwise, no_else, else_stmts, IterationData}
-use Rattle.st_tree.specs.Tree.{assign as typed_assign, choice, cases as typed_cases, repeat, Statements, no_statements, statement, Choices, no_choices, choose, Entries as TypedEntries, no_entries as no_typed_entries, entry as typed_entry}
+use Rattle.st_tree.specs.Syntax.{Named, ConnectionData, input, output, empty, assign, invoke, branch, cases, iterate, Stmts, no_stmts, stmt, Arms, no_arms, arm, Entries, no_entries, entry, Otherwise, no_else, else_stmts, IterationData}
+use Rattle.st_tree.specs.Tree.{Statement, assign as typed_assign, run, choice, cases as typed_cases, repeat, Statements, no_statements, statement, Choices, no_choices, choose, Entries as TypedEntries, no_entries as no_typed_entries, entry as typed_entry}
 use Rattle.st_names.specs.Broken.{alone}
 use Rattle.st_types.specs.declared.scope.Place.{Place}
 use Rattle.st_types.specs.declared.scope.Place.TheVariants as places
-use Rattle.st_types.specs.Typing.{Meaning, Scope, by_path, kind_at, or_dint, type_of}
-use Rattle.st_types.specs.Typed.{typed}
+use Rattle.st_types.specs.Typing.{Meaning, Instance, Scope, by_path, kind_at, or_dint, type_of}
+use Rattle.st_types.specs.Typed.{meaning_read, typed}
 use Rattle.st_types.specs.Constants.{turn_count}
 use Rattle.st_types.specs.Labels.{label_range}
-use Rattle.st_types.specs.JudgedStatements.{bound_value, step_value}
+use Rattle.st_types.specs.JudgedStatements.{member, bound_value, step_value}
 
 abbrev pub place_cell : Place → ℕ
 place_cell (places.Cell c) = c
@@ -23,7 +23,7 @@ cell_of (Some m) = place_cell m.place
 
 abbrev pub turns_of : Scope → IterationData → Turns
 turns_of scope i =
-    let m = scope (by_path (alone i.control)) in
+    let m = scope.means (by_path (alone i.control)) in
     let t = or_dint (kind_at m) in
     record {
       count = turn_count (bound_value scope t i.first) (bound_value scope t i.last) (step_value scope t i.step);
@@ -32,12 +32,40 @@ turns_of scope i =
       step = step_value scope t i.step;
     }
 
+-- the values of the inputs that are given are assigned to an instance's cells
+abbrev pub typed_inputs : Scope → Named → List ConnectionData → List Statement
+typed_inputs scope n [] = []
+typed_inputs scope n (input x e ∷ cs) =
+    let m = scope.means (by_path (member n x)) in typed_assign (cell_of m) (typed scope (kind_at m) e) ∷ typed_inputs scope n cs
+typed_inputs scope n (output y p ∷ cs) = typed_inputs scope n cs
+
+-- the outputs that are asked for are copied to their targets
+abbrev pub typed_outputs : Scope → Named → List ConnectionData → List Statement
+typed_outputs scope n [] = []
+typed_outputs scope n (input x e ∷ cs) = typed_outputs scope n cs
+typed_outputs scope n (output y p ∷ cs) =
+    typed_assign (cell_of (scope.means (by_path p))) (meaning_read (scope.means (by_path (member n y)))) ∷ typed_outputs scope n cs
+
+abbrev pub typed_run : Option Instance → List Statement
+typed_run None = []
+typed_run (Some i) = run i.block i.offset ∷ []
+
+-- a call of an instance assigns its inputs, runs its block's body, and copies its outputs
+abbrev pub typed_invoke : Scope → Named → List ConnectionData → List Statement
+typed_invoke scope n cs = typed_inputs scope n cs ++ typed_run (scope.instance n.text) ++ typed_outputs scope n cs
+
+-- statements, and others behind them
+abbrev pub and_then : List Statement → Statements → Statements
+and_then [] behind = behind
+and_then (s ∷ ss) behind = statement s (and_then ss behind)
+
 -- empty statements leave nothing
 abbrev mutual
   pub typed_stmts : Scope → Stmts → Statements
   typed_stmts scope no_stmts = no_statements
   typed_stmts scope (stmt empty ss) = typed_stmts scope ss
-  typed_stmts scope (stmt (assign p e) ss) = statement (typed_assign (cell_of (scope (by_path p))) (typed scope (kind_at (scope (by_path p))) e)) (typed_stmts scope ss)
+  typed_stmts scope (stmt (assign p e) ss) = statement (typed_assign (cell_of (scope.means (by_path p))) (typed scope (kind_at (scope.means (by_path p))) e)) (typed_stmts scope ss)
+  typed_stmts scope (stmt (invoke n at cs) ss) = and_then (typed_invoke scope n cs) (typed_stmts scope ss)
   typed_stmts scope (stmt (branch arms other) ss) = statement (choice (typed_arms scope arms) (typed_else scope other)) (typed_stmts scope ss)
   typed_stmts scope (stmt (cases e es other) ss) =
       statement (typed_cases (typed scope None e) (typed_entries scope (type_of scope None e) es) (typed_else scope other)) (typed_stmts scope ss)

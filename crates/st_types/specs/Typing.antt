@@ -1,5 +1,5 @@
 -- The types of expressions (IEC 61131-3, 3.3.1).
-use Rattle.std.specs.Prelude.{ℕ, ◌+◌, ◌==◌, ◌&&◌, nat_le, unsigned_abs, int_le, Bool, true, false, not, Option, Some, None, if◌then◌else◌, ℤ, pos, neg_ℤ}
+use Rattle.std.specs.Prelude.{ℕ, List, ◌+◌, ◌==◌, ◌&&◌, nat_le, unsigned_abs, int_le, Bool, true, false, not, Option, Some, None, if◌then◌else◌, ℤ, pos, neg_ℤ}
 use Rattle.st_tree.specs.declared.elementary.Elementary.{Elementary as ElementaryType}
 use Rattle.st_tree.specs.declared.elementary.Elementary.TheVariants as types
 use Rattle.st_tree.specs.declared.data_type.DataType.{DataType}
@@ -17,6 +17,9 @@ use Rattle.st_tree.specs.Types.{is_integer, range_of, in_range}
 use Rattle.st_tree.specs.Syntax.{Named, PathData, Tree, literal, path, enumerator, paren, unary, chain, call, Links, no_links, link, Arguments, no_arguments, argument}
 use Rattle.st_names.specs.Library.{standard_function}
 pub use Rattle.st_types.specs.declared.scope.Meaning.{Meaning}
+pub use Rattle.st_types.specs.declared.scope.Port.{Port}
+pub use Rattle.st_types.specs.declared.scope.Signature.{Signature}
+pub use Rattle.st_types.specs.declared.scope.Instance.{Instance}
 
 abbrev pub bool_type : DataType
 bool_type = Elementary types.Bool
@@ -26,14 +29,28 @@ pub data Reference : Type 0 where
   by_path : PathData → Reference
   by_value : Named → Reference
 
--- a scope says what references stand for, where they stand for something
-abbrev pub Scope : Type 0
-Scope = Reference → Option Meaning
+-- What a scope says: what references stand for, where they stand for something; the FUNCTIONs that may be called, by their names; the
+-- input of a FUNCTION at a place among its inputs, and the place of that of a name; and the instances of blocks, by their names.
+pub record Scope : Type 0 where
+  pub means : Reference → Option Meaning
+  pub signature : List ℕ → Option Signature
+  pub port : ℕ → ℕ → Option Port
+  pub input : ℕ → List ℕ → Option ℕ
+  pub instance : List ℕ → Option Instance
+
+-- a scope in which nothing may be called
+abbrev pub without_calls : (Reference → Option Meaning) → Scope
+without_calls means =
+    record { means = means; signature = λ text. None; port = λ function place. None; input = λ function text. None; instance = λ text. None }
 
 -- the type of a name; that of a name whose declaration breaks a rule is unknown
 abbrev pub kind_at : Option Meaning → Option DataType
 kind_at None = None
 kind_at (Some m) = Some (if m.whole then m.kind else Unknown)
+
+-- the type of an input or a result; that of one whose declaration breaks a rule is unknown
+abbrev pub port_type : Port → DataType
+port_type p = if p.whole then p.kind else Unknown
 
 -- the first of two types, where there is one
 abbrev pub or_else : Option DataType → Option DataType → Option DataType
@@ -93,22 +110,27 @@ own_if_common (fixed t) own_type = None
 own_if_common common own_type = own_type
 own_if_common amount own_type = None
 
+-- the own type of a FUNCTION's answer
+abbrev pub own_of_answer : Option Signature → Option DataType
+own_of_answer None = None
+own_of_answer (Some s) = Some (port_type s.result)
+
 -- the own type of a call, where that of its operands is known by its function
-abbrev pub own_of_call : Option StandardFunction → (StandardFunction → Option DataType) → Option DataType
-own_of_call None of_operands = None
-own_of_call (Some f) of_operands = or_else (result_of f) (of_operands f)
+abbrev pub own_of_call : Option StandardFunction → Option Signature → (StandardFunction → Option DataType) → Option DataType
+own_of_call None s of_operands = own_of_answer s
+own_of_call (Some f) s of_operands = or_else (result_of f) (of_operands f)
 
 -- The own type of a comparison is BOOL, that of any other operator expression is that of its leftmost operand that has one, and
 -- that of a call is the type of its result, or that of its leftmost operand of the one type that has one.
 abbrev mutual
   pub own : Scope → Tree → Option DataType
   own scope (literal l) = own_of_literal l
-  own scope (path p) = kind_at (scope (by_path p))
-  own scope (enumerator t v) = kind_at (scope (by_value v))
+  own scope (path p) = kind_at (scope.means (by_path p))
+  own scope (enumerator t v) = kind_at (scope.means (by_value v))
   own scope (paren at e) = own scope e
   own scope (unary o at e) = own scope e
   own scope (chain e ls) = if compares ls then Some bool_type else or_else (own scope e) (own_of_links scope ls)
-  own scope (call n at args) = own_of_call (standard_function n.text) (λ f. own_of_arguments scope f 0 args)
+  own scope (call n at args) = own_of_call (standard_function n.text) (scope.signature n.text) (λ f. own_of_arguments scope f 0 args)
 
   -- of the leftmost operand that has one
   pub own_of_links : Scope → Links → Option DataType

@@ -1,13 +1,14 @@
 // Judging calls of standard functions (IEC 61131-3, 2.5.1.5).
-ghost use Rattle.std.specs.Prelude.{◌≡◌, ◌&&◌};
+ghost use Rattle.std.specs.Prelude.{◌≡◌, ◌&&◌, IfOk};
 ghost use Rattle.st_names.specs.Library.{standard_function};
 ghost use Rattle.st_tree.specs.SyntaxView.{name_view, tree_view, arguments_view};
 ghost use Rattle.st_types.specs.Typing.{common_type, takes_operands, takes_count, count_of};
-ghost use Rattle.st_types.specs.Judged.{sound, fits_at, fit_from, judged_call, judged_arguments, judged_alone};
+ghost use Rattle.st_types.specs.Judged.{sound, fits_at, fit_from, judged_call, judged_arguments, judged_alone, judged_given};
 ghost use Rattle.st_types.specs.Outcomes.{outcome_of, amount_outcome, arguments_outcome, alone_outcome};
 ghost use Rattle.st_types.specs.Parameters.{parameter_view};
 
 use crate::amounts::is_amount;
+use crate::answers::judge_user_call;
 use crate::expressions::judge_expr;
 use crate::kinds::{or_dint, own_of_arguments, place_of, type_of};
 use crate::outcome::Outcome;
@@ -15,6 +16,7 @@ use crate::parameters::{Parameter, parameter_of, takes_count, takes_operands, wa
 use crate::scope::Scope;
 use st_names::standard_function;
 use st_tree::{Argument, DataType, Expr, Name, Rule, StandardFunction};
+use std::alloc::{AllocError, Global};
 
 /// The one type of a call's operands.
 pub(crate) fn common_type<S: Scope>(
@@ -101,51 +103,59 @@ fn judge_amount<S: Scope>(
 /// Whether a call is whole where a type is wanted, or none, and what it breaks first.
 #[cycle(judge_expr)]
 pub(crate) fn judge_call<S: Scope>(
+    alloc: Global,
     scope: &S,
     wanted: Option<DataType>,
     name: &Name,
     arguments: &[Argument],
-) -> Outcome
-    ensures { result ≡ outcome_of (judged_call (S.means scope.now) wanted (name_view name.now).at (standard_function (name_view name.now).text) (arguments_view arguments.now) (judged_alone (S.means scope.now) (arguments_view arguments.now)) (λ f t. judged_arguments (S.means scope.now) f t 0 (arguments_view arguments.now))) }
+) -> Result<Outcome, AllocError>
+    ensures { IfOk result (λ o. o ≡ outcome_of (judged_call (S.means scope.now) wanted (name_view name.now).at (standard_function (name_view name.now).text) ((S.means scope.now).signature (name_view name.now).text) (arguments_view arguments.now) (judged_alone (S.means scope.now) (arguments_view arguments.now)) (λ f t. judged_arguments (S.means scope.now) f t 0 (arguments_view arguments.now)) (λ s. judged_given (S.means scope.now) s 0 (arguments_view arguments.now)))) }
 {
     let Some(function) = standard_function(name.text.as_str()) else {
-        return Outcome::silent();
+        return judge_user_call(alloc, scope, name, arguments);
     };
     if !takes_all(function, arguments) {
-        return judge_alone(scope, arguments).tested(false, Rule::ArgumentCount, name.at);
+        let alone = judge_alone(alloc, scope, arguments)?;
+        return Ok(alone.tested(false, Rule::ArgumentCount, name.at));
     }
     let kind = common_type(scope, wanted, function, arguments);
     let fits = are_operands(scope, function, kind, arguments);
-    judge_arguments(scope, function, kind, arguments).tested(fits, Rule::OperandType, name.at)
+    let judged = judge_arguments(alloc, scope, function, kind, arguments)?;
+    Ok(judged.tested(fits, Rule::OperandType, name.at))
 }
 
 // Arguments where the operands are of a type.
 #[cycle(judge_expr)]
 fn judge_arguments<S: Scope>(
+    alloc: Global,
     scope: &S,
     function: StandardFunction,
     kind: DataType,
     arguments: &[Argument],
-) -> Outcome
-    ensures { result ≡ arguments_outcome (S.means scope.now) function kind 0 (outcome_of sound) (arguments_view arguments.now) }
+) -> Result<Outcome, AllocError>
+    ensures { IfOk result (λ o. o ≡ arguments_outcome (S.means scope.now) function kind 0 (outcome_of sound) (arguments_view arguments.now)) }
 {
     let mut judged = Outcome::sound();
     for (place, argument) in arguments.iter().enumerate() {
         let parameter = parameter_of(function, place);
-        let value = judge_expr(scope, wanted_at(parameter, kind), &argument.value);
+        let value = judge_expr(alloc, scope, wanted_at(parameter, kind), &argument.value)?;
         judged = judged.also(judge_amount(scope, parameter, &argument.value, value));
     }
-    judged
+    Ok(judged)
 }
 
 // Arguments each alone, where a function does not take so many.
 #[cycle(judge_expr)]
-fn judge_alone<S: Scope>(scope: &S, arguments: &[Argument]) -> Outcome
-    ensures { result ≡ alone_outcome (S.means scope.now) (outcome_of sound) (arguments_view arguments.now) }
+fn judge_alone<S: Scope>(
+    alloc: Global,
+    scope: &S,
+    arguments: &[Argument],
+) -> Result<Outcome, AllocError>
+    ensures { IfOk result (λ o. o ≡ alone_outcome (S.means scope.now) (outcome_of sound) (arguments_view arguments.now)) }
 {
     let mut judged = Outcome::sound();
     for argument in arguments {
-        judged = judged.also(judge_expr(scope, None, &argument.value));
+        judged = judged.also(judge_expr(alloc, scope, None, &argument.value)?);
     }
-    judged
+    Ok(judged)
 }

@@ -16,20 +16,27 @@ use crate::typed_expressions::type_expr;
 use st_tree::{Expr, Program, Refusal, Rule, TypedExpr};
 use std::alloc::{AllocError, Global};
 
-/// What a clause breaks first of the rules on types; a clause is BOOL. Its paths stand for cells and values of the scope.
+/// What a clause breaks first of the rules on types; a clause is BOOL. Its paths stand for cells and values of the scope. Fails
+/// where memory runs out.
 #[tactic(auto, unfolding(crate::specs::Outcomes::outcome_of))]
-pub fn judge_clause<S: Scope>(scope: &S, clause: &Expr) -> Option<Refusal>
-    ensures { result ≡ first_in (judged_clause (S.means scope.now) (tree_view clause.now)).broken }
+pub fn judge_clause<S: Scope>(
+    alloc: Global,
+    scope: &S,
+    clause: &Expr,
+) -> Result<Option<Refusal>, AllocError>
+    ensures { IfOk result (λ first. first ≡ first_in (judged_clause (S.means scope.now) (tree_view clause.now)).broken) }
 {
-    judge_condition(scope, Rule::NotBool, clause).first
+    let judged = judge_condition(alloc, scope, Rule::NotBool, clause)?;
+    Ok(judged.first)
 }
 
 // Whether a clause over the cells of a scope breaks no rule on types.
-fn checked<S: Scope>(scope: &S, clause: &Expr) -> Result<(), TypeFault>
+fn checked<S: Scope>(alloc: Global, scope: &S, clause: &Expr) -> Result<(), TypeFault>
     ensures kept { OnOk result ((judged_clause (S.means scope.now) (tree_view clause.now)).broken ≡ []) }
     ensures refused { IfErr result (IsClauseFault (judged_clause (S.means scope.now) (tree_view clause.now)).broken) }
 {
-    match judge_clause(scope, clause) {
+    let first = judge_clause(alloc, scope, clause)?;
+    match first {
         None => Ok(()),
         Some(refusal) => Err(TypeFault::Refused(refusal)),
     }
@@ -47,7 +54,7 @@ pub fn check_clause(
     ensures refused { IfErr result (IsClauseFault (judged_clause (pair_scope (program_view old.now) (program_view new.now)) (tree_view clause.now)).broken) }
 {
     let scope = PairScope::new(alloc, old, new)?;
-    checked(&scope, clause)
+    checked(alloc, &scope, clause)
 }
 
 /// The typed expression that a clause stands for. Fails where memory runs out.

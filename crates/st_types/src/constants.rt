@@ -5,7 +5,7 @@ ghost use Rattle.st_types.specs.Constants.{is_value, means_value, is_constant, a
 
 use crate::scope::{Meaning, Place, Scope};
 use crate::typed_expressions::type_expr;
-use expression_value::evaluate;
+use effects::evaluate;
 use st_tree::{DataType, Expr, Link};
 use std::alloc::{AllocError, Global};
 

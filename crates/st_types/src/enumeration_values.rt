@@ -34,6 +34,7 @@ pub(crate) fn valued(kind: usize, value: i64, whole: bool) -> Meaning
         },
         whole,
         assignable: false,
+        control: false,
     }
 }
 

@@ -1,5 +1,5 @@
 // Judging expressions.
-ghost use Rattle.std.specs.Prelude.{◌≡◌};
+ghost use Rattle.std.specs.Prelude.{◌≡◌, IfOk};
 ghost use Rattle.st_tree.specs.SyntaxView.{tree_view, links_view};
 ghost use Rattle.st_types.specs.Judged.{judged_literal, judged_meaning, takes_sign, negative_literal, judged, judged_condition};
 ghost use Rattle.st_types.specs.Outcomes.{outcome_of, links_outcome};
@@ -12,6 +12,7 @@ use crate::literals::{is_literal_of, is_number, place_of_literal};
 use crate::outcome::Outcome;
 use crate::scope::{Meaning, Scope};
 use st_tree::{DataType, Expr, Link, Literal, Rule, UnaryOperator};
+use std::alloc::{AllocError, Global};
 
 // A literal is a value of its type; of one whose type is unknown nothing is said.
 fn judge_literal(kind: DataType, minus: bool, at: usize, literal: Literal) -> Outcome
@@ -58,59 +59,75 @@ pub(crate) fn negative_literal(operator: UnaryOperator, operand: &Expr) -> Optio
 /// Whether an expression is whole where a type is wanted, or none, and what it breaks first.
 #[cycle(judge_expr)]
 #[tactic(auto, using(crate::proofs::Judging::judging))]
-pub(crate) fn judge_expr<S: Scope>(scope: &S, wanted: Option<DataType>, expr: &Expr) -> Outcome
-    ensures { result ≡ outcome_of (judged (S.means scope.now) wanted (tree_view expr.now)) }
+pub(crate) fn judge_expr<S: Scope>(
+    alloc: Global,
+    scope: &S,
+    wanted: Option<DataType>,
+    expr: &Expr,
+) -> Result<Outcome, AllocError>
+    ensures { IfOk result (λ o. o ≡ outcome_of (judged (S.means scope.now) wanted (tree_view expr.now))) }
 {
     match expr {
         Expr::Literal(literal) => {
             let kind = type_of(scope, wanted, expr);
-            judge_literal(kind, false, place_of_literal(*literal), *literal)
+            Ok(judge_literal(kind, false, place_of_literal(*literal), *literal))
         }
-        Expr::Path(path) => judge_meaning(scope.meaning(path)),
-        Expr::Enumerator(_, value) => judge_meaning(scope.value(value)),
-        Expr::Paren(_, inner) => judge_expr(scope, wanted, inner),
+        Expr::Path(path) => Ok(judge_meaning(scope.meaning(path))),
+        Expr::Enumerator(_, value) => Ok(judge_meaning(scope.value(value))),
+        Expr::Paren(_, inner) => judge_expr(alloc, scope, wanted, inner),
         Expr::Unary(operator, at, operand) => {
             let kind = type_of(scope, wanted, operand);
             match negative_literal(*operator, operand) {
-                Some(literal) => judge_literal(kind, true, *at, literal),
-                None => judge_expr(scope, Some(kind), operand).tested(
-                    takes_sign(*operator, kind),
-                    Rule::OperandType,
-                    *at,
-                ),
+                Some(literal) => Ok(judge_literal(kind, true, *at, literal)),
+                None => {
+                    let judged = judge_expr(alloc, scope, Some(kind), operand)?;
+                    Ok(judged.tested(takes_sign(*operator, kind), Rule::OperandType, *at))
+                }
             }
         }
         Expr::Chain(first, links) => {
             let kind = operand_type(scope, wanted, first, links);
-            let left = judge_expr(scope, Some(kind), first);
-            judge_links(scope, kind, left, links)
+            let left = judge_expr(alloc, scope, Some(kind), first)?;
+            judge_links(alloc, scope, kind, left, links)
         }
-        Expr::Call(name, _, arguments) => judge_call(scope, wanted, name, arguments),
+        Expr::Call(name, _, arguments) => judge_call(alloc, scope, wanted, name, arguments),
     }
 }
 
 // Operators behind a left operand that was judged.
 #[cycle(judge_expr)]
-fn judge_links<S: Scope>(scope: &S, kind: DataType, left: Outcome, links: &[Link]) -> Outcome
-    ensures { result ≡ links_outcome (S.means scope.now) kind left (links_view links.now) }
+fn judge_links<S: Scope>(
+    alloc: Global,
+    scope: &S,
+    kind: DataType,
+    left: Outcome,
+    links: &[Link],
+) -> Result<Outcome, AllocError>
+    ensures { IfOk result (λ o. o ≡ links_outcome (S.means scope.now) kind left (links_view links.now)) }
 {
     let mut kind = kind;
     let mut left = left;
     for link in links {
-        let right = judge_expr(scope, Some(kind), &link.right);
+        let right = judge_expr(alloc, scope, Some(kind), &link.right)?;
         let fits = takes(link.operator, kind)
             && type_of(scope, Some(kind), &link.right).is_same(kind);
         left = left.also(right).tested(fits, Rule::OperandType, link.at);
         kind = next_type(link.operator, kind);
     }
-    left
+    Ok(left)
 }
 
 /// A condition is BOOL.
 #[tactic(auto, using(crate::proofs::Judging::judging))]
-pub(crate) fn judge_condition<S: Scope>(scope: &S, rule: Rule, expr: &Expr) -> Outcome
-    ensures { result ≡ outcome_of (judged_condition (S.means scope.now) rule (tree_view expr.now)) }
+pub(crate) fn judge_condition<S: Scope>(
+    alloc: Global,
+    scope: &S,
+    rule: Rule,
+    expr: &Expr,
+) -> Result<Outcome, AllocError>
+    ensures { IfOk result (λ o. o ≡ outcome_of (judged_condition (S.means scope.now) rule (tree_view expr.now))) }
 {
     let fits = is_bool(type_of(scope, None, expr));
-    judge_expr(scope, None, expr).tested(fits, rule, place_of(expr))
+    let judged = judge_expr(alloc, scope, None, expr)?;
+    Ok(judged.tested(fits, rule, place_of(expr)))
 }

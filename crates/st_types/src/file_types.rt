@@ -8,7 +8,7 @@ ghost use Rattle.st_types.specs.OwnDomains.{count_of_values};
 
 use crate::domain::has_few;
 use crate::enumeration_values::valued;
-use crate::scope::{Meaning, Scope};
+use crate::scope::{Instance, Meaning, Port, Scope, Signature};
 use st_names::{Resolved, Standing, declared_types};
 use st_tree::{Name, Path, Specification, TypeDeclaration};
 use std::alloc::{AllocError, Global};
@@ -75,5 +75,21 @@ impl Scope for FileTypes<'_> {
 
     fn value(&self, name: &Name) -> Option<Meaning> {
         self.value_of(name.text.as_str())
+    }
+
+    fn signature(&self, _name: &str) -> Option<Signature> {
+        None
+    }
+
+    fn port(&self, _function: usize, _place: usize) -> Option<Port> {
+        None
+    }
+
+    fn input(&self, _function: usize, _name: &str) -> Option<usize> {
+        None
+    }
+
+    fn instance(&self, _name: &str) -> Option<Instance> {
+        None
     }
 }

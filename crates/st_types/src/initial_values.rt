@@ -1,10 +1,10 @@
 // The values that variables begin with.
-ghost use Rattle.std.specs.Prelude.{◌≡◌, IfOk};
-ghost use Rattle.st_tree.specs.SyntaxView.{tree_view, initial_view};
+ghost use Rattle.std.specs.Prelude.{◌≡◌, option_map, IfOk};
+ghost use Rattle.st_tree.specs.SyntaxView.{tree_view};
 ghost use Rattle.st_tree.specs.Types.{in_range};
 ghost use Rattle.st_types.specs.Bodies.{file_of};
 ghost use Rattle.st_types.specs.Outcomes.{outcome_of};
-ghost use Rattle.st_types.specs.Programs.{judged_initial, judged_value, given_value, start_of};
+ghost use Rattle.st_types.specs.Variables.{judged_initial, judged_value, given_value, start_of};
 
 use crate::domain::Domain;
 use crate::expressions::judge_expr;
@@ -36,7 +36,8 @@ fn judge_given(
     let kind = domain.kind;
     let given = constant_of(alloc, file, kind, value)?;
     let fits = type_of(file, Some(kind), value).is_same(kind);
-    let of_type = judge_expr(file, Some(kind), value).tested(fits, Rule::ValueType, at);
+    let judged = judge_expr(alloc, file, Some(kind), value)?;
+    let of_type = judged.tested(fits, Rule::ValueType, at);
     let within = is_in(given, domain.range);
     Ok(of_type.tested(within, Rule::OutsideType, place_of(value)))
 }
@@ -47,9 +48,9 @@ fn judge_initial(
     file: &FileTypes<'_>,
     domain: Domain,
     at: usize,
-    initial: &Option<Expr>,
+    initial: Option<&Expr>,
 ) -> Result<Outcome, AllocError>
-    ensures { IfOk result (λ o. o ≡ outcome_of (judged_initial (file_of file.now) domain at (initial_view initial.now))) }
+    ensures { IfOk result (λ o. o ≡ outcome_of (judged_initial (file_of file.now) domain at (option_map (λ e. tree_view e.now) initial.entry))) }
 {
     match initial {
         None => Ok(Outcome::sound()),
@@ -63,9 +64,9 @@ pub(crate) fn judge_value(
     file: &FileTypes<'_>,
     domain: Domain,
     at: usize,
-    initial: &Option<Expr>,
+    initial: Option<&Expr>,
 ) -> Result<Outcome, AllocError>
-    ensures { IfOk result (λ o. o ≡ outcome_of (judged_value (file_of file.now) domain at (initial_view initial.now))) }
+    ensures { IfOk result (λ o. o ≡ outcome_of (judged_value (file_of file.now) domain at (option_map (λ e. tree_view e.now) initial.entry))) }
 {
     if domain.whole {
         judge_initial(alloc, file, domain, at, initial)
@@ -79,9 +80,9 @@ fn given_value(
     alloc: Global,
     file: &FileTypes<'_>,
     domain: Domain,
-    initial: &Option<Expr>,
+    initial: Option<&Expr>,
 ) -> Result<i64, AllocError>
-    ensures { IfOk result (λ value. value ≡ given_value (file_of file.now) domain (initial_view initial.now)) }
+    ensures { IfOk result (λ value. value ≡ given_value (file_of file.now) domain (option_map (λ e. tree_view e.now) initial.entry)) }
 {
     match initial {
         None => Ok(domain.start),
@@ -97,9 +98,9 @@ pub(crate) fn start_of(
     file: &FileTypes<'_>,
     domain: Domain,
     at: usize,
-    initial: &Option<Expr>,
+    initial: Option<&Expr>,
 ) -> Result<i64, AllocError>
-    ensures { IfOk result (λ value. value ≡ start_of (file_of file.now) domain at (initial_view initial.now)) }
+    ensures { IfOk result (λ value. value ≡ start_of (file_of file.now) domain at (option_map (λ e. tree_view e.now) initial.entry)) }
 {
     if judge_initial(alloc, file, domain, at, initial)?.whole {
         given_value(alloc, file, domain, initial)

@@ -1,13 +1,14 @@
 // What stands between FOR and DO.
 ghost use Rattle.std.specs.Prelude.{◌≡◌, ◌==◌, IfOk};
 ghost use Rattle.std.specs.List.{list_any};
-ghost use Rattle.st_tree.specs.SyntaxView.{name_view, path_view, tree_view, initial_view, iteration_view};
+ghost use Rattle.st_tree.specs.SyntaxView.{name_view, tree_view, initial_view, iteration_view};
 ghost use Rattle.st_names.specs.Broken.{alone};
-ghost use Rattle.st_types.specs.JudgedStatements.{is_free, is_assignable, may_control, judged_control, judged_bound, judged_step, is_typed, step_is_typed, value_or_zero, bound_value, step_value, range_at, turns_rule, with_place, with_control};
+ghost use Rattle.st_types.specs.JudgedStatements.{is_free, is_assignable, is_control, may_control, judged_control, judged_bound, judged_step, is_typed, step_is_typed, value_or_zero, bound_value, step_value, range_at, turns_rule, with_place, with_control};
 ghost use Rattle.st_types.specs.Typing.{by_path};
 ghost use Rattle.st_types.specs.TypedStatements.{turns_of};
 ghost use Rattle.st_types.specs.Outcomes.{outcome_of, judged_turns};
 
+use crate::alone::meaning_alone;
 use crate::constants::constant_value;
 use crate::expressions::{judge_expr, judge_meaning};
 use crate::kinds::{kind_at, or_dint, place_of, type_of};
@@ -16,30 +17,8 @@ use crate::outcome::Outcome;
 use crate::scope::{Meaning, Place, Scope};
 use crate::turns::{broken_by_turns, turn_count};
 use crate::typed_expressions::cell_of;
-use st_tree::{DataType, Elementary, Expr, Iteration, Name, Path, Range, Rule, Turns};
+use st_tree::{DataType, Elementary, Expr, Iteration, Range, Rule, Turns};
 use std::alloc::{AllocError, Global};
-
-// The path of a name alone.
-fn alone(alloc: Global, name: &Name) -> Result<Path, AllocError>
-    ensures { IfOk result (λ path. path_view path ≡ alone (name_view name.now)) }
-{
-    Ok(Path {
-        first: name.copy(alloc)?,
-        members: Vec::new(alloc),
-    })
-}
-
-/// What the name of a control variable stands for.
-pub(crate) fn control_of<S: Scope>(
-    alloc: Global,
-    scope: &S,
-    name: &Name,
-) -> Result<Option<Meaning>, AllocError>
-    ensures { IfOk result (λ meaning. meaning ≡ S.means scope.now (by_path (alone (name_view name.now)))) }
-{
-    let path = alone(alloc, name)?;
-    Ok(scope.meaning(&path))
-}
 
 fn is_among(controls: &[usize], cell: usize) -> bool
     ensures { result ≡ list_any (λ control. cell == control) controls.now }
@@ -72,11 +51,23 @@ pub(crate) fn is_assignable(controls: &[usize], meaning: Option<Meaning>) -> boo
     }
 }
 
+// What a FUNCTION answers may not control a FOR.
+fn is_control(meaning: Option<Meaning>) -> bool
+    ensures { result ≡ is_control meaning }
+{
+    match meaning {
+        None => false,
+        Some(meaning) => meaning.control,
+    }
+}
+
 // Whether a variable may be a control variable.
 fn may_control(controls: &[usize], meaning: Option<Meaning>) -> bool
     ensures { result ≡ may_control controls.now meaning }
 {
-    is_assignable(controls, meaning) && or_dint(kind_at(meaning)).is_integer()
+    is_assignable(controls, meaning)
+        && is_control(meaning)
+        && or_dint(kind_at(meaning)).is_integer()
 }
 
 #[tactic(auto, using(crate::proofs::Judging::judging))]
@@ -97,7 +88,7 @@ fn judge_bound<S: Scope>(
     ensures { IfOk result (λ o. o ≡ outcome_of (judged_bound (S.means scope.now) kind (tree_view bound.now))) }
 {
     let value = constant_value(alloc, scope, Some(kind), bound)?;
-    let judged = judge_expr(scope, Some(kind), bound);
+    let judged = judge_expr(alloc, scope, Some(kind), bound)?;
     Ok(judged.tested(value.is_some(), Rule::NotConstant, place_of(bound)))
 }
 
@@ -202,7 +193,7 @@ pub(crate) fn turns_rule<S: Scope>(
     meaning: Option<Meaning>,
     iteration: &Iteration,
 ) -> Result<Option<Rule>, AllocError>
-    requires { meaning ≡ S.means scope.now (by_path (alone (name_view iteration.now.control))) }
+    requires { meaning ≡ (S.means scope.now).means (by_path (alone (name_view iteration.now.control))) }
     ensures { IfOk result (λ rule. rule ≡ turns_rule (S.means scope.now) (iteration_view iteration.now)) }
 {
     let kind = or_dint(kind_at(meaning));
@@ -220,7 +211,7 @@ pub(crate) fn turns_of<S: Scope>(
 ) -> Result<Turns, AllocError>
     ensures { IfOk result (λ turns. turns ≡ turns_of (S.means scope.now) (iteration_view iteration.now)) }
 {
-    let meaning = control_of(alloc, scope, &iteration.control)?;
+    let meaning = meaning_alone(alloc, scope, &iteration.control)?;
     let kind = or_dint(kind_at(meaning));
     let first = bound_value(alloc, scope, kind, &iteration.first)?;
     let last = bound_value(alloc, scope, kind, &iteration.last)?;

@@ -1,12 +1,12 @@
 // The types of expressions (IEC 61131-3, 3.3.1).
 ghost use Rattle.std.specs.Prelude.{◌≡◌};
 ghost use Rattle.st_tree.specs.SyntaxView.{name_view, tree_view, links_view, arguments_view};
-ghost use Rattle.st_types.specs.Typing.{bool_type, is_unknown, kind_at, has_bits, is_ordered, is_bool, is_comparison, compares, own, own_of_links, own_of_call, own_of_arguments, or_dint, type_of, own_of_first, operand_type, next_type, takes, place_of};
+ghost use Rattle.st_types.specs.Typing.{bool_type, is_unknown, kind_at, port_type, own_of_answer, has_bits, is_ordered, is_bool, is_comparison, compares, own, own_of_links, own_of_call, own_of_arguments, or_dint, type_of, own_of_first, operand_type, next_type, takes, place_of};
 ghost use Rattle.st_names.specs.Library.{standard_function};
 
 use crate::literals::{own_of_literal, place_of_literal};
 use crate::parameters::{Parameter, parameter_of, result_of};
-use crate::scope::{Meaning, Scope};
+use crate::scope::{Meaning, Port, Scope, Signature};
 use st_names::standard_function;
 use st_tree::{Argument, DataType, Elementary, Expr, Link, Name, Operator, StandardFunction};
 
@@ -119,12 +119,35 @@ fn own_of_links<S: Scope>(scope: &S, links: &[Link]) -> Option<DataType>
     None
 }
 
+/// The type of an input or a result; that of one whose declaration breaks a rule is unknown.
+pub(crate) fn port_type(port: Port) -> DataType
+    ensures { result ≡ port_type port }
+{
+    if port.whole {
+        port.kind
+    } else {
+        DataType::Unknown
+    }
+}
+
+// The own type of a FUNCTION's answer.
+fn own_of_answer(signature: Option<Signature>) -> Option<DataType>
+    ensures { result ≡ own_of_answer signature }
+{
+    match signature {
+        None => None,
+        Some(signature) => Some(port_type(signature.result)),
+    }
+}
+
 // The own type of a call, where it has one.
 #[cycle(own)]
 fn own_of_call<S: Scope>(scope: &S, name: &Name, arguments: &[Argument]) -> Option<DataType>
-    ensures { result ≡ own_of_call (standard_function (name_view name.now).text) (λ f. own_of_arguments (S.means scope.now) f 0 (arguments_view arguments.now)) }
+    ensures { result ≡ own_of_call (standard_function (name_view name.now).text) ((S.means scope.now).signature (name_view name.now).text) (λ f. own_of_arguments (S.means scope.now) f 0 (arguments_view arguments.now)) }
 {
-    let function = standard_function(name.text.as_str())?;
+    let Some(function) = standard_function(name.text.as_str()) else {
+        return own_of_answer(scope.signature(name.text.as_str()));
+    };
     match result_of(function) {
         Some(kind) => Some(kind),
         None => own_of_arguments(scope, function, arguments),

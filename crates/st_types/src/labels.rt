@@ -1,9 +1,10 @@
 // The labels of a CASE.
-ghost use Rattle.std.specs.Prelude.{◌≡◌, [], map, not, int_le, IfOk, List};
+ghost use Rattle.std.specs.Prelude.{◌≡◌, [], map, not, int_le, IfOk, List, Some};
 ghost use Rattle.st_tree.specs.SyntaxView.{tree_view, initial_view, label_view, labels_view, entries_view};
 ghost use Rattle.st_types.specs.Labels.{label_range, judged_high, is_of_type, high_is_of_type, overlaps, judged_label, judged_labels, seen_with, seen_behind};
 ghost use Rattle.st_types.specs.Outcomes.{outcome_of, labels_outcome, all_labels};
 ghost use Rattle.st_types.specs.Seen.{Keeps};
+ghost use Rattle.st_types.specs.Judged.{also, judged};
 
 use crate::expressions::judge_expr;
 use crate::kinds::{place_of, type_of};
@@ -52,12 +53,17 @@ pub(crate) fn label_ranges<S: Scope>(
     Ok(ranges)
 }
 
-fn judge_high<S: Scope>(scope: &S, kind: DataType, high: &Option<Expr>) -> Outcome
-    ensures { result ≡ outcome_of (judged_high (S.means scope.now) kind (initial_view high.now)) }
+fn judge_high<S: Scope>(
+    alloc: Global,
+    scope: &S,
+    kind: DataType,
+    high: &Option<Expr>,
+) -> Result<Outcome, AllocError>
+    ensures { IfOk result (λ o. o ≡ outcome_of (judged_high (S.means scope.now) kind (initial_view high.now))) }
 {
     match high {
-        None => Outcome::sound(),
-        Some(high) => judge_expr(scope, Some(kind), high),
+        None => Ok(Outcome::sound()),
+        Some(high) => judge_expr(alloc, scope, Some(kind), high),
     }
 }
 
@@ -99,19 +105,35 @@ fn judge_label<S: Scope>(
     scope: &S,
     kind: DataType,
     label: &Label,
+    constants: Outcome,
     range: Range,
     is_new: bool,
 ) -> Outcome
-    ensures { (seen : List Range) → range ≡ label_range (S.means scope.now) kind (label_view label.now) → is_new ≡ not (overlaps seen range)
+    ensures { (seen : List Range) → constants ≡ outcome_of (also (judged (S.means scope.now) (Some kind) (tree_view label.now.low)) (judged_high (S.means scope.now) kind (initial_view label.now.high)))
+        → range ≡ label_range (S.means scope.now) kind (label_view label.now) → is_new ≡ not (overlaps seen range)
         → result ≡ outcome_of (judged_label (S.means scope.now) kind seen (label_view label.now)) }
 {
     let at = place_of(&label.low);
     let fits = is_of_type(scope, kind, &label.low) && high_is_of_type(scope, kind, &label.high);
-    judge_expr(scope, Some(kind), &label.low)
-        .also(judge_high(scope, kind, &label.high))
+    constants
         .tested(fits, Rule::OperandType, at)
         .tested(is_in_order(range), Rule::OutsideType, at)
         .tested(is_new, Rule::Overlap, at)
+}
+
+// The constants of a label.
+#[tactic(auto, using(crate::proofs::Judging::judging))]
+fn judge_constants<S: Scope>(
+    alloc: Global,
+    scope: &S,
+    kind: DataType,
+    label: &Label,
+) -> Result<Outcome, AllocError>
+    ensures { IfOk result (λ o. o ≡ outcome_of (also (judged (S.means scope.now) (Some kind) (tree_view label.now.low)) (judged_high (S.means scope.now) kind (initial_view label.now.high)))) }
+{
+    let low = judge_expr(alloc, scope, Some(kind), &label.low)?;
+    let high = judge_high(alloc, scope, kind, &label.high)?;
+    Ok(low.also(high))
 }
 
 // Judges a label, which is seen from then on where it breaks no rule.
@@ -127,7 +149,8 @@ fn take_label<S: Scope>(
 {
     let range = label_range(alloc, scope, kind, label)?;
     let is_new = !overlaps(seen, range);
-    let outcome = judge_label(scope, kind, label, range, is_new);
+    let constants = judge_constants(alloc, scope, kind, label)?;
+    let outcome = judge_label(scope, kind, label, constants, range, is_new);
     if outcome.whole {
         seen.insert(range.low, range.high)?;
     }

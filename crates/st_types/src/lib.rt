@@ -1,10 +1,18 @@
-// From a program whose names are bound to typed cells and statements, or to the first rule on types that it breaks.
+// From a file whose names are bound to the typed cells and statements of its program and of the POUs that it calls, or to the first
+// rule on types that the file breaks.
 #![tactic(auto)]
 
+mod alone;
 mod amounts;
+mod answers;
+mod blocks;
+mod bodies;
+mod called;
 mod calls;
 mod cells;
+mod charts;
 mod clauses;
+mod connections;
 mod constants;
 mod domain;
 mod domains;
@@ -19,24 +27,27 @@ mod kinds;
 mod labels;
 mod laws;
 mod literals;
-mod meanings;
-mod names;
+mod members;
 mod numbers;
+mod order;
 mod outcome;
 mod own_domains;
 mod pair;
 mod paired_types;
 mod parameters;
+mod places;
+mod pou_scope;
+mod pous;
 mod program;
+mod roles;
 mod scope;
-mod sections;
 mod selection;
 mod sides;
 mod statements;
 mod subranges;
-mod temporaries;
 mod turns;
 mod type_texts;
+mod typed_answers;
 mod typed_calls;
 mod typed_expressions;
 mod typed_statements;
@@ -50,7 +61,11 @@ pub use outcome::Outcome;
 pub use pair::PairScope;
 pub use paired_types::PairedTypes;
 pub use program::check;
-pub use scope::{Meaning, Place, Scope};
+pub use scope::{Instance, Meaning, Place, Port, Scope, Signature};
 
+#[cfg(test)]
+mod call_tests;
+#[cfg(test)]
+mod chart_tests;
 #[cfg(test)]
 mod tests;

@@ -5,7 +5,7 @@ ghost use Rattle.st_tree.specs.View.{program_view};
 ghost use Rattle.st_types.specs.PairedTypes.{paired_in};
 
 use crate::paired_types::PairedTypes;
-use crate::scope::{Meaning, Scope};
+use crate::scope::{Instance, Meaning, Port, Scope, Signature};
 use crate::sides::Side;
 use st_tree::{DataType, Name, Path, Program};
 use std::alloc::{AllocError, Global};
@@ -77,6 +77,22 @@ impl Scope for PairScope<'_> {
     }
 
     fn value(&self, _name: &Name) -> Option<Meaning> {
+        None
+    }
+
+    fn signature(&self, _name: &str) -> Option<Signature> {
+        None
+    }
+
+    fn port(&self, _function: usize, _place: usize) -> Option<Port> {
+        None
+    }
+
+    fn input(&self, _function: usize, _name: &str) -> Option<usize> {
+        None
+    }
+
+    fn instance(&self, _name: &str) -> Option<Instance> {
         None
     }
 }

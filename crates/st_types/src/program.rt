@@ -1,167 +1,129 @@
-// From a program whose names are bound to a typed program.
-ghost use Rattle.std.specs.Prelude.{◌≡◌, [], ◌∷◌, true, nat_le, IfOk, IfErr, OnOk};
+// From a file whose names are bound to a typed program.
+ghost use Rattle.std.specs.Prelude.{◌≡◌, ℕ, [], true, Some, IfOk, IfErr, OnOk};
 ghost use Rattle.st_tree.specs.Rules.{first_in};
 ghost use Rattle.st_tree.specs.Syntax.{PouData};
-ghost use Rattle.st_tree.specs.SyntaxView.{body_view, pou_view, file_view};
-ghost use Rattle.st_tree.specs.View.{stmts_view, program_view};
-ghost use Rattle.st_names.specs.Bound.{variables_in_pou};
-ghost use Rattle.st_names.specs.FileScope.{pous_of};
-ghost use Rattle.st_names.specs.ScopeView.{variables_view};
-ghost use Rattle.st_types.specs.Bodies.{file_in, means_in};
-ghost use Rattle.st_types.specs.Outcomes.{outcome_of};
-ghost use Rattle.st_types.specs.Programs.{judged_body, broken_types, cells_behind, has_room};
-ghost use Rattle.st_types.specs.TypedPrograms.{begun, typed_body, typed_program};
+ghost use Rattle.st_tree.specs.SyntaxView.{pou_view, file_view};
+ghost use Rattle.st_tree.specs.View.{program_view};
+ghost use Rattle.st_names.specs.Bound.{program_number};
+ghost use Rattle.st_names.specs.FileScope.{pou_at};
+ghost use Rattle.st_types.specs.Bodies.{file_in};
+ghost use Rattle.st_types.specs.Pous.{broken_types, has_room};
+ghost use Rattle.st_types.specs.TypedPrograms.{typed_program};
 ghost use Rattle.st_types.specs.Faults.{IsFaultOf};
 ghost use Rattle.st_types.specs.Ready.{IsReady};
 
-use crate::cells::{constant_names, program_cells};
-use crate::domains::Domains;
+use crate::bodies::{judge_pous, pou_body};
+use crate::called::called_by;
+use crate::cells::{cells_behind_fault, names_without_cell};
 use crate::fault::TypeFault;
 use crate::judged_types::judge_types;
-use crate::meanings::all_meanings;
-use crate::names::ProgramScope;
-use crate::outcome::Outcome;
-use crate::scope::Scope;
-use crate::statements::judge_stmts;
-use crate::temporaries::beginnings;
+use crate::places::count_of_cells;
+use crate::pous::Pous;
 use crate::type_texts::type_texts;
-use crate::typed_statements::type_stmts;
-use crate::variables::{cell_count, judge_variables};
-use st_names::{Declared, Resolved, declared_variables};
-use st_tree::{Body, Pou, Program, Refusal, Rule, TypedStmt};
+use st_names::{Resolved, declared_variables};
+use st_tree::{Pou, Program, Refusal, Rule};
 use std::alloc::{AllocError, Global};
 
 /// How many cells a program has at most.
 const MOST_CELLS: usize = 4096;
 
-// What a body breaks.
-fn judge_body<S: Scope>(alloc: Global, scope: &S, body: &Body) -> Result<Outcome, AllocError>
-    ensures { IfOk result (λ o. o ≡ outcome_of (judged_body (S.means scope.now) (body_view body.now))) }
+// What a file breaks first.
+fn judge_file(alloc: Global, pous: &Pous<'_>) -> Result<Option<Refusal>, AllocError>
+    ensures { IfOk result (λ first. first ≡ first_in (broken_types (file_in pous.now.domains))) }
 {
-    match body {
-        Body::Statements(stmts) => judge_stmts(alloc, scope, stmts),
-        Body::Chart(chart) => match *chart {},
-    }
+    let types = judge_types(alloc, &pous.domains)?;
+    let judged = judge_pous(alloc, pous, types)?;
+    Ok(judged.first)
 }
 
-// The typed statements of a body.
-fn type_body<S: Scope>(alloc: Global, scope: &S, body: &Body) -> Result<Vec<TypedStmt>, AllocError>
-    ensures { IfOk result (λ list. stmts_view list.items ≡ typed_body (S.means scope.now) (body_view body.now)) }
-{
-    match body {
-        Body::Statements(stmts) => type_stmts(alloc, scope, stmts),
-        Body::Chart(chart) => match *chart {},
-    }
-}
-
-// M2: whether there are at most so many cells, FAULT among them.
-fn has_room(variables: &[Declared<'_>]) -> bool
-    ensures { result ≡ nat_le (cells_behind 1 (variables_view variables.now)) 4096 }
-{
-    cell_count(variables) <= MOST_CELLS
-}
-
-// What a program breaks first.
-fn judge_program(
+// M2: whether the PROGRAM has at most so many cells, FAULT and those of its instances among them.
+fn has_room(
     alloc: Global,
-    scope: &ProgramScope<'_>,
-    variables: &[Declared<'_>],
-) -> Result<Option<Refusal>, AllocError>
-    requires { variables_view variables.now ≡ variables_in_pou (pou_view scope.now.program.now) }
-    ensures { IfOk result (λ first. first ≡ first_in (broken_types (file_in scope.now.domains) (pou_view scope.now.program.now))) }
+    pous: &Pous<'_>,
+    number: usize,
+    program: &Pou,
+) -> Result<bool, AllocError>
+    requires { pou_at (file_in pous.now.domains) number ≡ Some (pou_view program.now) }
+    ensures { IfOk result (λ room. room ≡ has_room (file_in pous.now.domains) number) }
 {
-    let types = judge_types(alloc, &scope.domains)?;
-    let declared = judge_variables(alloc, &scope.domains, types, variables)?;
-    let body = judge_body(alloc, scope, &scope.program.body)?;
-    Ok(declared.also(body).first)
+    let variables = declared_variables(alloc, program)?;
+    let count = count_of_cells(pous.domains.types.names, &pous.sizes, &variables)?;
+    Ok(count < MOST_CELLS)
 }
 
-// The typed statements of a body, behind those that it begins with.
-fn begin_body(
-    alloc: Global,
-    scope: &ProgramScope<'_>,
-    variables: &[Declared<'_>],
-    body: &Body,
-) -> Result<Vec<TypedStmt>, AllocError>
-    ensures { IfOk result (λ list. stmts_view list.items ≡ begun (file_in scope.now.domains) 1 (variables_view variables.now) (typed_body (means_in scope.now) (body_view body.now))) }
-{
-    let mut list = beginnings(alloc, &scope.domains, variables)?;
-    let mut behind = type_body(alloc, scope, body)?;
-    list.append(&mut behind)?;
-    Ok(list)
-}
-
-// The typed program of a program.
+// The typed program of a PROGRAM.
 fn type_program(
     alloc: Global,
-    scope: &ProgramScope<'_>,
-    variables: &[Declared<'_>],
+    pous: &Pous<'_>,
+    number: usize,
+    program: &Pou,
 ) -> Result<Program, AllocError>
-    requires { variables_view variables.now ≡ variables_in_pou (pou_view scope.now.program.now) }
-    ensures { IfOk result (λ p. program_view p ≡ typed_program (file_in scope.now.domains) (pou_view scope.now.program.now)) }
+    ensures { IfOk result (λ p. program_view p ≡ typed_program (file_in pous.now.domains) number (pou_view program.now)) }
 {
-    let program = scope.program;
+    let variables = declared_variables(alloc, program)?;
     Ok(Program {
         name: String::from_str(alloc, program.name.text.as_str())?,
-        cells: program_cells(alloc, &scope.domains, variables)?,
-        constants: constant_names(alloc, variables)?,
-        types: type_texts(alloc, &scope.domains.types)?,
-        body: begin_body(alloc, scope, variables, &program.body)?,
+        cells: cells_behind_fault(alloc, pous, Some(""), false, &variables)?,
+        without_cell: names_without_cell(alloc, pous.domains.types.names, &variables)?,
+        types: type_texts(alloc, &pous.domains.types)?,
+        called: called_by(alloc, pous)?,
+        body: pou_body(alloc, pous, number, program)?,
     })
 }
 
-// The typed program of a scope's program, or the first rule on types that it breaks.
-fn check_scope(
+// The typed program of a PROGRAM, or the first rule on types that is broken.
+fn check_pous(
     alloc: Global,
-    scope: &ProgramScope<'_>,
-    variables: &[Declared<'_>],
+    pous: &Pous<'_>,
+    number: usize,
+    program: &Pou,
 ) -> Result<Program, TypeFault>
-    requires { variables_view variables.now ≡ variables_in_pou (pou_view scope.now.program.now) }
-    ensures refused { IfErr result (IsFaultOf (file_in scope.now.domains) (pou_view scope.now.program.now)) }
-    ensures kept { OnOk result (broken_types (file_in scope.now.domains) (pou_view scope.now.program.now) ≡ []) }
-    ensures room { OnOk result (has_room (pou_view scope.now.program.now) ≡ true) }
-    ensures typed { IfOk result (λ p. program_view p ≡ typed_program (file_in scope.now.domains) (pou_view scope.now.program.now)) }
+    requires { pou_at (file_in pous.now.domains) number ≡ Some (pou_view program.now) }
+    ensures refused { IfErr result (IsFaultOf (file_in pous.now.domains) number) }
+    ensures kept { OnOk result (broken_types (file_in pous.now.domains) ≡ []) }
+    ensures room { OnOk result (has_room (file_in pous.now.domains) number ≡ true) }
+    ensures typed { IfOk result (λ p. program_view p ≡ typed_program (file_in pous.now.domains) number (pou_view program.now)) }
 {
-    if let Some(refusal) = judge_program(alloc, scope, variables)? {
+    if let Some(refusal) = judge_file(alloc, pous)? {
         return Err(TypeFault::Refused(refusal));
     }
-    if !has_room(variables) {
+    let room = has_room(alloc, pous, number, program)?;
+    if !room {
         return Err(TypeFault::Refused(Refusal {
             rule: Rule::TooManyCells,
             at: 0,
         }));
     }
-    let typed = type_program(alloc, scope, variables)?;
+    let typed = type_program(alloc, pous, number, program)?;
     Ok(typed)
 }
 
-// The typed program of a file's one program, or the first rule on types that it breaks.
-fn check_program(alloc: Global, names: &Resolved, program: &Pou) -> Result<Program, TypeFault>
-    requires { pous_of (file_view names.now.file) ≡ pou_view program.now ∷ [] }
-    ensures refused { IfErr result (IsFaultOf (file_view names.now.file) (pou_view program.now)) }
-    ensures kept { OnOk result (broken_types (file_view names.now.file) (pou_view program.now) ≡ []) }
-    ensures room { OnOk result (has_room (pou_view program.now) ≡ true) }
-    ensures typed { IfOk result (λ p. program_view p ≡ typed_program (file_view names.now.file) (pou_view program.now)) }
+// The typed program of the POU of a number, or the first rule on types that is broken.
+fn check_program(
+    alloc: Global,
+    names: &Resolved,
+    number: usize,
+    program: &Pou,
+) -> Result<Program, TypeFault>
+    requires { pou_at (file_view names.now.file) number ≡ Some (pou_view program.now) }
+    ensures refused { IfErr result (IsFaultOf (file_view names.now.file) number) }
+    ensures kept { OnOk result (broken_types (file_view names.now.file) ≡ []) }
+    ensures room { OnOk result (has_room (file_view names.now.file) number ≡ true) }
+    ensures typed { IfOk result (λ p. program_view p ≡ typed_program (file_view names.now.file) number (pou_view program.now)) }
 {
-    let domains = Domains::new(alloc, names)?;
-    let variables = declared_variables(alloc, &program.variables)?;
-    let meanings = all_meanings(alloc, &domains, &variables)?;
-    let scope = ProgramScope {
-        domains,
-        program,
-        meanings,
-    };
-    check_scope(alloc, &scope, &variables)
+    let pous = Pous::new(alloc, names)?;
+    check_pous(alloc, &pous, number, program)
 }
 
 /// The typed program of a file's one PROGRAM, whose names are bound (IEC 61131-3, 3.3), or the first rule on types that
-/// it or the file's types break, and where they break none but it has too many cells, M2. Fails too where memory runs out.
+/// the file breaks, and where it breaks none but the PROGRAM has too many cells, M2. Fails too where memory runs out.
 pub fn check(alloc: Global, names: Resolved) -> Result<Program, TypeFault>
-    ensures refused { IfErr result (λ e. (p : PouData) → pous_of (file_view names.file) ≡ p ∷ [] → IsFaultOf (file_view names.file) p e) }
-    ensures kept { OnOk result ((p : PouData) → pous_of (file_view names.file) ≡ p ∷ [] → broken_types (file_view names.file) p ≡ []) }
-    ensures room { OnOk result ((p : PouData) → pous_of (file_view names.file) ≡ p ∷ [] → has_room p ≡ true) }
-    ensures typed { IfOk result (λ r. (p : PouData) → pous_of (file_view names.file) ≡ p ∷ [] → program_view r ≡ typed_program (file_view names.file) p) }
+    ensures refused { IfErr result (λ e. (number : ℕ) → program_number (file_view names.file) ≡ Some number → IsFaultOf (file_view names.file) number e) }
+    ensures kept { OnOk result (broken_types (file_view names.file) ≡ []) }
+    ensures room { OnOk result ((number : ℕ) → program_number (file_view names.file) ≡ Some number → has_room (file_view names.file) number ≡ true) }
+    ensures typed { IfOk result (λ r. (number : ℕ) → (p : PouData) → program_number (file_view names.file) ≡ Some number → pou_at (file_view names.file) number ≡ Some p → program_view r ≡ typed_program (file_view names.file) number p) }
     ensures ready { IfOk result (λ r. IsReady (program_view r)) }
 {
-    check_program(alloc, &names, names.program())
+    let number = names.program();
+    check_program(alloc, &names, number, names.pou(number))
 }

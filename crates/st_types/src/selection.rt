@@ -24,11 +24,16 @@ fn may_select(kind: DataType) -> bool
 
 // A selector is of an integer type, or an enumeration.
 #[tactic(auto, using(crate::proofs::Judging::judging))]
-fn judge_selector<S: Scope>(scope: &S, selector: &Expr) -> Outcome
-    ensures { result ≡ outcome_of (judged_selector (S.means scope.now) (tree_view selector.now)) }
+fn judge_selector<S: Scope>(
+    alloc: Global,
+    scope: &S,
+    selector: &Expr,
+) -> Result<Outcome, AllocError>
+    ensures { IfOk result (λ o. o ≡ outcome_of (judged_selector (S.means scope.now) (tree_view selector.now))) }
 {
     let fits = may_select(type_of(scope, None, selector));
-    judge_expr(scope, None, selector).tested(fits, Rule::OperandType, place_of(selector))
+    let judged = judge_expr(alloc, scope, None, selector)?;
+    Ok(judged.tested(fits, Rule::OperandType, place_of(selector)))
 }
 
 /// A selector, and where it is whole the labels of a CASE.
@@ -40,7 +45,7 @@ pub(crate) fn judge_selection<S: Scope>(
 ) -> Result<Outcome, AllocError>
     ensures { IfOk result (λ o. o ≡ outcome_of (judged_selection (S.means scope.now) (tree_view selector.now) (entries_view entries.now))) }
 {
-    let judged = judge_selector(scope, selector);
+    let judged = judge_selector(alloc, scope, selector)?;
     if !judged.whole {
         return Ok(judged);
     }

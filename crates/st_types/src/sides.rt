@@ -24,6 +24,7 @@ fn cell_meaning(cell: &Cell, place: usize) -> Meaning
         range: cell.range,
         whole: true,
         assignable: false,
+        control: false,
     }
 }
 

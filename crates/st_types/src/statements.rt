@@ -4,8 +4,10 @@ ghost use Rattle.st_tree.specs.SyntaxView.{path_view, tree_view, stmt_view, stmt
 ghost use Rattle.st_types.specs.JudgedStatements.{judged_target, judged_assign, judged_stmts};
 ghost use Rattle.st_types.specs.Outcomes.{outcome_of, stmt_outcome, stmts_outcome, arms_outcome, bodies_outcome, else_outcome};
 
+use crate::alone::meaning_alone;
+use crate::connections::judge_invoke;
 use crate::expressions::{judge_condition, judge_expr, judge_meaning};
-use crate::iteration::{control_of, is_assignable, judge_turns, turns_rule, with_control};
+use crate::iteration::{is_assignable, judge_turns, turns_rule, with_control};
 use crate::kinds::{kind_at, or_dint, type_of};
 use crate::outcome::Outcome;
 use crate::scope::{Meaning, Scope};
@@ -13,9 +15,9 @@ use crate::selection::judge_selection;
 use st_tree::{Arm, Entry, Expr, Path, Rule, Stmt};
 use std::alloc::{AllocError, Global};
 
-// An own input, a constant and a control variable inside its loop are no targets.
+/// An own input, a constant and a control variable inside its loop are no targets.
 #[tactic(auto, using(crate::proofs::Judging::judging))]
-fn judge_target(controls: &[usize], meaning: Option<Meaning>, at: usize) -> Outcome
+pub(crate) fn judge_target(controls: &[usize], meaning: Option<Meaning>, at: usize) -> Outcome
     ensures { result ≡ outcome_of (judged_target controls.now meaning at) }
 {
     judge_meaning(meaning).tested(is_assignable(controls, meaning), Rule::NotAssignable, at)
@@ -23,16 +25,25 @@ fn judge_target(controls: &[usize], meaning: Option<Meaning>, at: usize) -> Outc
 
 // An assignment's value is of its target's type.
 #[tactic(auto, using(crate::proofs::Judging::judging))]
-fn judge_assign<S: Scope>(scope: &S, controls: &[usize], path: &Path, value: &Expr) -> Outcome
-    ensures { result ≡ outcome_of (judged_assign (S.means scope.now) controls.now (path_view path.now) (tree_view value.now)) }
+fn judge_assign<S: Scope>(
+    alloc: Global,
+    scope: &S,
+    controls: &[usize],
+    path: &Path,
+    value: &Expr,
+) -> Result<Outcome, AllocError>
+    ensures { IfOk result (λ o. o ≡ outcome_of (judged_assign (S.means scope.now) controls.now (path_view path.now) (tree_view value.now))) }
 {
     let meaning = scope.meaning(path);
     let wanted = kind_at(meaning);
     let target = judge_target(controls, meaning, path.first.at);
     let fits = type_of(scope, wanted, value).is_same(or_dint(wanted));
-    target
-        .also(judge_expr(scope, wanted, value))
-        .tested(fits, Rule::ValueType, path.first.at)
+    let judged = judge_expr(alloc, scope, wanted, value)?;
+    Ok(
+        target
+            .also(judged)
+            .tested(fits, Rule::ValueType, path.first.at),
+    )
 }
 
 #[cycle(judge_stmts)]
@@ -47,7 +58,14 @@ fn judge_stmt<S: Scope>(
 {
     match stmt {
         Stmt::Empty => Ok(so_far),
-        Stmt::Assign(path, value) => Ok(so_far.also(judge_assign(scope, controls, path, value))),
+        Stmt::Assign(path, value) => {
+            let judged = judge_assign(alloc, scope, controls, path, value)?;
+            Ok(so_far.also(judged))
+        }
+        Stmt::Call(name, _at, connections) => {
+            let judged = judge_invoke(alloc, scope, controls, name, connections)?;
+            Ok(so_far.also(judged))
+        }
         Stmt::If(arms, other) => {
             let judged = judge_arms(alloc, scope, controls, so_far, arms)?;
             judge_else(alloc, scope, controls, judged, other)
@@ -58,7 +76,7 @@ fn judge_stmt<S: Scope>(
             judge_else(alloc, scope, controls, judged, other)
         }
         Stmt::For(iteration, body) => {
-            let meaning = control_of(alloc, scope, &iteration.control)?;
+            let meaning = meaning_alone(alloc, scope, &iteration.control)?;
             let turns = judge_turns(alloc, scope, controls, meaning, iteration)?;
             let inner = with_control(alloc, controls, meaning)?;
             let parts = judge_all(alloc, scope, &inner, turns, body)?;
@@ -98,7 +116,7 @@ fn judge_arms<S: Scope>(
 {
     let mut judged = so_far;
     for arm in arms {
-        let condition = judge_condition(scope, Rule::OperandType, &arm.condition);
+        let condition = judge_condition(alloc, scope, Rule::OperandType, &arm.condition)?;
         judged = judge_all(alloc, scope, controls, judged.also(condition), &arm.body)?;
     }
     Ok(judged)

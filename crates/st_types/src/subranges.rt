@@ -36,12 +36,18 @@ fn are_in_order(bounds: Range) -> bool
 
 // A bound is a value of the type that it limits.
 #[tactic(auto, using(crate::proofs::Judging::judging))]
-fn judge_bound(file: &FileTypes<'_>, kind: Elementary, bound: &Expr) -> Outcome
-    ensures { result ≡ outcome_of (judged_bound_of (file_of file.now) kind (tree_view bound.now)) }
+fn judge_bound(
+    alloc: Global,
+    file: &FileTypes<'_>,
+    kind: Elementary,
+    bound: &Expr,
+) -> Result<Outcome, AllocError>
+    ensures { IfOk result (λ o. o ≡ outcome_of (judged_bound_of (file_of file.now) kind (tree_view bound.now))) }
 {
     let kind = DataType::Elementary(kind);
     let fits = type_of(file, Some(kind), bound).is_same(kind);
-    judge_expr(file, Some(kind), bound).tested(fits, Rule::OperandType, place_of(bound))
+    let judged = judge_expr(alloc, file, Some(kind), bound)?;
+    Ok(judged.tested(fits, Rule::OperandType, place_of(bound)))
 }
 
 /// A subrange is one of an integer type, and its bounds are in order.
@@ -54,8 +60,8 @@ pub(crate) fn judge_subrange(
 ) -> Result<Outcome, AllocError>
     ensures { IfOk result (λ o. o ≡ outcome_of (judged_subrange (file_of file.now) kind at (bounds_view bounds.now))) }
 {
-    let low = judge_bound(file, kind, &bounds.low);
-    let high = judge_bound(file, kind, &bounds.high);
+    let low = judge_bound(alloc, file, kind, &bounds.low)?;
+    let high = judge_bound(alloc, file, kind, &bounds.high)?;
     let range = bounds_of(alloc, file, kind, bounds)?;
     let parts = low.also(high);
     let limits = parts.tested(kind.is_integer(), Rule::OperandType, at);

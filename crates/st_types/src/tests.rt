@@ -4,8 +4,7 @@ use st_lexer::lex;
 use st_names::{Resolved, resolve};
 use st_parser::{parse_expr, parse_file};
 use st_tree::{
-    DataType, Elementary, Expr, NoCharts, Operator, Program, Range, Refusal, Rule, TypedExpr,
-    TypedStmt,
+    DataType, Elementary, Expr, Operator, Program, Range, Refusal, Rule, TypedExpr, TypedStmt,
 };
 use std::alloc::Global;
 use std::test::Fail;
@@ -85,7 +84,7 @@ const REFUSED: [(&str, Rule, usize); 13] = [
 
 fn resolved(alloc: Global, text: &str) -> Result<Resolved, Fail> {
     let toks = lex(alloc, text.as_bytes())?;
-    let file = parse_file(alloc, &toks, text.len(), &NoCharts)?;
+    let file = parse_file(alloc, &toks, text.len())?;
     Ok(resolve(alloc, file)?)
 }
 
@@ -147,8 +146,8 @@ fn constants_and_temporary_variables(rt: HostRuntime) -> Result<(), Fail> {
     for (cell, path) in program.cells.iter().zip(paths) {
         assert_eq!(rt; cell.path.as_str(), path);
     }
-    assert_eq!(rt; program.constants.len(), 1);
-    assert_eq!(rt; program.constants[0].as_str(), "K");
+    assert_eq!(rt; program.without_cell.len(), 1);
+    assert_eq!(rt; program.without_cell[0].as_str(), "K");
     let assigned = [(2, 5), (3, 0), (4, 3)];
     assert_eq!(rt; program.body.len(), assigned.len());
     for (stmt, (place, value)) in program.body.iter().zip(assigned) {
@@ -202,7 +201,7 @@ fn clauses_over_a_pair(rt: HostRuntime) -> Result<(), Fail> {
     for (text, want) in CLAUSES {
         let clause = clause(alloc, text)?;
         let want = want.map(|(rule, at)| Refusal { rule, at });
-        assert_eq!(rt; judge_clause(&scope, &clause), want, "{text}");
+        assert_eq!(rt; judge_clause(alloc, &scope, &clause)?, want, "{text}");
         assert_eq!(rt; broken_in(alloc, &clause, &old, &new)?, want, "{text}");
     }
     Ok(())

@@ -3,12 +3,13 @@ ghost use Rattle.std.specs.Prelude.{◌≡◌, IfOk};
 ghost use Rattle.st_names.specs.Library.{standard_function};
 ghost use Rattle.st_tree.specs.SyntaxView.{name_view, arguments_view};
 ghost use Rattle.st_tree.specs.View.{expr_view, arguments_view as operands_view};
-ghost use Rattle.st_types.specs.Typed.{amount_in, function_of, typed_result, typed_operands};
+ghost use Rattle.st_types.specs.Typed.{amount_in, function_of, typed_answer, typed_given, typed_result, typed_operands};
 
 use crate::amounts::{amount_value, number_in};
 use crate::calls::common_type;
 use crate::parameters::{Parameter, parameter_of, result_of, wanted_at};
 use crate::scope::Scope;
+use crate::typed_answers::type_answer;
 use crate::typed_expressions::type_expr;
 use st_names::standard_function;
 use st_tree::{Argument, DataType, Function, Name, StandardFunction, TypedExpr};
@@ -51,10 +52,10 @@ pub(crate) fn type_call<S: Scope>(
     name: &Name,
     arguments: &[Argument],
 ) -> Result<TypedExpr, AllocError>
-    ensures { IfOk result (λ e. expr_view e ≡ typed_result (S.means scope.now) wanted (standard_function (name_view name.now).text) (arguments_view arguments.now) (λ f t. typed_operands (S.means scope.now) f t 0 (arguments_view arguments.now))) }
+    ensures { IfOk result (λ e. expr_view e ≡ typed_result (S.means scope.now) wanted (standard_function (name_view name.now).text) ((S.means scope.now).signature (name_view name.now).text) (arguments_view arguments.now) (λ f t. typed_operands (S.means scope.now) f t 0 (arguments_view arguments.now)) (λ s. typed_given (S.means scope.now) s 0 (arguments_view arguments.now))) }
 {
     let Some(function) = standard_function(name.text.as_str()) else {
-        return Ok(TypedExpr::Number(0));
+        return type_answer(alloc, scope, name, arguments);
     };
     let kind = common_type(scope, wanted, function, arguments);
     let operands = type_operands(alloc, scope, function, kind, arguments)?;

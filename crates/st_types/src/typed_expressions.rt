@@ -31,8 +31,8 @@ fn read_of(place: Place) -> TypedExpr
     }
 }
 
-// What a path, or the value of an enumeration, reads.
-fn meaning_read(meaning: Option<Meaning>) -> TypedExpr
+/// What a path, or the value of an enumeration, reads.
+pub(crate) fn meaning_read(meaning: Option<Meaning>) -> TypedExpr
     ensures { expr_view result ≡ meaning_read meaning }
 {
     match meaning {
@@ -70,6 +70,7 @@ pub(crate) fn value_of_number(number: &TypedExpr) -> i64
         TypedExpr::Unary(_, _, _) => 0,
         TypedExpr::Chain(_, _) => 0,
         TypedExpr::Call(_, _, _) => 0,
+        TypedExpr::Answer(_, _) => 0,
     }
 }
 

@@ -1,10 +1,11 @@
 // Typed statements.
-ghost use Rattle.std.specs.Prelude.{◌≡◌, option_map, IfOk};
+ghost use Rattle.std.specs.Prelude.{◌≡◌, ◌++◌, map, IfOk, OnOk};
 ghost use Rattle.st_tree.specs.SyntaxView.{stmt_view, stmts_view, arms_view, entries_view, else_view};
 ghost use Rattle.st_tree.specs.View.{stmt_view as typed_view, stmts_view as typed_stmts_view, choices_view, entries_view as typed_entries_view};
 ghost use Rattle.st_types.specs.TypedStatements.{typed_stmts, typed_arms, typed_entries, typed_else};
-ghost use Rattle.st_types.specs.TypedLists.{statement_of};
+ghost use Rattle.st_types.specs.TypedLists.{statements_for};
 
+use crate::connections::type_invoke;
 use crate::iteration::turns_of;
 use crate::kinds::{kind_at, type_of};
 use crate::labels::label_ranges;
@@ -13,38 +14,44 @@ use crate::typed_expressions::{cell_of, type_expr};
 use st_tree::{Arm, DataType, Entry, Stmt, TypedArm, TypedEntry, TypedStmt};
 use std::alloc::{AllocError, Global};
 
-// The typed statement that a statement stands for; an empty one leaves nothing.
+// Appends the typed statements that a statement stands for; an empty one leaves nothing.
 #[cycle(type_stmts)]
 fn type_stmt<S: Scope>(
     alloc: Global,
     scope: &S,
     stmt: &Stmt,
-) -> Result<Option<TypedStmt>, AllocError>
-    ensures { IfOk result (λ typed. option_map typed_view typed ≡ statement_of (S.means scope.now) (stmt_view stmt.now)) }
+    list: &mut Vec<TypedStmt>,
+) -> Result<(), AllocError>
+    ensures { OnOk result (map typed_view list.new.items ≡ map typed_view list.old.items ++ statements_for (S.means scope.now) (stmt_view stmt.now)) }
 {
     match stmt {
-        Stmt::Empty => Ok(None),
+        Stmt::Empty => Ok(()),
         Stmt::Assign(path, value) => {
             let target = scope.meaning(path);
             let value = type_expr(alloc, scope, kind_at(target), value)?;
-            Ok(Some(TypedStmt::Assign(cell_of(target), value)))
+            list.push(TypedStmt::Assign(cell_of(target), value))?;
+            Ok(())
         }
+        Stmt::Call(name, _, connections) => type_invoke(alloc, scope, name, connections, list),
         Stmt::If(arms, other) => {
             let arms = type_arms(alloc, scope, arms)?;
             let other = type_else(alloc, scope, other)?;
-            Ok(Some(TypedStmt::If(arms, other)))
+            list.push(TypedStmt::If(arms, other))?;
+            Ok(())
         }
         Stmt::Case(selector, entries, other) => {
             let kind = type_of(scope, None, selector);
             let selector = type_expr(alloc, scope, None, selector)?;
             let entries = type_entries(alloc, scope, kind, entries)?;
             let other = type_else(alloc, scope, other)?;
-            Ok(Some(TypedStmt::Case(selector, entries, other)))
+            list.push(TypedStmt::Case(selector, entries, other))?;
+            Ok(())
         }
         Stmt::For(iteration, body) => {
             let turns = turns_of(alloc, scope, iteration)?;
             let body = type_stmts(alloc, scope, body)?;
-            Ok(Some(TypedStmt::For(turns, body)))
+            list.push(TypedStmt::For(turns, body))?;
+            Ok(())
         }
     }
 }
@@ -60,9 +67,7 @@ pub(crate) fn type_stmts<S: Scope>(
 {
     let mut list = Vec::new(alloc);
     for stmt in stmts {
-        if let Some(typed) = type_stmt(alloc, scope, stmt)? {
-            list.push(typed)?;
-        }
+        type_stmt(alloc, scope, stmt, &mut list)?;
     }
     Ok(list)
 }

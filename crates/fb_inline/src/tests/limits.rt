@@ -1,4 +1,5 @@
 // The limit on the statements of a flat form.
+use super::programs::repeats_runs;
 use super::trees::{A, Q, R, arm, at, is, program, set};
 use crate::{FlatFault, flatten};
 use st_tree::{Program, Refusal, Rule, Turns, TypedStmt};
@@ -89,5 +90,17 @@ fn long_chains_of_conditions_are_flat(rt: HostRuntime) -> Result<(), Fail> {
     }
     let body = vec![in alloc; TypedStmt::If(arms, Vec::new(alloc))]?;
     assert_eq!(rt; answer(alloc, &program(alloc, body)?)?, None);
+    Ok(())
+}
+
+// A run is nine statements, so that with its assignment each turn is ten.
+#[test]
+fn the_statements_of_runs_count(rt: HostRuntime) -> Result<(), Fail> {
+    let alloc = rt.alloc();
+    assert_eq!(rt; answer(alloc, &repeats_runs(alloc, 19_999)?)?, None);
+    assert_eq!(rt;
+        answer(alloc, &repeats_runs(alloc, 20_000)?)?,
+        Some(TOO_MANY)
+    );
     Ok(())
 }

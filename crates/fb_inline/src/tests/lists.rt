@@ -1,8 +1,8 @@
 // The flat lists of small programs, as another implementation prints them.
 use super::printing::print;
 use super::programs::{
-    assigns, chooses, chooses_without_else, repeats, repeats_cases, repeats_never, selects,
-    selects_by_expressions, selects_within,
+    assigns, chooses, chooses_without_else, repeats, repeats_cases, repeats_never, runs_blocks,
+    selects, selects_by_expressions, selects_within,
 };
 use crate::{FlatFault, flatten};
 use st_tree::Program;
@@ -98,6 +98,16 @@ fn a_selector_has_the_type_of_its_expression(rt: HostRuntime) -> Result<(), Fail
         "INT INT INT DINT | #0 := 0; #5 := ABS:INT(#1); If (#5 =:INT 1) { #3 := 1; } { } #6 := -:INT #2; \
         If (#6 =:INT 1) { #3 := 2; } { } #7 := (#1 -:INT #2); If (#7 =:INT 1) { #3 := 3; } { } #8 := 3; \
         If (#8 =:DINT 3) { #4 := 1; } { }";
+    assert_eq!(rt; text.as_str(), wanted);
+    Ok(())
+}
+
+#[test]
+fn a_run_of_a_block_is_its_body_over_the_instance(rt: HostRuntime) -> Result<(), Fail> {
+    let text = printed(rt.alloc(), &runs_blocks(rt.alloc())?)?;
+    let wanted =
+        "INT INT | #0 := 0; #2 := 7; #3 := (#3 +:INT #4); #5 := #3; If (#5 =:INT 1) { #4 := 0; } { } #3 := \
+        (#3 +:INT #4); #6 := #3; If (#6 =:INT 1) { #4 := 0; } { } #2 := #3;";
     assert_eq!(rt; text.as_str(), wanted);
     Ok(())
 }

@@ -89,6 +89,11 @@ fn print_expr(expr: &TypedExpr, alloc: Global, text: &mut String) -> Result<(), 
             print_expressions(operands, alloc, text)?;
             text.push_str(")")?;
         }
+        TypedExpr::Answer(number, inputs) => {
+            text.push_str(format!(in alloc; "call {number}(")?.as_str())?;
+            print_expressions(inputs, alloc, text)?;
+            text.push_str(")")?;
+        }
     }
     Ok(())
 }

@@ -1,8 +1,10 @@
 // Small typed programs.
-use super::trees::{A, B, Q, R, arm, at, binary, case_of_one, entry, is, number, program, set};
+use super::trees::{
+    A, B, Q, R, arm, at, binary, case_of_one, entry, is, number, program, program_with, set,
+};
 use st_tree::{
-    Elementary, Function, Operator, Program, Range, Turns, TypedEntry, TypedExpr, TypedStmt,
-    UnaryOperator,
+    Called, Elementary, Function, Operator, Program, Range, Turns, TypedEntry, TypedExpr,
+    TypedStmt, UnaryOperator,
 };
 use std::alloc::{AllocError, Global};
 
@@ -130,4 +132,41 @@ pub fn selects_by_expressions(alloc: Global) -> Result<Program, AllocError> {
         case_of_one(alloc, number(3), 3, 3, set(R, 1))?,
     ]?;
     program(alloc, body)
+}
+
+// A block with two cells, whose body is `first := first + second; CASE first OF 1: second := 0; END_CASE;`, and a block with three, the
+// last two of which are an instance of it, whose body runs this instance twice and is `first := second;` then.
+fn two_blocks(alloc: Global) -> Result<Vec<Called>, AllocError> {
+    let sum = binary(alloc, at(0), Operator::Plus, at(1))?;
+    let inner = vec![in alloc;
+        TypedStmt::Assign(0, sum),
+        case_of_one(alloc, at(0), 1, 1, set(1, 0))?,
+    ]?;
+    let outer = vec![in alloc; run(0, 1), run(0, 1), TypedStmt::Assign(0, at(1))]?;
+    Ok(vec![in alloc; Called::Block(inner), Called::Block(outer)]?)
+}
+
+fn run(block: usize, offset: usize) -> TypedStmt {
+    TypedStmt::Run { block, offset }
+}
+
+/// B, Q and R are the cells of an instance of the outer block: `B := 7;`, and a run of it.
+pub fn runs_blocks(alloc: Global) -> Result<Program, AllocError> {
+    program_with(
+        alloc,
+        two_blocks(alloc)?,
+        vec![in alloc; set(B, 7), run(1, B)]?,
+    )
+}
+
+/// Runs in each of so many turns: `FOR A := 1 TO turns DO run END_FOR;`
+pub fn repeats_runs(alloc: Global, count: u16) -> Result<Program, AllocError> {
+    let turns = Turns {
+        count,
+        control: A,
+        first: 1,
+        step: 1,
+    };
+    let body = vec![in alloc; TypedStmt::For(turns, vec![in alloc; run(1, B)]?)]?;
+    program_with(alloc, two_blocks(alloc)?, body)
 }

@@ -2,7 +2,7 @@
 use super::programs::{chooses, repeats, repeats_cases, selects, selects_within};
 use super::trees::{A, B, Q, R};
 use crate::{FlatFault, flatten};
-use expression_value::evaluate;
+use effects::evaluate;
 use flat_core::{Flat, FlatArm, FlatStmt};
 use st_tree::Program;
 use std::alloc::{AllocError, Global};

@@ -1,7 +1,7 @@
 // Pieces of small typed programs.
 use st_tree::{
-    Cell, DataType, Elementary, Operand, Operator, Part, Program, Range, TypedArm, TypedEntry,
-    TypedExpr, TypedStmt,
+    Called, Cell, DataType, Elementary, Operand, Operator, Part, Program, Range, TypedArm,
+    TypedEntry, TypedExpr, TypedStmt,
 };
 use std::alloc::{AllocError, Global};
 
@@ -16,6 +16,15 @@ pub const R: usize = 4;
 
 /// A program with FAULT, the inputs A and B and the outputs Q and R of INT.
 pub fn program(alloc: Global, body: Vec<TypedStmt>) -> Result<Program, AllocError> {
+    program_with(alloc, Vec::new(alloc), body)
+}
+
+/// The same with POUs that it may call.
+pub fn program_with(
+    alloc: Global,
+    called: Vec<Called>,
+    body: Vec<TypedStmt>,
+) -> Result<Program, AllocError> {
     let cells = vec![in alloc;
         cell(alloc, "FAULT", Part::Fault, Elementary::Bool)?,
         cell(alloc, "A", Part::Input, Elementary::Int)?,
@@ -26,8 +35,9 @@ pub fn program(alloc: Global, body: Vec<TypedStmt>) -> Result<Program, AllocErro
     Ok(Program {
         name: String::from_str(alloc, "M")?,
         cells,
-        constants: Vec::new(alloc),
+        without_cell: Vec::new(alloc),
         types: Vec::new(alloc),
+        called,
         body,
     })
 }

@@ -4,7 +4,7 @@ use st_tree::{Refusal, Rule};
 use std::alloc::{AllocError, Global};
 use std::test::Fail;
 
-const REFUSED: [(&str, Rule, usize); 105] = [
+const REFUSED: [(&str, Rule, usize); 106] = [
     (
         "PROGRAM M END_PROGRAM PROGRAM M END_PROGRAM",
         Rule::NotOneProgram,
@@ -90,6 +90,11 @@ const REFUSED: [(&str, Rule, usize); 105] = [
         14,
     ),
     ("PROGRAM CTU END_PROGRAM", Rule::DeclaredTwice, 8),
+    (
+        "TYPE E : (ctu); END_TYPE PROGRAM M END_PROGRAM",
+        Rule::DeclaredTwice,
+        10,
+    ),
     (
         "PROGRAM M IF 1 THEN END_IF END_PROGRAM",
         Rule::OperandType,

@@ -5,7 +5,7 @@ ghost use Rattle.scan_model.specs.InRange.{BeginsWithFault, IsProgram};
 ghost use Rattle.scan_model.specs.Pairs.{IsCellOf, NamesCells, BelongsTo, relation_view};
 ghost use Rattle.scan_replay.specs.Duos.{AreComparable};
 
-use crate::run::range_at;
+use crate::cells::range_at;
 use crate::states::{start, state_fits};
 use scan_model::{InputLine, Relation};
 use st_tree::{Cell, DataType, Elementary, Part, Program, Range};

@@ -54,6 +54,35 @@ fn try_run(
     Ok(Some([machine.value(FAULT), machine.value(Q), machine.value(R)]))
 }
 
+/// FAULT, Q and R behind each of six scans from the start; none where a row does not fit, or memory is used up.
+pub fn ran_six(alloc: Global, program: &Program, rows: [[i64; 2]; 6]) -> Option<[[i64; 3]; 6]> {
+    match try_six(alloc, program, rows) {
+        Ok(values) => values,
+        Err(_) => None,
+    }
+}
+
+fn try_six(
+    alloc: Global,
+    program: &Program,
+    rows: [[i64; 2]; 6],
+) -> Result<Option<[[i64; 3]; 6]>, AllocError> {
+    if !is_program(alloc, program)? || program.cells.len() < 5 {
+        return Ok(None);
+    }
+    let mut machine = Machine::new(alloc, program)?;
+    let mut values = [[0; 3]; 6];
+    for i in 0..6 {
+        if !machine.inputs_fit(&rows[i]) {
+            return Ok(None);
+        }
+        machine.load(&rows[i]);
+        machine.run();
+        values[i] = [machine.value(FAULT), machine.value(Q), machine.value(R)];
+    }
+    Ok(Some(values))
+}
+
 // Q := A / B; R := A MOD B;
 fn divides(alloc: Global, kind: Elementary, range: Range) -> Result<Program, AllocError> {
     let quotient = binary(alloc, at(A), Operator::Divide, kind, at(B))?;

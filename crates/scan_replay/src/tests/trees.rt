@@ -34,8 +34,9 @@ pub fn program(
     Ok(Program {
         name: String::from_str(alloc, "M")?,
         cells,
-        constants: Vec::new(alloc),
+        without_cell: Vec::new(alloc),
         types: Vec::new(alloc),
+        called: Vec::new(alloc),
         body,
     })
 }
@@ -138,4 +139,32 @@ pub fn guarded(alloc: Global, range: Range) -> Result<Program, AllocError> {
     let arms = vec![in alloc; arm(alloc, some, quotient)?]?;
     let body = vec![in alloc; TypedStmt::If(arms, Vec::new(alloc))]?;
     program(alloc, kind, range, body)
+}
+
+/// Adds a cell with no input and no output to a program.
+pub fn add_local(
+    alloc: Global,
+    program: &mut Program,
+    range: Range,
+    initial: i64,
+) -> Result<(), AllocError> {
+    program.cells.push(Cell {
+        path: String::from_str(alloc, "L")?,
+        part: Part::Local,
+        kind: DataType::Elementary(Elementary::Int),
+        range,
+        limited: true,
+        initial,
+    })?;
+    Ok(())
+}
+
+/// A cell becomes a value.
+pub fn set(alloc: Global, place: usize, value: TypedExpr) -> Result<Vec<TypedStmt>, AllocError> {
+    Ok(vec![in alloc; TypedStmt::Assign(place, value)]?)
+}
+
+/// A sum in INT.
+pub fn sum(alloc: Global, left: TypedExpr, right: TypedExpr) -> Result<TypedExpr, AllocError> {
+    binary(alloc, left, Operator::Plus, Elementary::Int, right)
 }

@@ -1,6 +1,6 @@
 use super::*;
 use st_tree::{
-    Elementary, Expr, Kind, Literal, NoCharts, Operator, Refusal, Rule, Section, Stmt, Terminal,
+    Body, Elementary, Expr, Kind, Literal, Operator, Refusal, Rule, Section, Stmt, Terminal,
     TypeName, UnaryOperator,
 };
 use std::test::Fail;
@@ -45,10 +45,7 @@ fn no_tree(at: usize) -> Option<Refusal> {
 fn the_place_where_no_file_goes_on(rt: HostRuntime) {
     // `PROGRAM M  `
     let toks = [mark(Mark::Program, 0), name("M", 8)];
-    assert_eq!(rt;
-        refused(parse_file(rt.alloc(), &toks, 11, &NoCharts)),
-        no_tree(11)
-    );
+    assert_eq!(rt; refused(parse_file(rt.alloc(), &toks, 11)), no_tree(11));
     // `PROGRAM M END_PROGRAM x`
     let toks = [
         mark(Mark::Program, 0),
@@ -56,16 +53,10 @@ fn the_place_where_no_file_goes_on(rt: HostRuntime) {
         mark(Mark::EndProgram, 10),
         name("x", 22),
     ];
-    assert_eq!(rt;
-        refused(parse_file(rt.alloc(), &toks, 23, &NoCharts)),
-        no_tree(22)
-    );
+    assert_eq!(rt; refused(parse_file(rt.alloc(), &toks, 23)), no_tree(22));
     // `VAR_INPUT END_VAR`
     let toks = [mark(Mark::VarInput, 0), mark(Mark::EndVar, 10)];
-    assert_eq!(rt;
-        refused(parse_file(rt.alloc(), &toks, 17, &NoCharts)),
-        no_tree(0)
-    );
+    assert_eq!(rt; refused(parse_file(rt.alloc(), &toks, 17)), no_tree(0));
     // `PROGRAM M VAR x : INT; END_PROGRAM`
     let toks = [
         mark(Mark::Program, 0),
@@ -77,10 +68,7 @@ fn the_place_where_no_file_goes_on(rt: HostRuntime) {
         mark(Mark::Semicolon, 21),
         mark(Mark::EndProgram, 23),
     ];
-    assert_eq!(rt;
-        refused(parse_file(rt.alloc(), &toks, 34, &NoCharts)),
-        no_tree(23)
-    );
+    assert_eq!(rt; refused(parse_file(rt.alloc(), &toks, 34)), no_tree(23));
 }
 
 // `PROGRAM M VAR x : E := `, what follows at 23, 24 and 25, and ` END_VAR END_PROGRAM`
@@ -106,22 +94,13 @@ fn with_initial(first: Terminal, second: Terminal, third: Terminal) -> [Tok<'sta
 fn an_initial_value_is_no_other_expression(rt: HostRuntime) {
     let point = Terminal::Mark(Mark::Point);
     let toks = with_initial(Terminal::Name, point, Terminal::Name);
-    assert_eq!(rt;
-        refused(parse_file(rt.alloc(), &toks, 47, &NoCharts)),
-        no_tree(24)
-    );
+    assert_eq!(rt; refused(parse_file(rt.alloc(), &toks, 47)), no_tree(24));
     let plus = Terminal::Operator(Operator::Plus);
     let toks = with_initial(Terminal::Number(1), plus, Terminal::Number(2));
-    assert_eq!(rt;
-        refused(parse_file(rt.alloc(), &toks, 47, &NoCharts)),
-        no_tree(24)
-    );
+    assert_eq!(rt; refused(parse_file(rt.alloc(), &toks, 47)), no_tree(24));
     let close = Terminal::Mark(Mark::Close);
     let toks = with_initial(Terminal::Open, Terminal::Number(1), close);
-    assert_eq!(rt;
-        refused(parse_file(rt.alloc(), &toks, 47, &NoCharts)),
-        no_tree(23)
-    );
+    assert_eq!(rt; refused(parse_file(rt.alloc(), &toks, 47)), no_tree(23));
 }
 
 #[test]
@@ -138,12 +117,12 @@ fn a_word_left_out_comes_first(rt: HostRuntime) {
         rule: Rule::LeftOutWord,
         at: 24,
     });
-    assert_eq!(rt; refused(parse_file(rt.alloc(), &toks, 28, &NoCharts)), want);
+    assert_eq!(rt; refused(parse_file(rt.alloc(), &toks, 28)), want);
 }
 
 #[test]
 fn no_tokens_are_a_file(rt: HostRuntime) -> Result<(), Fail> {
-    let file = parse_file(rt.alloc(), &[], 0, &NoCharts)?;
+    let file = parse_file(rt.alloc(), &[], 0)?;
     assert_eq!(rt; file.items.len(), 0);
     Ok(())
 }
@@ -185,7 +164,7 @@ fn a_program_is_read(rt: HostRuntime) -> Result<(), Fail> {
         mark(Mark::Semicolon, 88),
         mark(Mark::EndProgram, 90),
     ];
-    let file = parse_file(rt.alloc(), &toks, 101, &NoCharts)?;
+    let file = parse_file(rt.alloc(), &toks, 101)?;
     assert_eq!(rt; file.items.len(), 1);
     let Item::Pou(pou) = &file.items[0] else {
         return Err("a program".into());
@@ -237,7 +216,7 @@ fn constants_and_temporaries(rt: HostRuntime) -> Result<(), Fail> {
         mark(Mark::EndVar, 49),
         mark(Mark::EndProgram, 57),
     ];
-    let file = parse_file(rt.alloc(), &toks, 68, &NoCharts)?;
+    let file = parse_file(rt.alloc(), &toks, 68)?;
     assert_eq!(rt; file.items.len(), 1);
     let Item::Pou(pou) = &file.items[0] else {
         return Err("a program".into());
@@ -253,9 +232,6 @@ fn constants_and_temporaries(rt: HostRuntime) -> Result<(), Fail> {
         mark(Mark::VarTemp, 10),
         mark(Mark::Constant, 19),
     ];
-    assert_eq!(rt;
-        refused(parse_file(rt.alloc(), &toks, 27, &NoCharts)),
-        no_tree(19)
-    );
+    assert_eq!(rt; refused(parse_file(rt.alloc(), &toks, 27)), no_tree(19));
     Ok(())
 }

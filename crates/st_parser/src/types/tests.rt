@@ -2,7 +2,7 @@
 use crate::parse_file;
 use crate::tests::{no_tree, tokens};
 use st_tree::{
-    Elementary, Expr, Item, Literal, NoCharts, ParseFault, Pou, Refusal, SourceFile, Specification,
+    Elementary, Expr, Item, Literal, ParseFault, Pou, Refusal, SourceFile, Specification,
     TypeDeclaration, TypeName, UnaryOperator,
 };
 use std::alloc::Global;
@@ -10,12 +10,12 @@ use std::test::Fail;
 
 fn read(alloc: Global, words: &[(&str, usize)]) -> Result<SourceFile, Fail> {
     let toks = tokens(alloc, words)?;
-    Ok(parse_file(alloc, &toks, 200, &NoCharts)?)
+    Ok(parse_file(alloc, &toks, 200)?)
 }
 
 fn refused(alloc: Global, words: &[(&str, usize)], end: usize) -> Result<Option<Refusal>, Fail> {
     let toks = tokens(alloc, words)?;
-    match parse_file(alloc, &toks, end, &NoCharts) {
+    match parse_file(alloc, &toks, end) {
         Err(ParseFault::Refused(refusal)) => Ok(Some(refusal)),
         _ => Ok(None),
     }

@@ -6,7 +6,7 @@ use Rattle.st_tree.proofs.+copy_stmt.Goals as goal
 pub syntax::Stmt::copy-returns-in_ok-stmts-in-Some : goal.syntax::Stmt::copy-returns-in_ok-stmts-in-Some
 syntax::Stmt::copy-returns-in_ok-stmts-in-Some t c =
     copied-If _ _ _ _ _ _ c.in-If.is c.in-Some.is
-    (c.in_ok-arms-in-If.ensures ∙ ap (map arm_view) c.deref.ensures.value)
+    (c.in_ok-arms-in-If.ensures ∙ ap (map arm_view) c.deref-in-If.ensures.value)
     (c.in_ok-stmts-in-Some.ensures ∙ ap (map stmt_view) c.deref-in-Some.ensures.value)
 
 pub syntax::Stmt::copy-returns-in_ok-stmts-in-Some-otherwise : goal.syntax::Stmt::copy-returns-in_ok-stmts-in-Some-otherwise

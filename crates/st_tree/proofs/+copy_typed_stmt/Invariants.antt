@@ -1,5 +1,5 @@
 use Rattle.std.proofs.Common.{◌≡◌, take, map}
-use Rattle.st_tree.specs.View.{arm_view, stmt_view, entry_view}
+use Rattle.st_tree.specs.View.{arm_view, stmt_view, entry_view, action_view}
 use Rattle.st_tree.proofs.+copy_typed_stmt.Given as goal
 
 abbrev pub invariant-typed_copies::copy_arms-loop-arm : goal.invariant-typed_copies::copy_arms-loop-arm
@@ -13,3 +13,7 @@ invariant-typed_copies::copy_statements-loop-stmt l =
 abbrev pub invariant-typed_copies::copy_entries-loop-entry : goal.invariant-typed_copies::copy_entries-loop-entry
 invariant-typed_copies::copy_entries-loop-entry l =
     map entry_view l.copies.items ≡ map entry_view (take l.entry-index l.entries)
+
+abbrev pub invariant-typed_copies::copy_actions-loop-action : goal.invariant-typed_copies::copy_actions-loop-action
+invariant-typed_copies::copy_actions-loop-action l =
+    map action_view l.copies.items ≡ map action_view (take l.action-index l.actions)

@@ -1,8 +1,9 @@
 // A file with each form of statements and expressions, and its copy.
 use crate::elementary::Elementary;
 use crate::syntax::{
-    Arm, Body, Bounds, Declaration, Expr, Item, Link, Literal, Name, Path, Pou, Section,
-    SourceFile, Specification, Stmt, TypeDeclaration, TypeName, UnaryOperator, Variables,
+    Argument, Arm, Body, Bounds, Connection, Declaration, Expr, Item, Link, Literal, Name, Path,
+    Pou, PouKind, Section, SourceFile, Specification, Stmt, TypeDeclaration, TypeName,
+    UnaryOperator, Variables,
 };
 use crate::token::Operator;
 use std::alloc::Global;
@@ -42,6 +43,23 @@ fn branch(alloc: Global) -> Result<Stmt, Fail> {
     Ok(Stmt::If(vec![in alloc; arm]?, Some(otherwise)))
 }
 
+// MAX (X := A) and TIMER (IN := A, Q => A.PART)
+fn calls(alloc: Global) -> Result<(Expr, Stmt), Fail> {
+    let argument = Argument {
+        name: Some(name(alloc, "X", 105)?),
+        value: Expr::Path(path(alloc, "A", 110)?),
+    };
+    let function = Expr::Call(name(alloc, "MAX", 100)?, 104, vec![in alloc; argument]?);
+    let input = Connection::Input(name(alloc, "IN", 127)?, Expr::Path(path(alloc, "A", 133)?));
+    let output = Connection::Output(name(alloc, "Q", 136)?, path(alloc, "A", 141)?);
+    let block = Stmt::Call(
+        name(alloc, "TIMER", 120)?,
+        126,
+        vec![in alloc; input, output]?,
+    );
+    Ok((function, block))
+}
+
 fn file(alloc: Global) -> Result<SourceFile, Fail> {
     let declaration = Declaration {
         first: name(alloc, "A", 13)?,
@@ -54,6 +72,7 @@ fn file(alloc: Global) -> Result<SourceFile, Fail> {
         declarations: vec![in alloc; declaration]?,
     };
     let pou = Pou {
+        kind: PouKind::Function(TypeName::Elementary(Elementary::Dint, 10)),
         name: name(alloc, "M", 8)?,
         variables: vec![in alloc; variables]?,
         body: Body::Statements(vec![in alloc; branch(alloc)?]?),
@@ -101,6 +120,12 @@ fn a_file_is_copied(rt: HostRuntime) -> Result<(), Fail> {
     let copy = file(rt.alloc())?.copy(rt.alloc())?;
     assert_eq!(rt; copy.items.len(), 2);
     let pou = pou_of(&copy.items[1])?.copy(rt.alloc())?;
+    assert!(rt;
+        matches!(
+            pou.kind,
+            PouKind::Function(TypeName::Elementary(Elementary::Dint, 10))
+        )
+    );
     assert_eq!(rt; pou.name.text.as_str(), "M");
     assert_eq!(rt; pou.variables.len(), 1);
     let variables = pou.variables[0].copy(rt.alloc())?;
@@ -164,5 +189,40 @@ fn statements_are_copied(rt: HostRuntime) -> Result<(), Fail> {
     assert_eq!(rt; links.len(), 1);
     assert_eq!(rt; links[0].operator, Operator::And);
     assert!(rt; matches!(&links[0].right, Expr::Paren(40, _)));
+    Ok(())
+}
+
+#[test]
+fn calls_are_copied(rt: HostRuntime) -> Result<(), Fail> {
+    let (function, block) = calls(rt.alloc())?;
+    let function = function.copy(rt.alloc())?;
+    let Expr::Call(called, 104, arguments) = &function else {
+        return Err(Fail::from("a call of a function"));
+    };
+    assert_eq!(rt; called.text.as_str(), "MAX");
+    assert_eq!(rt; arguments.len(), 1);
+    assert_eq!(rt; arguments[0].name.as_ref().map(|it| it.at), Some(105));
+    assert!(rt;
+        matches!(
+            &arguments[0].value,
+            Expr::Path(Path {
+                first: Name { at: 110, .. },
+                ..
+            })
+        )
+    );
+    let block = block.copy(rt.alloc())?;
+    let Stmt::Call(instance, 126, connections) = &block else {
+        return Err(Fail::from("a call of a block"));
+    };
+    assert_eq!(rt; instance.at, 120);
+    assert_eq!(rt; connections.len(), 2);
+    assert!(rt;
+        matches!(
+            &connections[0],
+            Connection::Input(Name { at: 127, .. }, Expr::Path(_))
+        )
+    );
+    assert!(rt; matches!(&connections[1], Connection::Output(Name { at: 136, .. }, _)));
     Ok(())
 }

@@ -1,6 +1,6 @@
 use Rattle.std.proofs.Common.{◌≡◌, drop}
 use Rattle.st_tree.specs.SyntaxView.{links_view, arguments_view}
-use Rattle.st_types.specs.Outcomes.{outcome_of, links_outcome, arguments_outcome, alone_outcome}
+use Rattle.st_types.specs.Outcomes.{outcome_of, links_outcome, arguments_outcome, given_outcome, alone_outcome}
 use Rattle.st_types.specs.Judged.{sound}
 use Rattle.st_types.proofs.+judge_expr.Given as goal
 
@@ -15,3 +15,7 @@ invariant-calls::judge_arguments-loop-place g l =
 abbrev pub invariant-calls::judge_alone-loop-argument : goal.invariant-calls::judge_alone-loop-argument
 invariant-calls::judge_alone-loop-argument g l =
     alone_outcome (g.S.Scope.means l.scope) l.judged (arguments_view (drop l.argument-index l.arguments)) ≡ alone_outcome (g.S.Scope.means l.scope) (outcome_of sound) (arguments_view l.arguments)
+
+abbrev pub invariant-answers::judge_given-loop-place : goal.invariant-answers::judge_given-loop-place
+invariant-answers::judge_given-loop-place g l =
+    given_outcome (g.S.Scope.means l.scope) l.signature l.place l.judged (arguments_view (drop l.place l.arguments)) ≡ given_outcome (g.S.Scope.means l.scope) l.signature 0 (outcome_of sound) (arguments_view l.arguments)

@@ -1,6 +1,9 @@
 use Rattle.std.proofs.Common.{◌≡◌, ◌++◌, drop, map}
 use Rattle.st_tree.specs.SyntaxView.{links_view, arguments_view}
-use Rattle.st_tree.specs.View.{expr_view, operand_view}
+use Rattle.st_tree.specs.View.{expr_view, exprs_view, operand_view}
+use Rattle.std.specs.Prelude.{replicate, pos}
+use Rattle.st_tree.specs.Tree.{number}
+use Rattle.st_types.specs.Typed.{placed, typed_given}
 use Rattle.st_types.specs.TypedLists.{operand_list, expression_list}
 use Rattle.st_types.proofs.+type_expr.Given as goal
 
@@ -11,3 +14,7 @@ invariant-typed_expressions::type_links-loop-link g l =
 abbrev pub invariant-typed_calls::type_operands-loop-place : goal.invariant-typed_calls::type_operands-loop-place
 invariant-typed_calls::type_operands-loop-place g l =
     map expr_view l.operands.items ++ expression_list (g.S.Scope.means l.scope) l.function l.kind l.place (arguments_view (drop l.place l.arguments)) ≡ expression_list (g.S.Scope.means l.scope) l.function l.kind 0 (arguments_view l.arguments)
+
+abbrev pub invariant-typed_answers::type_given-loop-place : goal.invariant-typed_answers::type_given-loop-place
+invariant-typed_answers::type_given-loop-place g l =
+    placed (exprs_view l.values.items) (typed_given (g.S.Scope.means l.scope) l.signature l.place (arguments_view (drop l.place l.arguments))) ≡ placed (replicate l.signature.count (number (pos 0))) (typed_given (g.S.Scope.means l.scope) l.signature 0 (arguments_view l.arguments))

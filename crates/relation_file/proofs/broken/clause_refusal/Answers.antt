@@ -1,4 +1,5 @@
-use Rattle.std.proofs.Common.{ap, sym, ◌∙◌}
+use Rattle.std.proofs.Common.{◌≡◌, ap, sym, ◌∙◌, subst}
+use Rattle.std.specs.Prelude.{IfOk}
 use Rattle.st_tree.specs.Rules.{first_in}
 use Rattle.st_tree.specs.SyntaxView.{tree_view}
 use Rattle.st_types.specs.Judged.{judged_clause}
@@ -11,5 +12,6 @@ use Rattle.relation_file.proofs.broken.clause_refusal.Goals as goal
 
 pub returns-in-Clause : goal.returns-in-Clause
 returns-in-Clause c =
-    c.judge_clause.ensures ∙ ap (λ (m : Scope). first_in (judged_clause m (tree_view c.in-Clause.clause)).broken) c.args.pair.now.scoped
-    ∙ ap (λ (x : Content). first_in (broken_content (old_of c.args.pair.now) (new_of c.args.pair.now) (content_view x))) (sym c.in-Clause.is)
+    let scoped = ap (λ (m : Scope). first_in (judged_clause m (tree_view c.in-Clause.clause)).broken) c.args.pair.now.scoped in
+    let clause = ap (λ (x : Content). first_in (broken_content (old_of c.args.pair.now) (new_of c.args.pair.now) (content_view x))) (sym c.in-Clause.is) in
+    subst (λ want. IfOk c.judge_clause.result (λ first. first ≡ want)) (scoped ∙ clause) c.judge_clause.ensures

@@ -2,7 +2,8 @@ use Rattle.std.proofs.Common.{◌+◌, drop, ap, sym, ◌∙◌, arith}
 use Rattle.std.proofs.lemmas.List.{at_drop_all}
 use Rattle.st_tree.specs.Rules.{earlier, first_in}
 use Rattle.st_tree.proofs.Refusals.{earlier-none}
-use Rattle.st_names.proofs.Steps.{view-drop, before_rest}
+use Rattle.st_names.proofs.Steps.{view-drop}
+use Rattle.relation_file.proofs.Steps.{before_rest}
 use Rattle.relation_lines.specs.View.{line_view, lines_view, content_view}
 use Rattle.relation_file.specs.Broken.{broken_content, broken_clauses}
 use Rattle.relation_file.specs.PairView.{old_of, new_of}
@@ -17,7 +18,7 @@ loop-line-preserved c =
     let rest = lines_view (drop (i + 1) c.args.lines.now) in
     let left = view-drop line_view c.args.lines.now i x (omega arith) c.line-item.is in
     let all = ap (λ ls. earlier c.loop-line.first (first_in (broken_clauses old new ls))) (sym left) ∙ c.loop-line.invariant in
-    let step = c.earlier-first.ensures ∙ ap (earlier c.loop-line.first) c.clause_refusal.ensures in
+    let step = c.earlier-first.ensures ∙ ap (earlier c.loop-line.first) c.in_ok-clause_refusal.ensures in
     before_rest c.loop-line.first c.earlier-first.result _ (broken_content old new (content_view x.content)) (broken_clauses old new rest) step all
 
 pub returns : goal.returns

@@ -7,9 +7,10 @@ use Rattle.st_tree.specs.declared.syntax.Expr.TheFolds.{fold-roll-Expr}
 use Rattle.st_tree.specs.Syntax.{Tree, chain, call}
 use Rattle.st_tree.specs.Rules.{earlier, first_in}
 use Rattle.st_tree.specs.SyntaxView.{LinkData, ArgumentData, expr_step, argument_step, link_step, name_view, tree_view, link_view, links_view, links_of, argument_view, arguments_view, arguments_of}
-use Rattle.st_names.specs.Library.{is_function}
+use Rattle.st_names.specs.Library.{is_library}
 use Rattle.st_names.proofs.Outs.{link_view-out, argument_view-out}
-use Rattle.st_names.proofs.Steps.{view-drop, then_on, before_rest}
+use Rattle.st_names.proofs.Steps.{view-drop}
+use Rattle.relation_file.proofs.Steps.{then_on, before_rest}
 use Rattle.relation_file.specs.Clauses.{broken_called, broken_argument, broken_names, broken_links, broken_arguments}
 use Rattle.relation_file.proofs.names.+walk_names.Goals as goal
 
@@ -38,10 +39,10 @@ walk_names-returns-in-Call g t c =
     let shape : tree_view c.args.expr.now ≡ call n c.in-Call.field-1 (arguments_view args) = ap tree_view (c.in-Call.is ∙ sym (rolls-Call c.in-Call.function c.in-Call.field-1 c.in-Call.arguments)) ∙ fold-roll-Expr Tree ArgumentData LinkData expr_step argument_step link_step _ in
     let called = c.earlier-in-Call.ensures ∙ ap (earlier c.args.first.now) c.called_refusal.ensures in
     let all = c.walk_arguments.ensures
-    ∙ ap (λ known. earlier c.earlier-in-Call.result (first_in (broken_arguments m known (arguments_view c.deref-in-Call.result.now)))) c.is_function.ensures
-    ∙ ap (λ text. earlier c.earlier-in-Call.result (first_in (broken_arguments m (is_function text) (arguments_view c.deref-in-Call.result.now)))) c.as_str.ensures.value
-    ∙ ap (λ (list : List Argument). earlier c.earlier-in-Call.result (first_in (broken_arguments m (is_function n.text) (arguments_view list)))) c.deref-in-Call.ensures.value in
-    rw shape (then_on c.args.first.now c.earlier-in-Call.result c.walk_arguments.new.first (broken_called n) (broken_arguments m (is_function n.text) (arguments_view args)) called all)
+    ∙ ap (λ known. earlier c.earlier-in-Call.result (first_in (broken_arguments m known (arguments_view c.deref-in-Call.result.now)))) c.is_library.ensures
+    ∙ ap (λ text. earlier c.earlier-in-Call.result (first_in (broken_arguments m (is_library text) (arguments_view c.deref-in-Call.result.now)))) c.as_str.ensures.value
+    ∙ ap (λ (list : List Argument). earlier c.earlier-in-Call.result (first_in (broken_arguments m (is_library n.text) (arguments_view list)))) c.deref-in-Call.ensures.value in
+    rw shape (then_on c.args.first.now c.earlier-in-Call.result c.walk_arguments.new.first (broken_called n) (broken_arguments m (is_library n.text) (arguments_view args)) called all)
 
 pub walk_arguments-loop-argument-preserved : goal.walk_arguments-loop-argument-preserved
 walk_arguments-loop-argument-preserved g t c =

@@ -10,11 +10,11 @@ returns-in-Some-clause-refused c =
     let all = broken_lines (old_of c.args.pair.now) (new_of c.args.pair.now) c.args.end (lines_view c.args.lines.now) in
     inl (first_in-IsFirst all c.in-Some.refusal (sym c.in_ok-refusal.ensures ∙ c.in-Some.is))
 
-pub returns-in-Some-first_of_clauses-clause-refused : goal.returns-in-Some-first_of_clauses-clause-refused
-returns-in-Some-first_of_clauses-clause-refused c =
+pub returns-in-Some-2-clause-refused : goal.returns-in-Some-2-clause-refused
+returns-in-Some-2-clause-refused c =
     let all = broken_lines (old_of c.args.pair.now) (new_of c.args.pair.now) c.args.end (lines_view c.args.lines.now) in
     let clauses = broken_clauses (old_of c.args.pair.now) (new_of c.args.pair.now) (lines_view c.args.lines.now) in
-    inr (none_is_left all (sym c.in_ok-refusal.ensures ∙ c.in_default.is), first_in-IsFirst clauses c.in-Some-first_of_clauses.refusal (sym c.in-Some-first_of_clauses.ensures))
+    inr (none_is_left all (sym c.in_ok-refusal.ensures ∙ c.in_default.is), first_in-IsFirst clauses c.in-Some-2.refusal (sym c.in_ok-refusal-2.ensures ∙ c.in-Some-2.is))
 
 pub returns-clause-sound : goal.returns-clause-sound
 returns-clause-sound c =
@@ -22,4 +22,4 @@ returns-clause-sound c =
 
 pub returns-clause-typing : goal.returns-clause-typing
 returns-clause-typing c =
-    none_is_left (broken_clauses (old_of c.args.pair.now) (new_of c.args.pair.now) (lines_view c.args.lines.now)) (sym c.in_default-first_of_clauses.ensures)
+    none_is_left (broken_clauses (old_of c.args.pair.now) (new_of c.args.pair.now) (lines_view c.args.lines.now)) (sym c.in_ok-refusal-2.ensures ∙ c.in_default-2.is)

@@ -6,5 +6,5 @@ use Rattle.st_names.proofs.declared.append_section.Given as goal
 
 abbrev pub invariant-loop-declaration : goal.invariant-loop-declaration
 invariant-loop-declaration l =
-    variables_view l.list.items ++ declared_in l.section (declarations_view (drop l.declaration-index l.declarations))
-    ≡ variables_view l.fn.list.items ++ declared_in l.section (declarations_view l.declarations)
+    variables_view l.list.items ++ declared_in l.role (declarations_view (drop l.declaration-index l.declarations))
+    ≡ variables_view l.fn.list.items ++ declared_in l.role (declarations_view l.declarations)

@@ -11,4 +11,5 @@ invariant-loop-declaration l = record {
   names :
       file_names_view l.list.names.items ++ names_of_types (length l.list.types.items) (type_declarations_view (drop l.declaration-index l.declarations))
       ≡ file_names_view l.fn.list.names.items ++ names_of_types (length l.fn.list.types.items) (type_declarations_view l.declarations);
+  pous : l.list.pous ≡ l.fn.list.pous;
 }

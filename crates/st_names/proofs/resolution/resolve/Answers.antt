@@ -1,22 +1,54 @@
-use Rattle.std.proofs.Common.{sym, ◌∙◌}
+use Rattle.std.proofs.Common.{◌≡◌, ◌≢◌, ℕ, List, [], ◌∷◌, ◌++◌, ◌==◌, Bool, true, false, if◌then◌else◌, length, None, Some, map, inl, count_by, arith, ap, sym, ◌∙◌, subst, refl}
+use Rattle.std.proofs.lemmas.Bool.Decides.{nat_tests}
+use Rattle.std.proofs.lemmas.List.{length-map}
+use Rattle.call_order.specs.Uses.{order_of}
+use Rattle.call_order.proofs.Orders.{none_reaches}
 use Rattle.st_tree.specs.SyntaxView.{file_view}
 use Rattle.st_names.specs.Broken.{broken_names}
-use Rattle.st_tree.proofs.Refusals.{none_is_left, first_in-IsFirst}
-use Rattle.st_names.proofs.Kept.{one_program, whole_types, whole_kinds}
+use Rattle.st_names.specs.Circles.{uses_in, uses_of, IsBroken}
+use Rattle.st_names.specs.FileScope.{pous_of}
+use Rattle.st_names.specs.FirstOf.{IsFirstOf}
+use Rattle.st_names.proofs.BindingLemmas.{count_places}
+use Rattle.st_names.proofs.CircleLemmas.{nothing_left}
+use Rattle.st_names.proofs.Kept.{one_program, whole_types, typed_pous}
 use Rattle.st_names.proofs.resolution.resolve.Goals as goal
 
 pub returns-in-Some-clause-refused : goal.returns-in-Some-clause-refused
-returns-in-Some-clause-refused c =
-    first_in-IsFirst (broken_names (file_view c.args.file)) c.in-Some.refusal (sym c.in_ok-first.ensures.broken ∙ c.in-Some.is)
+returns-in-Some-clause-refused c = subst (IsFirstOf (IsBroken (file_view c.args.file))) c.in-Some.is c.in_ok-first.ensures.broken
+
+pub returns-else-as_slice-clause-kept : goal.returns-else-as_slice-clause-kept
+returns-else-as_slice-clause-kept c =
+    let f = file_view c.args.file in
+    let none = subst (IsFirstOf (IsBroken f)) c.in-None.is c.in_ok-first.ensures.broken in
+    nothing_left (broken_names f) (λ r h. none r (inl h))
 
 pub new-requires-clause-one : goal.new-requires-clause-one
-new-requires-clause-one c = one_program (file_view c.args.file) (none_is_left (broken_names (file_view c.args.file)) (sym c.in_ok-first.ensures.broken ∙ c.in-None.is))
+new-requires-clause-one c =
+    let f = file_view c.args.file in
+    let none = subst (IsFirstOf (IsBroken f)) c.in-None.is c.in_ok-first.ensures.broken in
+    one_program f (nothing_left (broken_names f) (λ r h. none r (inl h)))
 
-pub returns-in-None-clause-kept : goal.returns-in-None-clause-kept
-returns-in-None-clause-kept c = none_is_left (broken_names (file_view c.args.file)) (sym c.in_ok-first.ensures.broken ∙ c.in-None.is)
+pub returns-else-as_slice-clause-ordered : goal.returns-else-as_slice-clause-ordered
+returns-else-as_slice-clause-ordered c =
+    let f = file_view c.args.file in
+    let bound = c.in_ok-first.ensures.bound in
+    ap length (sym bound.order) ∙ ap length (sym c.as_slice.ensures.value) ∙ c.if-as_slice.false ∙ ap length c.as_slice-in-None.ensures.value ∙ ap length bound.places ∙ count_places 0 f
 
-pub returns-in-None-clause-types : goal.returns-in-None-clause-types
-returns-in-None-clause-types c = whole_types (file_view c.args.file) (none_is_left (broken_names (file_view c.args.file)) (sym c.in_ok-first.ensures.broken ∙ c.in-None.is))
+pub returns-else-as_slice-clause-acyclic : goal.returns-else-as_slice-clause-acyclic
+returns-else-as_slice-clause-acyclic c =
+    let f = file_view c.args.file in
+    let bound = c.in_ok-first.ensures.bound in
+    let ordered : length (order_of (uses_of f)) ≡ length (pous_of f) = ap length (sym bound.order) ∙ ap length (sym c.as_slice.ensures.value) ∙ c.if-as_slice.false ∙ ap length c.as_slice-in-None.ensures.value ∙ ap length bound.places ∙ count_places 0 f in
+    none_reaches (uses_of f) (ordered ∙ sym (length-map (pous_of f) (uses_in f)))
 
-pub returns-in-None-clause-typed : goal.returns-in-None-clause-typed
-returns-in-None-clause-typed c = whole_kinds (file_view c.args.file) (none_is_left (broken_names (file_view c.args.file)) (sym c.in_ok-first.ensures.broken ∙ c.in-None.is))
+pub returns-else-as_slice-clause-types : goal.returns-else-as_slice-clause-types
+returns-else-as_slice-clause-types c =
+    let f = file_view c.args.file in
+    let none = subst (IsFirstOf (IsBroken f)) c.in-None.is c.in_ok-first.ensures.broken in
+    whole_types f (nothing_left (broken_names f) (λ r h. none r (inl h)))
+
+pub returns-else-as_slice-clause-typed : goal.returns-else-as_slice-clause-typed
+returns-else-as_slice-clause-typed c =
+    let f = file_view c.args.file in
+    let none = subst (IsFirstOf (IsBroken f)) c.in-None.is c.in_ok-first.ensures.broken in
+    typed_pous f (nothing_left (broken_names f) (λ r h. none r (inl h)))

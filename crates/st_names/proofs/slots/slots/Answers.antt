@@ -1,10 +1,13 @@
-use Rattle.std.proofs.Common.{◌≡◌, ◌+◌, length, take, drop, ap, sym, ◌∙◌, arith, length-take-le}
+use Rattle.std.proofs.Common.{◌≡◌, ◌+◌, List, [], length, take, drop, ap, sym, ◌∙◌, arith, length-take-le}
 use Rattle.std.proofs.lemmas.List.{length-map}
 use Rattle.std.proofs.lemmas.Grind.{common_steps}
 use Rattle.std.specs.String.{string_bytes}
 use Rattle.std.specs.HashMap.{get_by_text}
+use Rattle.st_names.specs.declared.declared.Declared.{Declared}
+use Rattle.st_names.specs.Broken.{variables_twice}
+use Rattle.st_names.specs.Outcomes.{outcome_of, both}
 use Rattle.st_names.specs.ScopeView.{variable_view, variables_view}
-use Rattle.st_names.proofs.Steps.{view-take, view-drop}
+use Rattle.st_names.proofs.Steps.{view-take, view-drop, both_sound}
 use Rattle.st_names.proofs.SlotSteps.{held_push, twice_push}
 use Rattle.st_names.proofs.slots.slots.Goals as goal
 
@@ -21,6 +24,15 @@ loop-place-preserved c =
     let rest = variables_view (drop (i + 1) c.args.variables.now) in
     let held = c.loop-place.invariant.held in
     record {
-      held = rw more (held_push c.loop-place.slots c.insert.new.self c.in_ok-clone.field-0 before (variable_view x) c.entered-slot.result c.slot_at-known.result (i + 1) held c.in_ok-insert.ensures.updates key known number c.entered-slot.ensures);
-      twice = rw more (twice_push c.loop-place.first c.earlier.result c.declared_twice.result before rest (variable_view x) c.slot_at-known.result (known ∙ held (string_bytes x.name.now.text)) c.declared_twice.ensures c.earlier.ensures) ∙ rw left at c.loop-place.invariant.twice;
+      held = rw more (held_push c.args.has_fault c.loop-place.slots c.insert.new.self c.in_ok-clone.field-0 before (variable_view x) c.entered-slot.result c.slot_at-known.result (i + 1) held c.in_ok-insert.ensures.updates key known number c.entered-slot.ensures);
+      once = rw more (twice_push c.args.has_fault c.loop-place.outcome c.also-outcome.result c.declared_twice.result before rest (variable_view x) c.slot_at-known.result (known ∙ held (string_bytes x.name.now.text)) c.declared_twice.ensures c.also-outcome.ensures) ∙ rw left at c.loop-place.invariant.once;
     }
+
+pub returns-clause-once : goal.returns-clause-once
+returns-clause-once c =
+    let vs = c.args.variables.now in
+    let i = c.loop-place.place in
+    let none : drop i vs ≡ [] = grind (arith, common_steps) in
+    sym (both_sound c.loop-place.outcome)
+    ∙ ap (λ (rest : List Declared). both c.loop-place.outcome (outcome_of (variables_twice c.args.has_fault (variables_view (take i vs)) (variables_view rest)))) (sym none)
+    ∙ c.loop-place.invariant.once

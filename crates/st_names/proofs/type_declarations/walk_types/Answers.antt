@@ -4,10 +4,12 @@ use Rattle.std.proofs.lemmas.List.{length-map}
 use Rattle.st_tree.specs.Rules.{earlier, first_in}
 use Rattle.st_tree.specs.SyntaxView.{type_declaration_view, file_view}
 use Rattle.st_names.specs.Broken.{circular, in_specification, in_types}
+use Rattle.st_names.specs.Judgements.{sound}
+use Rattle.st_names.specs.Outcomes.{outcome_of}
 use Rattle.st_names.specs.ScopeView.{types_view}
 use Rattle.st_names.specs.Types.{is_circular}
 use Rattle.st_names.proofs.CircularLemmas.{circular_is}
-use Rattle.st_names.proofs.Steps.{view-drop, then_on, before_rest}
+use Rattle.st_names.proofs.Steps.{view-drop, outcome_first, first_then, first_before}
 use Rattle.st_names.proofs.type_declarations.walk_types.Goals as goal
 
 pub loop-number-preserved : goal.loop-number-preserved
@@ -23,10 +25,10 @@ loop-number-preserved c =
     let there = c.is_marked-is_reached.ensures ∙ ap (λ xs. get_or xs number false) c.deref-in-loop-number.ensures.value in
     let marked : c.is_marked-is_reached.result ≡ list_any (λ e. e == number) types.ends.items = there ∙ c.in_ok-reached.ensures number (omega (arith, ap length c.deref.ensures.value)) ∙ ap (list_any (λ e. e == number)) c.deref.ensures.value in
     let is = circular_is f ds types.ends.items number x c.is_marked-is_reached.result c.requires types.led types.all (omega arith) c.index-types-number.is marked in
-    let own = if is_circular f number then circular d.name else [] in
+    let own = if is_circular f number then circular d.name else sound in
     let left = view-drop (λ t. type_declaration_view t.now) ds number x (omega arith) c.index-types-number.is in
     let all = ap (λ ts. earlier c.loop-number.first (first_in (in_types f number ts))) (sym left) ∙ c.loop-number.invariant in
-    let first = c.earlier.ensures ∙ ap (earlier c.loop-number.first) (c.circular_refusal.ensures ∙ ap (λ b. first_in (if b then circular d.name else [])) is) in
-    let second = c.earlier-in-loop-number.ensures ∙ ap (earlier c.earlier.result) c.specification_refusal-refusal.ensures in
-    let step = then_on c.loop-number.first c.earlier.result c.earlier-in-loop-number.result own (in_specification f number d.specification) first second in
-    before_rest c.loop-number.first c.earlier-in-loop-number.result _ (own ++ in_specification f number d.specification) (in_types f (number + 1) rest) step all
+    let first = c.earlier.ensures ∙ ap (earlier c.loop-number.first) (outcome_first own c.circle_of-circle.result (c.circle_of-circle.ensures ∙ ap (λ b. outcome_of (if b then circular d.name else sound)) is)) in
+    let second = c.earlier-in-loop-number.ensures ∙ ap (earlier c.earlier.result) (outcome_first (in_specification f number d.specification) c.specification-judged.result c.specification-judged.ensures) in
+    let step = first_then c.loop-number.first c.earlier.result c.earlier-in-loop-number.result own.broken (in_specification f number d.specification).broken first second in
+    first_before c.loop-number.first c.earlier-in-loop-number.result _ (own.broken ++ (in_specification f number d.specification).broken) (in_types f (number + 1) rest) step all

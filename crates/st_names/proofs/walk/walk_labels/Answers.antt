@@ -1,26 +1,27 @@
-use Rattle.std.proofs.Common.{◌≡◌, ◌+◌, ◌++◌, take, drop, ap, sym, ◌∙◌, arith}
-use Rattle.std.proofs.lemmas.Grind.{common_steps}
-use Rattle.st_tree.specs.Rules.{earlier, first_in}
-use Rattle.st_tree.specs.SyntaxView.{tree_view, initial_view, label_view, labels_view}
-use Rattle.st_names.specs.Broken.{in_constant, in_initial, in_labels}
-use Rattle.st_names.specs.NamesView.{file_in, variables_in}
-use Rattle.st_names.specs.ScopeView.{variables_view}
-use Rattle.st_names.proofs.Steps.{view-drop, then_on, before_rest}
+use Rattle.std.proofs.Common.{◌≡◌, List, [], ◌+◌, ◌∷◌, drop, ap, sym, ◌∙◌, arith}
+use Rattle.std.proofs.lemmas.List.{drop_all}
+use Rattle.st_tree.specs.SyntaxView.{label_view, labels_view}
+use Rattle.st_names.specs.Broken.{in_label, in_labels}
+use Rattle.st_names.specs.NamesView.{file_in, pou_in}
+use Rattle.st_names.specs.Outcomes.{outcome_of, both}
+use Rattle.st_names.proofs.Steps.{view-drop, before_rest, loop_done}
 use Rattle.st_names.proofs.walk.walk_labels.Goals as goal
 
 pub loop-label-preserved : goal.loop-label-preserved
 loop-label-preserved c =
-    let names = c.args.names.now in
-    let f = file_in names in
-    let vs = variables_in names in
+    let f = file_in c.args.scope.now.names in
+    let p = pou_in c.args.scope.now.names in
     let x = c.label-item.result in
-    let low = tree_view x.low in
-    let high = initial_view x.high in
     let rest = labels_view (drop (c.loop-label.label-index + 1) c.args.labels.now) in
-    let whole : variables_view (take c.len-place.result names.variables.items) ≡ vs = grind (arith, common_steps) in
     let left = view-drop label_view c.args.labels.now c.loop-label.label-index x (omega arith) c.label-item.is in
-    let all = ap (λ ls. earlier c.loop-label.first (first_in (in_labels f vs ls))) (sym left) ∙ c.loop-label.invariant in
-    let first = c.earlier.ensures ∙ ap (earlier c.loop-label.first) (c.constant_refusal.ensures ∙ ap (λ before. first_in (in_constant f vs before low)) whole) in
-    let second = c.earlier-in-loop-label.ensures ∙ ap (earlier c.earlier.result) (c.initial_refusal.ensures ∙ ap (λ before. first_in (in_initial f vs before high)) whole) in
-    let step = then_on c.loop-label.first c.earlier.result c.earlier-in-loop-label.result (in_constant f vs vs low) (in_initial f vs vs high) first second in
-    before_rest c.loop-label.first c.earlier-in-loop-label.result _ (in_constant f vs vs low ++ in_initial f vs vs high) (in_labels f vs rest) step all
+    let all = ap (λ ls. both c.loop-label.outcome (outcome_of (in_labels f p ls))) (sym left) ∙ c.loop-label.invariant in
+    before_rest c.loop-label.outcome c.also.result _ (in_label f p (label_view x)) (in_labels f p rest) (c.also.ensures ∙ ap (both c.loop-label.outcome) c.judged_label.ensures) all
+
+pub returns : goal.returns
+returns c =
+    let f = file_in c.args.scope.now.names in
+    let p = pou_in c.args.scope.now.names in
+    let xs = c.args.labels.now in
+    let i = c.loop-label.label-index in
+    let none : drop i xs ≡ [] = drop_all i xs (omega arith) in
+    loop_done c.loop-label.outcome c.args.outcome.now (in_labels f p (labels_view (drop i xs))) (in_labels f p (labels_view xs)) c.loop-label.invariant (ap (λ ys. in_labels f p (labels_view ys)) none)

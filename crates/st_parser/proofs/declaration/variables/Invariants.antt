@@ -5,4 +5,4 @@ use Rattle.st_parser.specs.Declarations.{variables}
 use Rattle.st_parser.proofs.declaration.variables.Given as goal
 
 abbrev pub invariant-loop-turn : goal.invariant-loop-turn
-invariant-loop-turn l = variables (length l.toks) (length l.toks) [] (ahead l.toks l.fn.at) ≡ variables (length l.toks) (l._turn-end - l._turn) (all_variables_view l.found.items) (ahead l.toks l.at)
+invariant-loop-turn l = variables (length l.toks) l.of_function (length l.toks) [] (ahead l.toks l.fn.at) ≡ variables (length l.toks) l.of_function (l._turn-end - l._turn) (all_variables_view l.found.items) (ahead l.toks l.at)

@@ -3,7 +3,7 @@ use Rattle.std.proofs.lemmas.Grind.{common_steps}
 use Rattle.st_tree.specs.SyntaxView.{stmts_view, arms_view, entries_view}
 use Rattle.st_parser.specs.Reading.{ahead}
 use Rattle.st_parser.specs.Expressions.{expression}
-use Rattle.st_parser.specs.Statements.{nested, statements, statements_from, arms_from, entries_from, opened}
+use Rattle.st_parser.specs.Statements.{simple, nested, statements, statements_from, arms_from, entries_from, opened}
 use Rattle.st_parser.proofs.Turns.{one_more, no_more}
 use Rattle.st_parser.proofs.StatementLists.{nested_step, stmts-push, arms-push, entries-push}
 use Rattle.st_parser.proofs.statement.+statement.Goals as goal
@@ -52,25 +52,25 @@ statements-loop-turn-init t c =
 pub statements-returns-in_err-next : goal.statements-returns-in_err-next
 unfolding statements_from
 statements-returns-in_err-next t c =
-    let e = one_more (λ n. statements_from c.args.labelled (length c.args.toks.now) (expression (length c.args.toks.now) c.args.depth) (nested (length c.args.toks.now) c.args.depth) n (stmts_view c.loop-turn.found.items) (ahead c.args.toks.now c.loop-turn.at)) _ c.loop-turn._turn c.loop-turn-test.true c.loop-turn.invariant in
+    let e = one_more (λ n. statements_from c.args.labelled (simple (length c.args.toks.now) c.args.depth) (nested (length c.args.toks.now) c.args.depth) n (stmts_view c.loop-turn.found.items) (ahead c.args.toks.now c.loop-turn.at)) _ c.loop-turn._turn c.loop-turn-test.true c.loop-turn.invariant in
     first_of (search rules, grind (arith, common_steps))
 
 pub statements-returns-in_default : goal.statements-returns-in_default
 unfolding statements_from
 statements-returns-in_default t c =
-    let e = one_more (λ n. statements_from c.args.labelled (length c.args.toks.now) (expression (length c.args.toks.now) c.args.depth) (nested (length c.args.toks.now) c.args.depth) n (stmts_view c.loop-turn.found.items) (ahead c.args.toks.now c.loop-turn.at)) _ c.loop-turn._turn c.loop-turn-test.true c.loop-turn.invariant in
+    let e = one_more (λ n. statements_from c.args.labelled (simple (length c.args.toks.now) c.args.depth) (nested (length c.args.toks.now) c.args.depth) n (stmts_view c.loop-turn.found.items) (ahead c.args.toks.now c.loop-turn.at)) _ c.loop-turn._turn c.loop-turn-test.true c.loop-turn.invariant in
     first_of (search rules, grind (arith, common_steps))
 
 pub statements-loop-turn-preserved : goal.statements-loop-turn-preserved
 unfolding statements_from
 statements-loop-turn-preserved t c =
-    let e = one_more (λ n. statements_from c.args.labelled (length c.args.toks.now) (expression (length c.args.toks.now) c.args.depth) (nested (length c.args.toks.now) c.args.depth) n (stmts_view c.loop-turn.found.items) (ahead c.args.toks.now c.loop-turn.at)) _ c.loop-turn._turn c.loop-turn-test.true c.loop-turn.invariant in
+    let e = one_more (λ n. statements_from c.args.labelled (simple (length c.args.toks.now) c.args.depth) (nested (length c.args.toks.now) c.args.depth) n (stmts_view c.loop-turn.found.items) (ahead c.args.toks.now c.loop-turn.at)) _ c.loop-turn._turn c.loop-turn-test.true c.loop-turn.invariant in
     first_of (search rules, grind (arith, common_steps, stmts-push))
 
 pub statements-returns : goal.statements-returns
 unfolding statements_from
 statements-returns t c =
-    let e = no_more (λ n. statements_from c.args.labelled (length c.args.toks.now) (expression (length c.args.toks.now) c.args.depth) (nested (length c.args.toks.now) c.args.depth) n (stmts_view c.loop-turn.found.items) (ahead c.args.toks.now c.loop-turn.at)) _ c.loop-turn._turn c.loop-turn-test.false c.loop-turn.invariant in
+    let e = no_more (λ n. statements_from c.args.labelled (simple (length c.args.toks.now) c.args.depth) (nested (length c.args.toks.now) c.args.depth) n (stmts_view c.loop-turn.found.items) (ahead c.args.toks.now c.loop-turn.at)) _ c.loop-turn._turn c.loop-turn-test.false c.loop-turn.invariant in
     first_of (search rules, grind (arith, common_steps))
 
 pub entries-returns-in_err-labels : goal.entries-returns-in_err-labels

@@ -3,7 +3,7 @@ use Rattle.st_tree.specs.SyntaxView.{stmts_view, arms_view, entries_view}
 use Rattle.st_tree.specs.Syntax.{no_arms, no_entries}
 use Rattle.st_parser.specs.Reading.{ahead}
 use Rattle.st_parser.specs.Expressions.{expression}
-use Rattle.st_parser.specs.Statements.{nested, statements, statements_from, arms_from, entries_from}
+use Rattle.st_parser.specs.Statements.{simple, nested, statements, statements_from, arms_from, entries_from}
 use Rattle.st_parser.proofs.statement.+statement.Given as goal
 
 abbrev pub decreases-nested : goal.decreases-nested
@@ -35,7 +35,7 @@ decreases-repetition l = 8 * l.depth + 4
 
 abbrev pub invariant-statements-loop-turn : goal.invariant-statements-loop-turn
 invariant-statements-loop-turn l = statements (length l.toks) l.depth l.labelled (ahead l.toks l.fn.at)
-    ≡ statements_from l.labelled (length l.toks) (expression (length l.toks) l.depth) (nested (length l.toks) l.depth) (l._turn-end - l._turn) (stmts_view l.found.items) (ahead l.toks l.at)
+    ≡ statements_from l.labelled (simple (length l.toks) l.depth) (nested (length l.toks) l.depth) (l._turn-end - l._turn) (stmts_view l.found.items) (ahead l.toks l.at)
 
 abbrev pub invariant-arms-loop-turn : goal.invariant-arms-loop-turn
 invariant-arms-loop-turn l = arms_from (length l.toks) (expression (length l.toks) l.depth) (statements (length l.toks) l.depth false) (length l.toks) no_arms (ahead l.toks l.fn.at)

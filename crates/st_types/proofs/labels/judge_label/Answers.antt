@@ -7,7 +7,7 @@ use Rattle.st_types.proofs.Labelling.{outcome_of-label}
 use Rattle.st_types.proofs.labels.judge_label.Goals as goal
 
 pub returns : goal.returns
-returns g c = λ seen is_range is_new.
-    outcome_of-label (g.S.Scope.means c.args.scope.now) c.args.kind seen (label_view c.args.label.now) c.if-is_of_type.fits c.is_in_order.result c.args.is_new c.judge_expr.result c.judge_high.result c.also.result c.tested.result c.tested-2.result c.tested-3.result
+returns g c = λ seen is_constants is_range is_new.
+    outcome_of-label (g.S.Scope.means c.args.scope.now) c.args.kind seen (label_view c.args.label.now) c.if-is_of_type.fits c.is_in_order.result c.args.is_new c.args.constants c.tested.result c.tested-2.result c.tested-3.result
     (search rules) (c.is_in_order.ensures ∙ ap (λ (r : Range). int_le r.low r.high) is_range) (is_new ∙ ap (λ (r : Range). not (overlaps seen r)) is_range)
-    (search rules) (search rules) (search rules) (search rules) (search rules) (search rules)
+    is_constants (search rules) (search rules) (search rules)

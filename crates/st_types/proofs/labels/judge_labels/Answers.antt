@@ -3,12 +3,11 @@ use Rattle.std.proofs.lemmas.Grind.{common_steps}
 use Rattle.st_tree.specs.declared.syntax.Entry.{out-Entry}
 use Rattle.st_tree.specs.Syntax.{entry}
 use Rattle.st_tree.specs.SyntaxView.{labels_view, stmts_view, entries_view}
-use Rattle.st_names.proofs.Outs.{entry_view-out}
 use Rattle.st_types.specs.declared.outcome.Outcome.{Outcome}
 use Rattle.st_types.specs.Labels.{seen_behind}
 use Rattle.st_types.specs.Outcomes.{labels_outcome, all_labels}
 use Rattle.st_types.proofs.Judging.{labels_outcome-all}
-use Rattle.st_types.proofs.Labelling.{labels_step}
+use Rattle.st_types.proofs.Labelling.{labels_step, entry_view-out}
 use Rattle.st_types.proofs.labels.judge_labels.Goals as goal
 
 pub loop-entry-preserved : goal.loop-entry-preserved

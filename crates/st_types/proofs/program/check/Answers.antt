@@ -1,22 +1,33 @@
-use Rattle.std.proofs.Common.{◌≡◌, []}
+use Rattle.std.proofs.Common.{◌≡◌, true}
 use Rattle.st_tree.specs.SyntaxView.{pou_view, file_view}
 use Rattle.st_tree.specs.View.{program_view}
-use Rattle.st_names.specs.FileScope.{pous_of}
-use Rattle.st_types.specs.Programs.{broken_types}
+use Rattle.st_names.specs.Bound.{program_number}
+use Rattle.st_names.specs.Broken.{is_program_pou}
+use Rattle.st_names.specs.FileScope.{pous_of, pou_at}
+use Rattle.st_types.specs.Pous.{has_room}
+use Rattle.st_types.specs.Faults.{IsFaultOf}
 use Rattle.st_types.specs.TypedPrograms.{typed_program}
-use Rattle.st_types.proofs.OnlyPou.{on_each, if_each}
+use Rattle.st_types.proofs.OnlyPou.{err_each, ok_each, if_each, position_inside}
 use Rattle.st_types.proofs.ReadyLemmas.{ready_of}
 use Rattle.st_types.proofs.program.check.Goals as goal
 
-pub returns-clause-kept : goal.returns-clause-kept
-returns-clause-kept c =
+pub returns-clause-refused : goal.returns-clause-refused
+returns-clause-refused c =
     let f = file_view c.args.names.file in
-    on_each c.check_program.result (λ p. broken_types f p ≡ []) (pous_of f) (pou_view c.program.result.now) c.program.ensures c.check_program.ensures.kept
+    err_each c.check_program.result (λ e k. IsFaultOf f k e) (program_number f) c.program-number.result c.program-number.ensures c.check_program.ensures.refused
+
+pub returns-clause-room : goal.returns-clause-room
+returns-clause-room c =
+    let f = file_view c.args.names.file in
+    ok_each c.check_program.result (λ k. has_room f k ≡ true) (program_number f) c.program-number.result c.program-number.ensures c.check_program.ensures.room
 
 pub returns-clause-typed : goal.returns-clause-typed
 returns-clause-typed c =
     let f = file_view c.args.names.file in
-    if_each c.check_program.result (λ r p. program_view r ≡ typed_program f p) (pous_of f) (pou_view c.program.result.now) c.program.ensures c.check_program.ensures.typed
+    if_each c.check_program.result (λ r k p. program_view r ≡ typed_program f k p) (program_number f) (pou_at f) c.program-number.result (pou_view c.pou.result.now) c.program-number.ensures c.pou.ensures c.check_program.ensures.typed
 
 pub returns-clause-ready : goal.returns-clause-ready
-returns-clause-ready c = ready_of (file_view c.args.names.file) (pou_view c.program.result.now) c.check_program.result c.check_program.ensures.typed
+returns-clause-ready c = ready_of (file_view c.args.names.file) c.program-number.result (pou_view c.pou.result.now) c.check_program.result c.check_program.ensures.typed
+
+pub pou-requires : goal.pou-requires
+pou-requires c = position_inside is_program_pou c.program-number.result (pous_of (file_view c.args.names.file)) c.program-number.ensures

@@ -8,4 +8,4 @@ use Rattle.st_types.proofs.program.check_program.Goals as goal
 
 pub returns-clause-typed : goal.returns-clause-typed
 returns-clause-typed c =
-    subst (λ (f : FileData). IfOk c.check_scope.result (λ p. program_view p ≡ typed_program f (pou_view c.args.program.now))) c.in_ok-domains.ensures c.check_scope.ensures.typed
+    subst (λ (f : FileData). IfOk c.check_pous.result (λ p. program_view p ≡ typed_program f c.args.number (pou_view c.args.program.now))) c.in_ok-pous.ensures c.check_pous.ensures.typed

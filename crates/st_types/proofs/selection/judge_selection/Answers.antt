@@ -11,9 +11,9 @@ turned false c h = ap not h
 
 pub returns-then-not-judged : goal.returns-then-not-judged
 returns-then-not-judged g c =
-    outcome_of-unselected (g.S.Scope.means c.args.scope.now) (tree_view c.args.selector.now) (entries_view c.args.entries.now) c.judge_selector-judged.result c.judge_selector-judged.ensures (turned c.judge_selector-judged.result.whole true c.if-not-judged.true)
+    outcome_of-unselected (g.S.Scope.means c.args.scope.now) (tree_view c.args.selector.now) (entries_view c.args.entries.now) c.in_ok-judged.judged c.in_ok-judged.ensures (turned c.in_ok-judged.judged.whole true c.if-not-judged.true)
 
 pub returns : goal.returns
 returns g c =
-    outcome_of-selection (g.S.Scope.means c.args.scope.now) (tree_view c.args.selector.now) (entries_view c.args.entries.now) c.judge_selector-judged.result c.in_ok-labels.labels c.also.result c.judge_selector-judged.ensures (turned c.judge_selector-judged.result.whole false c.if-not-judged.false)
+    outcome_of-selection (g.S.Scope.means c.args.scope.now) (tree_view c.args.selector.now) (entries_view c.args.entries.now) c.in_ok-judged.judged c.in_ok-labels.labels c.also.result c.in_ok-judged.ensures (turned c.in_ok-judged.judged.whole false c.if-not-judged.false)
     (c.in_ok-labels.ensures ∙ ap (λ t. outcome_of (judged_labels (g.S.Scope.means c.args.scope.now) t [] (all_labels (entries_view c.args.entries.now)))) c.type_of.ensures) c.also.ensures

@@ -21,4 +21,4 @@ invariant_of-self c =
     let copied : pair_of c.copy_both.new.states ≡ pair_of c.self.inside.states = rw (c.copy_both.ensures.old, c.copy_both.ensures.new, c.deref-2.ensures.value, c.deref-3.ensures.value) in
     let is : pair_of c.load.new.states ≡ loaded lines c.args.row.now (pair_of c.self.inside.states) = rw (c.load.ensures, c.deref-4.ensures.value, copied) in
     let kept = IsPairInRange-loaded old new lines c.args.row.now (pair_of c.self.inside.states) c.self.invariant.0.belongs fits c.self.invariant.1 in
-    (c.self.invariant.0, c.self.invariant.1, subst (λ (p : Pair). IsPairInRange old new p) (sym is) kept)
+    (c.self.invariant.0, c.self.invariant.1, subst (λ (p : Pair). IsPairInRange old new p) (sym is) kept, c.self.invariant.3, c.self.invariant.4, c.self.invariant.5, c.self.invariant.6)

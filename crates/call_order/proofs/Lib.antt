@@ -1,0 +1,10 @@
+pub mod Firsts
+pub mod Members
+pub mod Orders
+pub mod Circles
+pub mod Exploring
+pub mod Graphs
+pub mod Counts
+pub mod Released
+pub mod UnderWay
+pub mod Gained

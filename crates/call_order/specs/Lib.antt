@@ -1,0 +1,4 @@
+pub mod Uses
+pub mod OrderLaws
+pub mod Marks
+pub mod Users

@@ -1,0 +1,7 @@
+pub mod Calls
+pub mod Sizes
+pub mod Loops
+pub mod Given
+pub mod Callees
+pub mod Firing
+pub mod InTurn

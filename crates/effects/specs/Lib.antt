@@ -1,0 +1,9 @@
+pub mod Values
+pub mod Joined
+pub mod Charts
+pub mod Effects
+pub mod Calls
+pub mod Room
+pub mod Flags
+pub mod Scopes
+pub mod Laws

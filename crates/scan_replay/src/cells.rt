@@ -1,0 +1,50 @@
+// Cells and their ranges.
+ghost use Rattle.std.specs.Prelude.{◌≡◌, IfOk, slice_set};
+ghost use Rattle.st_tree.specs.Types.{in_range};
+ghost use Rattle.st_tree.specs.View.{cells_view};
+ghost use Rattle.effects.specs.Effects.{range_at};
+ghost use Rattle.scan_model.specs.Scans.{ranges_of};
+
+use st_tree::{Cell, Range};
+use std::alloc::{AllocError, Global};
+
+/// The ranges of cells, one behind the other.
+pub fn ranges_of(alloc: Global, cells: &[Cell]) -> Result<Vec<Range>, AllocError>
+    ensures { IfOk result (λ ranges. ranges.items ≡ ranges_of (cells_view cells.now)) }
+{
+    let mut ranges = Vec::new(alloc);
+    for cell in cells {
+        ranges.push(cell.range)?;
+    }
+    Ok(ranges)
+}
+
+/// The range of a cell; where there is no cell no value is in it.
+#[inline(always)]
+pub fn range_at(cells: &[Cell], place: usize) -> Range
+    ensures { result ≡ range_at (ranges_of (cells_view cells.now)) place }
+{
+    if place < cells.len() {
+        cells[place].range
+    } else {
+        Range { low: 1, high: 0 }
+    }
+}
+
+/// Whether a value lies in a range.
+#[inline(always)]
+pub fn is_in_range(value: i64, range: Range) -> bool
+    ensures { result ≡ in_range value range }
+{
+    range.low <= value && value <= range.high
+}
+
+/// Puts a value into a cell, where there is one.
+#[inline(always)]
+pub fn put(state: &mut [i64], place: usize, value: i64)
+    ensures { state.new ≡ slice_set state.old place value }
+{
+    if place < state.len() {
+        state[place] = value;
+    }
+}

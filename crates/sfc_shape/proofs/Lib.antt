@@ -1,0 +1,5 @@
+mod StableOrder
+mod FiringOrder
+mod Steps
+mod NumberSteps
+mod AssociationSteps

@@ -1,0 +1,107 @@
+-- What is kept of a file.
+use Rattle.std.proofs.Common.{◌≡◌, ◌<◌, ◌+◌, ℕ, zero, suc, List, [], ◌∷◌, length, map, Bool, true, false, Option, Some, None, option_map, count_by, get_or, if◌then◌else◌, refl, sym, ap, ◌∙◌, arith}
+use Rattle.std.specs.HashMap.{get_by_text}
+use Rattle.std.specs.List.{slice_get, position_from}
+use Rattle.std.specs.Option.{option_and_then}
+use Rattle.std.proofs.lemmas.List.{length-map}
+use Rattle.std.proofs.lemmas.Option.{slice_get-map, slice_get_read, slice_get_within, slice_get-get_or}
+use Rattle.st_tree.specs.declared.syntax.Item.{Item}
+use Rattle.st_tree.specs.SyntaxView.{item_view, items_view}
+use Rattle.st_tree.specs.Syntax.{PouData, ItemData, types, pou, FileData}
+use Rattle.st_names.specs.declared.names_of_pou.NamesOfPou.{NamesOfPou}
+use Rattle.st_names.specs.declared.slots.Slot.{Slot}
+use Rattle.st_names.specs.Bound.{bound_of, bound_named, places_from}
+use Rattle.st_names.specs.BoundBy.{bound_by}
+use Rattle.st_names.specs.FileScope.{pous_of, pou_at, is_program}
+use Rattle.st_names.specs.NamesView.{scope_named, scopes_named}
+use Rattle.st_names.specs.Scopes.{Variable, PouScope, scope_of, variables_in_pou, is_doubled_among}
+use Rattle.st_names.specs.Slots.{found, slot_of, slot_named}
+use Rattle.st_names.proofs.CountLemmas.{count-cons}
+
+abbrev pub pou_item : PouData → ItemData
+pou_item p = pou p
+
+pub count_places : (from : ℕ) (f : FileData) → length (places_from from f) ≡ length (pous_of f)
+count_places from [] = refl
+count_places from (types ds ∷ is) = count_places (from + 1) is
+count_places from (pou p ∷ is) = ap suc (count_places (from + 1) is)
+
+-- where no element passes a test, none is counted
+pub none_passes : {A : Type 0} (test : A → Bool) (from : ℕ) (xs : List A) → position_from test from xs ≡ None → count_by test xs ≡ 0
+none_passes test from [] h = refl
+none_passes test from (x ∷ xs) h = by (test x) refl h (none_passes test (from + 1) xs)
+  where
+    by : (b : Bool) → test x ≡ b → (if b then Some from else position_from test (from + 1) xs) ≡ None → (position_from test (from + 1) xs ≡ None → count_by test xs ≡ 0) → count_by test (x ∷ xs) ≡ 0
+    by true e k rest = absurd (let n : ⊥ = cc in n)
+    by false e k rest = count-cons test x xs ∙ ap (λ b. (if b then 1 else 0) + count_by test xs) e ∙ ap (λ n. 0 + n) (rest k)
+
+held_at : (o : Option NamesOfPou) (text : List ℕ) → option_and_then (λ s. get_by_text s text) (option_map (λ (n : NamesOfPou). n.slots) o) ≡ option_and_then (λ p. slot_named p text) (option_map scope_named o)
+held_at None text = refl
+held_at (Some n) text = n.held text
+
+through : {A B C : Type 0} (g : A → B) (h : B → Option C) (o : Option A) → option_and_then h (option_map g o) ≡ option_and_then (λ a. h (g a)) o
+through g h None = refl
+through g h (Some a) = refl
+
+pub slots_of : (f : FileData) (ns : List NamesOfPou) (ps : List PouData) (ss : List _) → ss ≡ map (λ (n : NamesOfPou). n.slots) ns → scopes_named ns ≡ map scope_of ps → ps ≡ pous_of f
+    → (number : ℕ) → (text : List ℕ) → option_and_then (λ s. get_by_text s text) (slice_get ss number) ≡ option_and_then (λ p. slot_named (scope_of p) text) (pou_at f number)
+slots_of f ns ps ss is scopes all number text =
+    ap (λ xs. option_and_then (λ s. get_by_text s text) (slice_get xs number)) is
+    ∙ ap (option_and_then (λ s. get_by_text s text)) (slice_get-map (λ (n : NamesOfPou). n.slots) ns number)
+    ∙ held_at (slice_get ns number) text
+    ∙ ap (option_and_then (λ p. slot_named p text)) (sym (slice_get-map scope_named ns number))
+    ∙ ap (λ xs. option_and_then (λ p. slot_named p text) (slice_get xs number)) (scopes ∙ ap (map scope_of) all)
+    ∙ ap (option_and_then (λ p. slot_named p text)) (slice_get-map scope_of (pous_of f) number)
+    ∙ through scope_of (λ p. slot_named p text) (pou_at f number)
+
+-- a place leads to the POU of its number
+pub record IsPlace (f : FileData) (from number place : ℕ) : Type 0 where
+  pub item : ℕ
+  pub is : place ≡ from + item
+  pub pou : PouData
+  pub there : slice_get f item ≡ Some (pou_item pou)
+  pub at : pou_at f number ≡ Some pou
+
+pub place_at : (from : ℕ) (f : FileData) (number place : ℕ) → slice_get (places_from from f) number ≡ Some place → IsPlace f from number place
+place_at from [] number place h = absurd (let e : ⊥ = cc in e)
+place_at from (types ds ∷ is) number place h = let r = place_at (from + 1) is number place h in let before = r.is in record { item = suc r.item; is = omega arith; pou = r.pou; there = r.there; at = r.at }
+place_at from (pou p ∷ is) zero place h = let e : from ≡ place = cc in record { item = 0; is = omega arith; pou = p; there = refl; at = refl }
+place_at from (pou p ∷ is) (suc k) place h = let r = place_at (from + 1) is k place h in let before = r.is in record { item = suc r.item; is = omega arith; pou = r.pou; there = r.there; at = r.at }
+
+-- a name is bound as its slot says
+pub bound_slot : (text : List ℕ) (o : Option PouData) → option_map bound_by (option_and_then (λ p. slot_named (scope_of p) text) o) ≡ option_and_then (λ p. bound_named (variables_in_pou p) text) o
+bound_slot text None = refl
+bound_slot text (Some p) = by (is_doubled_among (is_program p.kind) (variables_in_pou p) text) (found text 1 (variables_in_pou p))
+  where
+    by : (d : Bool) (o : Option (ℕ × Variable)) → option_map bound_by (option_map (slot_of d) o) ≡ option_map bound_of o
+    by d None = refl
+    by d (Some g) = refl
+
+-- the item that is read at the place of a POU
+pub record ReadsPou (f : FileData) (its : List Item) (ps : List ℕ) (number : ℕ) : Type 0 where
+  pub listed : number < length ps
+  pub within : get_or ps number 0 < length its
+  pub pou : PouData
+  pub at : pou_at f number ≡ Some pou
+  pub is : (x : Item) → x ≡ get_or its (get_or ps number 0) x → item_view x ≡ pou_item pou
+
+some_is : {A : Type 0} (a b : A) → Some a ≡ Some b → a ≡ b
+some_is a b h = cc
+
+pub reads_pou : (f : FileData) (its : List Item) (ps : List ℕ) (number : ℕ) → items_view its ≡ f → ps ≡ places_from 0 f → number < length (pous_of f) → ReadsPou f its ps number
+reads_pou f its ps number view places below =
+    let listed : number < length ps = let same : length ps ≡ length (pous_of f) = ap length places ∙ count_places 0 f in omega arith in
+    let place = get_or ps number 0 in
+    let r = place_at 0 f number place (ap (λ xs. slice_get xs number) (sym places) ∙ slice_get-get_or ps number 0 listed) in
+    let item : r.item ≡ place = let e = r.is in omega arith in
+    let there : slice_get f place ≡ Some (pou_item r.pou) = ap (slice_get f) (sym item) ∙ r.there in
+    let inside : place < length f = slice_get_within f place (pou_item r.pou) there in
+    let within : place < length its = let same : length its ≡ length f = sym (length-map its item_view) ∙ ap length view in omega arith in
+    record {
+      listed = listed;
+      within = within;
+      pou = r.pou;
+      at = r.at;
+      is = λ x at. some_is (item_view x) (pou_item r.pou)
+          (sym (slice_get-map item_view its place ∙ ap (option_map item_view) (slice_get_read its (length its) place x refl within at)) ∙ ap (λ is. slice_get is place) view ∙ there);
+    }

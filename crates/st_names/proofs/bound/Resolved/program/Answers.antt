@@ -1,0 +1,14 @@
+use Rattle.std.proofs.Common.{◌≡◌, count_by, ap, sym, ◌∙◌, arith}
+use Rattle.st_tree.specs.SyntaxView.{file_view}
+use Rattle.st_names.specs.Broken.{is_program_pou}
+use Rattle.st_names.specs.FileScope.{pous_of}
+use Rattle.st_names.proofs.BindingLemmas.{none_passes}
+use Rattle.st_names.proofs.bound.Resolved.program.Goals as goal
+
+pub unreachable-requires : goal.unreachable-requires
+unreachable-requires c =
+    let r = c.args.self.now in
+    let ps = pous_of (file_view r.file) in
+    let none : count_by is_program_pou ps ≡ 0 = none_passes is_program_pou 0 ps (sym r.bound.program ∙ c.in-None.is) in
+    let one = r.one in
+    omega arith

@@ -1,7 +1,0 @@
-use Rattle.std.proofs.Common.{◌≡◌, drop, map}
-use Rattle.std.specs.List.{list_any}
-use Rattle.std.specs.Str.{bytes_eq}
-use Rattle.st_names.proofs.library.is_listed.Given as goal
-
-abbrev pub invariant-loop-word : goal.invariant-loop-word
-invariant-loop-word l = list_any (λ w. bytes_eq w l.text) (map (λ w. w.now) (drop l.word-index l.list)) ≡ list_any (λ w. bytes_eq w l.text) (map (λ w. w.now) l.list)

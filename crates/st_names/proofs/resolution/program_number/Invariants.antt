@@ -1,0 +1,8 @@
+use Rattle.std.proofs.Common.{◌≡◌, drop}
+use Rattle.std.specs.List.{position_from}
+use Rattle.st_names.specs.Broken.{is_program_pou}
+use Rattle.st_names.specs.ScopeView.{pous_view}
+use Rattle.st_names.proofs.resolution.program_number.Given as goal
+
+abbrev pub invariant-loop-number : goal.invariant-loop-number
+invariant-loop-number l = position_from is_program_pou l.number (pous_view (drop l.number l.pous)) ≡ position_from is_program_pou 0 (pous_view l.pous)

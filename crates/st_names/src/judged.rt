@@ -1,0 +1,84 @@
+// What the POUs of a file break, and which they use.
+ghost use Rattle.std.specs.Prelude.{◌≡◌, ◌++◌, OnOk, IfOk, map};
+ghost use Rattle.call_order.specs.Uses.{graph_of};
+ghost use Rattle.st_tree.specs.Rules.{earlier, first_in};
+ghost use Rattle.st_tree.specs.SyntaxView.{body_view, file_view};
+ghost use Rattle.st_names.specs.Broken.{in_pou_scope, in_pou, in_pous};
+ghost use Rattle.st_names.specs.Circles.{blocks_used, calls_in_body, uses_of};
+ghost use Rattle.st_names.specs.FileScope.{pous_of};
+ghost use Rattle.st_names.specs.NamesView.{file_in, pou_in, pous_named, scopes_named};
+ghost use Rattle.st_names.specs.Outcomes.{outcome_of};
+ghost use Rattle.st_names.specs.Scopes.{scope_of};
+ghost use Rattle.st_names.specs.ScopeView.{pous_view};
+
+use crate::body::walk_body;
+use crate::calls::append_in_body;
+use crate::declarations::{append_blocks, walk_declarations};
+use crate::file_scope::FileScope;
+use crate::names_of_pou::{Names, NamesOfPou, names_of_pou};
+use crate::outcome::Outcome;
+use crate::scope::Scope;
+use st_tree::{Pou, Refusal};
+use std::alloc::{AllocError, Global};
+
+/// Which POUs of a file are whole, and which POUs each uses.
+#[derive(Drop)]
+pub struct Judged {
+    pub wholes: Vec<bool>,
+    pub uses: Vec<Vec<usize>>,
+}
+
+/// The names of each POU.
+pub fn all_names<'a>(alloc: Global, pous: &[&'a Pou]) -> Result<Vec<NamesOfPou<'a>>, AllocError>
+    ensures pous { IfOk result (λ all. pous_named all.items ≡ pous_view pous.now) }
+    ensures scopes { IfOk result (λ all. scopes_named all.items ≡ map scope_of (pous_view pous.now)) }
+{
+    let mut all = Vec::new(alloc);
+    for pou in pous {
+        all.push(names_of_pou(alloc, pou)?)?;
+    }
+    Ok(all)
+}
+
+// What a POU breaks, and which POUs it uses.
+fn judge_pou(alloc: Global, scope: &Scope<'_, '_>) -> Result<(Outcome, Vec<usize>), AllocError>
+    ensures judged { let f = file_in scope.now.names in let p = pou_in scope.now.names in IfOk result (λ r. r.0 ≡ outcome_of (in_pou_scope f p (body_view scope.now.names.own.now.pou.now.body))) }
+    ensures uses { let f = file_in scope.now.names in let p = pou_in scope.now.names in IfOk result (λ r. r.1.items ≡ blocks_used f p p.variables ++ calls_in_body f (body_view scope.now.names.own.now.pou.now.body)) }
+{
+    let names = &scope.names;
+    let mut outcome = names.own.once;
+    walk_declarations(names, &mut outcome);
+    let mut uses = Vec::new(alloc);
+    append_blocks(names, &mut uses)?;
+    walk_body(alloc, scope, &names.own.pou.body, &mut outcome)?;
+    append_in_body(names.file, &names.own.pou.body, &mut uses)?;
+    Ok((outcome, uses))
+}
+
+/// Keeps what the POUs of a file break, where it comes first.
+pub fn judge_pous<'a, 'f>(
+    alloc: Global,
+    file: &'a FileScope<'f>,
+    all: &'a [NamesOfPou<'f>],
+    first: &mut Option<Refusal>,
+) -> Result<Judged, AllocError>
+    requires pous { pous_named all.now ≡ pous_of (file_view file.now.types.names.file.now) }
+    requires scopes { scopes_named all.now ≡ map scope_of (pous_of (file_view file.now.types.names.file.now)) }
+    ensures broken { let f = file_view file.now.types.names.file.now in OnOk result (first.new ≡ earlier first.old (first_in (in_pous f (pous_of f)))) }
+    ensures wholes { let f = file_view file.now.types.names.file.now in IfOk result (λ judged. judged.wholes.items ≡ map (λ p. (in_pou f p).whole) (pous_of f)) }
+    ensures uses { let f = file_view file.now.types.names.file.now in IfOk result (λ judged. graph_of judged.uses.items ≡ uses_of f) }
+{
+    let mut wholes = Vec::new(alloc);
+    let mut all_uses = Vec::new(alloc);
+    for own in all {
+        let names = Names { file, own };
+        let (outcome, uses) = judge_pou(alloc, &Scope { names, pous: all })?;
+        *first = Refusal::earlier(*first, outcome.first);
+        wholes.push(outcome.whole)?;
+        all_uses.push(uses)?;
+    }
+    Ok(Judged {
+        wholes,
+        uses: all_uses,
+    })
+}

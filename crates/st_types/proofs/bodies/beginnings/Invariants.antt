@@ -1,0 +1,10 @@
+use Rattle.std.proofs.Common.{◌≡◌, ◌++◌, map, drop}
+use Rattle.st_tree.specs.View.{stmt_view}
+use Rattle.st_names.specs.ScopeView.{variables_view}
+use Rattle.st_types.specs.Bodies.{file_in}
+use Rattle.st_types.specs.Beginnings.{beginnings}
+use Rattle.st_types.proofs.bodies.beginnings.Given as goal
+
+abbrev pub invariant-loop-variable : goal.invariant-loop-variable
+invariant-loop-variable l =
+    map stmt_view l.list.items ++ beginnings (file_in l.pous.domains) l.next (variables_view (drop l.variable-index l.variables)) ≡ beginnings (file_in l.pous.domains) l.initial.next (variables_view l.variables)

@@ -1,0 +1,10 @@
+use Rattle.std.proofs.Common.{◌≡◌, ◌++◌, map, drop}
+use Rattle.st_names.specs.FileScope.{pou_at}
+use Rattle.st_tree.specs.View.{all_called_view}
+use Rattle.st_types.specs.Bodies.{file_in}
+use Rattle.st_types.specs.TypedPrograms.{called_if}
+use Rattle.st_types.proofs.called.called_by.Given as goal
+
+abbrev pub invariant-loop-number : goal.invariant-loop-number
+invariant-loop-number l =
+    all_called_view l.list.items ++ map (λ k. called_if (file_in l.pous.domains) k (pou_at (file_in l.pous.domains) k)) (drop l.number-index l.pous.called.items) ≡ map (λ k. called_if (file_in l.pous.domains) k (pou_at (file_in l.pous.domains) k)) l.pous.called.items

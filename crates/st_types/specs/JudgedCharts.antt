@@ -1,0 +1,16 @@
+-- The rules on the types of charts: the condition of a transition is BOOL.
+use Rattle.std.specs.Prelude.{List, [], ◌∷◌}
+use Rattle.st_tree.specs.declared.rule.Rule.TheVariants.{OperandType}
+use Rattle.st_tree.specs.Syntax.{PartData, step_part, transition_part, action_part}
+use Rattle.st_types.specs.Typing.{Scope}
+use Rattle.st_types.specs.Judged.{Judgement, sound, also, judged_condition}
+use Rattle.st_types.specs.JudgedStatements.{judged_stmts}
+
+abbrev pub judged_part : Scope → PartData → Judgement
+judged_part scope (step_part s) = sound
+judged_part scope (transition_part t) = judged_condition scope OperandType t.condition
+judged_part scope (action_part a) = judged_stmts scope [] a.body
+
+abbrev pub judged_parts : Scope → List PartData → Judgement
+judged_parts scope [] = sound
+judged_parts scope (p ∷ ps) = also (judged_part scope p) (judged_parts scope ps)

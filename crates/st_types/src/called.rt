@@ -1,0 +1,81 @@
+// The POUs that may be called, typed.
+ghost use Rattle.std.specs.Prelude.{◌≡◌, map, IfOk};
+ghost use Rattle.st_tree.specs.SyntaxView.{pou_view};
+ghost use Rattle.st_tree.specs.View.{cells_view, called_view, all_called_view};
+ghost use Rattle.st_names.specs.FileScope.{pou_at};
+ghost use Rattle.st_types.specs.Bodies.{file_in};
+ghost use Rattle.st_types.specs.TypedPrograms.{frame_cells, called_of, called_if, called_by};
+
+use crate::blocks::pou_at;
+use crate::bodies::pou_body;
+use crate::cells::cells_behind_fault;
+use crate::pous::Pous;
+use st_names::declared_variables;
+use st_tree::{Called, Cell, Frame, Pou, PouKind, Range};
+use std::alloc::{AllocError, Global};
+
+// The cells of a FUNCTION's call.
+fn frame_cells(alloc: Global, pous: &Pous<'_>, pou: &Pou) -> Result<Vec<Cell>, AllocError>
+    ensures { IfOk result (λ list. cells_view list.items ≡ frame_cells (file_in pous.now.domains) (pou_view pou.now)) }
+{
+    let variables = declared_variables(alloc, pou)?;
+    cells_behind_fault(alloc, pous, None, true, &variables)
+}
+
+fn ranges_of(alloc: Global, cells: &[Cell]) -> Result<Vec<Range>, AllocError>
+    ensures { IfOk result (λ list. list.items ≡ map (λ c. c.range) (cells_view cells.now)) }
+{
+    let mut list = Vec::new(alloc);
+    for cell in cells {
+        list.push(cell.range)?;
+    }
+    Ok(list)
+}
+
+fn starts_of(alloc: Global, cells: &[Cell]) -> Result<Vec<i64>, AllocError>
+    ensures { IfOk result (λ list. list.items ≡ map (λ c. c.initial) (cells_view cells.now)) }
+{
+    let mut list = Vec::new(alloc);
+    for cell in cells {
+        list.push(cell.initial)?;
+    }
+    Ok(list)
+}
+
+// The POU of a number.
+fn called_of(alloc: Global, pous: &Pous<'_>, number: usize, pou: &Pou) -> Result<Called, AllocError>
+    ensures { IfOk result (λ called. called_view called ≡ called_of (file_in pous.now.domains) number (pou_view pou.now).kind (pou_view pou.now)) }
+{
+    let body = pou_body(alloc, pous, number, pou)?;
+    match pou.kind {
+        PouKind::Function(_) => {
+            let cells = frame_cells(alloc, pous, pou)?;
+            let frame = Frame {
+                ranges: ranges_of(alloc, &cells)?,
+                start: starts_of(alloc, &cells)?,
+            };
+            Ok(Called::Function(frame, body))
+        }
+        PouKind::FunctionBlock | PouKind::Program => Ok(Called::Block(body)),
+    }
+}
+
+fn called_if(alloc: Global, pous: &Pous<'_>, number: usize) -> Result<Called, AllocError>
+    ensures { IfOk result (λ called. called_view called ≡ called_if (file_in pous.now.domains) number (pou_at (file_in pous.now.domains) number)) }
+{
+    match pou_at(pous.domains.types.names, number) {
+        None => Ok(Called::Block(Vec::new(alloc))),
+        Some(pou) => called_of(alloc, pous, number, pou),
+    }
+}
+
+/// The POUs that may be called, each of which calls only those before it.
+pub(crate) fn called_by(alloc: Global, pous: &Pous<'_>) -> Result<Vec<Called>, AllocError>
+    ensures { IfOk result (λ list. all_called_view list.items ≡ called_by (file_in pous.now.domains)) }
+{
+    let mut list = Vec::new(alloc);
+    for number in &pous.called {
+        list.push(called_if(alloc, pous, *number)?)?;
+    }
+    Ok(list)
+}
