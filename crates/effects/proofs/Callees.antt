@@ -3,6 +3,7 @@ use Rattle.std.proofs.Common.{◌≡◌, ℕ, zero, suc, ◌+◌, ◌-◌, ◌*�
 use Rattle.std.specs.Prelude.{◌==◌, ◌||◌, slice_set, if◌then◌else◌}
 use Rattle.std.proofs.lemmas.Bool.Decides.{nat_tests}
 use Rattle.st_tree.specs.declared.typed.Range.{Range}
+use Rattle.st_tree.specs.declared.typed.CellType.{CellType}
 use Rattle.st_tree.specs.declared.typed.Called.{Called}
 use Rattle.st_tree.specs.Types.{in_range}
 use Rattle.st_tree.specs.Tree.{Statements, CalledData, block, function}
@@ -75,10 +76,10 @@ room-call ps i n h =
 
 -- ---- the steps of a call
 
-pub function-ran : (ps : List CalledData) (f n : ℕ) (rs given_rs : List Range) (body ran_body : Statements) (start given_start front own : State) (vs : List ℤ) → f < n
-    → slice_index_or ps f nothing ≡ function rs start body → given_rs ≡ rs → given_start ≡ start → ran_body ≡ body
+pub function-ran : (ps : List CalledData) (f n : ℕ) (types : List CellType) (rs given_rs : List Range) (body ran_body : Statements) (start given_start front own : State) (vs : List ℤ) → f < n
+    → slice_index_or ps f nothing ≡ function types rs start body → given_rs ≡ rs → given_start ≡ start → ran_body ≡ body
     → front ≡ given given_rs 2 vs given_start → own ≡ effect_of_all (callees_of ps f) given_rs 0 ran_body front → own ≡ (callees_of ps n).ends f vs
-function-ran ps f n rs given_rs body ran_body start given_start front own vs h is r st b e ran =
+function-ran ps f n types rs given_rs body ran_body start given_start front own vs h is r st b e ran =
     let k : (callees_of ps n).ends f vs ≡ effect_of_all (callees_of ps f) rs 0 body (given rs 2 vs start) = ends-known ps f n vs h ∙ ap (λ q. ends_of (callees_of ps f) q vs) is in
     rw (ran, e, r, st, b) (sym k)
 
@@ -91,9 +92,9 @@ block-ran ps b n rs base body ran_body s after h is e ran =
     let k : (callees_of ps n).runs b rs base s ≡ effect_of_all (callees_of ps b) rs base body s = runs-known ps b n rs base s h ∙ ap (λ q. run_of (callees_of ps b) q rs base s) is in
     rw (ran, e) (sym k)
 
-pub function-runs : (ps : List CalledData) (b n : ℕ) (rs own : List Range) (base : ℕ) (start : State) (body : Statements) (s : State) → b < n → slice_index_or ps b nothing ≡ function own start body
+pub function-runs : (ps : List CalledData) (b n : ℕ) (types : List CellType) (rs own : List Range) (base : ℕ) (start : State) (body : Statements) (s : State) → b < n → slice_index_or ps b nothing ≡ function types own start body
     → s ≡ (callees_of ps n).runs b rs base s
-function-runs ps b n rs own base start body s h is = sym (runs-known ps b n rs base s h ∙ ap (λ q. run_of (callees_of ps b) q rs base s) is)
+function-runs ps b n types rs own base start body s h is = sym (runs-known ps b n rs base s h ∙ ap (λ q. run_of (callees_of ps b) q rs base s) is)
 
 -- ---- the turns of a FOR: one turn less is left, and the whole is the same
 

@@ -53,7 +53,7 @@ abbrev mutual
 
 abbrev pub called_nodes : CalledData → ℕ
 called_nodes (block body) = body_nodes body
-called_nodes (function rs start body) = body_nodes body
+called_nodes (function types rs start body) = body_nodes body
 
 abbrev pub weight : List CalledData → ℕ → ℕ
 weight ps zero = 0

@@ -18,11 +18,11 @@ end_of callees rs start body vs = effect_of_all callees rs 0 body (given rs 2 vs
 -- a FUNCTION_BLOCK is no FUNCTION, and a FUNCTION no FUNCTION_BLOCK: what has no meaning changes nothing and answers nothing
 abbrev pub run_of : Callees → CalledData → List Range → ℕ → State → State
 run_of callees (block body) rs base s = effect_of_all callees rs base body s
-run_of callees (function own start body) rs base s = s
+run_of callees (function types own start body) rs base s = s
 
 abbrev pub ends_of : Callees → CalledData → List ℤ → State
 ends_of callees (block body) vs = []
-ends_of callees (function rs start body) vs = end_of callees rs start body vs
+ends_of callees (function types rs start body) vs = end_of callees rs start body vs
 
 -- one POU more, which has a number and may call the others
 abbrev pub with_called : Callees → ℕ → CalledData → Callees

@@ -32,7 +32,7 @@ abbrev mutual
 -- a call of a FUNCTION has cells of its own
 abbrev pub room_of : CalledData → ℕ
 room_of (block body) = markings_in_all body
-room_of (function rs start body) = length start + markings_in_all body
+room_of (function types rs start body) = length start + markings_in_all body
 
 -- the room for a call of each of the first so many POUs
 abbrev pub room_for : List CalledData → ℕ → ℕ

@@ -22,6 +22,3 @@ pub use laws::transitions_fire_in_turn;
 pub use room::add_room;
 pub use scope::Scope;
 pub use statements::run_all;
-
-#[cfg(test)]
-mod tests;

@@ -185,7 +185,7 @@ module _ (cells : List CellData) (ps : List CalledData) (rs : List Range) (cs : 
       here : (q : CalledData) → AllUseOwn (RunUsesOwn ps (length rs) n) (length rs) base (block_body q) → k + length (scratch_of_all (blocks_of cells ps n) cells base (block_body q)) ≤ length x
           → take (length rs) (run_of_all rs cs (flats_of (flat_of_all (blocks_of cells ps n) cells base (block_body q) k)) x) ≡ effect_of_run (callees_of ps n) q rs base (take (length rs) x)
       here (block body) o r = Leaves-all (callees_of ps n) (blocks_of cells ps n) (RunUsesOwn ps (length rs) n) cells rs cs some free each base body k x o le r
-      here (function own_ranges start body) o r = refl
+      here (function types own_ranges start body) o r = refl
 
       by_cases : (test : Bool) → Choice test (AllUseOwn (RunUsesOwn ps (length rs) n) (length rs) base (block_body (slice_index_or ps n nothing))) (RunUsesOwn ps (length rs) n b base)
           → k + length (if test then scratch_of_all (blocks_of cells ps n) cells base (block_body (slice_index_or ps n nothing)) else (blocks_of cells ps n).scratch b base) ≤ length x

@@ -9,7 +9,7 @@ use Rattle.fb_inline.specs.FlatLists.{Blocks, scratch_of_all, flat_of_all}
 -- the body of a FUNCTION_BLOCK; a FUNCTION is not run
 abbrev pub block_body : CalledData → Statements
 block_body (block body) = body
-block_body (function rs start body) = no_statements
+block_body (function types rs start body) = no_statements
 
 -- one block more, which has a number and may run the others
 abbrev pub with_block : Blocks → List CellData → ℕ → Statements → Blocks

@@ -13,6 +13,3 @@ mod statements;
 
 pub use fault::FlatFault;
 pub use program::flatten;
-
-#[cfg(test)]
-mod tests;

@@ -9,6 +9,3 @@ mod prelude;
 pub use accept::{accept_text, tokens_of};
 pub use fault::AcceptFault;
 pub use laws::one_acceptance;
-
-#[cfg(test)]
-mod tests;

@@ -3,29 +3,15 @@
 
 mod accept;
 mod answer;
-#[cfg(test)]
-mod case_tests;
-#[cfg(test)]
-mod chart_replay_tests;
-#[cfg(test)]
-mod chart_tests;
 mod files;
-#[cfg(test)]
-mod language_tests;
 mod laws;
 mod play;
-#[cfg(test)]
-mod pou_tests;
 mod put;
 mod refusal;
 mod show;
 mod status;
-#[cfg(test)]
-mod tests;
 mod top;
 mod trace;
-#[cfg(test)]
-mod type_tests;
 
 pub use laws::one_report;
 pub use status::Status;

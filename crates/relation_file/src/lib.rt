@@ -18,6 +18,3 @@ mod unless;
 pub use fault::RelFault;
 pub use laws::one_relation;
 pub use read::{read_lines, read_relation};
-
-#[cfg(test)]
-mod tests;

@@ -8,6 +8,3 @@ mod word;
 
 pub use line::{Condition, Content, Line, Setting};
 pub use parse::{one_list, parse_lines};
-
-#[cfg(test)]
-mod tests;

@@ -124,7 +124,7 @@ module _ (rs : List Range) (first : HoldsFault rs) where
 
   kept_by_call : (callees : Callees) → ((b base : ℕ) (s : State) → IsInRange rs s → IsInRange rs (callees.runs b rs base s)) → (p : CalledData) (base : ℕ) (s : State) → IsInRange rs s → IsInRange rs (run_of callees p rs base s)
   kept_by_call callees calls (block body) base s f = kept_by_all callees calls base body s f
-  kept_by_call callees calls (function own start body) base s f = f
+  kept_by_call callees calls (function types own start body) base s f = f
 
   kept_by_calls : (ps : List CalledData) (n b base : ℕ) (s : State) → IsInRange rs s → IsInRange rs ((callees_of ps n).runs b rs base s)
   kept_by_calls ps zero b base s f = f

@@ -1,12 +1,15 @@
 -- The candidates of a relation between two programs: clauses that may hold after every scan, each with its printed name.
-use Rattle.std.specs.Prelude.{ℕ, ◌+◌, List, [], ◌∷◌, ◌++◌, length, codes, decimal, Bool, pos, if◌then◌else◌, slice_index_or}
+use Rattle.std.specs.Prelude.{ℕ, zero, suc, ◌+◌, nat_le, List, [], ◌∷◌, ◌++◌, length, codes, decimal, map, Bool, pos, if◌then◌else◌, slice_index_or}
 use Rattle.std.specs.Fmt.{signed_decimal}
 use Rattle.std.specs.Str.{bytes_eq}
 use Rattle.st_tree.specs.declared.data_type.DataType.{DataType}
 use Rattle.st_tree.specs.DataTypes.{carrier, is_same_type}
 use Rattle.st_tree.specs.Enumerations.{paired_type}
-use Rattle.st_tree.specs.declared.token.Operator.TheVariants.{Equal}
-use Rattle.st_tree.specs.Tree.{Expression, number, cell, chain, no_operands, operand, CellData, ProgramData}
+use Rattle.st_tree.specs.declared.elementary.Elementary.TheVariants as types
+use Rattle.st_tree.specs.declared.syntax.UnaryOperator.TheVariants.{Not}
+use Rattle.st_tree.specs.declared.token.Operator.TheVariants.{And, Equal}
+use Rattle.st_tree.specs.declared.typed.ChartCells.{ChartCells}
+use Rattle.st_tree.specs.Tree.{Expression, number, cell, unary, chain, no_operands, operand, CellData, ProgramData}
 use Rattle.scan_model.specs.Pairs.{CandidateData, RelationData, Pair, holds}
 
 -- a cell of the pair has the value of an expression of its type
@@ -48,11 +51,44 @@ abbrev pub invariant_clauses : ℕ → List Expression → List CandidateData
 invariant_clauses n [] = []
 invariant_clauses n (e ∷ es) = record { name = codes "INVARIANT " ++ decimal n; clause = e } ∷ invariant_clauses (n + 1) es
 
+-- the path of the cell at a place
+abbrev pub path_at : List (List ℕ) → ℕ → List ℕ
+path_at paths place = slice_index_or paths place []
+
+-- `OLD NOT path.S.X AND path.T.X` or `NEW ..`: not both of two steps of a chart are active, whose cells stand at these places of a
+-- program that begins at a place
+abbrev pub not_both : List ℕ → ℕ → List (List ℕ) → ℕ → ℕ → CandidateData
+not_both program start paths first second = record {
+  name = program ++ codes " NOT " ++ path_at paths first ++ codes " AND " ++ path_at paths second;
+  clause = unary Not types.Bool (chain (cell (start + first)) (operand And types.Bool (cell (start + second)) no_operands));
+}
+
+-- a step, with each of so many steps that stand from a place on
+abbrev pub not_both_with : List ℕ → ℕ → List (List ℕ) → ℕ → ℕ → ℕ → List CandidateData
+not_both_with program start paths first place zero = []
+not_both_with program start paths first place (suc steps) = not_both program start paths first place ∷ not_both_with program start paths first (place + 2) steps
+
+-- each two of so many steps that stand from a place on, the earlier of the two first
+abbrev pub not_both_among : List ℕ → ℕ → List (List ℕ) → ℕ → ℕ → List CandidateData
+not_both_among program start paths place zero = []
+not_both_among program start paths place (suc steps) =
+    not_both_with program start paths place (place + 2) steps ++ not_both_among program start paths (place + 2) steps
+
+-- each two steps of each chart that has at most 16 steps
+abbrev pub exclusive_steps : List ℕ → ℕ → List (List ℕ) → List ChartCells → List CandidateData
+exclusive_steps program start paths [] = []
+exclusive_steps program start paths (c ∷ cs) =
+    (if nat_le c.steps 16 then not_both_among program start paths c.first c.steps else []) ++ exclusive_steps program start paths cs
+
+abbrev pub paths_of : List CellData → List (List ℕ)
+paths_of cells = map (λ c. c.path) cells
+
 -- the candidates in their order
 abbrev pub candidates_of : ProgramData → ProgramData → RelationData → List CandidateData
 candidates_of old new rel =
     invariant_clauses 1 rel.invariants ++ same_cells (paired_type old.types new.types) 0 (length old.cells) new.cells old.cells ++ relate_clauses rel.equal_faults 1 rel.relates
     ++ initial_values (codes "OLD") 0 old.cells ++ initial_values (codes "NEW") (length old.cells) new.cells
+    ++ exclusive_steps (codes "OLD") 0 (paths_of old.cells) old.charts ++ exclusive_steps (codes "NEW") (length old.cells) (paths_of new.cells) new.charts
 
 -- the clause of a candidate by its number, from 0; where there is no candidate, one that never holds
 abbrev pub clause_at : List CandidateData → ℕ → Expression

@@ -6,7 +6,5 @@ mod firing;
 mod numbers;
 mod parts;
 mod shape;
-#[cfg(test)]
-mod tests;
 
 pub use shape::{Shape, shape_of};

@@ -8,8 +8,6 @@ mod lexer;
 mod numbers;
 mod rules;
 mod terminals;
-#[cfg(test)]
-mod tests;
 mod words;
 
 pub use fault::LexFault;

@@ -47,12 +47,3 @@ pub use outcome::Outcome;
 pub use resolution::resolve;
 pub use role::Role;
 pub use standing::Standing;
-
-#[cfg(test)]
-mod chart_tests;
-#[cfg(test)]
-mod pou_tests;
-#[cfg(test)]
-mod tests;
-#[cfg(test)]
-mod type_tests;

@@ -122,6 +122,3 @@ pub fn chart(alloc: Global, toks: &[Tok<'_>], end: usize, at: usize) -> Result<(
     let (parts, at) = parts(alloc, toks, end, at)?;
     Ok((Chart { parts }, at))
 }
-
-#[cfg(test)]
-mod tests;

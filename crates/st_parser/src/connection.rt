@@ -119,6 +119,3 @@ pub fn invoked(
     let at = expect(Mark::Semicolon, toks, end, at)?;
     Ok((Stmt::Call(name, place, found), at))
 }
-
-#[cfg(test)]
-mod tests;

@@ -90,6 +90,3 @@ pub fn parse_file(alloc: Global, toks: &[Tok<'_>], end: usize) -> Result<SourceF
 pub fn one_file()
     ensures { (f g : FileData) → IsFileLevelled f → IsFileLevelled g → print_file f ≡ print_file g → f ≡ g }
 {}
-
-#[cfg(test)]
-mod tests;

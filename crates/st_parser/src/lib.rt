@@ -28,6 +28,3 @@ pub use nesting::{first_by_place, first_fault};
 pub use parse::{
     DEPTH, one_chart, one_expression, one_statements, parse_chart, parse_expr, parse_statements,
 };
-
-#[cfg(test)]
-mod tests;

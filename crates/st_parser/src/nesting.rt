@@ -80,6 +80,3 @@ pub fn first_fault(toks: &[Tok<'_>]) -> Option<Refusal>
 pub fn first_by_place()
     ensures { (toks : List Tok) (place : ℕ) (r : Refusal) → AreFrom place toks → IsFirstFault toks r → IsFirst (IsBroken nothing_open toks) r }
 {}
-
-#[cfg(test)]
-mod tests;

@@ -154,6 +154,3 @@ pub fn pou_begun(
     };
     Ok(Some(other_pou(alloc, PouKind::Program, toks, end, at)?))
 }
-
-#[cfg(test)]
-mod tests;

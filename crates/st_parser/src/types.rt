@@ -87,6 +87,3 @@ pub fn types(
     }
     Err(refuse(toks, end, at))
 }
-
-#[cfg(test)]
-mod tests;

@@ -7,6 +7,8 @@ use Rattle.st_tree.specs.declared.syntax.UnaryOperator.{UnaryOperator}
 use Rattle.st_tree.specs.declared.function.Function.{Function}
 use Rattle.st_tree.specs.declared.typed.Part.{Part}
 use Rattle.st_tree.specs.declared.typed.Range.{Range}
+use Rattle.st_tree.specs.declared.typed.CellType.{CellType}
+use Rattle.st_tree.specs.declared.typed.ChartCells.{ChartCells}
 use Rattle.st_tree.specs.declared.typed.Turns.{Turns}
 use Rattle.st_tree.specs.declared.typed.StepCells.{StepCells}
 use Rattle.st_tree.specs.declared.typed.Association.{Association}
@@ -75,17 +77,19 @@ pub record CellData : Type 0 where
   pub initial : ℤ
 
 -- A POU that may be called: the body of a FUNCTION_BLOCK, over the cells of an instance, from place 0 on; or the cells of a
--- FUNCTION, which each call has anew, by their ranges and the values that they begin with, and its body. Those cells are FAULT,
--- what the FUNCTION answers, its inputs in declared order, and its other variables.
+-- FUNCTION, which each call has anew, by their types, their ranges and the values that they begin with, and its body. Those cells
+-- are FAULT, what the FUNCTION answers, its inputs in declared order, and its other variables.
 pub data CalledData : Type 0 where
   block : Statements → CalledData
-  function : List Range → List ℤ → Statements → CalledData
+  function : List CellType → List Range → List ℤ → Statements → CalledData
 
--- a PROGRAM: its name, its cells, FAULT first, the names of its constants and instances, which are no cells, the names of the values
--- of each type that its file declares, which only an enumeration has, the POUs that it may call, and its body
+-- a PROGRAM: its name, its cells, FAULT first, its charts and those of its instances, in the order of their cells, the names of its
+-- constants and instances, which are no cells, the names of the values of each type that its file declares, which only an enumeration
+-- has, the POUs that it may call, and its body
 pub record ProgramData : Type 0 where
   pub name : List ℕ
   pub cells : List CellData
+  pub charts : List ChartCells
   pub without_cell : List (List ℕ)
   pub types : List (List (List ℕ))
   pub called : List CalledData

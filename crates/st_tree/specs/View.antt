@@ -152,10 +152,10 @@ lists_of_texts vs = map (λ v. texts_view v.items) vs
 
 abbrev pub called_view : Called → CalledData
 called_view (called.Block ss) = block (stmts_view ss.items)
-called_view (called.Function frame ss) = function frame.ranges.items frame.start.items (stmts_view ss.items)
+called_view (called.Function frame ss) = function frame.types.items frame.ranges.items frame.start.items (stmts_view ss.items)
 
 abbrev pub all_called_view : List Called → List CalledData
 all_called_view cs = map called_view cs
 
 abbrev pub program_view : Program → ProgramData
-program_view p = record { name = string_bytes p.name; cells = cells_view p.cells.items; without_cell = texts_view p.without_cell.items; types = lists_of_texts p.types.items; called = all_called_view p.called.items; body = stmts_view p.body.items }
+program_view p = record { name = string_bytes p.name; cells = cells_view p.cells.items; charts = p.charts.items; without_cell = texts_view p.without_cell.items; types = lists_of_texts p.types.items; called = all_called_view p.called.items; body = stmts_view p.body.items }

@@ -28,6 +28,7 @@ pub use syntax::{
 };
 pub use token::{Kind, Mark, Operator, PartWord, Terminal, Tok};
 pub use typed::{
-    Association, Called, Cell, Frame, Operand, Part, Program, Qualifier, Range, StepCells, Turns,
-    TypedAction, TypedArm, TypedEntry, TypedExpr, TypedStmt, TypedTransition,
+    Association, Called, Cell, CellType, ChartCells, Frame, Operand, Part, Program, Qualifier,
+    Range, StepCells, Turns, TypedAction, TypedArm, TypedEntry, TypedExpr, TypedStmt,
+    TypedTransition,
 };

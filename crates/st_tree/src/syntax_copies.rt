@@ -9,9 +9,6 @@ use crate::syntax::{
 use crate::type_copies::copy_types;
 use std::alloc::{AllocError, Global};
 
-#[cfg(test)]
-mod tests;
-
 impl Name {
     /// The same name.
     pub fn copy(&self, alloc: Global) -> Result<Name, AllocError>

@@ -139,12 +139,28 @@ pub struct Cell {
     pub initial: i64,
 }
 
+/// The type of a cell that has no path: its data type, and whether it is a subrange of it.
+#[derive(Clone, Copy, Debug, PartialEq, Eq)]
+pub struct CellType {
+    pub kind: DataType,
+    pub limited: bool,
+}
+
 /// The cells of a FUNCTION, which each call has anew: FAULT, what it answers, its inputs in declared order, and then its other
-/// variables. Each has a range and the value that it begins with.
+/// variables. Each has a type, a range and the value that it begins with.
 #[derive(Drop)]
 pub struct Frame {
+    pub types: Vec<CellType>,
     pub ranges: Vec<Range>,
     pub start: Vec<i64>,
+}
+
+/// Where the cells of a chart's steps stand, one step behind the other, each with two cells: the place of the first, and how many
+/// steps there are (IEC 61131-3, 2.6.2).
+#[derive(Clone, Copy, Debug, PartialEq, Eq)]
+pub struct ChartCells {
+    pub first: usize,
+    pub steps: usize,
 }
 
 /// A POU that may be called (IEC 61131-3, 2.5.1 and 2.5.2). A FUNCTION_BLOCK has a body over the cells of an instance, from place
@@ -156,13 +172,14 @@ pub enum Called {
 }
 
 /// A PROGRAM (IEC 61131-3, 2.5.3): its name; its cells, FAULT first and then the variables as declared, an instance of a block
-/// giving its own cells in its place; the names of those of its variables that are no cells, which are its constants and instances;
-/// its file's types, each by the names of its values, which only an enumeration has; the POUs that it may call, each of which calls
-/// only those before it; and its body.
+/// giving its own cells in its place; its charts, those of its instances among them, in the order of their cells; the names of those of
+/// its variables that are no cells, which are its constants and instances; its file's types, each by the names of its values, which
+/// only an enumeration has; the POUs that it may call, each of which calls only those before it; and its body.
 #[derive(Drop)]
 pub struct Program {
     pub name: String,
     pub cells: Vec<Cell>,
+    pub charts: Vec<ChartCells>,
     pub without_cell: Vec<String>,
     pub types: Vec<Vec<String>>,
     pub called: Vec<Called>,

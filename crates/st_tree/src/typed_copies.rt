@@ -283,10 +283,12 @@ fn copy_lists(lists: &[Vec<String>], alloc: Global) -> Result<Vec<Vec<String>>, 
 impl Frame {
     /// An equal frame.
     pub fn copy(&self, alloc: Global) -> Result<Frame, AllocError>
+        ensures types { IfOk result (λ copy. copy.types.items ≡ self.now.types.items) }
         ensures ranges { IfOk result (λ copy. copy.ranges.items ≡ self.now.ranges.items) }
         ensures start { IfOk result (λ copy. copy.start.items ≡ self.now.start.items) }
     {
         Ok(Frame {
+            types: Vec::from_slice(alloc, &self.types)?,
             ranges: copy_labels(&self.ranges, alloc)?,
             start: copy_numbers(&self.start, alloc)?,
         })
@@ -328,6 +330,7 @@ impl Program {
         Ok(Program {
             name: String::from_str(alloc, &self.name)?,
             cells: copy_cells(&self.cells, alloc)?,
+            charts: Vec::from_slice(alloc, &self.charts)?,
             without_cell: copy_texts(&self.without_cell, alloc)?,
             types: copy_lists(&self.types, alloc)?,
             called: copy_called(&self.called, alloc)?,

@@ -16,6 +16,7 @@ pub mod PouTables
 pub mod Programs
 pub mod TypedStatements
 pub mod TypedCharts
+pub mod ChartPlaces
 pub mod TypedPrograms
 pub mod Outcomes
 pub mod ChartOutcomes

@@ -2,6 +2,7 @@
 use Rattle.std.specs.Prelude.{ℕ, zero, suc, ◌+◌, ◌==◌, List, [], ◌∷◌, ◌++◌, length, map, filter, codes, Bool, true, false, Option, Some, None, is_some, ◌||◌, if◌then◌else◌, ℤ, pos}
 use Rattle.st_tree.specs.declared.elementary.Elementary.TheVariants as types
 use Rattle.st_tree.specs.declared.typed.Part.{Part}
+use Rattle.st_tree.specs.declared.typed.CellType.{CellType}
 use Rattle.st_tree.specs.declared.typed.Part.TheVariants as parts
 use Rattle.st_tree.specs.Types.{range_of}
 use Rattle.st_tree.specs.Syntax.{Named, SpecificationData, of_type, of_values, TypeDeclarationData, BodyData, statements, chart as chart_body, PouKindData, function, function_block, program, PouData, FileData}
@@ -15,6 +16,7 @@ use Rattle.st_types.specs.TypedStatements.{typed_stmts}
 use Rattle.st_types.specs.TypedCharts.{typed_chart}
 use Rattle.st_types.specs.Variables.{domain_of_variable, initial_of}
 use Rattle.st_types.specs.Places.{Next, has_cell, is_stored_action, in_order, variables_at, size_among, sizes_of, first_places, first_place, places_behind}
+use Rattle.st_types.specs.ChartPlaces.{charts_in}
 use Rattle.st_types.specs.Members.{called_order, scope_of}
 
 abbrev pub part_of : Role → Part
@@ -161,8 +163,12 @@ pou_body f k p = let vs = variables_in_pou p in begun f (first_places f (sizes_o
 abbrev pub frame_cells : FileData → PouData → List CellData
 frame_cells f p = fault_cell ∷ cells_in f None true (variables_in_pou p)
 
+abbrev pub type_of_cell : CellData → CellType
+type_of_cell c = record { kind = c.kind; limited = c.limited }
+
 abbrev pub called_of : FileData → ℕ → PouKindData → PouData → CalledData
-called_of f k (function t) p = typed_function (map (λ c. c.range) (frame_cells f p)) (map (λ c. c.initial) (frame_cells f p)) (pou_body f k p)
+called_of f k (function t) p =
+    typed_function (map type_of_cell (frame_cells f p)) (map (λ c. c.range) (frame_cells f p)) (map (λ c. c.initial) (frame_cells f p)) (pou_body f k p)
 called_of f k function_block p = typed_block (pou_body f k p)
 called_of f k program p = typed_block (pou_body f k p)
 
@@ -185,11 +191,12 @@ value_texts (of_values at first others) = texts_of (first ∷ others)
 abbrev pub type_texts : List TypeDeclarationData → List (List (List ℕ))
 type_texts ds = map (λ d. value_texts d.specification) ds
 
--- a PROGRAM, by its number: FAULT first, and then the cells of its names
+-- a PROGRAM, by its number: FAULT first, and then the cells of its names, among which charts stand
 abbrev pub typed_program : FileData → ℕ → PouData → ProgramData
 typed_program f k p = record {
   name = p.name.text;
   cells = fault_cell ∷ cells_in f (Some []) false (variables_in_pou p);
+  charts = charts_in f (variables_in_pou p);
   without_cell = names_without_cell f (variables_in_pou p);
   types = type_texts (types_of f);
   called = called_by f;

@@ -4,14 +4,14 @@ ghost use Rattle.st_tree.specs.SyntaxView.{pou_view};
 ghost use Rattle.st_tree.specs.View.{cells_view, called_view, all_called_view};
 ghost use Rattle.st_names.specs.FileScope.{pou_at};
 ghost use Rattle.st_types.specs.Bodies.{file_in};
-ghost use Rattle.st_types.specs.TypedPrograms.{frame_cells, called_of, called_if, called_by};
+ghost use Rattle.st_types.specs.TypedPrograms.{frame_cells, type_of_cell, called_of, called_if, called_by};
 
 use crate::blocks::pou_at;
 use crate::bodies::pou_body;
 use crate::cells::cells_behind_fault;
 use crate::pous::Pous;
 use st_names::declared_variables;
-use st_tree::{Called, Cell, Frame, Pou, PouKind, Range};
+use st_tree::{Called, Cell, CellType, Frame, Pou, PouKind, Range};
 use std::alloc::{AllocError, Global};
 
 // The cells of a FUNCTION's call.
@@ -20,6 +20,19 @@ fn frame_cells(alloc: Global, pous: &Pous<'_>, pou: &Pou) -> Result<Vec<Cell>, A
 {
     let variables = declared_variables(alloc, pou)?;
     cells_behind_fault(alloc, pous, None, true, &variables)
+}
+
+fn types_of(alloc: Global, cells: &[Cell]) -> Result<Vec<CellType>, AllocError>
+    ensures { IfOk result (λ list. list.items ≡ map type_of_cell (cells_view cells.now)) }
+{
+    let mut list = Vec::new(alloc);
+    for cell in cells {
+        list.push(CellType {
+            kind: cell.kind,
+            limited: cell.limited,
+        })?;
+    }
+    Ok(list)
 }
 
 fn ranges_of(alloc: Global, cells: &[Cell]) -> Result<Vec<Range>, AllocError>
@@ -51,6 +64,7 @@ fn called_of(alloc: Global, pous: &Pous<'_>, number: usize, pou: &Pou) -> Result
         PouKind::Function(_) => {
             let cells = frame_cells(alloc, pous, pou)?;
             let frame = Frame {
+                types: types_of(alloc, &cells)?,
                 ranges: ranges_of(alloc, &cells)?,
                 start: starts_of(alloc, &cells)?,
             };

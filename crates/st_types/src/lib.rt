@@ -10,6 +10,7 @@ mod bodies;
 mod called;
 mod calls;
 mod cells;
+mod chart_places;
 mod charts;
 mod clauses;
 mod connections;
@@ -62,10 +63,3 @@ pub use pair::PairScope;
 pub use paired_types::PairedTypes;
 pub use program::check;
 pub use scope::{Instance, Meaning, Place, Port, Scope, Signature};
-
-#[cfg(test)]
-mod call_tests;
-#[cfg(test)]
-mod chart_tests;
-#[cfg(test)]
-mod tests;

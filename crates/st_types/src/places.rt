@@ -39,8 +39,8 @@ pub(crate) fn size_among(sizes: &[usize], block: Option<usize>) -> usize
     }
 }
 
-// How many cells a variable takes.
-fn cells_taken(names: &Resolved, sizes: &[usize], variable: &Declared<'_>) -> usize
+/// How many cells a variable takes.
+pub(crate) fn cells_taken(names: &Resolved, sizes: &[usize], variable: &Declared<'_>) -> usize
     ensures { result ≡ cells_taken (file_view names.now.file) sizes.now (variable_view variable.now) }
 {
     if !has_cell(variable.role) {

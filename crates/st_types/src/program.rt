@@ -15,6 +15,7 @@ ghost use Rattle.st_types.specs.Ready.{IsReady};
 use crate::bodies::{judge_pous, pou_body};
 use crate::called::called_by;
 use crate::cells::{cells_behind_fault, names_without_cell};
+use crate::chart_places::charts_in;
 use crate::fault::TypeFault;
 use crate::judged_types::judge_types;
 use crate::places::count_of_cells;
@@ -64,6 +65,7 @@ fn type_program(
     Ok(Program {
         name: String::from_str(alloc, program.name.text.as_str())?,
         cells: cells_behind_fault(alloc, pous, Some(""), false, &variables)?,
+        charts: charts_in(alloc, pous, &variables)?,
         without_cell: names_without_cell(alloc, pous.domains.types.names, &variables)?,
         types: type_texts(alloc, &pous.domains.types)?,
         called: called_by(alloc, pous)?,

@@ -66,7 +66,7 @@ answers::answer-returns-in-Function-clause-value t c =
     let is = at-number ps c.args.function c.index-reading-function.result _ (omega arith) (ap called_view c.in-Function.is) in
     let vs = values_of (callees_here scope) scope.base (arguments_view c.args.inputs.now) (cells_read c.args.reading.now) in
     let front : c.split_at_mut-own.result.0.now ≡ given c.as_slice-ranges.result.now 2 vs c.as_slice-start.result.now = c.split_at_mut-own.ensures.front ∙ c.fill-fault.ensures.state in
-    c.ended.ensures.value ∙ ap answer_in (function-ran (all_called_view ps) c.args.function scope.below _ _ _ _ _ _ _ _ vs c.if-function-reading.true is c.as_slice-ranges.ensures.value c.as_slice-start.ensures.value (ap stmts_view c.deref.ensures.value) front c.run_all.ensures.state)
+    c.ended.ensures.value ∙ ap answer_in (function-ran (all_called_view ps) c.args.function scope.below _ _ _ _ _ _ _ _ _ vs c.if-function-reading.true is c.as_slice-ranges.ensures.value c.as_slice-start.ensures.value (ap stmts_view c.deref.ensures.value) front c.run_all.ensures.state)
 
 pub answers::answer-returns-in-Function-clause-fault : goal.answers::answer-returns-in-Function-clause-fault
 answers::answer-returns-in-Function-clause-fault t c =
@@ -75,7 +75,7 @@ answers::answer-returns-in-Function-clause-fault t c =
     let is = at-number ps c.args.function c.index-reading-function.result _ (omega arith) (ap called_view c.in-Function.is) in
     let vs = values_of (callees_here scope) scope.base (arguments_view c.args.inputs.now) (cells_read c.args.reading.now) in
     let front : c.split_at_mut-own.result.0.now ≡ given c.as_slice-ranges.result.now 2 vs c.as_slice-start.result.now = c.split_at_mut-own.ensures.front ∙ c.fill-fault.ensures.state in
-    c.ended.ensures.fault ∙ either-same _ _ _ _ c.fill-fault.ensures.fault (ap fault_in (function-ran (all_called_view ps) c.args.function scope.below _ _ _ _ _ _ _ _ vs c.if-function-reading.true is c.as_slice-ranges.ensures.value c.as_slice-start.ensures.value (ap stmts_view c.deref.ensures.value) front c.run_all.ensures.state))
+    c.ended.ensures.fault ∙ either-same _ _ _ _ c.fill-fault.ensures.fault (ap fault_in (function-ran (all_called_view ps) c.args.function scope.below _ _ _ _ _ _ _ _ _ vs c.if-function-reading.true is c.as_slice-ranges.ensures.value c.as_slice-start.ensures.value (ap stmts_view c.deref.ensures.value) front c.run_all.ensures.state))
 
 pub answers::answer-returns-in-Block-clause-value : goal.answers::answer-returns-in-Block-clause-value
 answers::answer-returns-in-Block-clause-value t c =
@@ -141,7 +141,7 @@ pub statements::run_block-returns-in_default-clause-state : goal.statements::run
 statements::run_block-returns-in_default-clause-state t c =
     let ps = c.args.scope.now.called.now in
     let is = at-number ps c.args.block c.index-scope-block.result _ (omega arith) (ap called_view c.in_default.is) in
-    function-runs (all_called_view ps) c.args.block c.args.scope.now.below c.args.scope.now.ranges.now _ _ _ _ _ c.if-block-scope.true is
+    function-runs (all_called_view ps) c.args.block c.args.scope.now.below _ c.args.scope.now.ranges.now _ _ _ _ _ c.if-block-scope.true is
 
 pub statements::run_block-returns-else-block-scope-clause-state : goal.statements::run_block-returns-else-block-scope-clause-state
 statements::run_block-returns-else-block-scope-clause-state t c =

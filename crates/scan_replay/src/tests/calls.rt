@@ -60,9 +60,23 @@ fn each_instance_keeps_its_own_cells(rt: HostRuntime) -> Result<(), AllocError> 
     Ok(())
 }
 
+fn frame_types(alloc: Global) -> Result<Vec<CellType>, AllocError> {
+    let whole = |kind| CellType {
+        kind: DataType::Elementary(kind),
+        limited: false,
+    };
+    let int = whole(Elementary::Int);
+    let limited = CellType {
+        limited: true,
+        ..int
+    };
+    vec![in alloc; whole(Elementary::Bool), int, int, limited, int]
+}
+
 // The cells of a function of two inputs, the second of a range, and a variable that begins with 7.
 fn frame(alloc: Global, range: Range) -> Result<Frame, AllocError> {
     Ok(Frame {
+        types: frame_types(alloc)?,
         ranges: vec![in alloc; BOOL, INT, INT, range, INT]?,
         start: vec![in alloc; 0, 0, 0, 1, 7]?,
     })

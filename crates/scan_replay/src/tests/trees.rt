@@ -34,6 +34,7 @@ pub fn program(
     Ok(Program {
         name: String::from_str(alloc, "M")?,
         cells,
+        charts: Vec::new(alloc),
         without_cell: Vec::new(alloc),
         types: Vec::new(alloc),
         called: Vec::new(alloc),

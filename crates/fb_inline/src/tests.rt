@@ -1,6 +1,0 @@
-mod limits;
-mod lists;
-mod printing;
-mod programs;
-mod runs;
-mod trees;

@@ -1,2 +1,0 @@
-mod accepted;
-mod refused;

@@ -1,5 +1,0 @@
-mod asked;
-mod faults;
-mod refusals;
-mod replays;
-mod usage;

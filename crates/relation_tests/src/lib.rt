@@ -1,0 +1,7 @@
+// Tests of relation files.
+#![tactic(auto)]
+
+#[cfg(test)]
+mod lines;
+#[cfg(test)]
+mod relations;

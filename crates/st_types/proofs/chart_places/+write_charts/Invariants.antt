@@ -1,0 +1,19 @@
+use Rattle.std.proofs.Common.{◌≡◌, ◌+◌, ◌*◌, ◌++◌, drop}
+use Rattle.st_names.specs.ScopeView.{variables_view}
+use Rattle.st_types.specs.Bodies.{file_in}
+use Rattle.st_types.specs.ChartPlaces.{block_charts, charts_of}
+use Rattle.st_types.proofs.chart_places.+write_charts.Given as goal
+
+abbrev pub invariant-write_charts-loop-index : goal.invariant-write_charts-loop-index
+invariant-write_charts-loop-index l =
+    l.list.items ++ charts_of (file_in l.pous.domains) (block_charts (file_in l.pous.domains) l.depth) l.place (variables_view (drop l.index l.variables))
+    ≡ l.initial.list.items ++ charts_of (file_in l.pous.domains) (block_charts (file_in l.pous.domains) l.depth) l.initial.place (variables_view l.variables)
+
+abbrev pub decreases-write_block : goal.decreases-write_block
+decreases-write_block l = 3 * l.depth
+
+abbrev pub decreases-write_charts : goal.decreases-write_charts
+decreases-write_charts l = 3 * l.depth + 2
+
+abbrev pub decreases-write_variable : goal.decreases-write_variable
+decreases-write_variable l = 3 * l.depth + 1

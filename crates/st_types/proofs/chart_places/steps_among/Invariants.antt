@@ -1,0 +1,7 @@
+use Rattle.std.proofs.Common.{◌≡◌, ◌+◌, ◌≤◌, drop}
+use Rattle.st_names.specs.ScopeView.{variables_view}
+use Rattle.st_types.specs.ChartPlaces.{steps_among}
+use Rattle.st_types.proofs.chart_places.steps_among.Given as goal
+
+abbrev pub invariant-loop-variable : goal.invariant-loop-variable
+invariant-loop-variable l = (l.steps ≤ l.variable-index) × (l.steps + steps_among (variables_view (drop l.variable-index l.variables)) ≡ steps_among (variables_view l.variables))
