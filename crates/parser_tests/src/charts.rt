@@ -1,19 +1,11 @@
 // Charts of which each token stands behind one space; the places of the refusals are by another program.
-use crate::expressions::{no_tree, spaced};
+use crate::expressions::{no_tree, refused, spaced};
 use st_parser::{one_chart, parse_chart, parse_file};
 use st_tree::{
     Body, Chart, ChartPart, Expr, Item, Literal, ParseFault, Pou, Refusal, Rule, Steps, Stmt,
 };
 use std::alloc::Global;
 use std::test::Fail;
-
-fn refused(alloc: Global, text: &str) -> Result<Option<Refusal>, Fail> {
-    let toks = spaced(alloc, text)?;
-    match parse_file(alloc, &toks, text.len()) {
-        Err(ParseFault::Refused(refusal)) => Ok(Some(refusal)),
-        _ => Ok(None),
-    }
-}
 
 #[test]
 fn the_place_where_no_step_goes_on(rt: HostRuntime) -> Result<(), Fail> {
@@ -79,6 +71,16 @@ fn the_place_where_no_transition_goes_on(rt: HostRuntime) -> Result<(), Fail> {
             "PROGRAM M TRANSITION ( PRIORITY := - 1 ) FROM s TO u := x ; END_TRANSITION END_PROGRAM",
             35,
         ),
+    ];
+    for (text, at) in places {
+        assert_eq!(rt; refused(rt.alloc(), text)?, no_tree(at));
+    }
+    Ok(())
+}
+
+#[test]
+fn the_place_where_no_list_of_steps_goes_on(rt: HostRuntime) -> Result<(), Fail> {
+    let places = [
         (
             "PROGRAM M TRANSITION ( ) FROM s TO u := x ; END_TRANSITION END_PROGRAM",
             23,

@@ -107,6 +107,15 @@ pub fn spaced<'a>(alloc: Global, text: &'a str) -> Result<Vec<Tok<'a>>, AllocErr
     Ok(found)
 }
 
+/// What a file is refused by, in the text of which one space stands between tokens.
+pub fn refused(alloc: Global, text: &str) -> Result<Option<Refusal>, Fail> {
+    let toks = spaced(alloc, text)?;
+    match parse_file(alloc, &toks, text.len()) {
+        Err(ParseFault::Refused(refusal)) => Ok(Some(refusal)),
+        _ => Ok(None),
+    }
+}
+
 pub fn no_tree(at: usize) -> Option<Refusal> {
     Some(Refusal {
         rule: Rule::NoTree,

@@ -1,9 +1,9 @@
 // Files with types, of which the tree was worked by hand, and the place of the refusal by another program.
-use crate::expressions::{no_tree, tokens};
+use crate::expressions::{no_tree, refused, tokens};
 use st_parser::parse_file;
 use st_tree::{
-    Elementary, Expr, Item, Literal, ParseFault, Pou, Refusal, SourceFile, Specification,
-    TypeDeclaration, TypeName, UnaryOperator,
+    Elementary, Expr, Item, Literal, Pou, SourceFile, Specification, TypeDeclaration, TypeName,
+    UnaryOperator,
 };
 use std::alloc::Global;
 use std::test::Fail;
@@ -11,14 +11,6 @@ use std::test::Fail;
 fn read(alloc: Global, words: &[(&str, usize)]) -> Result<SourceFile, Fail> {
     let toks = tokens(alloc, words)?;
     Ok(parse_file(alloc, &toks, 200)?)
-}
-
-fn refused(alloc: Global, words: &[(&str, usize)], end: usize) -> Result<Option<Refusal>, Fail> {
-    let toks = tokens(alloc, words)?;
-    match parse_file(alloc, &toks, end) {
-        Err(ParseFault::Refused(refusal)) => Ok(Some(refusal)),
-        _ => Ok(None),
-    }
 }
 
 fn types(file: &SourceFile, place: usize) -> Result<&[TypeDeclaration], Fail> {
@@ -177,268 +169,65 @@ fn a_subrange_of_variables_has_an_initial_value(rt: HostRuntime) -> Result<(), F
 
 #[test]
 fn names_of_an_enumeration(rt: HostRuntime) -> Result<(), Fail> {
-    // `TYPE a : (x); END`
-    let ended = [
-        ("TYPE", 0),
-        ("a", 5),
-        (":", 7),
-        ("(", 9),
-        ("x", 10),
-        (")", 11),
-        (";", 12),
-        ("END", 14),
+    let places = [
+        ("TYPE a : ( x ) ; END", 20),
+        ("TYPE a : ( ) ; END_TYPE", 11),
+        ("TYPE a : ( x , ) ; END_TYPE", 15),
+        ("TYPE a : ( x ) := x ; END_TYPE", 15),
     ];
-    assert_eq!(rt; refused(rt.alloc(), &ended, 17)?, no_tree(17));
-    // `TYPE a : (); END_TYPE`
-    let none = [
-        ("TYPE", 0),
-        ("a", 5),
-        (":", 7),
-        ("(", 9),
-        (")", 10),
-        (";", 11),
-        ("END_TYPE", 13),
-    ];
-    assert_eq!(rt; refused(rt.alloc(), &none, 21)?, no_tree(10));
-    // `TYPE a : (x,); END_TYPE`
-    let comma = [
-        ("TYPE", 0),
-        ("a", 5),
-        (":", 7),
-        ("(", 9),
-        ("x", 10),
-        (",", 11),
-        (")", 12),
-        (";", 13),
-        ("END_TYPE", 15),
-    ];
-    assert_eq!(rt; refused(rt.alloc(), &comma, 23)?, no_tree(12));
-    // `TYPE a : (x) := x; END_TYPE`
-    let initial = [
-        ("TYPE", 0),
-        ("a", 5),
-        (":", 7),
-        ("(", 9),
-        ("x", 10),
-        (")", 11),
-        (":=", 13),
-        ("x", 16),
-        (";", 17),
-        ("END_TYPE", 19),
-    ];
-    assert_eq!(rt; refused(rt.alloc(), &initial, 27)?, no_tree(13));
+    for (text, at) in places {
+        assert_eq!(rt; refused(rt.alloc(), text)?, no_tree(at));
+    }
     Ok(())
 }
 
 #[test]
 fn bounds_of_a_subrange(rt: HostRuntime) -> Result<(), Fail> {
-    // `TYPE a : INT (1.5); END_TYPE`
-    let point = [
-        ("TYPE", 0),
-        ("a", 5),
-        (":", 7),
-        ("INT", 9),
-        ("(", 13),
-        ("1", 14),
-        (".", 15),
-        ("5", 16),
-        (")", 17),
-        (";", 18),
-        ("END_TYPE", 20),
+    let places = [
+        ("TYPE a : INT ( 1 . 5 ) ; END_TYPE", 17),
+        ("TYPE a : INT ( 1 .. ) ; END_TYPE", 20),
+        ("TYPE a : INT ( 1 ) ; END_TYPE", 17),
+        ("TYPE a : INT ( 1 .. ( 5 ) ) ; END_TYPE", 20),
+        ("TYPE a : INT ( 0 .. 5 ; END_TYPE", 22),
+        ("TYPE a : b ( 0 .. 5 ) ; END_TYPE", 11),
     ];
-    assert_eq!(rt; refused(rt.alloc(), &point, 28)?, no_tree(15));
-    // `TYPE a : INT (1..); END_TYPE`
-    let high = [
-        ("TYPE", 0),
-        ("a", 5),
-        (":", 7),
-        ("INT", 9),
-        ("(", 13),
-        ("1", 14),
-        ("..", 15),
-        (")", 17),
-        (";", 18),
-        ("END_TYPE", 20),
-    ];
-    assert_eq!(rt; refused(rt.alloc(), &high, 28)?, no_tree(17));
-    // `TYPE a : INT (1); END_TYPE`
-    let one = [
-        ("TYPE", 0),
-        ("a", 5),
-        (":", 7),
-        ("INT", 9),
-        ("(", 13),
-        ("1", 14),
-        (")", 15),
-        (";", 16),
-        ("END_TYPE", 18),
-    ];
-    assert_eq!(rt; refused(rt.alloc(), &one, 26)?, no_tree(15));
-    // `TYPE a : INT (1..(5)); END_TYPE`
-    let expression = [
-        ("TYPE", 0),
-        ("a", 5),
-        (":", 7),
-        ("INT", 9),
-        ("(", 13),
-        ("1", 14),
-        ("..", 15),
-        ("(", 17),
-        ("5", 18),
-        (")", 19),
-        (")", 20),
-        (";", 21),
-        ("END_TYPE", 23),
-    ];
-    assert_eq!(rt; refused(rt.alloc(), &expression, 31)?, no_tree(17));
-    // `TYPE a : INT (0..5; END_TYPE`
-    let closed = [
-        ("TYPE", 0),
-        ("a", 5),
-        (":", 7),
-        ("INT", 9),
-        ("(", 13),
-        ("0", 14),
-        ("..", 15),
-        ("5", 17),
-        (";", 18),
-        ("END_TYPE", 20),
-    ];
-    assert_eq!(rt; refused(rt.alloc(), &closed, 28)?, no_tree(18));
-    // `TYPE a : b (0..5); END_TYPE`
-    let named = [
-        ("TYPE", 0),
-        ("a", 5),
-        (":", 7),
-        ("b", 9),
-        ("(", 11),
-        ("0", 12),
-        ("..", 13),
-        ("5", 15),
-        (")", 16),
-        (";", 17),
-        ("END_TYPE", 19),
-    ];
-    assert_eq!(rt; refused(rt.alloc(), &named, 27)?, no_tree(11));
+    for (text, at) in places {
+        assert_eq!(rt; refused(rt.alloc(), text)?, no_tree(at));
+    }
     Ok(())
 }
 
 #[test]
 fn a_declaration_of_one_type(rt: HostRuntime) -> Result<(), Fail> {
-    // `TYPE a, b : INT; END_TYPE`
-    let two = [
-        ("TYPE", 0),
-        ("a", 5),
-        (",", 6),
-        ("b", 8),
-        (":", 10),
-        ("INT", 12),
-        (";", 15),
-        ("END_TYPE", 17),
+    let places = [
+        ("TYPE a , b : INT ; END_TYPE", 7),
+        ("TYPE a : INT := 1 ; END_TYPE", 13),
+        ("TYPE a : INT ; PROGRAM M END_PROGRAM", 15),
+        ("TYPE a : INT ; END_TYPE END_TYPE", 24),
+        (
+            "TYPE a : INT ; END_TYPE b : INT ; PROGRAM M END_PROGRAM",
+            24,
+        ),
+        ("PROGRAM M TYPE END_TYPE END_PROGRAM", 10),
     ];
-    assert_eq!(rt; refused(rt.alloc(), &two, 25)?, no_tree(6));
-    // `TYPE a : INT := 1; END_TYPE`
-    let initial = [
-        ("TYPE", 0),
-        ("a", 5),
-        (":", 7),
-        ("INT", 9),
-        (":=", 13),
-        ("1", 16),
-        (";", 17),
-        ("END_TYPE", 19),
-    ];
-    assert_eq!(rt; refused(rt.alloc(), &initial, 27)?, no_tree(13));
-    // `TYPE a : INT; PROGRAM M END_PROGRAM`
-    let program = [
-        ("TYPE", 0),
-        ("a", 5),
-        (":", 7),
-        ("INT", 9),
-        (";", 12),
-        ("PROGRAM", 14),
-        ("M", 22),
-        ("END_PROGRAM", 24),
-    ];
-    assert_eq!(rt; refused(rt.alloc(), &program, 35)?, no_tree(14));
-    // `TYPE a : INT; END_TYPE END_TYPE`
-    let twice = [
-        ("TYPE", 0),
-        ("a", 5),
-        (":", 7),
-        ("INT", 9),
-        (";", 12),
-        ("END_TYPE", 14),
-        ("END_TYPE", 23),
-    ];
-    assert_eq!(rt; refused(rt.alloc(), &twice, 31)?, no_tree(23));
-    // `TYPE a : INT; END_TYPE b : INT; PROGRAM M END_PROGRAM`
-    let behind = [
-        ("TYPE", 0),
-        ("a", 5),
-        (":", 7),
-        ("INT", 9),
-        (";", 12),
-        ("END_TYPE", 14),
-        ("b", 23),
-        (":", 25),
-        ("INT", 27),
-        (";", 30),
-        ("PROGRAM", 32),
-        ("M", 40),
-        ("END_PROGRAM", 42),
-    ];
-    assert_eq!(rt; refused(rt.alloc(), &behind, 53)?, no_tree(23));
-    // `PROGRAM M TYPE END_TYPE END_PROGRAM`
-    let within = [
-        ("PROGRAM", 0),
-        ("M", 8),
-        ("TYPE", 10),
-        ("END_TYPE", 15),
-        ("END_PROGRAM", 24),
-    ];
-    assert_eq!(rt; refused(rt.alloc(), &within, 35)?, no_tree(10));
+    for (text, at) in places {
+        assert_eq!(rt; refused(rt.alloc(), text)?, no_tree(at));
+    }
     Ok(())
 }
 
 #[test]
 fn a_type_of_variables(rt: HostRuntime) -> Result<(), Fail> {
-    // `PROGRAM M VAR x : (a, b); END_VAR END_PROGRAM`
-    let values = [
-        ("PROGRAM", 0),
-        ("M", 8),
-        ("VAR", 10),
-        ("x", 14),
-        (":", 16),
-        ("(", 18),
-        ("a", 19),
-        (",", 20),
-        ("b", 22),
-        (")", 23),
-        (";", 24),
-        ("END_VAR", 26),
-        ("END_PROGRAM", 34),
-    ];
-    assert_eq!(rt; refused(rt.alloc(), &values, 45)?, no_tree(18));
-    // `PROGRAM M VAR x : INT (0..5) := 3; END_VAR END_PROGRAM`
-    let bounds = [
-        ("PROGRAM", 0),
-        ("M", 8),
-        ("VAR", 10),
-        ("x", 14),
-        (":", 16),
-        ("INT", 18),
-        ("(", 22),
-        ("0", 23),
-        ("..", 24),
-        ("5", 26),
-        (")", 27),
-        (":=", 29),
-        ("3", 32),
-        (";", 33),
-        ("END_VAR", 35),
-        ("END_PROGRAM", 43),
-    ];
-    assert_eq!(rt; refused(rt.alloc(), &bounds, 54)?, None);
+    let places = [("PROGRAM M VAR x : ( a , b ) ; END_VAR END_PROGRAM", 18)];
+    for (text, at) in places {
+        assert_eq!(rt; refused(rt.alloc(), text)?, no_tree(at));
+    }
+    assert_eq!(rt;
+        refused(
+            rt.alloc(),
+            "PROGRAM M VAR x : INT ( 0 .. 5 ) := 3 ; END_VAR END_PROGRAM"
+        )?,
+        None
+    );
     Ok(())
 }
