@@ -7,4 +7,6 @@ pub mod SeenLemmas
 pub mod BelongsLemmas
 pub mod PassLemmas
 pub mod CandidateLemmas
+pub mod ExclusiveLemmas
 pub mod PairLemmas
+pub mod Ready

@@ -1,5 +1,5 @@
 -- Tokens that spell the same state one relation, or break one rule first.
-use Rattle.std.proofs.Common.{◌≡◌, ℕ, List, [], sym, ap, ◌∙◌, subst, inl, inr}
+use Rattle.std.proofs.Common.{◌≡◌, ℕ, Bool, true, false, List, [], sym, ap, ◌∙◌, subst, inl, inr}
 use Rattle.st_tree.specs.declared.token.Tok.{Tok}
 use Rattle.st_tree.specs.declared.rule.Refusal.{Refusal}
 use Rattle.st_tree.specs.Rules.{IsAmong, IsFirst, IsSame}
@@ -13,7 +13,7 @@ use Rattle.relation_lines.specs.Whole.{AreLines, IsLinesRefusal}
 use Rattle.relation_lines.proofs.Whole.{one_lines}
 use Rattle.relation_file.specs.Broken.{broken_lines, broken_clauses}
 use Rattle.relation_file.specs.Relations.{relation_of}
-use Rattle.relation_file.specs.Stated.{IsRelation, IsNoRelation, by_grammar, by_lines, by_types}
+use Rattle.relation_file.specs.Stated.{IsRelation, IsNoRelation, by_grammar, by_lines, by_types, has_few_candidates, IsNoSmallRelation, by_relation, by_count}
 
 abbrev FirstIn : List Refusal → Refusal → Type 0
 FirstIn broken r = IsFirst (λ x. IsAmong x broken) r
@@ -69,3 +69,18 @@ module _ (old new : ProgramData) (end : ℕ) (ts us : List Tok) (e : AreSameToke
   relation_refused_once r s (by_types ls h sound first) (by_grammar k) = absurd (no_lines_too ts us ls s e h k)
   relation_refused_once r s (by_types ls h sound first) (by_lines ms k other) = absurd (none_first (broken_lines old new end ms) s (sym (lines_of ls ms h k) ∙ sound) other)
   relation_refused_once r s (by_types ls h sound first) (by_types ms k also other) = one_first (broken_clauses old new ls) (broken_clauses old new ms) r s (clauses_of ls ms h k) first other
+
+-- ---- relations of few candidates
+
+module _ (old new : ProgramData) (end : ℕ) (ts us : List Tok) (e : AreSameTokens ts us) where
+  pub no_small_relation_too : (x : RelationData) (r : Refusal) → IsRelation old new end ts x → has_few_candidates x ≡ true → IsNoSmallRelation old new end us r → ⊥
+  no_small_relation_too x r h few (by_relation none) = no_relation_too old new end ts us e x r h none
+  no_small_relation_too x r h few (by_count y k many is) =
+      let both : true ≡ false = sym few ∙ ap has_few_candidates (relation_once old new end ts us e x y h k) ∙ many in
+      cc
+
+  pub small_refused_once : (r s : Refusal) → IsNoSmallRelation old new end ts r → IsNoSmallRelation old new end us s → IsSame r s
+  small_refused_once r s (by_relation h) (by_relation k) = relation_refused_once old new end ts us e r s h k
+  small_refused_once r s (by_relation h) (by_count y k many is) = absurd (no_relation_too old new end us ts (sym e) y r k h)
+  small_refused_once r s (by_count x h many is) (by_relation k) = absurd (no_relation_too old new end ts us e x s h k)
+  small_refused_once r s (by_count x h many is) (by_count y k more also) = inl (is ∙ sym also)

@@ -11,6 +11,7 @@ ghost use Rattle.relation_file.specs.PairView.{old_of, new_of};
 ghost use Rattle.relation_file.specs.Relations.{before};
 ghost use Rattle.relation_file.specs.Candidates.{same_found, relate_name_of};
 
+use crate::exclusive::{add_exclusive_of_new, add_exclusive_of_old};
 use crate::pair::Pair;
 use crate::places::{Cells, Placed};
 use scan_model::{Candidate, Relation};
@@ -260,5 +261,7 @@ pub(crate) fn candidates_of(
     add_relates(alloc, relation.equal_faults, &relation.relates, &mut found)?;
     add_initial_values(alloc, "OLD", 0, old, &mut found)?;
     add_initial_values(alloc, "NEW", old.len(), new, &mut found)?;
+    add_exclusive_of_old(alloc, pair, &mut found)?;
+    add_exclusive_of_new(alloc, pair, &mut found)?;
     Ok(found)
 }

@@ -3,6 +3,7 @@
 
 mod broken;
 mod candidates;
+mod exclusive;
 mod fault;
 mod inputs;
 mod kinds;
@@ -16,5 +17,5 @@ mod seen;
 mod unless;
 
 pub use fault::RelFault;
-pub use laws::one_relation;
+pub use laws::{one_relation, one_small_relation};
 pub use read::{read_lines, read_relation};

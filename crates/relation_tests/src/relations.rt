@@ -208,7 +208,7 @@ fn stated(alloc: Global, program: &str, text: &str) -> Option<Relation> {
 }
 
 // The names of the candidates, each behind a comma.
-fn names(alloc: Global, relation: &Relation) -> Result<String, AllocError> {
+pub(crate) fn names(alloc: Global, relation: &Relation) -> Result<String, AllocError> {
     let mut list = String::new(alloc);
     for candidate in &relation.candidates {
         list.push_str(", ")?;

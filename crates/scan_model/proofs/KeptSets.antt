@@ -5,7 +5,7 @@ use Rattle.scan_model.specs.InRange.{Row}
 use Rattle.scan_model.specs.Pairs.{RelationData, Pair, IsPairInRange, start, holds, is_allowed, after_row}
 use Rattle.scan_model.specs.Candidates.{candidates_of, clause_at}
 use Rattle.scan_model.specs.Verdicts.{CandidateSet, Meets, IsInductive, IsBreakFrom, Proves, IsProved, HasBreak, AreAllowedFrom, AreRelatedFrom}
-use Rattle.scan_model.specs.VerdictLaws.{AreRelatable, GreatestIsInductive, FailingIsNotKept}
+use Rattle.scan_model.specs.VerdictLaws.{AreRelatable, GreatestIsInductive, HoldingInRangeIsInductive, FailingIsNotKept}
 use Rattle.scan_model.proofs.Keeping.{IsPairInRange-after_row}
 
 pub greatest_inductive : GreatestIsInductive
@@ -57,3 +57,9 @@ module _ (old new : ProgramData) (rel : RelationData) (fits : AreRelatable old n
   no_break p d b =
       let inductive = greatest_inductive old new rel p.0 p.1 in
       no_break_along p.0 inductive p.2 (start old new) start_in_range inductive.starts b.0 b.2
+
+pub holding_inductive : HoldingInRangeIsInductive
+holding_inductive old new rel set fits holds = record {
+  starts = holds (start old new) (start_in_range old new rel fits);
+  steps = λ pair row range meets ok. holds (after_row old new rel row pair) (stays old new rel fits row pair ok range);
+}

@@ -30,6 +30,12 @@ NoBreakWhereRelated =
 abbrev pub GreatestIsInductive : Type 0
 GreatestIsInductive = (old new : ProgramData) (rel : RelationData) (set : CandidateSet) → IsGreatest old new rel set → IsInductive old new rel set
 
+-- a set that holds on every pair in range is inductive
+abbrev pub HoldingInRangeIsInductive : Type 0
+HoldingInRangeIsInductive =
+    (old new : ProgramData) (rel : RelationData) (set : CandidateSet) → AreRelatable old new rel
+    → ((pair : Pair) → IsPairInRange old new pair → Meets old new rel set pair) → IsInductive old new rel set
+
 -- a candidate that fails after an allowed row, from a pair in range that meets a set with all that is kept, is not kept
 abbrev pub FailingIsNotKept : Type 0
 FailingIsNotKept =

@@ -12,6 +12,6 @@ pub use relation::{Candidate, Ending, InputLine, Relation};
 pub use side::Side;
 pub use verdict::Verdict;
 pub use verdict_laws::{
-    failing_is_not_kept, greatest_is_inductive, no_break_where_related, one_verdict,
-    related_for_ever,
+    failing_is_not_kept, greatest_is_inductive, holding_in_range_is_inductive,
+    no_break_where_related, one_verdict, related_for_ever,
 };

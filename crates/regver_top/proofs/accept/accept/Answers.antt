@@ -5,7 +5,7 @@ use Rattle.scan_model.specs.Pairs.{relation_view}
 use Rattle.regver_top.specs.declared.refusal.Source.TheVariants.{Trace}
 use Rattle.regver_top.specs.Accepting.{IsNoTrace}
 use Rattle.regver_top.specs.Accepted.{IfRefusedOf}
-use Rattle.regver_top.proofs.Ready.{program_of_ready}
+use Rattle.relation_file.proofs.Ready.{program_of_ready}
 use Rattle.regver_top.proofs.Refusals.{at_old, at_new, at_relation, at_trace}
 use Rattle.regver_top.proofs.accept.accept.Goals as goal
 
