@@ -1,7 +1,9 @@
 // Calls: values that were worked out by hand.
 use super::machines::{INT, ran_six};
 use super::trees::{A, B, Q, R, add_local, assigns, at, binary, number, program, set, sum};
-use st_tree::{Called, Elementary, Frame, Operator, Program, Range, TypedExpr, TypedStmt};
+use st_tree::{
+    Called, CellType, DataType, Elementary, Frame, Operator, Program, Range, TypedExpr, TypedStmt,
+};
 use std::alloc::{AllocError, Global};
 
 const BOOL: Range = Range { low: 0, high: 1 };
@@ -60,17 +62,17 @@ fn each_instance_keeps_its_own_cells(rt: HostRuntime) -> Result<(), AllocError> 
     Ok(())
 }
 
-fn frame_types(alloc: Global) -> Result<Vec<CellType>, AllocError> {
-    let whole = |kind| CellType {
+fn type_of(kind: Elementary, limited: bool) -> CellType {
+    CellType {
         kind: DataType::Elementary(kind),
-        limited: false,
-    };
-    let int = whole(Elementary::Int);
-    let limited = CellType {
-        limited: true,
-        ..int
-    };
-    vec![in alloc; whole(Elementary::Bool), int, int, limited, int]
+        limited,
+    }
+}
+
+fn frame_types(alloc: Global) -> Result<Vec<CellType>, AllocError> {
+    let int = type_of(Elementary::Int, false);
+    let limited = type_of(Elementary::Int, true);
+    Ok(vec![in alloc; type_of(Elementary::Bool, false), int, int, limited, int]?)
 }
 
 // The cells of a function of two inputs, the second of a range, and a variable that begins with 7.
