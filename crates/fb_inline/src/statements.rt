@@ -98,7 +98,8 @@ fn flatten_case(
     flatten_entries(entries, kind, place, scope, scratch, &mut flat_arms, alloc)?;
     let mut rest = Vec::new(alloc);
     flatten_all(other, scope, scratch, &mut rest, alloc)?;
-    put_if(out, flat_arms, rest)
+    put_if(out, flat_arms, rest)?;
+    Ok(())
 }
 
 // The body of a FUNCTION_BLOCK, over the cells of an instance, which begin at a place of the POU's.

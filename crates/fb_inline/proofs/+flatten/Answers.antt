@@ -6,14 +6,15 @@ use Rattle.st_tree.specs.View.{OperandData, expr_view, operand_view, operands_vi
 use Rattle.effects.proofs.Sizes.{nodes, operand_nodes, all_nodes, body_nodes, choice_nodes, called_nodes}
 use Rattle.effects.proofs.Callees.{at-number, weight-call}
 use Rattle.flat_core.specs.FlatView.{flats_view, flat_arms_view}
-use Rattle.fb_inline.specs.Frames.{frame_view}
+use Rattle.fb_inline.specs.Frames.{FrameData, frame_view}
 use Rattle.fb_inline.specs.Owners.{owner_view}
+use Rattle.fb_inline.specs.Kinds.{kind_of}
 use Rattle.fb_inline.specs.Calls.{arity, operand_scratch, all_scratch, input_scratch, input_places, moved_operands, all_moved, operands_before, all_before, inputs_before}
 use Rattle.fb_inline.specs.FlatLists.{scratch_of_all, scratch_of_choices, flat_of_all, flat_choices}
 use Rattle.fb_inline.specs.Pous.{bodies_here}
 use Rattle.fb_inline.proofs.CallLemmas.{operand_view-out, with_operands, with_expressions, with_operands-none, with_expressions-none, arity-length, left-operands, left-expressions, no-operands-left, no-expressions-left, more-operands, more-expressions, more-operands-before, more-before, more-operand-scratch, more-scratch, more-input-scratch, more-input-places, more-inputs-before, call-value, call-made, call-listed, pushed-operands, pushed-expressions}
 use Rattle.fb_inline.proofs.CaseLemmas.{left-choices, more-choices, more-choices-scratch, case-made, case-listed}
-use Rattle.fb_inline.proofs.PouLemmas.{weight_here, list-ran, scratch-ran, list-none, scratch-none, list-over, scratch-over, call-ran, call-ran-scratch, frame-known}
+use Rattle.fb_inline.proofs.PouLemmas.{weight_here, list-ran, scratch-ran, list-none, scratch-none, list-over, scratch-over, call-ran, call-ran-scratch, frame-known, frames-here}
 use Rattle.fb_inline.proofs.TurnLemmas.{unrolled-turn, repeated-turn}
 use Rattle.fb_inline.proofs.+flatten.Goals as goal
 
@@ -161,6 +162,24 @@ statements::flatten_arms-loop-arm-preserved t c =
           ∙ ap (λ (arms : Choices). made ++ scratch_of_choices bodies owner.kinds scope.base arms) (sym left) ∙ c.loop-arm.invariant.scratch;
       weighs = omega (arith, ap choice_nodes left, c.loop-arm.invariant.weighs);
     }
+
+pub statements::flatten_case-returns-clause-list : goal.statements::flatten_case-returns-clause-list
+statements::flatten_case-returns-clause-list t c =
+    let scope = c.args.scope.now in
+    let owner = owner_view scope.owner in
+    let kind = c.in_ok-kind.ensures ∙ ap (λ (frames : ℕ → FrameData). kind_of frames owner.kinds scope.base (expr_view c.args.selector.now)) (sym (frames-here (all_called_view scope.called.now) scope.below)) in
+    case-listed (bodies_here scope) (owner_view scope.owner) scope.base scope.cells (expr_view c.args.selector.now) (entries_view c.args.entries.now) (stmts_view c.args.other.now) c.in_ok-kind.kind kind
+    c.args.scratch.now.items _ _ _ _ c.in_ok-value.ensures.scratch c.in_ok-place.ensures.scratch c.in_ok-flatten_entries.ensures.scratch c.in_ok-flatten_all.ensures.scratch
+    _ _ _ _ _ c.in_ok-place.place _ _ _ _ c.in_ok-value.ensures.value c.in_ok-value.ensures.list c.in_ok-place.ensures.place c.in_ok-place.ensures.list (ap flat_arms_view c.new-flat_arms.ensures.items) c.in_ok-flatten_entries.ensures.list
+    (ap flats_view c.new-rest.ensures.items) c.in_ok-flatten_all.ensures.list c.in_ok-put_if.ensures
+
+pub statements::flatten_case-returns-clause-scratch : goal.statements::flatten_case-returns-clause-scratch
+statements::flatten_case-returns-clause-scratch t c =
+    let scope = c.args.scope.now in
+    let owner = owner_view scope.owner in
+    let kind = c.in_ok-kind.ensures ∙ ap (λ (frames : ℕ → FrameData). kind_of frames owner.kinds scope.base (expr_view c.args.selector.now)) (sym (frames-here (all_called_view scope.called.now) scope.below)) in
+    case-made (bodies_here scope) (owner_view scope.owner) scope.base scope.cells (expr_view c.args.selector.now) (entries_view c.args.entries.now) (stmts_view c.args.other.now) c.in_ok-kind.kind kind
+    c.args.scratch.now.items _ _ _ _ c.in_ok-value.ensures.scratch c.in_ok-place.ensures.scratch c.in_ok-flatten_entries.ensures.scratch c.in_ok-flatten_all.ensures.scratch
 
 pub statements::unroll-loop-preserved : goal.statements::unroll-loop-preserved
 statements::unroll-loop-preserved t c =
