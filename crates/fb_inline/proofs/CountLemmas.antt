@@ -3,70 +3,149 @@ use Rattle.std.proofs.Common.{◌≡◌, ℕ, zero, suc, ◌+◌, ◌*◌, List,
 use Rattle.std.specs.Prelude.{◌==◌, nat_lt, nat_le, if◌then◌else◌}
 use Rattle.std.proofs.lemmas.Bool.Decides.{nat_tests}
 use Rattle.st_tree.specs.declared.elementary.Elementary.{Elementary}
-use Rattle.st_tree.specs.Tree.{Statement, assign, run, choice, cases, repeat, chart, Statements, no_statements, statement, Choices, no_choices, choose, Entries, no_entries, entry, CellData, CalledData, ProgramData}
+use Rattle.st_tree.specs.Tree.{Expression, number, cell, unary, chain, call, answer, Operands, no_operands, operand, Expressions, no_expressions, expression, Statement, assign, run, choice, cases, repeat, chart, Statements, no_statements, statement, Choices, no_choices, choose, Entries, no_entries, entry, CalledData, ProgramData}
 use Rattle.std.proofs.lemmas.List.{length-map}
 use Rattle.st_tree.specs.declared.typed.Called.{Called}
 use Rattle.st_tree.specs.View.{called_view, all_called_view}
 use Rattle.effects.specs.Calls.{nothing}
-use Rattle.flat_core.specs.FlatTree.{FlatStatement, size_of_all}
+use Rattle.flat_core.specs.FlatTree.{FlatStatement, set, branch, size_of_all}
 use Rattle.flat_core.specs.FlatView.{flats_of, nested}
-use Rattle.fb_inline.specs.FlatLists.{Blocks, scratch_of, scratch_of_all, scratch_of_choices, scratch_of_entries, unrolled, flat_of, flat_of_all, flat_choices, flat_entries}
+use Rattle.fb_inline.specs.Frames.{FrameData, frames_of, function_body, type_at, initial_at, input_start, others_behind, other_starts, places_of}
+use Rattle.fb_inline.specs.Owners.{OwnerData, kinds_of, program_owner, call_owner}
+use Rattle.fb_inline.specs.Bodies.{Bodies}
 use Rattle.fb_inline.specs.Kinds.{kind_of}
-use Rattle.fb_inline.specs.Counts.{count_of, count_of_all, count_of_choices, count_of_entries, counts_of, counted, capped, AreCounts}
-use Rattle.fb_inline.specs.Moved.{moved}
-use Rattle.fb_inline.specs.Blocks.{block_body, blocks_of}
-use Rattle.fb_inline.specs.FlatPrograms.{blocks_in, is_short}
+use Rattle.fb_inline.specs.Calls.{arity, rest_list, scratch_in, input_scratch, input_places, moved, before, operands_before, all_before, inputs_before}
+use Rattle.fb_inline.specs.FlatLists.{scratch_of, scratch_of_all, scratch_of_choices, scratch_of_entries, labels_test, unrolled, flat_of, flat_of_all, flat_choices, flat_entries}
+use Rattle.fb_inline.specs.Counts.{Counting, count_of_start, count_in, count_in_operands, count_in_all, count_in_inputs, count_of, count_of_all, count_of_choices, count_of_entries, counting_of, counting, counted, capped, AreCounts}
+use Rattle.fb_inline.specs.Pous.{block_body, bodies_of}
+use Rattle.fb_inline.specs.FlatPrograms.{bodies_in, is_short}
+use Rattle.fb_inline.proofs.PouLemmas.{frames-here}
 
-size-append : (a b : List FlatStatement) → size_of_all (flats_of (a ++ b)) ≡ size_of_all (flats_of a) + size_of_all (flats_of b)
+abbrev size : List FlatStatement → ℕ
+size ts = size_of_all (flats_of ts)
+
+size-append : (a b : List FlatStatement) → size (a ++ b) ≡ size a + size b
 size-append [] b = omega arith
 size-append (t ∷ a) b = omega (arith, size-append a b)
 
-size-unrolled : (n control : ℕ) (v step : ℤ) (m count : ℕ) (body : ℕ → List FlatStatement) → ((k : ℕ) → size_of_all (flats_of (body k)) ≡ count) → (k : ℕ) → size_of_all (flats_of (unrolled n control v step m body k)) ≡ n * (1 + count) + 1
+size-if : (test : Bool) (a b : List FlatStatement) (m n : ℕ) → size a ≡ m → size b ≡ n → size (if test then a else b) ≡ (if test then m else n)
+size-if true a b m n p q = p
+size-if false a b m n p q = q
+
+size-unrolled : (n control : ℕ) (v step : ℤ) (m count : ℕ) (body : ℕ → List FlatStatement) → ((k : ℕ) → size (body k) ≡ count) → (k : ℕ) → size (unrolled n control v step m body k) ≡ n * (1 + count) + 1
 size-unrolled zero control v step m count body each k = omega arith
 size-unrolled (suc n) control v step m count body each k =
     omega (arith, size-append (body k) (unrolled n control (v +ℤ step) step m body (k + m)), each k, size-unrolled n control (v +ℤ step) step m count body each (k + m))
 
-module _ (cells : List CellData) (blocks : Blocks) (counts : ℕ → ℕ) (each : (b base k : ℕ) → size_of_all (flats_of (blocks.list b base k)) ≡ counts b) where
+size-starts : (frame : FrameData) (place n k : ℕ) → size (other_starts frame place n k) ≡ n
+size-starts frame place zero k = refl
+size-starts frame place (suc n) k = omega (arith, size-starts frame (place + 1) n (k + 1))
+
+size-start : (frame : FrameData) (place t : ℕ) → size (input_start frame place t) ≡ count_of_start frame place
+size-start frame place t = size-if (type_at frame.types place).limited (set t (number (initial_at frame place)) ∷ []) [] 1 0 refl refl
+
+module _ (bodies : Bodies) (counts : Counting) (same : (f : ℕ) → bodies.frame f ≡ counts.frame f)
+    (each_run : (owner : OwnerData) (b base k : ℕ) → size (bodies.run_list owner b base k) ≡ counts.runs b)
+    (each_call : (f answer : ℕ) (places : List ℕ) (k : ℕ) → size (bodies.call_list f answer places k) ≡ counts.bodies f) where
+  size-rest : (frame : FrameData) (f inputs : ℕ) (places : List ℕ) (k : ℕ) → size (rest_list bodies frame f inputs places k) ≡ others_behind frame inputs + (1 + counts.bodies f)
+  size-rest frame f inputs places k =
+      let others = others_behind frame inputs in
+      let starts = other_starts frame (2 + inputs) others k in
+      let called = bodies.call_list f (k + others) (places_of places k others) (k + others + 1) in
+      omega (arith, size-append starts (set (k + others) (number (initial_at frame 1)) ∷ called), size-starts frame (2 + inputs) others k, each_call f (k + others) (places_of places k others) (k + others + 1))
+
+  module _ (owner : OwnerData) (base : ℕ) where
+    mutual
+      size-before : (e : Expression) (k : ℕ) → size (before bodies owner base e k) ≡ count_in counts e
+      size-before (number v) k = refl
+      size-before (cell place) k = refl
+      size-before (unary o t e) k = size-before e k
+      size-before (chain e os) k =
+          omega (arith, size-append (before bodies owner base e k) (operands_before bodies owner base os (k + length (scratch_in bodies e))), size-before e k, size-operands os (k + length (scratch_in bodies e)))
+      size-before (call f t es) k = size-all es k
+      size-before (answer f es) k =
+          let inputs = inputs_before bodies owner base (bodies.frame f) 2 es k in
+          let later = k + length (input_scratch bodies (bodies.frame f) 2 es) in
+          let whole : size (before bodies owner base (answer f es) k) ≡ count_in_inputs counts (bodies.frame f) 2 es + (others_behind (bodies.frame f) (arity es) + (1 + counts.bodies f))
+          = omega (arith, size-append inputs (rest_list bodies (bodies.frame f) f (arity es) (input_places bodies es k) later), size-inputs (bodies.frame f) 2 es k, size-rest (bodies.frame f) f (arity es) (input_places bodies es k) later) in
+          whole ∙ ap (λ (frame : FrameData). count_in_inputs counts frame 2 es + (others_behind frame (arity es) + (1 + counts.bodies f))) (same f)
+
+      size-operands : (os : Operands) (k : ℕ) → size (operands_before bodies owner base os k) ≡ count_in_operands counts os
+      size-operands no_operands k = refl
+      size-operands (operand o t e os) k =
+          omega (arith, size-append (before bodies owner base e k) (operands_before bodies owner base os (k + length (scratch_in bodies e))), size-before e k, size-operands os (k + length (scratch_in bodies e)))
+
+      size-all : (es : Expressions) (k : ℕ) → size (all_before bodies owner base es k) ≡ count_in_all counts es
+      size-all no_expressions k = refl
+      size-all (expression e es) k =
+          omega (arith, size-append (before bodies owner base e k) (all_before bodies owner base es (k + length (scratch_in bodies e))), size-before e k, size-all es (k + length (scratch_in bodies e)))
+
+      size-inputs : (frame : FrameData) (place : ℕ) (es : Expressions) (k : ℕ) → size (inputs_before bodies owner base frame place es k) ≡ count_in_inputs counts frame place es
+      size-inputs frame place no_expressions k = refl
+      size-inputs frame place (expression e es) k =
+          let t = k + length (scratch_in bodies e) in
+          let rest = set t (moved bodies owner base e k) ∷ inputs_before bodies owner base frame (place + 1) es (t + 1) in
+          omega (arith, size-append (before bodies owner base e k) (input_start frame place t ++ rest), size-append (input_start frame place t) rest, size-start frame place t, size-before e k, size-inputs frame (place + 1) es (t + 1))
+
+  module _ (owner : OwnerData) where
+    mutual
+      size_of-statement : (base : ℕ) (t : Statement) (k : ℕ) → size (flat_of bodies owner base t k) ≡ count_of counts t
+      size_of-statement base (assign target e) k =
+          omega (arith, size-append (before bodies owner base e k) (set (owner.place_at (base + target)) (moved bodies owner base e k) ∷ []), size-before owner base e k)
+      size_of-statement base (run b offset) k = each_run owner b (base + offset) k
+      size_of-statement base (choice arms other) k =
+          size_of-choices base arms k (flat_of_all bodies owner base other (k + length (scratch_of_choices bodies owner.kinds base arms))) _ (size_of-all base other _)
+      size_of-statement base (cases e es other) k =
+          let t = k + length (scratch_in bodies e) in
+          let rest = flat_of_all bodies owner base other (t + 1 + length (scratch_of_entries bodies owner.kinds base es)) in
+          let kind = kind_of bodies.frame owner.kinds base e in
+          omega (arith, size-append (before bodies owner base e k) (set t (moved bodies owner base e k) ∷ nested (flat_entries bodies owner base kind t es (t + 1)) rest), size-before owner base e k, size_of-entries base kind t es (t + 1) rest _ (size_of-all base other (t + 1 + length (scratch_of_entries bodies owner.kinds base es))))
+      size_of-statement base (repeat turns body) k =
+          size-unrolled turns.count (owner.place_at (base + turns.control)) turns.first turns.step (length (scratch_of_all bodies owner.kinds base body)) (count_of_all counts body) (flat_of_all bodies owner base body) (λ j. size_of-all base body j) k
+      size_of-statement base (chart steps _ ts) k = refl
+
+      pub size_of-all : (base : ℕ) (ts : Statements) (k : ℕ) → size (flat_of_all bodies owner base ts k) ≡ count_of_all counts ts
+      size_of-all base no_statements k = refl
+      size_of-all base (statement t ts) k =
+          omega (arith, size-append (flat_of bodies owner base t k) (flat_of_all bodies owner base ts (k + length (scratch_of bodies owner.kinds base t))), size_of-statement base t k, size_of-all base ts (k + length (scratch_of bodies owner.kinds base t)))
+
+      size_of-choices : (base : ℕ) (arms : Choices) (k : ℕ) (rest : List FlatStatement) (count : ℕ) → size rest ≡ count → size (nested (flat_choices bodies owner base arms k) rest) ≡ count_of_choices counts arms + count
+      size_of-choices base no_choices k rest count h = omega (arith, h)
+      size_of-choices base (choose e ss arms) k rest count h =
+          let j = k + length (scratch_in bodies e) in
+          let i = j + length (scratch_of_all bodies owner.kinds base ss) in
+          let here = branch (moved bodies owner base e k) (flats_of (flat_of_all bodies owner base ss j)) (flats_of (nested (flat_choices bodies owner base arms i) rest)) in
+          omega (arith, size-append (before bodies owner base e k) (here ∷ []), size-before owner base e k, size_of-all base ss j, size_of-choices base arms i rest count h)
+
+      size_of-entries : (base : ℕ) (kind : Elementary) (t : ℕ) (es : Entries) (k : ℕ) (rest : List FlatStatement) (count : ℕ) → size rest ≡ count → size (nested (flat_entries bodies owner base kind t es k) rest) ≡ count_of_entries counts es + count
+      size_of-entries base kind t no_entries k rest count h = omega (arith, h)
+      size_of-entries base kind t (entry labels ss es) k rest count h =
+          omega (arith, size_of-all base ss k, size_of-entries base kind t es (k + length (scratch_of_all bodies owner.kinds base ss)) rest count h)
+
+-- ---- POUs
+
+counting-frames : (ps : List CalledData) (n f : ℕ) → (counting_of ps n).frame f ≡ frames_of ps f
+counting-frames ps zero f = refl
+counting-frames ps (suc n) f = refl
+
+same-frames : (ps : List CalledData) (n f : ℕ) → (bodies_of ps n).frame f ≡ (counting_of ps n).frame f
+same-frames ps n f = ap (λ (g : ℕ → FrameData). g f) (frames-here ps n) ∙ sym (counting-frames ps n f)
+
+module _ (ps : List CalledData) where
   mutual
-    size_of-statement : (base : ℕ) (t : Statement) (k : ℕ) → size_of_all (flats_of (flat_of blocks cells base t k)) ≡ count_of counts t
-    size_of-statement base (assign target e) k = omega arith
-    size_of-statement base (run b offset) k = each b (base + offset) k
-    size_of-statement base (choice arms other) k = size_of-choices base arms k (flat_of_all blocks cells base other (k + length (scratch_of_choices blocks cells base arms))) _ (size_of-all base other _)
-    size_of-statement base (cases e es other) k =
-        omega (arith, size_of-entries base (kind_of cells (moved base e)) k es (k + 1) (flat_of_all blocks cells base other (k + 1 + length (scratch_of_entries blocks cells base es))) _ (size_of-all base other (k + 1 + length (scratch_of_entries blocks cells base es))))
-    size_of-statement base (repeat turns body) k =
-        size-unrolled turns.count (base + turns.control) turns.first turns.step (length (scratch_of_all blocks cells base body)) (count_of_all counts body) (flat_of_all blocks cells base body) (λ j. size_of-all base body j) k
-    size_of-statement base (chart steps _ ts) k = refl
+    size-run : (n : ℕ) (owner : OwnerData) (b base k : ℕ) → size ((bodies_of ps n).run_list owner b base k) ≡ (counting_of ps n).runs b
+    size-run zero owner b base k = refl
+    size-run (suc n) owner b base k =
+        size-if (b == n) _ _ _ _ (size_of-all (bodies_of ps n) (counting_of ps n) (same-frames ps n) (λ o c at j. size-run n o c at j) (λ f a places j. size-call n f a places j) owner base (block_body (slice_index_or ps n nothing)) k) (size-run n owner b base k)
 
-    pub size_of-all : (base : ℕ) (ts : Statements) (k : ℕ) → size_of_all (flats_of (flat_of_all blocks cells base ts k)) ≡ count_of_all counts ts
-    size_of-all base no_statements k = refl
-    size_of-all base (statement t ts) k =
-        omega (arith, size-append (flat_of blocks cells base t k) (flat_of_all blocks cells base ts (k + length (scratch_of blocks cells base t))), size_of-statement base t k, size_of-all base ts (k + length (scratch_of blocks cells base t)))
-
-    size_of-choices : (base : ℕ) (arms : Choices) (k : ℕ) (rest : List FlatStatement) (count : ℕ) → size_of_all (flats_of rest) ≡ count → size_of_all (flats_of (nested (flat_choices blocks cells base arms k) rest)) ≡ count_of_choices counts arms + count
-    size_of-choices base no_choices k rest count h = omega (arith, h)
-    size_of-choices base (choose e ss arms) k rest count h =
-        omega (arith, size_of-all base ss k, size_of-choices base arms (k + length (scratch_of_all blocks cells base ss)) rest count h)
-
-    size_of-entries : (base : ℕ) (kind : Elementary) (t : ℕ) (es : Entries) (k : ℕ) (rest : List FlatStatement) (count : ℕ) → size_of_all (flats_of rest) ≡ count → size_of_all (flats_of (nested (flat_entries blocks cells base kind t es k) rest)) ≡ count_of_entries counts es + count
-    size_of-entries base kind t no_entries k rest count h = omega (arith, h)
-    size_of-entries base kind t (entry labels ss es) k rest count h =
-        omega (arith, size_of-all base ss k, size_of-entries base kind t es (k + length (scratch_of_all blocks cells base ss)) rest count h)
-
--- ---- blocks
-
-size-run : (cells : List CellData) (ps : List CalledData) (n b base k : ℕ) → size_of_all (flats_of ((blocks_of cells ps n).list b base k)) ≡ counts_of ps n b
-size-run cells ps zero b base k = refl
-size-run cells ps (suc n) b base k =
-    size-if (b == n) _ _ _ _ (size_of-all cells (blocks_of cells ps n) (counts_of ps n) (λ c at j. size-run cells ps n c at j) base (block_body (slice_index_or ps n nothing)) k) (size-run cells ps n b base k)
-  where
-    size-if : (test : Bool) (a b : List FlatStatement) (m n : ℕ) → size_of_all (flats_of a) ≡ m → size_of_all (flats_of b) ≡ n → size_of_all (flats_of (if test then a else b)) ≡ (if test then m else n)
-    size-if true a b m n p q = p
-    size-if false a b m n p q = q
+    size-call : (n f a : ℕ) (places : List ℕ) (k : ℕ) → size ((bodies_of ps n).call_list f a places k) ≡ (counting_of ps n).bodies f
+    size-call zero f a places k = refl
+    size-call (suc n) f a places k =
+        size-if (f == n) _ _ _ _ (size_of-all (bodies_of ps n) (counting_of ps n) (same-frames ps n) (λ o c at j. size-run n o c at j) (λ g b there j. size-call n g b there j) (call_owner (frames_of ps n).types a places) 0 (function_body (slice_index_or ps n nothing)) k) (size-call n f a places k)
 
 -- ---- counts that are the same up to the limit give counts that are
 
-module _ (f g : ℕ → ℕ) (same : (b : ℕ) → capped (f b) ≡ capped (g b)) where
+module _ (f g : Counting) (frames : (n : ℕ) → f.frame n ≡ g.frame n) (same_runs : (n : ℕ) → capped (f.runs n) ≡ capped (g.runs n)) (same_bodies : (n : ℕ) → capped (f.bodies n) ≡ capped (g.bodies n)) where
   same_sum : (a b c d : ℕ) → capped a ≡ capped c → capped b ≡ capped d → capped (a + b) ≡ capped (c + d)
   same_sum a b c d p q = grind (arith, nat_tests)
 
@@ -84,11 +163,36 @@ module _ (f g : ℕ → ℕ) (same : (b : ℕ) → capped (f b) ≡ capped (g b)
       rw (left, right) both
 
   mutual
+    same_in : (e : Expression) → capped (count_in f e) ≡ capped (count_in g e)
+    same_in (number v) = refl
+    same_in (cell place) = refl
+    same_in (unary o t e) = same_in e
+    same_in (chain e os) = same_sum _ _ _ _ (same_in e) (same_operands os)
+    same_in (call h t es) = same_in_all es
+    same_in (answer h es) =
+        same_sum (count_in_inputs f (f.frame h) 2 es) (others_behind (f.frame h) (arity es) + (1 + f.bodies h)) (count_in_inputs g (f.frame h) 2 es) (others_behind (f.frame h) (arity es) + (1 + g.bodies h)) (same_inputs (f.frame h) 2 es)
+        (same_sum (others_behind (f.frame h) (arity es)) (1 + f.bodies h) (others_behind (f.frame h) (arity es)) (1 + g.bodies h) refl (same_sum 1 _ 1 _ refl (same_bodies h)))
+        ∙ ap (λ (frame : FrameData). capped (count_in_inputs g frame 2 es + (others_behind frame (arity es) + (1 + g.bodies h)))) (frames h)
+
+    same_operands : (os : Operands) → capped (count_in_operands f os) ≡ capped (count_in_operands g os)
+    same_operands no_operands = refl
+    same_operands (operand o t e os) = same_sum _ _ _ _ (same_in e) (same_operands os)
+
+    same_in_all : (es : Expressions) → capped (count_in_all f es) ≡ capped (count_in_all g es)
+    same_in_all no_expressions = refl
+    same_in_all (expression e es) = same_sum _ _ _ _ (same_in e) (same_in_all es)
+
+    same_inputs : (frame : FrameData) (place : ℕ) (es : Expressions) → capped (count_in_inputs f frame place es) ≡ capped (count_in_inputs g frame place es)
+    same_inputs frame place no_expressions = refl
+    same_inputs frame place (expression e es) =
+        same_sum _ _ _ _ (same_sum (count_in f e) (count_of_start frame place + 1) (count_in g e) (count_of_start frame place + 1) (same_in e) refl) (same_inputs frame (place + 1) es)
+
+  mutual
     same_count : (t : Statement) → capped (count_of f t) ≡ capped (count_of g t)
-    same_count (assign target e) = refl
-    same_count (run b offset) = same b
+    same_count (assign target e) = same_sum _ 1 _ 1 (same_in e) refl
+    same_count (run b offset) = same_runs b
     same_count (choice arms other) = same_sum _ _ _ _ (same_choices arms) (same_all other)
-    same_count (cases e es other) = same_sum _ _ _ _ (same_sum 1 _ 1 _ refl (same_entries es)) (same_all other)
+    same_count (cases e es other) = same_sum _ _ _ _ (same_sum _ _ _ _ (same_sum _ 1 _ 1 (same_in e) refl) (same_entries es)) (same_all other)
     same_count (repeat turns body) = same_turns turns.count _ _ (same_all body)
     same_count (chart _ _ _) = refl
 
@@ -98,7 +202,7 @@ module _ (f g : ℕ → ℕ) (same : (b : ℕ) → capped (f b) ≡ capped (g b)
 
     same_choices : (arms : Choices) → capped (count_of_choices f arms) ≡ capped (count_of_choices g arms)
     same_choices no_choices = refl
-    same_choices (choose e ss arms) = same_sum _ _ _ _ (same_sum 1 _ 1 _ refl (same_all ss)) (same_choices arms)
+    same_choices (choose e ss arms) = same_sum _ _ _ _ (same_sum _ _ _ _ (same_in e) (same_sum 1 _ 1 _ refl (same_all ss))) (same_choices arms)
 
     same_entries : (es : Entries) → capped (count_of_entries f es) ≡ capped (count_of_entries g es)
     same_entries no_entries = refl
@@ -109,18 +213,24 @@ module _ (f g : ℕ → ℕ) (same : (b : ℕ) → capped (f b) ≡ capped (g b)
 below_the_limit : (count : ℕ) → nat_lt (capped count) 200000 ≡ nat_le (1 + count) 200000
 below_the_limit count = grind (arith, nat_tests)
 
-pub is_short-count : (p : ProgramData) (body : Statements) (ns : List ℕ) (ps : List CalledData) (n : ℕ) → n ≡ capped (count_of_all (counted ns) body) → AreCounts ns ps → ps ≡ p.called → body ≡ p.body → nat_lt n 200000 ≡ is_short p
-is_short-count p body ns ps n counts are called same =
-    let runs = size-run p.cells p.called (length p.called) in
-    let equal : n ≡ capped (count_of_all (counts_of p.called (length p.called)) p.body)
-    = counts ∙ same_all (counted ns) (counts_of ps (length ps)) are body ∙ ap (λ q. capped (count_of_all (counts_of q (length q)) body)) called ∙ ap (λ b. capped (count_of_all (counts_of p.called (length p.called)) b)) same in
-    rw (equal, size_of-all p.cells (blocks_in p) (counts_of p.called (length p.called)) runs 0 p.body (length p.cells)) (below_the_limit (count_of_all (counts_of p.called (length p.called)) p.body))
+-- counts in lists count as those of the POUs do
+counts-same : (runs bodies : List ℕ) (ps : List CalledData) (i : ℕ) → ((n : ℕ) → (capped (counted runs n) ≡ capped ((counting_of ps i).runs n)) × (capped (counted bodies n) ≡ capped ((counting_of ps i).bodies n)))
+    → (ts : Statements) → capped (count_of_all (counting ps runs bodies) ts) ≡ capped (count_of_all (counting_of ps i) ts)
+counts-same runs bodies ps i are ts = same_all (counting ps runs bodies) (counting_of ps i) (λ n. sym (counting-frames ps i n)) (λ n. (are n).0) (λ n. (are n).1) ts
+
+pub is_short-count : (p : ProgramData) (body : Statements) (runs bodies : List ℕ) (ps : List CalledData) (n : ℕ) → n ≡ capped (count_of_all (counting ps runs bodies) body) → AreCounts runs bodies ps → ps ≡ p.called → body ≡ p.body → nat_lt n 200000 ≡ is_short p
+is_short-count p body runs bodies ps n counts are called same =
+    let m = length p.called in
+    let equal : n ≡ capped (count_of_all (counting_of p.called m) p.body)
+    = counts ∙ counts-same runs bodies ps (length ps) are body ∙ ap (λ q. capped (count_of_all (counting_of q (length q)) body)) called ∙ ap (λ b. capped (count_of_all (counting_of p.called m) b)) same in
+    let whole = size_of-all (bodies_in p) (counting_of p.called m) (same-frames p.called m) (λ o b base k. size-run p.called m o b base k) (λ f a places k. size-call p.called m f a places k) (program_owner (kinds_of p.cells)) 0 p.body (length p.cells) in
+    rw (equal, whole) (below_the_limit (count_of_all (counting_of p.called m) p.body))
 
 -- ---- the counts of POUs, one after the other
 
 -- the counts so far, of the first so many POUs
-abbrev pub CountFirst : List ℕ → List CalledData → ℕ → Type 0
-CountFirst ns ps i = (b : ℕ) → capped (counted ns b) ≡ capped (counts_of ps i b)
+abbrev pub CountFirst : List ℕ → List ℕ → List CalledData → ℕ → Type 0
+CountFirst runs bodies ps i = (n : ℕ) → (capped (counted runs n) ≡ capped ((counting_of ps i).runs n)) × (capped (counted bodies n) ≡ capped ((counting_of ps i).bodies n))
 
 none_counted : (ns : List ℕ) (b : ℕ) → length ns ≤ b → counted ns b ≡ 0
 none_counted [] b h = refl
@@ -133,23 +243,54 @@ counted-append [] n (suc b) = let other : (suc b == 0) ≡ false = search (rules
 counted-append (m ∷ ns) n zero = let other : (0 == suc (length ns)) ≡ false = search (rules, tests) in rw other refl
 counted-append (m ∷ ns) n (suc b) = let e : (suc b == suc (length ns)) ≡ (b == length ns) = search (rules, tests) in rw e (counted-append ns n b)
 
-pub counts-more : (ns more : List ℕ) (ps : List CalledData) (i n : ℕ) → length ns ≡ i → more ≡ ns ++ n ∷ [] → CountFirst ns ps i → capped n ≡ capped (count_of_all (counted ns) (block_body (slice_index_or ps i nothing))) → CountFirst more ps (i + 1)
-counts-more ns more ps i n long is first here b =
-    let one : i + 1 ≡ suc i = omega arith in
-    rw (one, is, counted-append ns n b, long) (either (b == i))
-  where
-    either : (test : Bool) → capped (if test then n else counted ns b) ≡ capped (if test then count_of_all (counts_of ps i) (block_body (slice_index_or ps i nothing)) else counts_of ps i b)
-    either true = here ∙ same_all (counted ns) (counts_of ps i) first (block_body (slice_index_or ps i nothing))
-    either false = first b
+capped-if : (test : Bool) (n m a b : ℕ) → capped n ≡ capped m → capped a ≡ capped b → capped (if test then n else a) ≡ capped (if test then m else b)
+capped-if true n m a b p q = p
+capped-if false n m a b p q = q
 
-pub counts-all : (ns : List ℕ) (called : List Called) (i : ℕ) → i ≡ length called → CountFirst ns (all_called_view called) i → AreCounts ns (all_called_view called)
-counts-all ns called i all first b =
-    let n : length (all_called_view called) ≡ i = length-map called called_view ∙ sym all in
-    rw n (first b)
+-- one count more
+counted-more : (ns more : List ℕ) (i n m b rest : ℕ) → length ns ≡ i → more ≡ ns ++ n ∷ [] → capped n ≡ capped m → capped (counted ns b) ≡ capped rest → capped (counted more b) ≡ capped (if b == i then m else rest)
+counted-more ns more i n m b rest long is here first = rw (is, counted-append ns n b, long) (capped-if (b == i) n m (counted ns b) rest here first)
+
+pub counts-more : (runs bodies more_runs more_bodies : List ℕ) (ps : List CalledData) (i r b : ℕ) → length runs ≡ i → length bodies ≡ i → more_runs ≡ runs ++ r ∷ [] → more_bodies ≡ bodies ++ b ∷ [] → CountFirst runs bodies ps i
+    → capped r ≡ capped (count_of_all (counting ps runs bodies) (block_body (slice_index_or ps i nothing))) → capped b ≡ capped (count_of_all (counting ps runs bodies) (function_body (slice_index_or ps i nothing)))
+    → CountFirst more_runs more_bodies ps (i + 1)
+counts-more runs bodies more_runs more_bodies ps i r b long_runs long_bodies is_runs is_bodies first run_here body_here n =
+    let one : i + 1 ≡ suc i = omega arith in
+    rw one (
+      counted-more runs more_runs i r _ n _ long_runs is_runs (run_here ∙ counts-same runs bodies ps i first (block_body (slice_index_or ps i nothing))) (first n).0,
+      counted-more bodies more_bodies i b _ n _ long_bodies is_bodies (body_here ∙ counts-same runs bodies ps i first (function_body (slice_index_or ps i nothing))) (first n).1,
+    )
+
+-- what is read of lists
+pub counting-same : (ps : List CalledData) (runs known_runs bodies known_bodies : List ℕ) → runs ≡ known_runs → bodies ≡ known_bodies → counting ps runs bodies ≡ counting ps known_runs known_bodies
+counting-same ps runs known_runs bodies known_bodies p q = ap (λ (l : List ℕ). counting ps l bodies) p ∙ ap (λ (l : List ℕ). counting ps known_runs l) q
+
+pub counting-same-of : (ps known : List CalledData) (runs known_runs bodies known_bodies : List ℕ) → ps ≡ known → runs ≡ known_runs → bodies ≡ known_bodies → counting ps runs bodies ≡ counting known known_runs known_bodies
+counting-same-of ps known runs known_runs bodies known_bodies h p q = counting-same ps runs known_runs bodies known_bodies p q ∙ ap (λ (l : List CalledData). counting l known_runs known_bodies) h
+
+pub counts-all : (runs bodies : List ℕ) (called : List Called) (i : ℕ) → i ≡ length called → CountFirst runs bodies (all_called_view called) i → AreCounts runs bodies (all_called_view called)
+counts-all runs bodies called i all first n =
+    let m : length (all_called_view called) ≡ i = length-map called called_view ∙ sym all in
+    rw m (first n)
 
 capped_twice : (n : ℕ) → capped (capped n) ≡ capped n
 capped_twice n = grind (arith, nat_tests)
 
 -- what is counted of the next POU
-pub body-counted : (n : ℕ) (ns read : List ℕ) (p q : CalledData) → n ≡ capped (count_of_all (counted read) (block_body p)) → read ≡ ns → q ≡ p → capped n ≡ capped (count_of_all (counted ns) (block_body q))
-body-counted n ns read p q e same is = rw (e, same, is) (capped_twice (count_of_all (counted ns) (block_body p)))
+pub body-counted : (n : ℕ) (counts known : Counting) (ts us : Statements) → n ≡ capped (count_of_all counts ts) → counts ≡ known → ts ≡ us → capped n ≡ capped (count_of_all known us)
+body-counted n counts known ts us e same is = rw (e, same, is) (capped_twice (count_of_all known us))
+
+-- ---- a call
+
+capped_right : (a b : ℕ) → capped (a + capped b) ≡ capped (a + b)
+capped_right a b = grind (arith, nat_tests)
+
+capped_both : (a b : ℕ) → capped (capped a + capped b) ≡ capped (a + b)
+capped_both a b = grind (arith, nat_tests)
+
+pub answer-counted : (whole before rest others body at x y z b : ℕ) → whole ≡ capped (before + rest) → before ≡ capped x → rest ≡ capped (others + body) → others ≡ capped y → body ≡ capped (1 + at) → at ≡ capped b → y ≡ z
+    → whole ≡ capped (x + (z + (1 + b)))
+answer-counted whole before rest others body at x y z b is_whole is_before is_rest is_others is_body is_at same =
+    let body_counted : body ≡ capped (1 + b) = is_body ∙ ap (λ (n : ℕ). capped (1 + n)) is_at ∙ capped_right 1 b in
+    let rest_counted : rest ≡ capped (y + (1 + b)) = is_rest ∙ ap (λ (n : ℕ). capped (n + body)) is_others ∙ ap (λ (n : ℕ). capped (capped y + n)) body_counted ∙ capped_both y (1 + b) in
+    is_whole ∙ ap (λ (n : ℕ). capped (n + rest)) is_before ∙ ap (λ (n : ℕ). capped (capped x + n)) rest_counted ∙ capped_both x (y + (1 + b)) ∙ ap (λ (n : ℕ). capped (x + (n + (1 + b)))) same

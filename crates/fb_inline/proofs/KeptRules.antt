@@ -3,6 +3,7 @@ use Rattle.std.proofs.Common.{◌≡◌, ℕ, zero, suc, ◌+◌, ◌-◌, ◌<�
 use Rattle.std.specs.Prelude.{◌==◌, slice_index_or, if◌then◌else◌}
 use Rattle.std.specs.Ordering.{int_eq}
 use Rattle.st_tree.specs.declared.elementary.Elementary.{Elementary}
+use Rattle.st_tree.specs.declared.data_type.DataType.{DataType}
 use Rattle.st_tree.specs.declared.typed.Range.{Range}
 use Rattle.st_tree.specs.Tree.{Expression, number, cell, unary, chain, call, answer, Operands, no_operands, operand, Expressions, no_expressions, expression, Statement, assign, run, choice, cases, repeat, chart, Statements, no_statements, statement, Choices, no_choices, choose, Entries, no_entries, entry, CellData, CalledData, ProgramData}
 use Rattle.st_tree.specs.View.{operands_of}
@@ -11,34 +12,37 @@ use Rattle.flat_core.specs.declared.flat_tree.Scratch.{Scratch}
 use Rattle.flat_core.specs.FlatTree.{FlatStatement}
 use Rattle.flat_core.specs.FlatView.{flats_of, nested}
 use Rattle.flat_core.specs.FlatRules.{is_limited, Reads, AllRead, EachReads, IsOneOf, IsReadable, set_behind, AreFlatOver}
+use Rattle.fb_inline.specs.Owners.{kinds_of, program_owner}
+use Rattle.fb_inline.specs.Bodies.{Bodies}
 use Rattle.fb_inline.specs.Kinds.{kind_of}
-use Rattle.fb_inline.specs.FlatLists.{Blocks, repeated, scratch_of, scratch_of_all, scratch_of_choices, scratch_of_entries, label_test, or_test, labels_test, unrolled, flat_of, flat_of_all, flat_choices, flat_entries}
-use Rattle.fb_inline.specs.FlatPrograms.{blocks_in, flat_program}
-use Rattle.fb_inline.specs.Moved.{moved, moved_operands, all_moved}
-use Rattle.fb_inline.specs.Blocks.{block_body, blocks_of}
+use Rattle.fb_inline.specs.FlatLists.{selector_cell, repeated, scratch_of, scratch_of_all, scratch_of_choices, scratch_of_entries, label_test, or_test, labels_test, unrolled, flat_of, flat_of_all, flat_choices, flat_entries}
+use Rattle.fb_inline.specs.FlatPrograms.{bodies_in, flat_program}
+use Rattle.fb_inline.specs.Calls.{scratch_in, before, moved, moved_operands, all_moved}
+use Rattle.fb_inline.specs.Pous.{block_body, bodies_of}
 use Rattle.fb_inline.specs.OwnCells.{UsesOwn, AllUseOwn, ChoicesUseOwn, EntriesUseOwn, Choice, RunUsesOwn}
 use Rattle.fb_inline.specs.FlatLaws.{KeepsRules}
+use Rattle.fb_inline.proofs.StoreLemmas.{before-without}
 use Rattle.fb_inline.proofs.KeptMeaning.{some_cells, AreFree, AreFree-program}
 
 -- ---- what expressions read
 
-module _ (base n : ℕ) (done : List ℕ) where
+module _ (bodies : Bodies) (kinds : List DataType) (base n : ℕ) (done : List ℕ) where
   mutual
-    cells_are_readable : (e : Expression) → Reads (λ place. base + place < n) e → Reads (IsReadable n done) (moved base e)
-    cells_are_readable (number v) b = tt
-    cells_are_readable (cell place) b = inl b
-    cells_are_readable (unary o t e) b = cells_are_readable e b
-    cells_are_readable (chain e os) b = (cells_are_readable e b.0, operands_are_readable os b.1)
-    cells_are_readable (call f t es) b = expressions_are_readable es b
-    cells_are_readable (answer f es) b = absurd b
+    cells_are_readable : (e : Expression) (k : ℕ) → Reads (λ place. base + place < n) e → Reads (IsReadable n done) (moved bodies (program_owner kinds) base e k)
+    cells_are_readable (number v) k b = tt
+    cells_are_readable (cell place) k b = inl b
+    cells_are_readable (unary o t e) k b = cells_are_readable e k b
+    cells_are_readable (chain e os) k b = (cells_are_readable e k b.0, operands_are_readable os (k + length (scratch_in bodies e)) b.1)
+    cells_are_readable (call f t es) k b = expressions_are_readable es k b
+    cells_are_readable (answer f es) k b = absurd b
 
-    operands_are_readable : (os : Operands) → AllRead (λ place. base + place < n) os → AllRead (IsReadable n done) (moved_operands base os)
-    operands_are_readable no_operands b = tt
-    operands_are_readable (operand o t e os) b = (cells_are_readable e b.0, operands_are_readable os b.1)
+    operands_are_readable : (os : Operands) (k : ℕ) → AllRead (λ place. base + place < n) os → AllRead (IsReadable n done) (moved_operands bodies (program_owner kinds) base os k)
+    operands_are_readable no_operands k b = tt
+    operands_are_readable (operand o t e os) k b = (cells_are_readable e k b.0, operands_are_readable os (k + length (scratch_in bodies e)) b.1)
 
-    expressions_are_readable : (es : Expressions) → EachReads (λ place. base + place < n) es → EachReads (IsReadable n done) (all_moved base es)
-    expressions_are_readable no_expressions b = tt
-    expressions_are_readable (expression e es) b = (cells_are_readable e b.0, expressions_are_readable es b.1)
+    expressions_are_readable : (es : Expressions) (k : ℕ) → EachReads (λ place. base + place < n) es → EachReads (IsReadable n done) (all_moved bodies (program_owner kinds) base es k)
+    expressions_are_readable no_expressions k b = tt
+    expressions_are_readable (expression e es) k b = (cells_are_readable e k b.0, expressions_are_readable es (k + length (scratch_in bodies e)) b.1)
 
 either_reads : (P : ℕ → Type 0) (b : Bool) (e f : Expression) → Reads P e → Reads P f → Reads P (if b then e else f)
 either_reads P true e f p q = p
@@ -81,54 +85,62 @@ none_limited (c ∷ cs) (suc j) p = none_limited cs j p.1
 
 -- ---- statements
 
-module _ (blocks : Blocks) (Runs : ℕ → ℕ → Type 0) (cells : List CellData) (n : ℕ) (cs : List Scratch) (free : (j : ℕ) → is_limited cs j ≡ false)
-    (each_run : (b base k : ℕ) → Runs b base → k + length (blocks.scratch b base) ≤ n + length cs → (done : List ℕ) → Keeps n cs done (blocks.list b base k)) where
+module _ (bodies : Bodies) (Runs : ℕ → ℕ → Type 0) (kinds : List DataType) (n : ℕ) (cs : List Scratch) (free : (j : ℕ) → is_limited cs j ≡ false)
+    (each_run : (b base k : ℕ) → Runs b base → k + length (bodies.run_scratch kinds b base) ≤ n + length cs → (done : List ℕ) → Keeps n cs done (bodies.run_list (program_owner kinds) b base k)) where
   mutual
-    Keeps-statement : (base : ℕ) (t : Statement) (k : ℕ) → UsesOwn Runs n base t → k + length (scratch_of blocks cells base t) ≤ n + length cs → (done : List ℕ) → Keeps n cs done (flat_of blocks cells base t k)
-    Keeps-statement base (assign target e) k b room done = ((omega (arith, b.0), cells_are_readable base n done e b.1, inl (inl b.0)), tt)
+    Keeps-statement : (base : ℕ) (t : Statement) (k : ℕ) → UsesOwn Runs n base t → k + length (scratch_of bodies kinds base t) ≤ n + length cs → (done : List ℕ) → Keeps n cs done (flat_of bodies (program_owner kinds) base t k)
+    Keeps-statement base (assign target e) k b room done =
+        rw (before-without (λ place. base + place < n) bodies (program_owner kinds) base e k b.1) ((omega (arith, b.0), cells_are_readable bodies kinds base n done e k b.1, inl (inl b.0)), tt)
     Keeps-statement base (run i offset) k b room done = each_run i (base + offset) k b room done
     Keeps-statement base (choice arms other) k b room done =
-        let parts = length-append (scratch_of_choices blocks cells base arms) (scratch_of_all blocks cells base other) in
-        Keeps-choices base arms k _ b.0 (omega arith) done (Keeps-all base other (k + length (scratch_of_choices blocks cells base arms)) b.1 (omega arith) done)
+        let parts = length-append (scratch_of_choices bodies kinds base arms) (scratch_of_all bodies kinds base other) in
+        Keeps-choices base arms k _ b.0 (omega arith) done (Keeps-all base other (k + length (scratch_of_choices bodies kinds base arms)) b.1 (omega arith) done)
     Keeps-statement base (cases e es other) k b room done =
-        let parts = length-append (scratch_of_entries blocks cells base es) (scratch_of_all blocks cells base other) in
-        let behind = Keeps-all base other (k + 1 + length (scratch_of_entries blocks cells base es)) b.2 (omega arith) (k ∷ done) in
-        ((omega arith, cells_are_readable base n done e b.0, inr (inl (free (k - n)))), Keeps-entries base (kind_of cells (moved base e)) k es (k + 1) _ b.1 (omega arith) (k ∷ done) (inl refl) behind)
+        let j = k + length (scratch_in bodies e) in
+        let kind = kind_of bodies.frame kinds base e in
+        let whole = length-append (scratch_in bodies e) (selector_cell kind ∷ (scratch_of_entries bodies kinds base es ++ scratch_of_all bodies kinds base other)) in
+        let parts = length-append (scratch_of_entries bodies kinds base es) (scratch_of_all bodies kinds base other) in
+        let behind = Keeps-all base other (j + 1 + length (scratch_of_entries bodies kinds base es)) b.2 (omega arith) (j ∷ done) in
+        rw (before-without (λ place. base + place < n) bodies (program_owner kinds) base e k b.0)
+        ((omega arith, cells_are_readable bodies kinds base n done e k b.0, inr (inl (free (j - n)))), Keeps-entries base kind j es (j + 1) _ b.1 (omega arith) (j ∷ done) (inl refl) behind)
     Keeps-statement base (repeat turns body) k b room done =
-        Keeps-turns n cs turns.count (base + turns.control) turns.first turns.step (scratch_of_all blocks cells base body) (flat_of_all blocks cells base body) b.0 (λ j r d. Keeps-all base body j b.1 r d) k room done
+        Keeps-turns n cs turns.count (base + turns.control) turns.first turns.step (scratch_of_all bodies kinds base body) (flat_of_all bodies (program_owner kinds) base body) b.0 (λ j r d. Keeps-all base body j b.1 r d) k room done
     Keeps-statement base (chart steps _ ts) k b room done = absurd b
 
-    Keeps-all : (base : ℕ) (ts : Statements) (k : ℕ) → AllUseOwn Runs n base ts → k + length (scratch_of_all blocks cells base ts) ≤ n + length cs → (done : List ℕ) → Keeps n cs done (flat_of_all blocks cells base ts k)
+    Keeps-all : (base : ℕ) (ts : Statements) (k : ℕ) → AllUseOwn Runs n base ts → k + length (scratch_of_all bodies kinds base ts) ≤ n + length cs → (done : List ℕ) → Keeps n cs done (flat_of_all bodies (program_owner kinds) base ts k)
     Keeps-all base no_statements k b room done = tt
     Keeps-all base (statement t ts) k b room done =
-        let parts = length-append (scratch_of blocks cells base t) (scratch_of_all blocks cells base ts) in
-        Keeps-append n cs (flat_of blocks cells base t k) _ done (Keeps-statement base t k b.0 (omega arith) done) (λ d. Keeps-all base ts (k + length (scratch_of blocks cells base t)) b.1 (omega arith) d)
+        let parts = length-append (scratch_of bodies kinds base t) (scratch_of_all bodies kinds base ts) in
+        Keeps-append n cs (flat_of bodies (program_owner kinds) base t k) _ done (Keeps-statement base t k b.0 (omega arith) done) (λ d. Keeps-all base ts (k + length (scratch_of bodies kinds base t)) b.1 (omega arith) d)
 
-    Keeps-choices : (base : ℕ) (arms : Choices) (k : ℕ) (rest : List FlatStatement) → ChoicesUseOwn Runs n base arms → k + length (scratch_of_choices blocks cells base arms) ≤ n + length cs → (done : List ℕ) → Keeps n cs done rest → Keeps n cs done (nested (flat_choices blocks cells base arms k) rest)
+    Keeps-choices : (base : ℕ) (arms : Choices) (k : ℕ) (rest : List FlatStatement) → ChoicesUseOwn Runs n base arms → k + length (scratch_of_choices bodies kinds base arms) ≤ n + length cs → (done : List ℕ) → Keeps n cs done rest → Keeps n cs done (nested (flat_choices bodies (program_owner kinds) base arms k) rest)
     Keeps-choices base no_choices k rest b room done behind = behind
     Keeps-choices base (choose e ss arms) k rest b room done behind =
-        let parts = length-append (scratch_of_all blocks cells base ss) (scratch_of_choices blocks cells base arms) in
-        ((cells_are_readable base n done e b.0, Keeps-all base ss k b.1 (omega arith) done, Keeps-choices base arms (k + length (scratch_of_all blocks cells base ss)) rest b.2 (omega arith) done behind), tt)
+        let j = k + length (scratch_in bodies e) in
+        let whole = length-append (scratch_in bodies e) (scratch_of_all bodies kinds base ss ++ scratch_of_choices bodies kinds base arms) in
+        let parts = length-append (scratch_of_all bodies kinds base ss) (scratch_of_choices bodies kinds base arms) in
+        rw (before-without (λ place. base + place < n) bodies (program_owner kinds) base e k b.0)
+        ((cells_are_readable bodies kinds base n done e k b.0, Keeps-all base ss j b.1 (omega arith) done, Keeps-choices base arms (j + length (scratch_of_all bodies kinds base ss)) rest b.2 (omega arith) done behind), tt)
 
-    Keeps-entries : (base : ℕ) (kind : Elementary) (t : ℕ) (es : Entries) (k : ℕ) (rest : List FlatStatement) → EntriesUseOwn Runs n base es → k + length (scratch_of_entries blocks cells base es) ≤ n + length cs → (done : List ℕ) → IsOneOf done t → Keeps n cs done rest → Keeps n cs done (nested (flat_entries blocks cells base kind t es k) rest)
+    Keeps-entries : (base : ℕ) (kind : Elementary) (t : ℕ) (es : Entries) (k : ℕ) (rest : List FlatStatement) → EntriesUseOwn Runs n base es → k + length (scratch_of_entries bodies kinds base es) ≤ n + length cs → (done : List ℕ) → IsOneOf done t → Keeps n cs done rest → Keeps n cs done (nested (flat_entries bodies (program_owner kinds) base kind t es k) rest)
     Keeps-entries base kind t no_entries k rest b room done is_set behind = behind
     Keeps-entries base kind t (entry labels ss es) k rest b room done is_set behind =
-        let parts = length-append (scratch_of_all blocks cells base ss) (scratch_of_entries blocks cells base es) in
-        ((labels_test-reads (IsReadable n done) kind t (inr is_set) labels, Keeps-all base ss k b.0 (omega arith) done, Keeps-entries base kind t es (k + length (scratch_of_all blocks cells base ss)) rest b.1 (omega arith) done is_set behind), tt)
+        let parts = length-append (scratch_of_all bodies kinds base ss) (scratch_of_entries bodies kinds base es) in
+        ((labels_test-reads (IsReadable n done) kind t (inr is_set) labels, Keeps-all base ss k b.0 (omega arith) done, Keeps-entries base kind t es (k + length (scratch_of_all bodies kinds base ss)) rest b.1 (omega arith) done is_set behind), tt)
 
 -- ---- blocks
 
-module _ (cells : List CellData) (ps : List CalledData) (n : ℕ) (cs : List Scratch) (free : (j : ℕ) → is_limited cs j ≡ false) where
+module _ (kinds : List DataType) (ps : List CalledData) (n : ℕ) (cs : List Scratch) (free : (j : ℕ) → is_limited cs j ≡ false) where
   abbrev EachKeeps : ℕ → Type 0
-  EachKeeps m = (b base k : ℕ) → RunUsesOwn ps n m b base → k + length ((blocks_of cells ps m).scratch b base) ≤ n + length cs → (done : List ℕ) → Keeps n cs done ((blocks_of cells ps m).list b base k)
+  EachKeeps m = (b base k : ℕ) → RunUsesOwn ps n m b base → k + length ((bodies_of ps m).run_scratch kinds b base) ≤ n + length cs → (done : List ℕ) → Keeps n cs done ((bodies_of ps m).run_list (program_owner kinds) b base k)
 
   Keeps-next : (m : ℕ) → EachKeeps m → EachKeeps (suc m)
   Keeps-next m each b base k own room done = by_cases (b == m) own room
     where
       by_cases : (test : Bool) → Choice test (AllUseOwn (RunUsesOwn ps n m) n base (block_body (slice_index_or ps m nothing))) (RunUsesOwn ps n m b base)
-          → k + length (if test then scratch_of_all (blocks_of cells ps m) cells base (block_body (slice_index_or ps m nothing)) else (blocks_of cells ps m).scratch b base) ≤ n + length cs
-          → Keeps n cs done (if test then flat_of_all (blocks_of cells ps m) cells base (block_body (slice_index_or ps m nothing)) k else (blocks_of cells ps m).list b base k)
-      by_cases true o r = Keeps-all (blocks_of cells ps m) (RunUsesOwn ps n m) cells n cs free each base (block_body (slice_index_or ps m nothing)) k o r done
+          → k + length (if test then scratch_of_all (bodies_of ps m) kinds base (block_body (slice_index_or ps m nothing)) else (bodies_of ps m).run_scratch kinds b base) ≤ n + length cs
+          → Keeps n cs done (if test then flat_of_all (bodies_of ps m) (program_owner kinds) base (block_body (slice_index_or ps m nothing)) k else (bodies_of ps m).run_list (program_owner kinds) b base k)
+      by_cases true o r = Keeps-all (bodies_of ps m) (RunUsesOwn ps n m) kinds n cs free each base (block_body (slice_index_or ps m nothing)) k o r done
       by_cases false o r = each b base k o r done
 
   Keeps-run : (m : ℕ) → EachKeeps m
@@ -140,8 +152,8 @@ module _ (cells : List CellData) (ps : List CalledData) (n : ℕ) (cs : List Scr
 pub flat_program-KeepsRules : (p : ProgramData) → KeepsRules p (flat_program p)
 flat_program-KeepsRules p is own =
     let some = some_cells p.cells is.begins_with_fault in
-    let cs = scratch_of_all (blocks_in p) p.cells 0 p.body in
-    let free = λ (j : ℕ). none_limited cs j (AreFree-program p) in
+    let cs = scratch_of_all (bodies_in p) (kinds_of p.cells) 0 p.body in
+    let free = λ (j : ℕ). none_limited cs j (AreFree-program p own) in
     let n = length p.cells in
     let own_runs = RunUsesOwn p.called n (length p.called) in
-    ((omega arith, tt, inl (inl some)), Keeps-all (blocks_in p) own_runs p.cells n cs free (Keeps-run p.cells p.called n cs free (length p.called)) 0 p.body n own (omega arith) (0 ∷ []))
+    ((omega arith, tt, inl (inl some)), Keeps-all (bodies_in p) own_runs (kinds_of p.cells) n cs free (Keeps-run (kinds_of p.cells) p.called n cs free (length p.called)) 0 p.body n own (omega arith) (0 ∷ []))

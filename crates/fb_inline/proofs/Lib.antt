@@ -1,6 +1,7 @@
 pub mod ViewLemmas
-pub mod MovedLemmas
-pub mod BlockLemmas
+pub mod CallLemmas
+pub mod CaseLemmas
+pub mod PouLemmas
 pub mod CountLemmas
 pub mod TurnLemmas
 pub mod StoreLemmas

@@ -4,15 +4,18 @@ use Rattle.std.specs.Ordering.{int_eq}
 use Rattle.st_tree.specs.declared.elementary.Elementary.{Elementary}
 use Rattle.st_tree.specs.declared.elementary.Elementary.TheVariants.{Bool}
 use Rattle.st_tree.specs.declared.token.Operator.TheVariants.{Or, And, Equal, LessEqual}
+use Rattle.st_tree.specs.declared.data_type.DataType.{DataType}
 use Rattle.st_tree.specs.declared.typed.Range.{Range}
 use Rattle.st_tree.specs.Types.{range_of}
-use Rattle.st_tree.specs.Tree.{Expression, number, cell, chain, no_operands, operand, Statement, assign, run, choice, cases, repeat, chart, Statements, no_statements, statement, Choices, no_choices, choose, Entries, no_entries, entry, CellData}
-use Rattle.st_tree.specs.View.{OperandData, operands_of}
+use Rattle.st_tree.specs.Tree.{Expression, number, cell, chain, no_operands, operand, Statement, assign, run, choice, cases, repeat, chart, Statements, no_statements, statement, Choices, no_choices, choose, Entries, no_entries, entry}
+use Rattle.st_tree.specs.View.{OperandData, operands_of, ChoiceData}
 use Rattle.flat_core.specs.declared.flat_tree.Scratch.{Scratch}
 use Rattle.flat_core.specs.FlatTree.{FlatStatement, set}
 use Rattle.flat_core.specs.FlatView.{FlatArmData, nested}
 use Rattle.fb_inline.specs.Kinds.{kind_of}
-use Rattle.fb_inline.specs.Moved.{moved}
+use Rattle.fb_inline.specs.Owners.{OwnerData}
+use Rattle.fb_inline.specs.Bodies.{Bodies}
+use Rattle.fb_inline.specs.Calls.{scratch_in, before, moved}
 
 -- the scratch cell of a CASE, which keeps the selector's value
 abbrev pub selector_cell : Elementary → Scratch
@@ -22,35 +25,29 @@ abbrev pub repeated : ℕ → List Scratch → List Scratch
 repeated zero cs = []
 repeated (suc n) cs = cs ++ repeated n cs
 
--- What runs of FUNCTION_BLOCKs become, by the block's number and the base where the cells of the instance begin: their scratch cells;
--- and their flat list, by the place from which those are numbered.
-pub record Blocks : Type 0 where
-  pub scratch : ℕ → ℕ → List Scratch
-  pub list : ℕ → ℕ → ℕ → List FlatStatement
-
--- the scratch cells that statements over cells make, whose own cells begin at a base: one for each CASE, in each turn of the FORs
--- around it, and those of the blocks that they run
+-- The scratch cells that statements make, whose own cells begin at a base among their owner's: those of the calls in their expressions,
+-- one for each CASE, in each turn of the FORs around it, and those of the blocks that they run.
 abbrev mutual
-  pub scratch_of : Blocks → List CellData → ℕ → Statement → List Scratch
-  scratch_of blocks cells base (assign target e) = []
-  scratch_of blocks cells base (run b offset) = blocks.scratch b (base + offset)
-  scratch_of blocks cells base (choice arms other) = scratch_of_choices blocks cells base arms ++ scratch_of_all blocks cells base other
-  scratch_of blocks cells base (cases e es other) =
-      selector_cell (kind_of cells (moved base e)) ∷ (scratch_of_entries blocks cells base es ++ scratch_of_all blocks cells base other)
-  scratch_of blocks cells base (repeat turns body) = repeated turns.count (scratch_of_all blocks cells base body)
-  scratch_of blocks cells base (chart _ _ _) = []
+  pub scratch_of : Bodies → List DataType → ℕ → Statement → List Scratch
+  scratch_of bodies kinds base (assign target e) = scratch_in bodies e
+  scratch_of bodies kinds base (run b offset) = bodies.run_scratch kinds b (base + offset)
+  scratch_of bodies kinds base (choice arms other) = scratch_of_choices bodies kinds base arms ++ scratch_of_all bodies kinds base other
+  scratch_of bodies kinds base (cases e es other) =
+      scratch_in bodies e ++ selector_cell (kind_of bodies.frame kinds base e) ∷ (scratch_of_entries bodies kinds base es ++ scratch_of_all bodies kinds base other)
+  scratch_of bodies kinds base (repeat turns body) = repeated turns.count (scratch_of_all bodies kinds base body)
+  scratch_of bodies kinds base (chart _ _ _) = []
 
-  pub scratch_of_all : Blocks → List CellData → ℕ → Statements → List Scratch
-  scratch_of_all blocks cells base no_statements = []
-  scratch_of_all blocks cells base (statement t ts) = scratch_of blocks cells base t ++ scratch_of_all blocks cells base ts
+  pub scratch_of_all : Bodies → List DataType → ℕ → Statements → List Scratch
+  scratch_of_all bodies kinds base no_statements = []
+  scratch_of_all bodies kinds base (statement t ts) = scratch_of bodies kinds base t ++ scratch_of_all bodies kinds base ts
 
-  pub scratch_of_choices : Blocks → List CellData → ℕ → Choices → List Scratch
-  scratch_of_choices blocks cells base no_choices = []
-  scratch_of_choices blocks cells base (choose e ss arms) = scratch_of_all blocks cells base ss ++ scratch_of_choices blocks cells base arms
+  pub scratch_of_choices : Bodies → List DataType → ℕ → Choices → List Scratch
+  scratch_of_choices bodies kinds base no_choices = []
+  scratch_of_choices bodies kinds base (choose e ss arms) = scratch_in bodies e ++ (scratch_of_all bodies kinds base ss ++ scratch_of_choices bodies kinds base arms)
 
-  pub scratch_of_entries : Blocks → List CellData → ℕ → Entries → List Scratch
-  scratch_of_entries blocks cells base no_entries = []
-  scratch_of_entries blocks cells base (entry labels ss es) = scratch_of_all blocks cells base ss ++ scratch_of_entries blocks cells base es
+  pub scratch_of_entries : Bodies → List DataType → ℕ → Entries → List Scratch
+  scratch_of_entries bodies kinds base no_entries = []
+  scratch_of_entries bodies kinds base (entry labels ss es) = scratch_of_all bodies kinds base ss ++ scratch_of_entries bodies kinds base es
 
 -- a label's test of the selector's scratch cell t: `t = k` for one value, and `low <= t AND t <= high` for several
 abbrev pub label_test : Elementary → ℕ → Range → Expression
@@ -73,34 +70,42 @@ abbrev pub unrolled : ℕ → ℕ → ℤ → ℤ → ℕ → (ℕ → List Flat
 unrolled zero control v step m body k = set control (number v) ∷ []
 unrolled (suc n) control v step m body k = set control (number v) ∷ (body k ++ unrolled n control (v +ℤ step) step m body (k + m))
 
--- An IF is nested ones, an ELSIF being an IF in the rest. A CASE sets a scratch cell to the selector's value and goes on as an IF. A
--- run of a block is the list of its body. A call of a FUNCTION stays, and a chart has no flat statements: only programs without them
--- have a flat form that keeps their meaning.
+-- The calls of an expression run before it is asked for. An IF is nested ones, an ELSIF being an IF in the rest. A CASE sets a scratch
+-- cell to the selector's value and goes on as an IF. A run of a block is the list of its body.
 abbrev mutual
-  pub flat_of : Blocks → List CellData → ℕ → Statement → ℕ → List FlatStatement
-  flat_of blocks cells base (assign target e) k = set (base + target) (moved base e) ∷ []
-  flat_of blocks cells base (run b offset) k = blocks.list b (base + offset) k
-  flat_of blocks cells base (choice arms other) k =
-      nested (flat_choices blocks cells base arms k) (flat_of_all blocks cells base other (k + length (scratch_of_choices blocks cells base arms)))
-  flat_of blocks cells base (cases e es other) k =
-      set k (moved base e)
-      ∷ nested (flat_entries blocks cells base (kind_of cells (moved base e)) k es (k + 1)) (flat_of_all blocks cells base other (k + 1 + length (scratch_of_entries blocks cells base es)))
-  flat_of blocks cells base (repeat turns body) k =
-      unrolled turns.count (base + turns.control) turns.first turns.step (length (scratch_of_all blocks cells base body)) (flat_of_all blocks cells base body) k
-  flat_of blocks cells base (chart _ _ _) k = []
+  pub flat_of : Bodies → OwnerData → ℕ → Statement → ℕ → List FlatStatement
+  flat_of bodies owner base (assign target e) k = before bodies owner base e k ++ set (owner.place_at (base + target)) (moved bodies owner base e k) ∷ []
+  flat_of bodies owner base (run b offset) k = bodies.run_list owner b (base + offset) k
+  flat_of bodies owner base (choice arms other) k =
+      nested (flat_choices bodies owner base arms k) (flat_of_all bodies owner base other (k + length (scratch_of_choices bodies owner.kinds base arms)))
+  flat_of bodies owner base (cases e es other) k =
+      before bodies owner base e k ++ set (k + length (scratch_in bodies e)) (moved bodies owner base e k)
+      ∷ nested (flat_entries bodies owner base (kind_of bodies.frame owner.kinds base e) (k + length (scratch_in bodies e)) es (k + length (scratch_in bodies e) + 1))
+      (flat_of_all bodies owner base other (k + length (scratch_in bodies e) + 1 + length (scratch_of_entries bodies owner.kinds base es)))
+  flat_of bodies owner base (repeat turns body) k =
+      unrolled turns.count (owner.place_at (base + turns.control)) turns.first turns.step (length (scratch_of_all bodies owner.kinds base body)) (flat_of_all bodies owner base body) k
+  flat_of bodies owner base (chart _ _ _) k = []
 
-  pub flat_of_all : Blocks → List CellData → ℕ → Statements → ℕ → List FlatStatement
-  flat_of_all blocks cells base no_statements k = []
-  flat_of_all blocks cells base (statement t ts) k = flat_of blocks cells base t k ++ flat_of_all blocks cells base ts (k + length (scratch_of blocks cells base t))
+  pub flat_of_all : Bodies → OwnerData → ℕ → Statements → ℕ → List FlatStatement
+  flat_of_all bodies owner base no_statements k = []
+  flat_of_all bodies owner base (statement t ts) k = flat_of bodies owner base t k ++ flat_of_all bodies owner base ts (k + length (scratch_of bodies owner.kinds base t))
 
-  -- each condition with its statements
-  pub flat_choices : Blocks → List CellData → ℕ → Choices → ℕ → List FlatArmData
-  flat_choices blocks cells base no_choices k = []
-  flat_choices blocks cells base (choose e ss arms) k =
-      (moved base e, flat_of_all blocks cells base ss k) ∷ flat_choices blocks cells base arms (k + length (scratch_of_all blocks cells base ss))
+  -- what runs before each condition, the condition and its statements
+  pub flat_choices : Bodies → OwnerData → ℕ → Choices → ℕ → List FlatArmData
+  flat_choices bodies owner base no_choices k = []
+  flat_choices bodies owner base (choose e ss arms) k =
+      (before bodies owner base e k, moved bodies owner base e k, flat_of_all bodies owner base ss (k + length (scratch_in bodies e)))
+      ∷ flat_choices bodies owner base arms (k + length (scratch_in bodies e) + length (scratch_of_all bodies owner.kinds base ss))
 
   -- the test of each entry's labels with its statements; t is the selector's scratch cell, and kind its type
-  pub flat_entries : Blocks → List CellData → ℕ → Elementary → ℕ → Entries → ℕ → List FlatArmData
-  flat_entries blocks cells base kind t no_entries k = []
-  flat_entries blocks cells base kind t (entry labels ss es) k =
-      (labels_test kind t labels, flat_of_all blocks cells base ss k) ∷ flat_entries blocks cells base kind t es (k + length (scratch_of_all blocks cells base ss))
+  pub flat_entries : Bodies → OwnerData → ℕ → Elementary → ℕ → Entries → ℕ → List FlatArmData
+  flat_entries bodies owner base kind t no_entries k = []
+  flat_entries bodies owner base kind t (entry labels ss es) k =
+      ([], labels_test kind t labels, flat_of_all bodies owner base ss k) ∷ flat_entries bodies owner base kind t es (k + length (scratch_of_all bodies owner.kinds base ss))
+
+-- one condition with its statements
+abbrev pub scratch_of_choice : Bodies → List DataType → ℕ → ChoiceData → List Scratch
+scratch_of_choice bodies kinds base c = scratch_in bodies c.0 ++ scratch_of_all bodies kinds base c.1
+
+abbrev pub flat_choice : Bodies → OwnerData → ℕ → ChoiceData → ℕ → FlatArmData
+flat_choice bodies owner base c k = (before bodies owner base c.0 k, moved bodies owner base c.0 k, flat_of_all bodies owner base c.1 (k + length (scratch_in bodies c.0)))

@@ -1,7 +1,10 @@
+pub mod Frames
+pub mod Owners
+pub mod Bodies
 pub mod Kinds
-pub mod Moved
+pub mod Calls
 pub mod FlatLists
-pub mod Blocks
+pub mod Pous
 pub mod FlatPrograms
 pub mod Counts
 pub mod OwnCells

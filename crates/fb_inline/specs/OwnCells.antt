@@ -4,7 +4,7 @@ use Rattle.std.specs.Prelude.{◌<◌, ◌==◌, ℕ, zero, suc, ◌+◌, Bool, 
 use Rattle.st_tree.specs.Tree.{Statement, assign, run, choice, cases, repeat, chart, Statements, no_statements, statement, Choices, no_choices, choose, Entries, no_entries, entry, CalledData, ProgramData}
 use Rattle.effects.specs.Calls.{nothing}
 use Rattle.flat_core.specs.FlatRules.{Reads}
-use Rattle.fb_inline.specs.Blocks.{block_body}
+use Rattle.fb_inline.specs.Pous.{block_body}
 
 -- no FUNCTION is called, there is no chart, and each place behind a base is one of so many cells; so it is for each run of a block, by
 -- its number and the base where the cells of the instance begin

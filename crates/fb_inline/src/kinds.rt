@@ -1,25 +1,54 @@
 // The types of expressions.
-ghost use Rattle.std.specs.Prelude.{◌≡◌};
+ghost use Rattle.std.specs.Prelude.{◌≡◌, IfOk};
 ghost use Rattle.st_tree.specs.Types.{range_of};
 ghost use Rattle.st_tree.specs.DataTypes.{carrier};
-ghost use Rattle.st_tree.specs.View.{expr_view, operands_view, cells_view};
+ghost use Rattle.st_tree.specs.View.{expr_view, operands_view, cells_view, called_view, all_called_view};
 ghost use Rattle.effects.specs.Values.{result_type};
-ghost use Rattle.fb_inline.specs.Kinds.{kinds_of, kind_at, number_kind, kind_on, kind_of};
+ghost use Rattle.fb_inline.specs.Frames.{frame_of, frames_of};
+ghost use Rattle.fb_inline.specs.Owners.{kinds_of, owner_view};
+ghost use Rattle.fb_inline.specs.Kinds.{kind_at, number_kind, kind_on, answer_kind, kind_of};
 
+use crate::frames::{NO_TYPE, type_at};
+use crate::scope::{FlatScope, Owner};
 use num_core::IntType;
-use st_tree::{Cell, DataType, Elementary, Operand, Operator, Range, TypedExpr};
+use st_tree::{Called, Cell, DataType, Elementary, Operand, Operator, Range, TypedExpr};
+use std::alloc::AllocError;
 
-/// The elementary type whose numbers the values of an expression are; a DINT for what a FUNCTION answers.
-pub fn kind_of(expr: &TypedExpr, cells: &[Cell]) -> Elementary
-    ensures { result ≡ kind_of (cells_view cells.now) (expr_view expr.now) }
+/// The elementary type whose numbers the values of an expression are.
+pub fn kind_of(expr: &TypedExpr, scope: &FlatScope<'_>) -> Result<Elementary, AllocError>
+    ensures { IfOk result (λ kind. kind
+        ≡ kind_of (frames_of (all_called_view scope.now.called.now)) (owner_view scope.now.owner).kinds scope.now.base (expr_view expr.now)) }
 {
     match expr {
-        TypedExpr::Number(value) => number_kind(*value),
-        TypedExpr::Cell(place) => kind_at(cells, *place).carrier(),
-        TypedExpr::Unary(_, kind, _) => *kind,
-        TypedExpr::Chain(first, operands) => kind_on(kind_of(first, cells), operands),
-        TypedExpr::Call(_, kind, _) => *kind,
-        TypedExpr::Answer(_, _) => Elementary::Dint,
+        TypedExpr::Number(value) => Ok(number_kind(*value)),
+        TypedExpr::Cell(place) => {
+            let place = scope.base.checked_add(*place).ok_or(AllocError)?;
+            Ok(kind_at(&scope.owner, place).carrier())
+        }
+        TypedExpr::Unary(_, kind, _) => Ok(*kind),
+        TypedExpr::Chain(first, operands) => Ok(kind_on(kind_of(first, scope)?, operands)),
+        TypedExpr::Call(_, kind, _) => Ok(*kind),
+        TypedExpr::Answer(function, _) => Ok(answer_kind(scope.called, *function)),
+    }
+}
+
+// The type of what a FUNCTION answers, by its number.
+fn answer_kind(called: &[Called], function: usize) -> Elementary
+    ensures { result ≡ answer_kind (frames_of (all_called_view called.now) function) }
+{
+    if function < called.len() {
+        let callee = &called[function];
+        return answer_kind_of(callee);
+    }
+    NO_TYPE.kind.carrier()
+}
+
+fn answer_kind_of(callee: &Called) -> Elementary
+    ensures { result ≡ answer_kind (frame_of (called_view callee.now)) }
+{
+    match callee {
+        Called::Block(_) => NO_TYPE.kind.carrier(),
+        Called::Function(frame, _) => type_at(&frame.types, 1).kind.carrier(),
     }
 }
 
@@ -33,7 +62,16 @@ fn number_kind(value: i64) -> Elementary
     }
 }
 
-fn kind_at(cells: &[Cell], place: usize) -> DataType
+fn kind_at(owner: &Owner<'_>, place: usize) -> DataType
+    ensures { result ≡ kind_at (owner_view owner.now).kinds place }
+{
+    match owner {
+        Owner::Program(cells) => cell_kind_at(cells, place),
+        Owner::Call(types, _, _) => type_at(types, place).kind,
+    }
+}
+
+fn cell_kind_at(cells: &[Cell], place: usize) -> DataType
     ensures { result ≡ kind_at (kinds_of (cells_view cells.now)) place }
 {
     if place < cells.len() {

@@ -6,11 +6,13 @@ ghost use Rattle.fb_inline.specs.FlatPrograms.{flat_program, is_short};
 ghost use Rattle.fb_inline.specs.FlatLaws.{KeepsMeaning, KeepsRules};
 ghost use Rattle.fb_inline.specs.Faults.{IsFault};
 
-use crate::count::{MOST_STATEMENTS, count_all, count_runs};
+use crate::count::{count_all, count_pous};
+use crate::counts::Counts;
 use crate::fault::FlatFault;
 use crate::puts::put_number;
-use crate::scope::FlatScope;
+use crate::scope::{FlatScope, Owner};
 use crate::statements::flatten_all;
+use crate::sums::MOST_STATEMENTS;
 use flat_core::Flat;
 use st_tree::{Cell, Program, Refusal, Rule};
 use std::alloc::{AllocError, Global};
@@ -38,8 +40,13 @@ pub fn flatten(alloc: Global, program: &Program) -> Result<Flat, FlatFault>
 fn is_short(alloc: Global, program: &Program) -> Result<bool, AllocError>
     ensures { IfOk result (λ short. short ≡ is_short (program_view program.now)) }
 {
-    let runs = count_runs(&program.called, alloc)?;
-    let count = count_all(&program.body, &runs);
+    let pous = count_pous(&program.called, alloc)?;
+    let counts = Counts {
+        called: &program.called,
+        runs: &pous.runs,
+        bodies: &pous.bodies,
+    };
+    let count = count_all(&program.body, &counts);
     Ok(count < MOST_STATEMENTS)
 }
 
@@ -50,7 +57,8 @@ fn flat_program(alloc: Global, program: &Program) -> Result<Flat, AllocError>
     let mut body = Vec::new(alloc);
     put_number(&mut body, 0, 0)?;
     let scope = FlatScope {
-        cells: &program.cells,
+        cells: program.cells.len(),
+        owner: Owner::Program(&program.cells),
         base: 0,
         called: &program.called,
         below: program.called.len(),

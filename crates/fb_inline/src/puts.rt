@@ -44,33 +44,57 @@ pub fn put_if(
     put(out, FlatStmt::If(arms, rest))
 }
 
-/// One more condition with its statements.
+/// One more condition with what runs before it and its statements.
 pub fn put_arm(
     arms: &mut Vec<FlatArm>,
+    before: Vec<FlatStmt>,
     condition: TypedExpr,
     body: Vec<FlatStmt>,
 ) -> Result<(), AllocError>
     ensures { OnOk result (flat_arms_view arms.new.items
-        ≡ flat_arms_view arms.old.items ++ (expr_view condition, flats_view body.items) ∷ []) }
+        ≡ flat_arms_view arms.old.items ++ (flats_view before.items, expr_view condition, flats_view body.items) ∷ []) }
 {
-    arms.push(FlatArm { condition, body })?;
+    arms.push(FlatArm {
+        before,
+        condition,
+        body,
+    })?;
     Ok(())
 }
 
-/// One more scratch cell of a selector, behind so many cells and the scratch cells so far; its place.
+/// One more scratch cell, behind so many cells and the scratch cells so far; its place.
 pub fn new_scratch(
-    kind: Elementary,
+    cell: Scratch,
     cells: usize,
     scratch: &mut Vec<Scratch>,
 ) -> Result<usize, AllocError>
     ensures place { IfOk result (λ place. place ≡ cells + length scratch.old.items) }
-    ensures scratch { OnOk result (scratch.new.items ≡ scratch.old.items ++ selector_cell kind ∷ []) }
+    ensures scratch { OnOk result (scratch.new.items ≡ scratch.old.items ++ cell ∷ []) }
 {
     let place = cells.checked_add(scratch.len()).ok_or(AllocError)?;
-    scratch.push(Scratch {
+    scratch.push(cell)?;
+    Ok(place)
+}
+
+/// One more scratch cell, of a selector, which is set to its value; its place.
+pub fn put_selector(
+    kind: Elementary,
+    value: TypedExpr,
+    cells: usize,
+    scratch: &mut Vec<Scratch>,
+    out: &mut Vec<FlatStmt>,
+) -> Result<usize, AllocError>
+    ensures place { IfOk result (λ place. place ≡ cells + length scratch.old.items) }
+    ensures scratch { OnOk result (scratch.new.items ≡ scratch.old.items ++ selector_cell kind ∷ []) }
+    ensures list { OnOk result (flats_view out.new.items
+        ≡ flats_view out.old.items ++ set (cells + length scratch.old.items) (expr_view value) ∷ []) }
+{
+    let cell = Scratch {
         kind,
         range: range(kind),
         limited: false,
-    })?;
+    };
+    let place = new_scratch(cell, cells, scratch)?;
+    put_set(out, place, value)?;
     Ok(place)
 }

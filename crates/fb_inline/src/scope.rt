@@ -1,11 +1,20 @@
 // What flat lists are made over.
-use st_tree::{Called, Cell};
+use st_tree::{Called, Cell, CellType};
 
-/// What a POU's flat list is made over: the program's cells, where among them its own begin, and the POUs that it may run, which are
-/// the first so many.
+/// Who owns the cells of a POU: the PROGRAM, whose cells stand in their places; or a call of a FUNCTION, with the types of its frame's
+/// cells, the place of what it answers, and those of its inputs and its other variables.
+#[derive(Clone, Copy)]
+pub enum Owner<'a> {
+    Program(&'a [Cell]),
+    Call(&'a [CellType], usize, &'a [usize]),
+}
+
+/// What a POU's flat list is made over: how many cells the program has, behind which scratch cells stand; the owner of the POU's cells,
+/// and where among the owner's its own begin; and the POUs that it may run and call, which are the first so many.
 #[derive(Clone, Copy)]
 pub struct FlatScope<'a> {
-    pub cells: &'a [Cell],
+    pub cells: usize,
+    pub owner: Owner<'a>,
     pub base: usize,
     pub called: &'a [Called],
     pub below: usize,

@@ -1,18 +1,17 @@
 // Statements as flat statements.
 ghost use Rattle.std.specs.Prelude.{◌≡◌, ◌≤◌, ◌+◌, ◌++◌, ◌∷◌, [], ◌+ℤ◌, length, IfOk, OnOk};
 ghost use Rattle.st_tree.specs.Tree.{cases};
-ghost use Rattle.st_tree.specs.View.{expr_view, stmt_view, stmts_view, choices_view, entries_view, cells_view};
+ghost use Rattle.st_tree.specs.View.{expr_view, stmt_view, stmts_view, arm_view, choices_view, entries_view};
 ghost use Rattle.flat_core.specs.FlatView.{flats_view, flat_arms_view};
-ghost use Rattle.fb_inline.specs.FlatLists.{selector_cell, scratch_of, scratch_of_all, scratch_of_choices, scratch_of_entries, repeated, flat_of, flat_of_all, flat_choices, flat_entries, unrolled};
-ghost use Rattle.flat_core.specs.FlatTree.{set};
-ghost use Rattle.fb_inline.specs.Kinds.{kind_of};
-ghost use Rattle.fb_inline.specs.Moved.{moved};
-ghost use Rattle.fb_inline.specs.Blocks.{blocks_here};
+ghost use Rattle.fb_inline.specs.Owners.{owner_view};
+ghost use Rattle.fb_inline.specs.FlatLists.{scratch_of, scratch_of_all, scratch_of_choices, scratch_of_entries, repeated, flat_of, flat_of_all, flat_choices, flat_choice, scratch_of_choice, flat_entries, unrolled};
+ghost use Rattle.fb_inline.specs.Pous.{bodies_here};
 
+use crate::calls::flatten_expr;
 use crate::kinds::kind_of;
 use crate::labels::labels_test;
-use crate::moved::{moved, place_at};
-use crate::puts::{new_scratch, put_arm, put_if, put_number, put_set};
+use crate::places::{base_at, place_at};
+use crate::puts::{put_arm, put_if, put_number, put_selector, put_set};
 use crate::scope::FlatScope;
 use flat_core::{FlatArm, FlatStmt, Scratch};
 use st_tree::{Called, Elementary, Turns, TypedArm, TypedEntry, TypedExpr, TypedStmt};
@@ -29,8 +28,8 @@ pub fn flatten_all(
 ) -> Result<(), AllocError>
     requires known { scope.now.below ≤ length scope.now.called.now }
     ensures list { OnOk result (flats_view out.new.items
-        ≡ flats_view out.old.items ++ flat_of_all (blocks_here scope.now) (cells_view scope.now.cells.now) scope.now.base (stmts_view list.now) (length scope.now.cells.now + length scratch.old.items)) }
-    ensures scratch { OnOk result (scratch.new.items ≡ scratch.old.items ++ scratch_of_all (blocks_here scope.now) (cells_view scope.now.cells.now) scope.now.base (stmts_view list.now)) }
+        ≡ flats_view out.old.items ++ flat_of_all (bodies_here scope.now) (owner_view scope.now.owner) scope.now.base (stmts_view list.now) (scope.now.cells + length scratch.old.items)) }
+    ensures scratch { OnOk result (scratch.new.items ≡ scratch.old.items ++ scratch_of_all (bodies_here scope.now) (owner_view scope.now.owner).kinds scope.now.base (stmts_view list.now)) }
 {
     for stmt in list {
         flatten_one(stmt, scope, scratch, out, alloc)?;
@@ -48,13 +47,13 @@ fn flatten_one(
 ) -> Result<(), AllocError>
     requires known { scope.now.below ≤ length scope.now.called.now }
     ensures list { OnOk result (flats_view out.new.items
-        ≡ flats_view out.old.items ++ flat_of (blocks_here scope.now) (cells_view scope.now.cells.now) scope.now.base (stmt_view stmt.now) (length scope.now.cells.now + length scratch.old.items)) }
-    ensures scratch { OnOk result (scratch.new.items ≡ scratch.old.items ++ scratch_of (blocks_here scope.now) (cells_view scope.now.cells.now) scope.now.base (stmt_view stmt.now)) }
+        ≡ flats_view out.old.items ++ flat_of (bodies_here scope.now) (owner_view scope.now.owner) scope.now.base (stmt_view stmt.now) (scope.now.cells + length scratch.old.items)) }
+    ensures scratch { OnOk result (scratch.new.items ≡ scratch.old.items ++ scratch_of (bodies_here scope.now) (owner_view scope.now.owner).kinds scope.now.base (stmt_view stmt.now)) }
 {
     match stmt {
         TypedStmt::Assign(target, expr) => {
-            let target = place_at(scope.base, *target)?;
-            let expr = moved(expr, scope.base, alloc)?;
+            let expr = flatten_expr(expr, scope, scratch, out, alloc)?;
+            let target = place_at(scope, *target)?;
             put_set(out, target, expr)
         }
         TypedStmt::Run { block, offset } => {
@@ -88,45 +87,19 @@ fn flatten_case(
 ) -> Result<(), AllocError>
     requires known { scope.now.below ≤ length scope.now.called.now }
     ensures list { OnOk result (flats_view out.new.items
-        ≡ flats_view out.old.items ++ flat_of (blocks_here scope.now) (cells_view scope.now.cells.now) scope.now.base (cases (expr_view selector.now) (entries_view entries.now) (stmts_view other.now)) (length scope.now.cells.now + length scratch.old.items)) }
+        ≡ flats_view out.old.items ++ flat_of (bodies_here scope.now) (owner_view scope.now.owner) scope.now.base (cases (expr_view selector.now) (entries_view entries.now) (stmts_view other.now)) (scope.now.cells + length scratch.old.items)) }
     ensures scratch { OnOk result (scratch.new.items
-        ≡ scratch.old.items ++ scratch_of (blocks_here scope.now) (cells_view scope.now.cells.now) scope.now.base (cases (expr_view selector.now) (entries_view entries.now) (stmts_view other.now))) }
+        ≡ scratch.old.items ++ scratch_of (bodies_here scope.now) (owner_view scope.now.owner).kinds scope.now.base (cases (expr_view selector.now) (entries_view entries.now) (stmts_view other.now))) }
 {
-    let Selector { kind, place } = put_selector(selector, scope, scratch, out, alloc)?;
+    let kind = kind_of(selector, scope)?;
+    let value = flatten_expr(selector, scope, scratch, out, alloc)?;
+    let place = put_selector(kind, value, scope.cells, scratch, out)?;
     let mut flat_arms = Vec::new(alloc);
     flatten_entries(entries, kind, place, scope, scratch, &mut flat_arms, alloc)?;
     let mut rest = Vec::new(alloc);
     flatten_all(other, scope, scratch, &mut rest, alloc)?;
-    put_if(out, flat_arms, rest)
-}
-
-// The scratch cell of a selector: its type and its place.
-#[derive(Clone, Copy)]
-struct Selector {
-    kind: Elementary,
-    place: usize,
-}
-
-// Sets a new scratch cell to the value of a selector.
-fn put_selector(
-    selector: &TypedExpr,
-    scope: &FlatScope<'_>,
-    scratch: &mut Vec<Scratch>,
-    out: &mut Vec<FlatStmt>,
-    alloc: Global,
-) -> Result<Selector, AllocError>
-    ensures kind { IfOk result (λ s. s.kind ≡ kind_of (cells_view scope.now.cells.now) (moved scope.now.base (expr_view selector.now))) }
-    ensures place { IfOk result (λ s. s.place ≡ length scope.now.cells.now + length scratch.old.items) }
-    ensures list { OnOk result (flats_view out.new.items
-        ≡ flats_view out.old.items ++ set (length scope.now.cells.now + length scratch.old.items) (moved scope.now.base (expr_view selector.now)) ∷ []) }
-    ensures scratch { OnOk result (scratch.new.items
-        ≡ scratch.old.items ++ selector_cell (kind_of (cells_view scope.now.cells.now) (moved scope.now.base (expr_view selector.now))) ∷ []) }
-{
-    let selector = moved(selector, scope.base, alloc)?;
-    let kind = kind_of(&selector, scope.cells);
-    let place = new_scratch(kind, scope.cells.len(), scratch)?;
-    put_set(out, place, selector)?;
-    Ok(Selector { kind, place })
+    put_if(out, flat_arms, rest)?;
+    Ok(())
 }
 
 // The body of a FUNCTION_BLOCK, over the cells of an instance, which begin at a place of the POU's.
@@ -141,15 +114,16 @@ fn flatten_block(
 ) -> Result<(), AllocError>
     requires known { scope.now.below ≤ length scope.now.called.now }
     ensures list { OnOk result (flats_view out.new.items
-        ≡ flats_view out.old.items ++ (blocks_here scope.now).list block (scope.now.base + offset) (length scope.now.cells.now + length scratch.old.items)) }
-    ensures scratch { OnOk result (scratch.new.items ≡ scratch.old.items ++ (blocks_here scope.now).scratch block (scope.now.base + offset)) }
+        ≡ flats_view out.old.items ++ (bodies_here scope.now).run_list (owner_view scope.now.owner) block (scope.now.base + offset) (scope.now.cells + length scratch.old.items)) }
+    ensures scratch { OnOk result (scratch.new.items ≡ scratch.old.items ++ (bodies_here scope.now).run_scratch (owner_view scope.now.owner).kinds block (scope.now.base + offset)) }
 {
     if block < scope.below {
         let callee = &scope.called[block];
         if let Called::Block(body) = callee {
-            let base = place_at(scope.base, offset)?;
+            let base = base_at(scope, offset)?;
             let instance = FlatScope {
                 cells: scope.cells,
+                owner: scope.owner,
                 base,
                 called: scope.called,
                 below: block,
@@ -171,15 +145,33 @@ fn flatten_arms(
 ) -> Result<(), AllocError>
     requires known { scope.now.below ≤ length scope.now.called.now }
     ensures list { OnOk result (flat_arms_view out.new.items
-        ≡ flat_arms_view out.old.items ++ flat_choices (blocks_here scope.now) (cells_view scope.now.cells.now) scope.now.base (choices_view arms.now) (length scope.now.cells.now + length scratch.old.items)) }
-    ensures scratch { OnOk result (scratch.new.items ≡ scratch.old.items ++ scratch_of_choices (blocks_here scope.now) (cells_view scope.now.cells.now) scope.now.base (choices_view arms.now)) }
+        ≡ flat_arms_view out.old.items ++ flat_choices (bodies_here scope.now) (owner_view scope.now.owner) scope.now.base (choices_view arms.now) (scope.now.cells + length scratch.old.items)) }
+    ensures scratch { OnOk result (scratch.new.items ≡ scratch.old.items ++ scratch_of_choices (bodies_here scope.now) (owner_view scope.now.owner).kinds scope.now.base (choices_view arms.now)) }
 {
     for arm in arms {
-        let mut body = Vec::new(alloc);
-        flatten_all(&arm.body, scope, scratch, &mut body, alloc)?;
-        let condition = moved(&arm.condition, scope.base, alloc)?;
-        put_arm(out, condition, body)?;
+        flatten_arm(arm, scope, scratch, out, alloc)?;
     }
+    Ok(())
+}
+
+#[cycle(flatten)]
+fn flatten_arm(
+    arm: &TypedArm,
+    scope: &FlatScope<'_>,
+    scratch: &mut Vec<Scratch>,
+    out: &mut Vec<FlatArm>,
+    alloc: Global,
+) -> Result<(), AllocError>
+    requires known { scope.now.below ≤ length scope.now.called.now }
+    ensures list { OnOk result (flat_arms_view out.new.items
+        ≡ flat_arms_view out.old.items ++ flat_choice (bodies_here scope.now) (owner_view scope.now.owner) scope.now.base (arm_view arm.now) (scope.now.cells + length scratch.old.items) ∷ []) }
+    ensures scratch { OnOk result (scratch.new.items ≡ scratch.old.items ++ scratch_of_choice (bodies_here scope.now) (owner_view scope.now.owner).kinds scope.now.base (arm_view arm.now)) }
+{
+    let mut before = Vec::new(alloc);
+    let condition = flatten_expr(&arm.condition, scope, scratch, &mut before, alloc)?;
+    let mut body = Vec::new(alloc);
+    flatten_all(&arm.body, scope, scratch, &mut body, alloc)?;
+    put_arm(out, before, condition, body)?;
     Ok(())
 }
 
@@ -196,14 +188,14 @@ fn flatten_entries(
 ) -> Result<(), AllocError>
     requires known { scope.now.below ≤ length scope.now.called.now }
     ensures list { OnOk result (flat_arms_view out.new.items
-        ≡ flat_arms_view out.old.items ++ flat_entries (blocks_here scope.now) (cells_view scope.now.cells.now) scope.now.base kind place (entries_view entries.now) (length scope.now.cells.now + length scratch.old.items)) }
-    ensures scratch { OnOk result (scratch.new.items ≡ scratch.old.items ++ scratch_of_entries (blocks_here scope.now) (cells_view scope.now.cells.now) scope.now.base (entries_view entries.now)) }
+        ≡ flat_arms_view out.old.items ++ flat_entries (bodies_here scope.now) (owner_view scope.now.owner) scope.now.base kind place (entries_view entries.now) (scope.now.cells + length scratch.old.items)) }
+    ensures scratch { OnOk result (scratch.new.items ≡ scratch.old.items ++ scratch_of_entries (bodies_here scope.now) (owner_view scope.now.owner).kinds scope.now.base (entries_view entries.now)) }
 {
     for entry in entries {
         let mut body = Vec::new(alloc);
         flatten_all(&entry.body, scope, scratch, &mut body, alloc)?;
         let condition = labels_test(alloc, kind, place, &entry.labels)?;
-        put_arm(out, condition, body)?;
+        put_arm(out, Vec::new(alloc), condition, body)?;
     }
     Ok(())
 }
@@ -220,11 +212,11 @@ fn unroll(
 ) -> Result<(), AllocError>
     requires known { scope.now.below ≤ length scope.now.called.now }
     ensures list { OnOk result (flats_view out.new.items
-        ≡ flats_view out.old.items ++ unrolled turns.count (scope.now.base + turns.control) turns.first turns.step (length (scratch_of_all (blocks_here scope.now) (cells_view scope.now.cells.now) scope.now.base (stmts_view body.now)))
-        (flat_of_all (blocks_here scope.now) (cells_view scope.now.cells.now) scope.now.base (stmts_view body.now)) (length scope.now.cells.now + length scratch.old.items)) }
-    ensures scratch { OnOk result (scratch.new.items ≡ scratch.old.items ++ repeated turns.count (scratch_of_all (blocks_here scope.now) (cells_view scope.now.cells.now) scope.now.base (stmts_view body.now))) }
+        ≡ flats_view out.old.items ++ unrolled turns.count ((owner_view scope.now.owner).place_at (scope.now.base + turns.control)) turns.first turns.step (length (scratch_of_all (bodies_here scope.now) (owner_view scope.now.owner).kinds scope.now.base (stmts_view body.now)))
+        (flat_of_all (bodies_here scope.now) (owner_view scope.now.owner) scope.now.base (stmts_view body.now)) (scope.now.cells + length scratch.old.items)) }
+    ensures scratch { OnOk result (scratch.new.items ≡ scratch.old.items ++ repeated turns.count (scratch_of_all (bodies_here scope.now) (owner_view scope.now.owner).kinds scope.now.base (stmts_view body.now))) }
 {
-    let control = place_at(scope.base, turns.control)?;
+    let control = place_at(scope, turns.control)?;
     let mut value = turns.first;
     for _ in 0..turns.count {
         put_number(out, control, value)?;

@@ -13,14 +13,15 @@ abbrev pub flats_of : List FlatStatement → FlatStatements
 flats_of [] = no_flats
 flats_of (t ∷ ts) = flat t (flats_of ts)
 
--- a condition and its statements
+-- what runs before a condition, the condition, and its statements
 abbrev pub FlatArmData : Type 0
-FlatArmData = Expression × List FlatStatement
+FlatArmData = List FlatStatement × Expression × List FlatStatement
 
--- the first condition with its statements; what else runs are the others, nested in the same way, and behind the last the rest
+-- The first condition with its statements, behind what runs before it; what else runs are the others, nested in the same way, and
+-- behind the last the rest.
 abbrev pub nested : List FlatArmData → List FlatStatement → List FlatStatement
 nested [] rest = rest
-nested (a ∷ arms) rest = branch a.0 (flats_of a.1) (flats_of (nested arms rest)) ∷ []
+nested (a ∷ arms) rest = a.0 ++ branch a.1 (flats_of a.2) (flats_of (nested arms rest)) ∷ []
 
 -- lists, one behind the other
 abbrev pub joined : List (List FlatStatement) → List FlatStatement
@@ -33,7 +34,7 @@ flat_step (FlatStmt-F.Set place e) = set place (expr_view e) ∷ []
 flat_step (FlatStmt-F.If arms rest) = nested arms.items (joined rest.items)
 
 abbrev pub flat_arm_step : FlatArm-F (List FlatStatement) FlatArmData → FlatArmData
-flat_arm_step a = (expr_view a.condition, joined a.body.items)
+flat_arm_step a = (joined a.before.items, expr_view a.condition, joined a.body.items)
 
 abbrev pub flat_view : FlatStmt → List FlatStatement
 flat_view = fold-FlatStmt (List FlatStatement) FlatArmData flat_step flat_arm_step

@@ -2,6 +2,10 @@
 #![tactic(auto)]
 
 #[cfg(test)]
+mod call_lists;
+#[cfg(test)]
+mod calls;
+#[cfg(test)]
 mod limits;
 #[cfg(test)]
 mod lists;

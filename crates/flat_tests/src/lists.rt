@@ -9,7 +9,7 @@ use st_tree::Program;
 use std::alloc::Global;
 use std::test::Fail;
 
-fn printed(alloc: Global, program: &Program) -> Result<String, FlatFault> {
+pub fn printed(alloc: Global, program: &Program) -> Result<String, FlatFault> {
     let flat = flatten(alloc, program)?;
     Ok(print(alloc, &flat)?)
 }

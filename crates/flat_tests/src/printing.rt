@@ -1,4 +1,4 @@
-// Flat programs as texts: the types of the scratch cells, and the statements. A cell is printed by its place, and an operator
+// Flat programs as texts: the types of the scratch cells, with a mark where they are subranges, and the statements. A cell is printed by its place, and an operator
 // with the type of its operands.
 use flat_core::{Flat, FlatArm, FlatStmt};
 use st_tree::{Elementary, Function, Operand, Operator, TypedExpr, UnaryOperator};
@@ -8,7 +8,7 @@ pub fn print(alloc: Global, flat: &Flat) -> Result<String, AllocError> {
     let mut text = String::new(alloc);
     for scratch in &flat.scratch {
         text.push_str(kind_name(scratch.kind))?;
-        text.push_str(" ")?;
+        text.push_str(if scratch.limited { "! " } else { " " })?;
     }
     text.push_str("|")?;
     print_all(&flat.body, alloc, &mut text)?;
@@ -46,16 +46,35 @@ fn print_stmt(stmt: &FlatStmt, alloc: Global, text: &mut String) -> Result<(), A
 #[cycle(print)]
 fn print_arms(arms: &[FlatArm], alloc: Global, text: &mut String) -> Result<(), AllocError> {
     for (i, arm) in arms.iter().enumerate() {
-        if i > 0 {
-            text.push_str(" ")?;
+        for stmt in &arm.before {
+            if i > 0 {
+                text.push_str(" ")?;
+            }
+            print_stmt(stmt, alloc, text)?;
+            if i == 0 {
+                text.push_str(" ")?;
+            }
         }
-        text.push_str("If ")?;
-        print_expr(&arm.condition, alloc, text)?;
-        text.push_str(" {")?;
-        print_all(&arm.body, alloc, text)?;
-        text.push_str(" } {")?;
+        print_arm(arm, i, alloc, text)?;
     }
     Ok(())
+}
+
+#[cycle(print)]
+fn print_arm(
+    arm: &FlatArm,
+    number: usize,
+    alloc: Global,
+    text: &mut String,
+) -> Result<(), AllocError> {
+    if number > 0 {
+        text.push_str(" ")?;
+    }
+    text.push_str("If ")?;
+    print_expr(&arm.condition, alloc, text)?;
+    text.push_str(" {")?;
+    print_all(&arm.body, alloc, text)?;
+    text.push_str(" } {")
 }
 
 #[cycle(print_expr)]

@@ -146,7 +146,7 @@ fn two_blocks(alloc: Global) -> Result<Vec<Called>, AllocError> {
     Ok(vec![in alloc; Called::Block(inner), Called::Block(outer)]?)
 }
 
-fn run(block: usize, offset: usize) -> TypedStmt {
+pub fn run(block: usize, offset: usize) -> TypedStmt {
     TypedStmt::Run { block, offset }
 }
 

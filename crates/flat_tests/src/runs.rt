@@ -38,6 +38,7 @@ fn run(stmt: &FlatStmt, flat: &Flat, store: &mut [i64]) {
 #[cycle(run_flat)]
 fn run_arms(arms: &[FlatArm], flat: &Flat, store: &mut [i64]) -> bool {
     for arm in arms {
+        run_all(&arm.before, flat, store);
         let given = evaluate(&arm.condition, store, &[]);
         add_fault(given.fault, store);
         if given.value == 1 {
