@@ -29,7 +29,7 @@ struct Compared {
 }
 
 // Two programs, and the relation that a text states between them.
-fn compared(alloc: Global, old: &str, new: &str, text: &str) -> Option<Compared>
+fn comparison(alloc: Global, old: &str, new: &str, text: &str) -> Option<Compared>
     ensures { IfSome result (λ c. AreComparable c.old c.new c.relation) }
 {
     let Ok(old) = accept_text(alloc, old.as_bytes()) else {
@@ -86,7 +86,7 @@ fn names_held(alloc: Global, all: &Compared, rows: &[i64]) -> Result<Option<Stri
 
 // Those of the chart and the CASE statement.
 fn names_along(alloc: Global, rows: &[i64]) -> Result<Option<String>, AllocError> {
-    match compared(alloc, CHART, CASES, STEPS) {
+    match comparison(alloc, CHART, CASES, STEPS) {
         None => Ok(None),
         Some(all) => names_held(alloc, &all, rows),
     }
@@ -94,7 +94,7 @@ fn names_along(alloc: Global, rows: &[i64]) -> Result<Option<String>, AllocError
 
 // The names of all candidates.
 fn all_names(alloc: Global, old: &str, new: &str, text: &str) -> Result<String, AllocError> {
-    match compared(alloc, old, new, text) {
+    match comparison(alloc, old, new, text) {
         None => Ok(String::new(alloc)),
         Some(all) => names(alloc, &all.relation),
     }
@@ -163,7 +163,7 @@ fn chart(alloc: Global, steps: u32) -> Result<String, AllocError> {
 // How many candidates there are, and how many of them are of two steps.
 fn counts(alloc: Global, steps: u32) -> Result<(usize, usize), AllocError> {
     let text = chart(alloc, steps)?;
-    let Some(all) = compared(alloc, text.as_str(), PLAIN, OUTPUTS) else {
+    let Some(all) = comparison(alloc, text.as_str(), PLAIN, OUTPUTS) else {
         return Ok((0, 0));
     };
     let candidates = &all.relation.candidates;
