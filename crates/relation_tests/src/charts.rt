@@ -1,12 +1,8 @@
 // Candidates of charts, as another reader of the language found them.
-ghost use Rattle.std.specs.Prelude.{IfSome};
-ghost use Rattle.scan_replay.specs.Duos.{AreComparable};
-
 use crate::relations::names;
 use front_end::{accept_text, tokens_of};
 use relation_file::read_lines;
 use scan_model::Relation;
-use scan_replay::Duo;
 use st_tree::Program;
 use std::alloc::{AllocError, Global};
 use std::test::Fail;
@@ -29,9 +25,7 @@ struct Compared {
 }
 
 // Two programs, and the relation that a text states between them.
-fn comparison(alloc: Global, old: &str, new: &str, text: &str) -> Option<Compared>
-    ensures { IfSome result (λ c. AreComparable c.old c.new c.relation) }
-{
+fn comparison(alloc: Global, old: &str, new: &str, text: &str) -> Option<Compared> {
     let Ok(old) = accept_text(alloc, old.as_bytes()) else {
         return None;
     };
@@ -47,51 +41,6 @@ fn comparison(alloc: Global, old: &str, new: &str, text: &str) -> Option<Compare
     Some(Compared { old, new, relation })
 }
 
-// Leaves those candidates that hold.
-fn keep(held: &mut [bool], duo: &Duo<'_>) {
-    for (number, kept) in held.iter_mut().enumerate() {
-        *kept = *kept && duo.holds(number);
-    }
-}
-
-// The names of those candidates that are left, each behind a comma.
-fn names_of(alloc: Global, relation: &Relation, held: &[bool]) -> Result<String, AllocError> {
-    let mut list = String::new(alloc);
-    for (candidate, kept) in relation.candidates.iter().zip(held) {
-        if *kept {
-            list.push_str(", ")?;
-            list.push_str(candidate.name.as_str())?;
-        }
-    }
-    Ok(list)
-}
-
-// The names of those candidates that hold at the start and after each of some rows of one number, all of which are allowed.
-fn names_held(alloc: Global, all: &Compared, rows: &[i64]) -> Result<Option<String>, AllocError>
-    requires { AreComparable all.now.old all.now.new all.now.relation }
-{
-    let mut duo = Duo::new(alloc, &all.old, &all.new, &all.relation)?;
-    let mut held = vec![in alloc; true; all.relation.candidates.len()]?;
-    keep(&mut held, &duo);
-    for number in rows {
-        let row = [*number];
-        if !duo.allowed(&row) {
-            return Ok(None);
-        }
-        duo.step(&row);
-        keep(&mut held, &duo);
-    }
-    Ok(Some(names_of(alloc, &all.relation, &held)?))
-}
-
-// Those of the chart and the CASE statement.
-fn names_along(alloc: Global, rows: &[i64]) -> Result<Option<String>, AllocError> {
-    match comparison(alloc, CHART, CASES, STEPS) {
-        None => Ok(None),
-        Some(all) => names_held(alloc, &all, rows),
-    }
-}
-
 // The names of all candidates.
 fn all_names(alloc: Global, old: &str, new: &str, text: &str) -> Result<String, AllocError> {
     match comparison(alloc, old, new, text) {
@@ -105,15 +54,6 @@ fn candidates_of_a_chart(rt: HostRuntime) -> Result<(), Fail> {
     let want =
         ", INVARIANT 1, SAME FAULT, SAME GO, SAME Q, RELATE 1, RELATE FAULTS, OLD FAULT = 0, OLD GO = 0, OLD Q = 0, OLD A.X = 1, OLD A.L = 0, OLD B.X = 0, OLD B.L = 0, OLD C.X = 0, OLD C.L = 0, NEW FAULT = 0, NEW GO = 0, NEW Q = 0, NEW S = 0, OLD NOT A.X AND B.X, OLD NOT A.X AND C.X, OLD NOT B.X AND C.X";
     let names = all_names(rt.alloc(), CHART, CASES, STEPS)?;
-    assert_eq!(rt; names.as_str(), want);
-    Ok(())
-}
-
-#[test]
-fn candidates_that_hold_along_a_chart(rt: HostRuntime) -> Result<(), Fail> {
-    let want =
-        ", INVARIANT 1, SAME FAULT, SAME GO, SAME Q, RELATE 1, RELATE FAULTS, OLD FAULT = 0, NEW FAULT = 0, OLD NOT A.X AND B.X, OLD NOT A.X AND C.X, OLD NOT B.X AND C.X";
-    let names = names_along(rt.alloc(), &[1, 1, 0, 0, 1])?.ok_or("rows")?;
     assert_eq!(rt; names.as_str(), want);
     Ok(())
 }
