@@ -22,6 +22,8 @@ mod refusals;
 #[cfg(test)]
 mod refused;
 #[cfg(test)]
+mod relations;
+#[cfg(test)]
 mod replays;
 #[cfg(test)]
 mod types;
