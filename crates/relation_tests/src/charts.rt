@@ -1,52 +1,22 @@
 // Candidates of charts, as another reader of the language found them.
+use crate::comparison::compared;
 use crate::relations::names;
-use front_end::{accept_text, tokens_of};
-use relation_file::read_lines;
-use scan_model::Relation;
-use st_tree::Program;
 use std::alloc::{AllocError, Global};
 use std::test::Fail;
 
-const CHART: &str =
+pub(crate) const CHART: &str =
     "PROGRAM M VAR_INPUT go : BOOL; END_VAR VAR_OUTPUT q : BOOL; END_VAR INITIAL_STEP A: END_STEP STEP B: on(N); END_STEP STEP C: off(N); END_STEP TRANSITION FROM A TO B := go; END_TRANSITION TRANSITION FROM B TO C := go; END_TRANSITION TRANSITION FROM C TO A := TRUE; END_TRANSITION ACTION on: q := TRUE; END_ACTION ACTION off: q := FALSE; END_ACTION END_PROGRAM";
 
-const CASES: &str =
+pub(crate) const CASES: &str =
     "PROGRAM M VAR_INPUT go : BOOL; END_VAR VAR_OUTPUT q : BOOL; END_VAR VAR s : INT; END_VAR CASE s OF 0: IF go THEN s := 1; END_IF; 1: q := TRUE; IF go THEN s := 2; END_IF; 2: q := FALSE; s := 0; END_CASE; END_PROGRAM";
 
-const STEPS: &str =
+pub(crate) const STEPS: &str =
     "RELATION 1; FAULTS EQUAL; DEPTH 3; CONFLICTS 100000; INPUT go = go; RELATE old.q = new.q; INVARIANT old.A.X AND new.s = 0 OR old.B.X AND new.s = 1 OR old.C.X AND new.s = 2;";
 
-// Two programs, and a relation between them.
-#[derive(Drop)]
-struct Compared {
-    old: Program,
-    new: Program,
-    relation: Relation,
-}
-
-// Two programs, and the relation that a text states between them.
-fn comparison(alloc: Global, old: &str, new: &str, text: &str) -> Option<Compared> {
-    let Ok(old) = accept_text(alloc, old.as_bytes()) else {
-        return None;
-    };
-    let Ok(new) = accept_text(alloc, new.as_bytes()) else {
-        return None;
-    };
-    let Ok(tokens) = tokens_of(alloc, text.as_bytes()) else {
-        return None;
-    };
-    let Ok(relation) = read_lines(alloc, &tokens, text.len(), &old, &new) else {
-        return None;
-    };
-    Some(Compared { old, new, relation })
-}
-
 // The names of all candidates.
-fn all_names(alloc: Global, old: &str, new: &str, text: &str) -> Result<String, AllocError> {
-    match comparison(alloc, old, new, text) {
-        None => Ok(String::new(alloc)),
-        Some(all) => names(alloc, &all.relation),
-    }
+fn all_names(alloc: Global, old: &str, new: &str, text: &str) -> Result<String, Fail> {
+    let all = compared(alloc, old, new, text)?;
+    Ok(names(alloc, &all.relation)?)
 }
 
 #[test]
@@ -101,11 +71,9 @@ fn chart(alloc: Global, steps: u32) -> Result<String, AllocError> {
 }
 
 // How many candidates there are, and how many of them are of two steps.
-fn counts(alloc: Global, steps: u32) -> Result<(usize, usize), AllocError> {
+fn counts(alloc: Global, steps: u32) -> Result<(usize, usize), Fail> {
     let text = chart(alloc, steps)?;
-    let Some(all) = comparison(alloc, text.as_str(), PLAIN, OUTPUTS) else {
-        return Ok((0, 0));
-    };
+    let all = compared(alloc, text.as_str(), PLAIN, OUTPUTS)?;
     let candidates = &all.relation.candidates;
     let pairs = candidates
         .iter()
