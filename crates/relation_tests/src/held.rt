@@ -3,9 +3,11 @@ ghost use Rattle.scan_replay.specs.Duos.{AreComparable};
 
 use crate::charts::{CASES, CHART, STEPS};
 use crate::comparison::{Comparison, compared};
+use crate::relations::{COPY, ONE};
 use scan_model::Candidate;
 use scan_replay::Duo;
 use std::alloc::{AllocError, Global};
+use std::process::Abort;
 use std::test::Fail;
 
 // Which candidates hold on the pair of states, a mark for each.
@@ -65,50 +67,59 @@ fn names_held(
     Ok(list)
 }
 
-const HELD: &str =
-    ", INVARIANT 1, SAME FAULT, SAME GO, SAME Q, RELATE 1, RELATE FAULTS, OLD FAULT = 0, NEW FAULT = 0, OLD NOT A.X AND B.X, OLD NOT A.X AND C.X, OLD NOT B.X AND C.X";
+// Which candidates hold at the start and after each row, and the names of those that hold each time.
+fn holds_along(
+    rt: &(impl Abort + AllocGlobal),
+    texts: [&str; 3],
+    numbers: &[i64],
+    marks: &[&str],
+    names: &str,
+) -> Result<(), Fail> {
+    let alloc = rt.alloc();
+    let [old, new, relation] = texts;
+    let all = compared(alloc, old, new, relation)?;
+    let along = marks_along(alloc, &all, numbers)?.ok_or("rows")?;
+    assert_eq!(rt; along.len(), marks.len());
+    for (seen, want) in along.iter().zip(marks) {
+        assert_eq!(rt; seen.as_str(), *want);
+    }
+    let held = names_held(alloc, &all.relation.candidates, &along)?;
+    assert_eq!(rt; held.as_str(), names);
+    Ok(())
+}
 
-const FIRST_ROWS: [i64; 5] = [1, 1, 0, 0, 1];
+// Of a program and its copy, which have eleven candidates, seven hold all along; they are those of the greatest inductive set.
+#[test]
+fn candidates_that_hold_along_a_copy(rt: HostRuntime) -> Result<(), Fail> {
+    let marks = ["xxxxxxxxxxx", "xxxxxxxxxxx", "xxxxxx..x..", "xxxxxxxxxxx"];
+    let names =
+        ", SAME FAULT, SAME A, SAME Q, RELATE 1, RELATE FAULTS, OLD FAULT = 0, NEW FAULT = 0";
+    holds_along(&rt, [ONE, ONE, COPY], &[0, 1, 0], &marks, names)
+}
 
-const FIRST_MARKS: [&str; 6] = [
-    "xxxxxxxxxxxxxxxxxxxxxx",
-    "xxxxxxx.x...xxxx.x.xxx",
-    "xxxxxxx...xx..xx...xxx",
-    "xxxxxxxxxxxxxx.xxxxxxx",
-    "xxxxxxxxxx.xxxxxxxxxxx",
-    "xxxxxxx.x...xxxx.x.xxx",
-];
-
-const SECOND_ROWS: [i64; 6] = [0, 1, 0, 1, 1, 1];
-
-const SECOND_MARKS: [&str; 7] = [
-    "xxxxxxxxxxxxxxxxxxxxxx",
-    "xxxxxxxxxx.xxxxxxxxxxx",
-    "xxxxxxx.x...xxxx.x.xxx",
-    "xxxxxxxx..x..xxxx..xxx",
-    "xxxxxxx...xx..xx...xxx",
-    "xxxxxxx.xxxxxx.x.xxxxx",
-    "xxxxxxx.x...xxxx.x.xxx",
-];
-
-// A chart and its CASE machine have 22 candidates, of which the same eleven hold all along, which are those that can be kept.
+// Of a chart and its CASE machine, which have 22, eleven do, and they are those of the greatest inductive set.
 #[test]
 fn candidates_that_hold_along_a_chart(rt: HostRuntime) -> Result<(), Fail> {
-    let alloc = rt.alloc();
-    let all = compared(alloc, CHART, CASES, STEPS)?;
-    let first = marks_along(alloc, &all, &FIRST_ROWS)?.ok_or("rows")?;
-    assert_eq!(rt; first.len(), FIRST_MARKS.len());
-    for (marks, want) in first.iter().zip(FIRST_MARKS) {
-        assert_eq!(rt; marks.as_str(), want);
-    }
-    let held = names_held(alloc, &all.relation.candidates, &first)?;
-    assert_eq!(rt; held.as_str(), HELD);
-    let second = marks_along(alloc, &all, &SECOND_ROWS)?.ok_or("rows")?;
-    assert_eq!(rt; second.len(), SECOND_MARKS.len());
-    for (marks, want) in second.iter().zip(SECOND_MARKS) {
-        assert_eq!(rt; marks.as_str(), want);
-    }
-    let held = names_held(alloc, &all.relation.candidates, &second)?;
-    assert_eq!(rt; held.as_str(), HELD);
-    Ok(())
+    let names =
+        ", INVARIANT 1, SAME FAULT, SAME GO, SAME Q, RELATE 1, RELATE FAULTS, OLD FAULT = 0, NEW FAULT = 0, OLD NOT A.X AND B.X, OLD NOT A.X AND C.X, OLD NOT B.X AND C.X";
+    let texts = [CHART, CASES, STEPS];
+    let marks = [
+        "xxxxxxxxxxxxxxxxxxxxxx",
+        "xxxxxxx.x...xxxx.x.xxx",
+        "xxxxxxx...xx..xx...xxx",
+        "xxxxxxxxxxxxxx.xxxxxxx",
+        "xxxxxxxxxx.xxxxxxxxxxx",
+        "xxxxxxx.x...xxxx.x.xxx",
+    ];
+    holds_along(&rt, texts, &[1, 1, 0, 0, 1], &marks, names)?;
+    let marks = [
+        "xxxxxxxxxxxxxxxxxxxxxx",
+        "xxxxxxxxxx.xxxxxxxxxxx",
+        "xxxxxxx.x...xxxx.x.xxx",
+        "xxxxxxxx..x..xxxx..xxx",
+        "xxxxxxx...xx..xx...xxx",
+        "xxxxxxx.xxxxxx.x.xxxxx",
+        "xxxxxxx.x...xxxx.x.xxx",
+    ];
+    holds_along(&rt, texts, &[0, 1, 0, 1, 1, 1], &marks, names)
 }

@@ -1,4 +1,5 @@
 // Relation files of which the relation, or the first broken rule, was found by another reader of the language.
+use crate::comparison::compared;
 use front_end::{accept_text, tokens_of};
 use relation_file::{RelFault, read_lines, read_relation};
 use scan_model::{InputLine, Relation};
@@ -139,7 +140,7 @@ fn cell(expr: &TypedExpr) -> Option<usize> {
 }
 
 // The cells that a clause compares by `=`.
-fn compared(clause: &TypedExpr) -> Option<(usize, usize)> {
+fn equal_cells(clause: &TypedExpr) -> Option<(usize, usize)> {
     let TypedExpr::Chain(left, operands) = clause else {
         return None;
     };
@@ -188,16 +189,19 @@ fn a_relation_by_its_parts(rt: HostRuntime) -> Result<(), Fail> {
     ];
     assert!(rt; relation.inputs.as_slice() == inputs.as_slice());
     assert_eq!(rt; relation.environment.len(), 1);
-    assert_eq!(rt; compared(&relation.environment[0]), Some((2, 6)));
+    assert_eq!(rt; equal_cells(&relation.environment[0]), Some((2, 6)));
     assert!(rt; relation.equal_faults);
     assert_eq!(rt; relation.relates.len(), 2);
-    assert_eq!(rt; compared(&relation.relates[0]), Some((3, 9)));
-    assert_eq!(rt; compared(&relation.relates[1]), Some((0, 5)));
+    assert_eq!(rt; equal_cells(&relation.relates[0]), Some((3, 9)));
+    assert_eq!(rt; equal_cells(&relation.relates[1]), Some((0, 5)));
     Ok(())
 }
 
-const ONE: &str =
+pub(crate) const ONE: &str =
     "PROGRAM M VAR_INPUT a : BOOL; END_VAR VAR_OUTPUT q : BOOL; END_VAR q := a; END_PROGRAM";
+
+pub(crate) const COPY: &str =
+    "RELATION 1; FAULTS EQUAL; DEPTH 3; CONFLICTS 100000; INPUT a = a; RELATE old.q = new.q;";
 
 // The relation that a text states between a program and itself.
 fn stated(alloc: Global, program: &str, text: &str) -> Option<Relation> {
@@ -220,18 +224,35 @@ pub(crate) fn names(alloc: Global, relation: &Relation) -> Result<String, AllocE
 #[test]
 fn names_of_candidates(rt: HostRuntime) -> Result<(), Fail> {
     let alloc = rt.alloc();
-    let text = format!(in alloc; "{NUMBERS}INPUT a = a; RELATE old.q = new.q;")?;
-    let relation = stated(alloc, ONE, text.as_str()).ok_or("relation")?;
+    let relation = stated(alloc, ONE, COPY).ok_or("relation")?;
     let want =
         ", SAME FAULT, SAME A, SAME Q, RELATE 1, RELATE FAULTS, OLD FAULT = 0, OLD A = 0, OLD Q = 0, NEW FAULT = 0, NEW A = 0, NEW Q = 0";
     assert_eq!(rt; names(alloc, &relation)?.as_str(), want);
-    let text = format!(in alloc; "{text} INVARIANT old.q = old.a;")?;
+    let text = format!(in alloc; "{COPY} INVARIANT old.q = old.a;")?;
     let relation = stated(alloc, ONE, text.as_str()).ok_or("relation")?;
     let want = format!(in alloc; ", INVARIANT 1{want}")?;
     assert_eq!(rt; names(alloc, &relation)?.as_str(), want.as_str());
     assert_eq!(rt; relation.candidates.len(), 12);
-    assert_eq!(rt; compared(&relation.candidates[0].clause), Some((2, 1)));
-    assert_eq!(rt; compared(&relation.candidates[2].clause), Some((1, 4)));
+    assert_eq!(rt; equal_cells(&relation.candidates[0].clause), Some((2, 1)));
+    assert_eq!(rt; equal_cells(&relation.candidates[2].clause), Some((1, 4)));
+    Ok(())
+}
+
+const VALUES: &str =
+    "TYPE E : (r, g); END_TYPE PROGRAM M VAR_OUTPUT q : E := g; n : INT (3..5); END_VAR END_PROGRAM";
+
+const OTHER_VALUES: &str =
+    "TYPE F : (x); D : (r, g); END_TYPE PROGRAM M VAR_OUTPUT q : D; n : INT; END_VAR END_PROGRAM";
+
+// Enumerations with the same values are one type, bounds are left aside, and initial values are numbers.
+#[test]
+fn names_of_candidates_of_types(rt: HostRuntime) -> Result<(), Fail> {
+    let alloc = rt.alloc();
+    let text = format!(in alloc; "{NUMBERS}RELATE old.q = old.g;")?;
+    let all = compared(alloc, VALUES, OTHER_VALUES, text.as_str())?;
+    let want =
+        ", SAME FAULT, SAME Q, SAME N, RELATE 1, RELATE FAULTS, OLD FAULT = 0, OLD Q = 1, OLD N = 3, NEW FAULT = 0, NEW Q = 0, NEW N = 0";
+    assert_eq!(rt; names(alloc, &all.relation)?.as_str(), want);
     Ok(())
 }
 
