@@ -12,6 +12,8 @@ mod chart_replays;
 #[cfg(test)]
 mod charts;
 #[cfg(test)]
+mod examples;
+#[cfg(test)]
 mod faults;
 #[cfg(test)]
 mod language;
