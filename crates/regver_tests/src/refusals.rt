@@ -22,7 +22,9 @@ fn rules(rt: HostRuntime) -> Result<(), Fail> {
     let real = "PROGRAM M VAR x : REAL; END_VAR END_PROGRAM";
     row(&rt, real, SAME, PAIR, "[]", "REFUSED OLD X1 at 18\n", 6)?;
     let no_depth = "RELATION 1; FAULTS EQUAL; DEPTH 0;";
-    row(&rt, SAME, SAME, no_depth, "[]", "REFUSED REL R2 at 32\n", 6)
+    row(&rt, SAME, SAME, no_depth, "[]", "REFUSED REL R2 at 32\n", 6)?;
+    let no_input = "RELATION 1; FAULTS EQUAL; DEPTH 3; CONFLICTS 100000; RELATE old.q = new.q;";
+    row(&rt, SAME, SAME, no_input, "[]", "REFUSED REL P2 at 74\n", 6)
 }
 
 #[test]

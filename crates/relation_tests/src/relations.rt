@@ -302,3 +302,21 @@ fn too_many_candidates(rt: HostRuntime) -> Result<(), Fail> {
     assert_eq!(rt; relation.candidates.len(), 4_097);
     Ok(())
 }
+
+// It has 1,537 cells.
+const NESTED: &str =
+    "FUNCTION_BLOCK B0 VAR a, b, c, d, e, f, g, h : BOOL; END_VAR END_FUNCTION_BLOCK FUNCTION_BLOCK B1 VAR a, b, c, d, e, f, g, h : B0; END_VAR END_FUNCTION_BLOCK FUNCTION_BLOCK B2 VAR a, b, c, d, e, f, g, h : B1; END_VAR END_FUNCTION_BLOCK PROGRAM M VAR x, y, z : B2; END_VAR END_PROGRAM";
+
+#[test]
+fn too_many_candidates_of_instances(rt: HostRuntime) -> Result<(), Fail> {
+    let alloc = rt.alloc();
+    let text = "RELATION 1; FAULTS EQUAL; DEPTH 1; CONFLICTS 1; RELATE TRUE;";
+    let want = Refusal {
+        rule: Rule::TooManyCandidates,
+        at: 0,
+    };
+    assert_eq!(rt; refusal_of_count(alloc, NESTED, text), Some(Some(want)));
+    let relation = stated(alloc, NESTED, text).ok_or("relation")?;
+    assert_eq!(rt; relation.candidates.len(), 4_613);
+    Ok(())
+}
