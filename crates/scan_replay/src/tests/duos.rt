@@ -6,6 +6,7 @@ use crate::{Duo, Side};
 use scan_model::{Candidate, InputLine, Relation};
 use st_tree::{Elementary, Operator, Program, Range, TypedExpr};
 use std::alloc::{AllocError, Global};
+use std::test::Fail;
 
 const BOOL: Range = Range { low: 0, high: 1 };
 // NEW's cells stand behind OLD's five.
@@ -120,6 +121,40 @@ fn a_number_goes_to_its_side(rt: HostRuntime) -> Result<(), AllocError> {
         stepped(alloc, &old, &new, &relation, [1, 1, 0]),
         Some((false, 0))
     );
+    Ok(())
+}
+
+// The cells of OLD and of NEW after a row that is allowed.
+fn states_after(
+    alloc: Global,
+    old: &Program,
+    new: &Program,
+    relation: &Relation,
+    row: [i64; 3],
+) -> Result<Option<[Vec<i64>; 2]>, AllocError> {
+    if !are_comparable(alloc, old, new, relation)? {
+        return Ok(None);
+    }
+    let mut duo = Duo::new(alloc, old, new, relation)?;
+    if !duo.allowed(&row) {
+        return Ok(None);
+    }
+    duo.step(&row);
+    let of_old = Vec::from_slice(alloc, duo.state(Side::Old))?;
+    let of_new = Vec::from_slice(alloc, duo.state(Side::New))?;
+    Ok(Some([of_old, of_new]))
+}
+
+#[test]
+fn a_state_is_that_of_its_side(rt: HostRuntime) -> Result<(), Fail> {
+    let alloc = rt.alloc();
+    let old = copies_input(alloc)?;
+    let new = assigns(alloc, Elementary::Bool, BOOL, at(B), number(0))?;
+    let relation = relation(alloc, Vec::new(alloc))?;
+    let states = states_after(alloc, &old, &new, &relation, [1, 1, 0])?;
+    let [of_old, of_new] = states.ok_or("a row")?;
+    assert_eq!(rt; of_old.as_slice(), [0, 1, 1, 1, 0].as_slice());
+    assert_eq!(rt; of_new.as_slice(), [0, 1, 0, 0, 0].as_slice());
     Ok(())
 }
 
