@@ -6,6 +6,10 @@ mod accepted;
 #[cfg(test)]
 mod asked;
 #[cfg(test)]
+mod block_relations;
+#[cfg(test)]
+mod block_replays;
+#[cfg(test)]
 mod cases;
 #[cfg(test)]
 mod chart_replays;
@@ -23,6 +27,8 @@ mod refusals;
 mod refused;
 #[cfg(test)]
 mod replays;
+#[cfg(test)]
+mod texts_alone;
 #[cfg(test)]
 mod types;
 #[cfg(test)]
