@@ -16,11 +16,17 @@ mod chart_replays;
 #[cfg(test)]
 mod charts;
 #[cfg(test)]
+mod doublings;
+#[cfg(test)]
+mod examples;
+#[cfg(test)]
 mod faults;
 #[cfg(test)]
 mod language;
 #[cfg(test)]
 mod pous;
+#[cfg(test)]
+mod prelude;
 #[cfg(test)]
 mod refusals;
 #[cfg(test)]
