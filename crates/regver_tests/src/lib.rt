@@ -16,6 +16,8 @@ mod chart_replays;
 #[cfg(test)]
 mod charts;
 #[cfg(test)]
+mod conversions;
+#[cfg(test)]
 mod doublings;
 #[cfg(test)]
 mod examples;
