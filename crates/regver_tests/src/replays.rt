@@ -48,7 +48,61 @@ fn quotients_and_remainders(rt: HostRuntime) -> Result<(), Fail> {
         "RELATION 1; FAULTS EQUAL; DEPTH 3; CONFLICTS 100000; INPUT a = a; RELATE old.d = new.d;";
     let lines =
         "SCAN 1 OLD 0 -2 -1 NEW 0 -2 -1\nSCAN 2 OLD 0 2 1 NEW 0 2 1\nREPLAY scans 2 related\n";
-    row(&rt, DIVIDES, DIVIDES, relation, "[[-7],[7]]", lines, 0)
+    row(&rt, DIVIDES, DIVIDES, relation, "[[-7],[7]]", lines, 0)?;
+    let lines = "REPLAY scans 0 related\n";
+    row(&rt, DIVIDES, DIVIDES, relation, "[]", lines, 0)?;
+    let lines = "REFUSED TRACE J1 at 0\n";
+    row(&rt, DIVIDES, DIVIDES, relation, "[[1.5]]", lines, 6)
+}
+
+const SHORT_TO_THE_GREATEST: &str =
+    "PROGRAM M VAR_OUTPUT i : SINT; END_VAR FOR i := 0 TO 127 DO ; END_FOR; END_PROGRAM";
+
+const TO_THE_GREATEST: &str =
+    "PROGRAM M VAR_OUTPUT i : INT; END_VAR FOR i := 0 TO 127 DO ; END_FOR; END_PROGRAM";
+
+#[test]
+fn the_value_that_ends_a_for_is_left(rt: HostRuntime) -> Result<(), Fail> {
+    let relation = "RELATION 1; FAULTS EQUAL; DEPTH 3; CONFLICTS 100000; RELATE old.i = new.i;";
+    let lines = "REFUSED OLD F4 at 39\n";
+    row(
+        &rt,
+        SHORT_TO_THE_GREATEST,
+        SHORT_TO_THE_GREATEST,
+        relation,
+        "[[]]",
+        lines,
+        6,
+    )?;
+    let lines = "SCAN 1 OLD 0 128 NEW 0 128\nREPLAY scans 1 related\n";
+    row(
+        &rt,
+        TO_THE_GREATEST,
+        TO_THE_GREATEST,
+        relation,
+        "[[]]",
+        lines,
+        0,
+    )
+}
+
+const RAISES: &str =
+    "PROGRAM M VAR_INPUT p : INT (0..100); END_VAR VAR_OUTPUT v : INT (0..100); END_VAR v := p + 1; END_PROGRAM";
+
+#[test]
+fn a_value_outside_the_subrange_of_an_output(rt: HostRuntime) -> Result<(), Fail> {
+    let relation =
+        "RELATION 1; FAULTS EQUAL; DEPTH 3; CONFLICTS 100000; INPUT p = p; RELATE old.v = new.v;";
+    let lines = "SCAN 1 OLD 0 100 NEW 0 100\nSCAN 2 OLD 1 100 NEW 1 100\nREPLAY not allowed at 3\n";
+    row(
+        &rt,
+        RAISES,
+        RAISES,
+        relation,
+        "[[99],[100],[101]]",
+        lines,
+        11,
+    )
 }
 
 const NEGATED: &str =
