@@ -9,10 +9,10 @@ use Rattle.st_tree.specs.Tree.{Expression, number, cell, answer, Operands, no_op
 use Rattle.st_tree.specs.View.{OperandData, operands_of, operand_view, operands_view, expressions_of, expr_view, arguments_view, expr_step, operand_step}
 use Rattle.flat_core.specs.declared.flat_tree.Scratch.{Scratch}
 use Rattle.flat_core.specs.FlatTree.{FlatStatement, set}
-use Rattle.fb_inline.specs.Frames.{FrameData, scratch_at, initial_at, input_start, others_behind, other_scratch, other_starts, counted_from, places_of}
-use Rattle.fb_inline.specs.Owners.{OwnerData}
-use Rattle.fb_inline.specs.Bodies.{Bodies}
-use Rattle.fb_inline.specs.Calls.{arity, rest_scratch, rest_list, scratch_in, operand_scratch, all_scratch, input_scratch, input_places, moved, moved_operands, all_moved, before, operands_before, all_before, inputs_before}
+use Rattle.flat_form.specs.Frames.{FrameData, scratch_at, initial_at, input_start, others_behind, other_scratch, other_starts, counted_from, places_of}
+use Rattle.flat_form.specs.Owners.{OwnerData}
+use Rattle.flat_form.specs.Bodies.{Bodies}
+use Rattle.flat_form.specs.Calls.{arity, rest_scratch, rest_list, scratch_in, operand_scratch, all_scratch, input_scratch, input_places, moved, moved_operands, all_moved, before, operands_before, all_before, inputs_before}
 
 -- operands before others, and expressions before others
 abbrev pub with_operands : List OperandData → Operands → Operands

@@ -1,24 +1,27 @@
 -- The count of statements is the size of their flat list.
-use Rattle.std.proofs.Common.{◌≡◌, ℕ, zero, suc, ◌+◌, ◌*◌, List, [], ◌∷◌, ◌++◌, length, ℤ, ◌+ℤ◌, Bool, true, false, ◌≤◌, slice_index_or, refl, sym, ap, ◌∙◌, arith, rules, tests}
+use Rattle.std.proofs.Common.{◌≡◌, ℕ, zero, suc, ◌+◌, ◌*◌, List, [], ◌∷◌, ◌++◌, map, length, Option, None, Some, ℤ, ◌+ℤ◌, Bool, true, false, ◌≤◌, slice_index_or, refl, sym, ap, ◌∙◌, arith, rules, tests}
 use Rattle.std.specs.Prelude.{◌==◌, nat_lt, nat_le, if◌then◌else◌}
 use Rattle.std.proofs.lemmas.Bool.Decides.{nat_tests}
 use Rattle.st_tree.specs.declared.elementary.Elementary.{Elementary}
-use Rattle.st_tree.specs.Tree.{Expression, number, cell, unary, chain, call, answer, Operands, no_operands, operand, Expressions, no_expressions, expression, Statement, assign, run, choice, cases, repeat, chart, Statements, no_statements, statement, Choices, no_choices, choose, Entries, no_entries, entry, CalledData, ProgramData}
+use Rattle.st_tree.specs.declared.typed.StepCells.{StepCells}
+use Rattle.st_tree.specs.declared.typed.Association.{Association}
+use Rattle.st_tree.specs.Tree.{Expression, number, cell, unary, chain, call, answer, Operands, no_operands, operand, Expressions, no_expressions, expression, Statement, assign, run, choice, cases, repeat, chart, Statements, no_statements, statement, Choices, no_choices, choose, Entries, no_entries, entry, TransitionData, Actions, no_actions, action, CalledData, ProgramData}
 use Rattle.std.proofs.lemmas.List.{length-map}
 use Rattle.st_tree.specs.declared.typed.Called.{Called}
 use Rattle.st_tree.specs.View.{called_view, all_called_view}
 use Rattle.effects.specs.Calls.{nothing}
-use Rattle.flat_core.specs.FlatTree.{FlatStatement, set, branch, size_of_all}
+use Rattle.flat_core.specs.FlatTree.{FlatStatement, set, branch, no_flats, size_of_all}
 use Rattle.flat_core.specs.FlatView.{flats_of, nested}
-use Rattle.fb_inline.specs.Frames.{FrameData, frames_of, function_body, type_at, initial_at, input_start, others_behind, other_starts, places_of}
-use Rattle.fb_inline.specs.Owners.{OwnerData, kinds_of, program_owner, call_owner}
-use Rattle.fb_inline.specs.Bodies.{Bodies}
-use Rattle.fb_inline.specs.Kinds.{kind_of}
-use Rattle.fb_inline.specs.Calls.{arity, rest_list, scratch_in, input_scratch, input_places, moved, before, operands_before, all_before, inputs_before}
-use Rattle.fb_inline.specs.FlatLists.{scratch_of, scratch_of_all, scratch_of_choices, scratch_of_entries, labels_test, unrolled, flat_of, flat_of_all, flat_choices, flat_entries}
-use Rattle.fb_inline.specs.Counts.{Counting, count_of_start, count_in, count_in_operands, count_in_all, count_in_inputs, count_of, count_of_all, count_of_choices, count_of_entries, counting_of, counting, counted, capped, AreCounts}
-use Rattle.fb_inline.specs.Pous.{block_body, bodies_of}
-use Rattle.fb_inline.specs.FlatPrograms.{bodies_in, is_short}
+use Rattle.flat_form.specs.Frames.{FrameData, frames_of, function_body, type_at, initial_at, input_start, others_behind, other_starts, places_of}
+use Rattle.flat_form.specs.Owners.{OwnerData, kinds_of, program_owner, call_owner}
+use Rattle.flat_form.specs.Bodies.{Bodies}
+use Rattle.flat_form.specs.Kinds.{kind_of}
+use Rattle.flat_form.specs.Calls.{arity, rest_list, scratch_in, input_scratch, input_places, moved, before, operands_before, all_before, inputs_before}
+use Rattle.flat_form.specs.FlatCharts.{latch_set, latch_list, runs_test, of_associated, flags_of, clear_flags, left_set, come_set, fired_list, ready_test, condition_list, flat_transition, flat_transitions, mark_list, flat_moves}
+use Rattle.flat_form.specs.FlatLists.{scratch_of, scratch_of_all, scratch_of_choices, scratch_of_entries, scratch_of_actions, unrolled, flat_of, flat_of_all, flat_choices, flat_entries, flat_actions}
+use Rattle.fb_inline.specs.Counts.{Counting, count_of_start, count_in, count_in_operands, count_in_all, count_in_inputs, count_of_latch, count_of_latches, count_of_transition, count_of_transitions, count_of_associated, count_of, count_of_all, count_of_choices, count_of_entries, count_of_actions, counting_of, counting, counted, capped, AreCounts}
+use Rattle.flat_form.specs.Pous.{block_body, bodies_of}
+use Rattle.flat_form.specs.FlatPrograms.{bodies_in, is_short}
 use Rattle.fb_inline.proofs.PouLemmas.{frames-here}
 
 abbrev size : List FlatStatement → ℕ
@@ -43,6 +46,44 @@ size-starts frame place (suc n) k = omega (arith, size-starts frame (place + 1) 
 
 size-start : (frame : FrameData) (place t : ℕ) → size (input_start frame place t) ≡ count_of_start frame place
 size-start frame place t = size-if (type_at frame.types place).limited (set t (number (initial_at frame place)) ∷ []) [] 1 0 refl refl
+
+-- ---- charts
+
+size-latch : (owner : OwnerData) (base : ℕ) (steps : List StepCells) (latch : Option ℕ) (associations : List Association) → size (latch_set owner base steps latch associations) ≡ count_of_latch latch
+size-latch owner base steps None associations = refl
+size-latch owner base steps (Some place) associations = refl
+
+size-latches : (owner : OwnerData) (base : ℕ) (steps : List StepCells) (actions : Actions) → size (latch_list owner base steps actions) ≡ count_of_latches actions
+size-latches owner base steps no_actions = refl
+size-latches owner base steps (action latch associations ss rest) =
+    omega (arith, size-append (latch_set owner base steps latch associations) (latch_list owner base steps rest), size-latch owner base steps latch associations, size-latches owner base steps rest)
+
+size-flags : (steps : List StepCells) (k : ℕ) → size (clear_flags steps k) ≡ 2 * length steps
+size-flags [] k = refl
+size-flags (p ∷ ps) k = omega (arith, size-flags ps (k + 2))
+
+size-marks : (owner : OwnerData) (base : ℕ) (steps : List StepCells) (k : ℕ) → size (mark_list owner base steps k) ≡ 2 * length steps
+size-marks owner base [] k = refl
+size-marks owner base (p ∷ ps) k = omega (arith, size-marks owner base ps (k + 2))
+
+size-left : (k : ℕ) (list : List ℕ) → size (map (left_set k) list) ≡ length list
+size-left k [] = refl
+size-left k (i ∷ list) = omega (arith, size-left k list)
+
+size-come : (k : ℕ) (list : List ℕ) → size (map (come_set k) list) ≡ length list
+size-come k [] = refl
+size-come k (i ∷ list) = omega (arith, size-come k list)
+
+size-fired : (k : ℕ) (from to : List ℕ) → size (fired_list k from to) ≡ length from + length to
+size-fired k from to = omega (arith, size-append (map (left_set k) from) (map (come_set k) to), size-left k from, size-come k to)
+
+-- statements behind a test
+size-branch : (e : Expression) (a : List FlatStatement) (n : ℕ) → size a ≡ n → size (branch e (flats_of a) no_flats ∷ []) ≡ 1 + n
+size-branch e a n h = omega (arith, h)
+
+size-associated : (associations : List Association) (e : Expression) (a : List FlatStatement) (n : ℕ) → size a ≡ n → size (of_associated associations (branch e (flats_of a) no_flats ∷ [])) ≡ count_of_associated associations n
+size-associated [] e a n h = refl
+size-associated (x ∷ more) e a n h = size-branch e a n h
 
 module _ (bodies : Bodies) (counts : Counting) (same : (f : ℕ) → bodies.frame f ≡ counts.frame f)
     (each_run : (owner : OwnerData) (b base k : ℕ) → size (bodies.run_list owner b base k) ≡ counts.runs b)
@@ -87,6 +128,28 @@ module _ (bodies : Bodies) (counts : Counting) (same : (f : ℕ) → bodies.fram
           let rest = set t (moved bodies owner base e k) ∷ inputs_before bodies owner base frame (place + 1) es (t + 1) in
           omega (arith, size-append (before bodies owner base e k) (input_start frame place t ++ rest), size-append (input_start frame place t) rest, size-start frame place t, size-before e k, size-inputs frame (place + 1) es (t + 1))
 
+  module _ (owner : OwnerData) (base : ℕ) (steps : List StepCells) (k : ℕ) where
+    size-condition : (t : TransitionData) (j : ℕ) → size (condition_list bodies owner base k t j) ≡ count_in counts t.condition + (1 + (length t.from + length t.to))
+    size-condition t j =
+        let fired = fired_list k t.from t.to in
+        omega (arith, size-append (before bodies owner base t.condition j) (branch (moved bodies owner base t.condition j) (flats_of fired) no_flats ∷ []), size-before owner base t.condition j, size-branch (moved bodies owner base t.condition j) fired _ (size-fired k t.from t.to))
+
+    size-transition : (t : TransitionData) (j : ℕ) → size (flat_transition bodies owner base steps k t j ∷ []) ≡ count_of_transition counts t
+    size-transition t j = omega (arith, size-branch (ready_test owner base steps k t.from) (condition_list bodies owner base k t j) _ (size-condition t j))
+
+    size-transitions : (ts : List TransitionData) (j : ℕ) → size (flat_transitions bodies owner base steps k ts j) ≡ count_of_transitions counts ts
+    size-transitions [] j = refl
+    size-transitions (t ∷ ts) j =
+        let rest = flat_transitions bodies owner base steps k ts (j + length (scratch_in bodies t.condition)) in
+        omega (arith, size-append (flat_transition bodies owner base steps k t j ∷ []) rest, size-transition t j, size-transitions ts (j + length (scratch_in bodies t.condition)))
+
+    size-moves : (ts : List TransitionData) → size (flat_moves bodies owner base steps ts k) ≡ 4 * length steps + count_of_transitions counts ts
+    size-moves ts =
+        let j = k + length (flags_of steps) in
+        let trying = flat_transitions bodies owner base steps k ts j in
+        let marking = mark_list owner base steps k in
+        omega (arith, size-append (clear_flags steps k) (trying ++ marking), size-append trying marking, size-flags steps k, size-transitions ts j, size-marks owner base steps k)
+
   module _ (owner : OwnerData) where
     mutual
       size_of-statement : (base : ℕ) (t : Statement) (k : ℕ) → size (flat_of bodies owner base t k) ≡ count_of counts t
@@ -102,7 +165,12 @@ module _ (bodies : Bodies) (counts : Counting) (same : (f : ℕ) → bodies.fram
           omega (arith, size-append (before bodies owner base e k) (set t (moved bodies owner base e k) ∷ nested (flat_entries bodies owner base kind t es (t + 1)) rest), size-before owner base e k, size_of-entries base kind t es (t + 1) rest _ (size_of-all base other (t + 1 + length (scratch_of_entries bodies owner.kinds base es))))
       size_of-statement base (repeat turns body) k =
           size-unrolled turns.count (owner.place_at (base + turns.control)) turns.first turns.step (length (scratch_of_all bodies owner.kinds base body)) (count_of_all counts body) (flat_of_all bodies owner base body) (λ j. size_of-all base body j) k
-      size_of-statement base (chart steps _ ts) k = refl
+      size_of-statement base (chart steps actions ts) k =
+          let latches = latch_list owner base steps actions in
+          let acting = flat_actions bodies owner base steps actions k in
+          let later = k + length (scratch_of_actions bodies owner.kinds base actions) in
+          let moves = flat_moves bodies owner base steps ts later in
+          omega (arith, size-append latches (acting ++ moves), size-append acting moves, size-latches owner base steps actions, size_of-actions base steps actions k, size-moves owner base steps later ts)
 
       pub size_of-all : (base : ℕ) (ts : Statements) (k : ℕ) → size (flat_of_all bodies owner base ts k) ≡ count_of_all counts ts
       size_of-all base no_statements k = refl
@@ -121,6 +189,15 @@ module _ (bodies : Bodies) (counts : Counting) (same : (f : ℕ) → bodies.fram
       size_of-entries base kind t no_entries k rest count h = omega (arith, h)
       size_of-entries base kind t (entry labels ss es) k rest count h =
           omega (arith, size_of-all base ss k, size_of-entries base kind t es (k + length (scratch_of_all bodies owner.kinds base ss)) rest count h)
+
+      size_of-actions : (base : ℕ) (steps : List StepCells) (actions : Actions) (k : ℕ) → size (flat_actions bodies owner base steps actions k) ≡ count_of_actions counts actions
+      size_of-actions base steps no_actions k = refl
+      size_of-actions base steps (action latch associations ss rest) k =
+          let body = flat_of_all bodies owner base ss k in
+          let test = runs_test owner base steps latch associations in
+          let here = of_associated associations (branch test (flats_of body) no_flats ∷ []) in
+          let j = k + length (of_associated associations (scratch_of_all bodies owner.kinds base ss)) in
+          omega (arith, size-append here (flat_actions bodies owner base steps rest j), size-associated associations test body _ (size_of-all base ss k), size_of-actions base steps rest j)
 
 -- ---- POUs
 
@@ -187,6 +264,17 @@ module _ (f g : Counting) (frames : (n : ℕ) → f.frame n ≡ g.frame n) (same
     same_inputs frame place (expression e es) =
         same_sum _ _ _ _ (same_sum (count_in f e) (count_of_start frame place + 1) (count_in g e) (count_of_start frame place + 1) (same_in e) refl) (same_inputs frame (place + 1) es)
 
+  same_transition : (t : TransitionData) → capped (count_of_transition f t) ≡ capped (count_of_transition g t)
+  same_transition t = same_sum (2 + count_in f t.condition) (length t.from + length t.to) (2 + count_in g t.condition) (length t.from + length t.to) (same_sum 2 _ 2 _ refl (same_in t.condition)) refl
+
+  same_transitions : (ts : List TransitionData) → capped (count_of_transitions f ts) ≡ capped (count_of_transitions g ts)
+  same_transitions [] = refl
+  same_transitions (t ∷ ts) = same_sum _ _ _ _ (same_transition t) (same_transitions ts)
+
+  same_associated : (associations : List Association) (a b : ℕ) → capped a ≡ capped b → capped (count_of_associated associations a) ≡ capped (count_of_associated associations b)
+  same_associated [] a b p = refl
+  same_associated (x ∷ more) a b p = same_sum 1 a 1 b refl p
+
   mutual
     same_count : (t : Statement) → capped (count_of f t) ≡ capped (count_of g t)
     same_count (assign target e) = same_sum _ 1 _ 1 (same_in e) refl
@@ -194,7 +282,8 @@ module _ (f g : Counting) (frames : (n : ℕ) → f.frame n ≡ g.frame n) (same
     same_count (choice arms other) = same_sum _ _ _ _ (same_choices arms) (same_all other)
     same_count (cases e es other) = same_sum _ _ _ _ (same_sum _ _ _ _ (same_sum _ 1 _ 1 (same_in e) refl) (same_entries es)) (same_all other)
     same_count (repeat turns body) = same_turns turns.count _ _ (same_all body)
-    same_count (chart _ _ _) = refl
+    same_count (chart steps actions ts) =
+        same_sum (count_of_latches actions) _ (count_of_latches actions) _ refl (same_sum _ _ _ _ (same_actions actions) (same_sum (4 * length steps) _ (4 * length steps) _ refl (same_transitions ts)))
 
     pub same_all : (ts : Statements) → capped (count_of_all f ts) ≡ capped (count_of_all g ts)
     same_all no_statements = refl
@@ -207,6 +296,10 @@ module _ (f g : Counting) (frames : (n : ℕ) → f.frame n ≡ g.frame n) (same
     same_entries : (es : Entries) → capped (count_of_entries f es) ≡ capped (count_of_entries g es)
     same_entries no_entries = refl
     same_entries (entry labels ss es) = same_sum _ _ _ _ (same_sum 1 _ 1 _ refl (same_all ss)) (same_entries es)
+
+    same_actions : (actions : Actions) → capped (count_of_actions f actions) ≡ capped (count_of_actions g actions)
+    same_actions no_actions = refl
+    same_actions (action latch associations ss rest) = same_sum _ _ _ _ (same_associated associations _ _ (same_all ss)) (same_actions rest)
 
 -- ---- programs
 

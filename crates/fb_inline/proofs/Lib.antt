@@ -1,10 +1,7 @@
 pub mod ViewLemmas
 pub mod CallLemmas
 pub mod CaseLemmas
+pub mod ChartLemmas
 pub mod PouLemmas
 pub mod CountLemmas
 pub mod TurnLemmas
-pub mod StoreLemmas
-pub mod LabelLemmas
-pub mod KeptMeaning
-pub mod KeptRules

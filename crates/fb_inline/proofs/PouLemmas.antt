@@ -1,21 +1,25 @@
 -- What the bodies of POUs become, and weigh.
-use Rattle.std.proofs.Common.{◌≡◌, ℕ, zero, suc, ◌+◌, ◌<◌, ◌≤◌, Bool, true, false, List, [], ◌∷◌, ◌++◌, length, slice_index_or, refl, sym, ap, ◌∙◌, arith, rules, tests, append_assoc}
-use Rattle.std.specs.Prelude.{◌==◌, if◌then◌else◌}
-use Rattle.std.proofs.lemmas.List.{append-nil}
+use Rattle.std.proofs.Common.{◌≡◌, ℕ, zero, suc, ◌<◌, ◌≤◌, Bool, true, false, List, [], ◌++◌, length, slice_index_or, refl, sym, ap, subst, ◌∙◌, arith, rules, tests}
+use Rattle.std.specs.Prelude.{◌==◌}
+use Rattle.std.proofs.lemmas.List.{append-nil, length-map}
 use Rattle.std.proofs.lemmas.Bool.Decides.{nat_tests}
 use Rattle.st_tree.specs.declared.data_type.DataType.{DataType}
 use Rattle.st_tree.specs.declared.typed.CellType.{CellType}
+use Rattle.st_tree.specs.declared.typed.Called.{Called}
 use Rattle.st_tree.specs.Tree.{Statements, no_statements, CalledData}
-use Rattle.st_tree.specs.View.{all_called_view}
+use Rattle.st_tree.specs.View.{called_view, all_called_view}
 use Rattle.effects.specs.Calls.{nothing}
 use Rattle.effects.proofs.Sizes.{weight}
 use Rattle.flat_core.specs.declared.flat_tree.Scratch.{Scratch}
 use Rattle.flat_core.specs.FlatTree.{FlatStatement}
 use Rattle.fb_inline.specs.declared.scope.FlatScope.{FlatScope}
-use Rattle.fb_inline.specs.Frames.{FrameData, frame_of, frames_of, function_body}
-use Rattle.fb_inline.specs.Owners.{OwnerData, kinds_in, call_owner}
-use Rattle.fb_inline.specs.FlatLists.{scratch_of_all, flat_of_all}
-use Rattle.fb_inline.specs.Pous.{block_body, bodies_of}
+use Rattle.flat_form.specs.Frames.{FrameData, frame_of, frames_of, function_body}
+use Rattle.flat_form.specs.Owners.{OwnerData, kinds_in, call_owner}
+use Rattle.flat_form.specs.FlatLists.{scratch_of_all, flat_of_all}
+use Rattle.flat_form.specs.Pous.{block_body, bodies_of}
+use Rattle.flat_form.specs.Idle.{idle_in, AreIdle, AreIdleBelow}
+use Rattle.flat_form.proofs.IdleLemmas.{idle-list, idle-scratch}
+use Rattle.flat_form.proofs.IdleTables.{told-idle, idle-whole}
 
 abbrev pub weight_here : FlatScope → ℕ
 weight_here scope = weight (all_called_view scope.called.now) scope.below
@@ -85,6 +89,13 @@ module _ (ps : List CalledData) where
   pub scratch-over : (kinds : List DataType) (i n base : ℕ) (out : List Scratch) → n ≤ i → out ≡ out ++ (bodies_of ps n).run_scratch kinds i base
   scratch-over kinds i n base out h = sym (ap (λ l. out ++ l) (scratch-unknown kinds i n base h) ∙ append-nil out)
 
+  -- a block that does nothing adds nothing
+  pub list-idle : (owner : OwnerData) (idle : List Bool) (i n base k : ℕ) (out : List FlatStatement) → AreIdleBelow idle ps n → i < n → idle_in idle i ≡ true → out ≡ out ++ (bodies_of ps n).run_list owner i base k
+  list-idle owner idle i n base k out known h told = sym (ap (λ l. out ++ l) (idle-list ps n owner i base k (told-idle idle ps n i known h told)) ∙ append-nil out)
+
+  pub scratch-idle : (kinds : List DataType) (idle : List Bool) (i n base : ℕ) (out : List Scratch) → AreIdleBelow idle ps n → i < n → idle_in idle i ≡ true → out ≡ out ++ (bodies_of ps n).run_scratch kinds i base
+  scratch-idle kinds idle i n base out known h told = sym (ap (λ l. out ++ l) (idle-scratch ps n kinds i base (told-idle idle ps n i known h told)) ∙ append-nil out)
+
   -- ---- a FUNCTION is called by its body
 
   pub call-list : (f n answer : ℕ) (places : List ℕ) (k : ℕ) → f < n
@@ -122,3 +133,11 @@ module _ (ps : List CalledData) where
   -- the frame of a FUNCTION
   pub frame-known : (f n : ℕ) (p : CalledData) → slice_index_or ps f nothing ≡ p → (bodies_of ps n).frame f ≡ frame_of p
   frame-known f n p is = ap (λ (g : ℕ → FrameData). g f) (frames-here n) ∙ ap frame_of is
+
+-- the table of the POUs that do nothing, by what is read of it
+pub idle-here : (idle told : List Bool) (called others whole : List Called) (n : ℕ) → told ≡ idle → others ≡ whole → called ≡ whole → n ≡ length whole → AreIdle idle (all_called_view others) → AreIdleBelow told (all_called_view called) n
+idle-here idle told called others whole n is_told is_others is_called is_all are =
+    let same = subst (λ (l : List Bool). AreIdle l (all_called_view whole)) (sym is_told) (subst (λ (qs : List Called). AreIdle idle (all_called_view qs)) is_others are) in
+    let there = subst (λ (qs : List Called). AreIdle told (all_called_view qs)) (sym is_called) same in
+    let many : length (all_called_view called) ≡ n = length-map called called_view ∙ ap length is_called ∙ sym is_all in
+    idle-whole told (all_called_view called) n many there

@@ -3,7 +3,7 @@ use Rattle.std.proofs.Common.{◌≡◌, ℕ, suc, ◌+◌, ◌-◌, ◌<◌, Li
 use Rattle.st_tree.specs.Tree.{number}
 use Rattle.flat_core.specs.declared.flat_tree.Scratch.{Scratch}
 use Rattle.flat_core.specs.FlatTree.{FlatStatement, set}
-use Rattle.fb_inline.specs.FlatLists.{repeated, unrolled}
+use Rattle.flat_form.specs.FlatLists.{repeated, unrolled}
 
 pub unrolled-turn : (count counter control : ℕ) (v more step : ℤ) (m : ℕ) (body : ℕ → List FlatStatement) (k later : ℕ) (out begun ended : List FlatStatement) → counter < count → more ≡ v +ℤ step → later ≡ k + m
     → begun ≡ out ++ set control (number v) ∷ [] → ended ≡ begun ++ body k

@@ -5,8 +5,8 @@ use Rattle.st_tree.specs.declared.typed.Cell.{Cell}
 use Rattle.st_tree.specs.View.{cells_view}
 use Rattle.flat_core.specs.declared.flat_tree.FlatStmt.{FlatStmt}
 use Rattle.flat_core.specs.FlatView.{flat_view, flats_view}
-use Rattle.fb_inline.specs.Owners.{kinds_of}
-use Rattle.fb_inline.specs.Kinds.{kind_at}
+use Rattle.flat_form.specs.Owners.{kinds_of}
+use Rattle.flat_form.specs.Kinds.{kind_at}
 
 pub flats_view-push : (ts : List FlatStmt) (t : FlatStmt) → flats_view (ts ++ t ∷ []) ≡ flats_view ts ++ flat_view t
 flats_view-push [] t = append-nil (flat_view t)

@@ -1,12 +1,13 @@
 -- How many flat statements a statement becomes, without its flat list, where the bodies of POUs become so many.
-use Rattle.std.specs.Prelude.{ℕ, zero, suc, ◌+◌, ◌*◌, ◌==◌, ◌≡◌, min, List, length, slice_index_or, if◌then◌else◌}
-use Rattle.st_tree.specs.Tree.{Expression, number, cell, unary, chain, call, answer, Operands, no_operands, operand, Expressions, no_expressions, expression, Statement, assign, run, choice, cases, repeat, chart, Statements, no_statements, statement, Choices, no_choices, choose, Entries, no_entries, entry, CalledData}
+use Rattle.std.specs.Prelude.{ℕ, zero, suc, ◌+◌, ◌*◌, ◌==◌, ◌≡◌, min, List, [], ◌∷◌, length, Option, None, Some, slice_index_or, if◌then◌else◌}
+use Rattle.st_tree.specs.declared.typed.Association.{Association}
+use Rattle.st_tree.specs.Tree.{Expression, number, cell, unary, chain, call, answer, Operands, no_operands, operand, Expressions, no_expressions, expression, Statement, assign, run, choice, cases, repeat, chart, Statements, no_statements, statement, Choices, no_choices, choose, Entries, no_entries, entry, TransitionData, Actions, no_actions, action, CalledData}
 use Rattle.effects.specs.Calls.{nothing}
 use Rattle.st_tree.specs.View.{all_called_view}
 use Rattle.fb_inline.specs.declared.counts.Counts.{Counts}
-use Rattle.fb_inline.specs.Frames.{FrameData, frames_of, function_body, type_at, others_behind}
-use Rattle.fb_inline.specs.Calls.{arity}
-use Rattle.fb_inline.specs.Pous.{block_body}
+use Rattle.flat_form.specs.Frames.{FrameData, frames_of, function_body, type_at, others_behind}
+use Rattle.flat_form.specs.Calls.{arity}
+use Rattle.flat_form.specs.Pous.{block_body}
 
 -- by the number of a POU: its frame, and how many statements the run of a FUNCTION_BLOCK becomes, and the body of a FUNCTION
 pub record Counting : Type 0 where
@@ -40,6 +41,28 @@ abbrev mutual
   count_in_inputs c frame place no_expressions = 0
   count_in_inputs c frame place (expression e es) = count_in c e + (count_of_start frame place + 1) + count_in_inputs c frame (place + 1) es
 
+-- A chart sets each latch. It tries each transition, whose condition runs behind another test, and sets a flag of each step that it
+-- leaves or enters.
+abbrev pub count_of_latch : Option ℕ → ℕ
+count_of_latch None = 0
+count_of_latch (Some place) = 1
+
+abbrev pub count_of_latches : Actions → ℕ
+count_of_latches no_actions = 0
+count_of_latches (action latch associations ss rest) = count_of_latch latch + count_of_latches rest
+
+abbrev pub count_of_transition : Counting → TransitionData → ℕ
+count_of_transition c t = 2 + count_in c t.condition + (length t.from + length t.to)
+
+abbrev pub count_of_transitions : Counting → List TransitionData → ℕ
+count_of_transitions c [] = 0
+count_of_transitions c (t ∷ ts) = count_of_transition c t + count_of_transitions c ts
+
+-- an action with associations is a test and its statements
+abbrev pub count_of_associated : List Association → ℕ → ℕ
+count_of_associated [] n = 0
+count_of_associated (a ∷ more) n = 1 + n
+
 abbrev mutual
   pub count_of : Counting → Statement → ℕ
   count_of c (assign target e) = count_in c e + 1
@@ -47,7 +70,8 @@ abbrev mutual
   count_of c (choice arms other) = count_of_choices c arms + count_of_all c other
   count_of c (cases e es other) = count_in c e + 1 + count_of_entries c es + count_of_all c other
   count_of c (repeat turns body) = turns.count * (1 + count_of_all c body) + 1
-  count_of c (chart steps _ ts) = 0
+  -- each step has two flags that are cleared, and two cells that are marked
+  count_of c (chart steps actions ts) = count_of_latches actions + (count_of_actions c actions + (4 * length steps + count_of_transitions c ts))
 
   pub count_of_all : Counting → Statements → ℕ
   count_of_all c no_statements = 0
@@ -60,6 +84,10 @@ abbrev mutual
   pub count_of_entries : Counting → Entries → ℕ
   count_of_entries c no_entries = 0
   count_of_entries c (entry labels ss es) = 1 + count_of_all c ss + count_of_entries c es
+
+  pub count_of_actions : Counting → Actions → ℕ
+  count_of_actions c no_actions = 0
+  count_of_actions c (action latch associations ss rest) = count_of_associated associations (count_of_all c ss) + count_of_actions c rest
 
 -- the first so many POUs
 abbrev pub counting_of : List CalledData → ℕ → Counting

@@ -4,7 +4,7 @@ use Rattle.st_tree.specs.Tree.{ProgramData}
 use Rattle.st_tree.specs.declared.rule.Rule.TheVariants.{TooManyStatements}
 use Rattle.fb_inline.specs.declared.fault.FlatFault.{FlatFault}
 use Rattle.fb_inline.specs.declared.fault.FlatFault.TheVariants.{Refused, Memory}
-use Rattle.fb_inline.specs.FlatPrograms.{is_short}
+use Rattle.flat_form.specs.FlatPrograms.{is_short}
 
 -- it has too many statements (M5), or memory was wanting
 abbrev pub IsFault : ProgramData → FlatFault → Type 0

@@ -1,12 +1,3 @@
-pub mod Frames
-pub mod Owners
-pub mod Bodies
-pub mod Kinds
-pub mod Calls
-pub mod FlatLists
-pub mod Pous
-pub mod FlatPrograms
+pub mod Views
 pub mod Counts
-pub mod OwnCells
-pub mod FlatLaws
 pub mod Faults

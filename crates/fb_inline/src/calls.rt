@@ -1,12 +1,12 @@
 // Expressions, with the statements that their calls become.
-ghost use Rattle.std.specs.Prelude.{◌≡◌, ◌≤◌, ◌+◌, ◌++◌, length, IfOk, OnOk};
+ghost use Rattle.std.specs.Prelude.{◌≡◌, ◌+◌, ◌++◌, length, IfOk, OnOk};
 ghost use Rattle.st_tree.specs.Tree.{answer};
 ghost use Rattle.st_tree.specs.View.{expr_view, operands_view, arguments_view};
 ghost use Rattle.flat_core.specs.FlatView.{flats_view};
-ghost use Rattle.fb_inline.specs.Frames.{frame_view};
-ghost use Rattle.fb_inline.specs.Owners.{owner_view};
-ghost use Rattle.fb_inline.specs.Calls.{scratch_in, operand_scratch, all_scratch, input_scratch, moved, moved_operands, all_moved, before, operands_before, all_before, inputs_before, input_places};
-ghost use Rattle.fb_inline.specs.Pous.{bodies_here};
+ghost use Rattle.fb_inline.specs.Views.{frame_view};
+ghost use Rattle.fb_inline.specs.Views.{owner_view};
+ghost use Rattle.flat_form.specs.Calls.{scratch_in, operand_scratch, all_scratch, input_scratch, moved, moved_operands, all_moved, before, operands_before, all_before, inputs_before, input_places};
+ghost use Rattle.fb_inline.specs.Views.{bodies_here, IsKnown};
 
 use crate::frames::{put_input, put_others, put_start};
 use crate::places::{cell_at, place_at};
@@ -25,7 +25,7 @@ pub fn flatten_expr(
     out: &mut Vec<FlatStmt>,
     alloc: Global,
 ) -> Result<TypedExpr, AllocError>
-    requires known { scope.now.below ≤ length scope.now.called.now }
+    requires known { IsKnown scope.now }
     ensures value { IfOk result (λ e. expr_view e
         ≡ moved (bodies_here scope.now) (owner_view scope.now.owner) scope.now.base (expr_view expr.now) (scope.now.cells + length scratch.old.items)) }
     ensures list { OnOk result (flats_view out.new.items
@@ -62,7 +62,7 @@ fn flatten_operands(
     out: &mut Vec<FlatStmt>,
     alloc: Global,
 ) -> Result<Vec<Operand>, AllocError>
-    requires known { scope.now.below ≤ length scope.now.called.now }
+    requires known { IsKnown scope.now }
     ensures value { IfOk result (λ os. operands_view os.items
         ≡ moved_operands (bodies_here scope.now) (owner_view scope.now.owner) scope.now.base (operands_view operands.now) (scope.now.cells + length scratch.old.items)) }
     ensures list { OnOk result (flats_view out.new.items
@@ -89,7 +89,7 @@ fn flatten_exprs(
     out: &mut Vec<FlatStmt>,
     alloc: Global,
 ) -> Result<Vec<TypedExpr>, AllocError>
-    requires known { scope.now.below ≤ length scope.now.called.now }
+    requires known { IsKnown scope.now }
     ensures value { IfOk result (λ es. arguments_view es.items
         ≡ all_moved (bodies_here scope.now) (owner_view scope.now.owner) scope.now.base (arguments_view list.now) (scope.now.cells + length scratch.old.items)) }
     ensures list { OnOk result (flats_view out.new.items
@@ -114,7 +114,7 @@ fn flatten_answer(
     out: &mut Vec<FlatStmt>,
     alloc: Global,
 ) -> Result<TypedExpr, AllocError>
-    requires known { scope.now.below ≤ length scope.now.called.now }
+    requires known { IsKnown scope.now }
     ensures value { IfOk result (λ e. expr_view e
         ≡ moved (bodies_here scope.now) (owner_view scope.now.owner) scope.now.base (answer function (arguments_view inputs.now)) (scope.now.cells + length scratch.old.items)) }
     ensures list { OnOk result (flats_view out.new.items
@@ -132,6 +132,7 @@ fn flatten_answer(
                 owner: Owner::Call(&frame.types, answer, &places),
                 base: 0,
                 called: scope.called,
+                idle: scope.idle,
                 below: function,
             };
             flatten_all(body, &call, scratch, out, alloc)?;
@@ -151,7 +152,7 @@ fn flatten_inputs(
     out: &mut Vec<FlatStmt>,
     alloc: Global,
 ) -> Result<Vec<usize>, AllocError>
-    requires known { scope.now.below ≤ length scope.now.called.now }
+    requires known { IsKnown scope.now }
     ensures places { IfOk result (λ places. places.items ≡ input_places (bodies_here scope.now) (arguments_view inputs.now) (scope.now.cells + length scratch.old.items)) }
     ensures list { OnOk result (flats_view out.new.items
         ≡ flats_view out.old.items

@@ -1,14 +1,15 @@
 // How many flat statements statements become.
 ghost use Rattle.std.specs.Prelude.{◌≡◌, ◌+◌, ◌*◌, ◌≤◌, IfOk};
-ghost use Rattle.st_tree.specs.View.{stmt_view, stmts_view, choices_view, entries_view, called_view, all_called_view};
-ghost use Rattle.fb_inline.specs.Frames.{function_body};
-ghost use Rattle.fb_inline.specs.Pous.{block_body};
-ghost use Rattle.fb_inline.specs.Counts.{count_of, count_of_all, count_of_choices, count_of_entries, counting_here, capped, AreCounts};
+ghost use Rattle.st_tree.specs.View.{stmt_view, stmts_view, choices_view, entries_view, action_view, actions_view, called_view, all_called_view};
+ghost use Rattle.flat_form.specs.Frames.{function_body};
+ghost use Rattle.flat_form.specs.Pous.{block_body};
+ghost use Rattle.fb_inline.specs.Counts.{count_of, count_of_all, count_of_choices, count_of_entries, count_of_associated, count_of_actions, counting_here, capped, AreCounts};
 
 use crate::count_calls::count_calls;
+use crate::count_charts::{count_latches, count_moves};
 use crate::counts::Counts;
 use crate::sums::{count_at, count_turns, sum};
-use st_tree::{Called, TypedArm, TypedEntry, TypedStmt};
+use st_tree::{Called, TypedAction, TypedArm, TypedEntry, TypedStmt};
 use std::alloc::{AllocError, Global};
 
 /// How many flat statements the run of each POU becomes, in order, and how many the body of each FUNCTION.
@@ -75,7 +76,12 @@ fn count(stmt: &TypedStmt, counts: &Counts<'_>) -> usize
     match stmt {
         TypedStmt::Assign(_, expr) => sum(count_calls(expr, counts), 1),
         TypedStmt::Run { block, .. } => count_at(counts.runs, *block),
-        TypedStmt::Chart(_, _, _) => 0,
+        TypedStmt::Chart(steps, actions, transitions) => {
+            let latches = count_latches(actions);
+            let bodies = count_actions(actions, counts);
+            let moves = count_moves(steps, transitions, counts);
+            sum(latches, sum(bodies, moves))
+        }
         TypedStmt::If(arms, other) => sum(count_arms(arms, counts), count_all(other, counts)),
         TypedStmt::Case(selector, entries, other) => {
             let value = sum(count_calls(selector, counts), 1);
@@ -108,4 +114,25 @@ fn count_entries(entries: &[TypedEntry], counts: &Counts<'_>) -> usize
         total = sum(total, sum(1, count_all(&entry.body, counts)));
     }
     total
+}
+
+#[cycle(count)]
+fn count_actions(actions: &[TypedAction], counts: &Counts<'_>) -> usize
+    ensures { result ≡ capped (count_of_actions (counting_here counts.now) (actions_view actions.now)) }
+{
+    let mut total = 0;
+    for action in actions {
+        total = sum(total, count_action(action, counts));
+    }
+    total
+}
+
+#[cycle(count)]
+fn count_action(action: &TypedAction, counts: &Counts<'_>) -> usize
+    ensures { result ≡ capped (count_of_associated (action_view action.now).1 (count_of_all (counting_here counts.now) (action_view action.now).2)) }
+{
+    if action.associations.is_empty() {
+        return 0;
+    }
+    sum(1, count_all(&action.body, counts))
 }

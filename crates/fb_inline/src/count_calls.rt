@@ -2,7 +2,7 @@
 ghost use Rattle.std.specs.Prelude.{◌≡◌, ◌+◌, ◌*◌, ◌≤◌};
 ghost use Rattle.st_tree.specs.Tree.{answer};
 ghost use Rattle.st_tree.specs.View.{expr_view, operands_view, arguments_view, called_view, all_called_view};
-ghost use Rattle.fb_inline.specs.Frames.{frame_of, frames_of, others_behind};
+ghost use Rattle.flat_form.specs.Frames.{frame_of, frames_of, others_behind};
 ghost use Rattle.fb_inline.specs.Counts.{count_in, count_in_operands, count_in_all, count_in_inputs, count_of_start, counting_here, capped};
 
 use crate::counts::Counts;

@@ -1,4 +1,5 @@
 // Why a program has no flat form.
+use flat_typing::TypingFault;
 use st_tree::Refusal;
 use std::alloc::AllocError;
 use thiserror::Error;
@@ -19,6 +20,17 @@ impl From<AllocError> for FlatFault {
     ghost from_gives = { λ _ e. e ≡ Memory };
 
     fn from(_: AllocError) -> Self {
+        FlatFault::Memory
+    }
+}
+
+impl From<TypingFault> for FlatFault {
+    ghost use Rattle.std.specs.Prelude.{◌≡◌};
+    ghost use Rattle.fb_inline.specs.declared.fault.FlatFault.TheVariants.{Memory};
+
+    ghost from_gives = { λ _ e. e ≡ Memory };
+
+    fn from(_: TypingFault) -> Self {
         FlatFault::Memory
     }
 }

@@ -5,7 +5,8 @@ ghost use Rattle.st_tree.specs.View.{expr_view};
 ghost use Rattle.flat_core.specs.FlatTree.{set};
 ghost use Rattle.flat_core.specs.FlatView.{flats_view};
 ghost use Rattle.effects.specs.Effects.{range_at};
-ghost use Rattle.fb_inline.specs.Frames.{frame_view, type_at, scratch_at, initial_at, input_start, others_behind, other_scratch, other_starts, places_of};
+ghost use Rattle.flat_form.specs.Frames.{type_at, scratch_at, initial_at, input_start, others_behind, other_scratch, other_starts, places_of};
+ghost use Rattle.fb_inline.specs.Views.{frame_view};
 
 use crate::puts::{new_scratch, put_number, put_set};
 use flat_core::{FlatStmt, Scratch};

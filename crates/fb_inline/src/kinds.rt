@@ -4,9 +4,10 @@ ghost use Rattle.st_tree.specs.Types.{range_of};
 ghost use Rattle.st_tree.specs.DataTypes.{carrier};
 ghost use Rattle.st_tree.specs.View.{expr_view, operands_view, cells_view, called_view, all_called_view};
 ghost use Rattle.effects.specs.Values.{result_type};
-ghost use Rattle.fb_inline.specs.Frames.{frame_of, frames_of};
-ghost use Rattle.fb_inline.specs.Owners.{kinds_of, owner_view};
-ghost use Rattle.fb_inline.specs.Kinds.{kind_at, number_kind, kind_on, answer_kind, kind_of};
+ghost use Rattle.flat_form.specs.Frames.{frame_of, frames_of};
+ghost use Rattle.flat_form.specs.Owners.{kinds_of};
+ghost use Rattle.fb_inline.specs.Views.{owner_view};
+ghost use Rattle.flat_form.specs.Kinds.{kind_at, number_kind, kind_on, answer_kind, kind_of};
 
 use crate::frames::{NO_TYPE, type_at};
 use crate::scope::{FlatScope, Owner};

@@ -1,9 +1,9 @@
 // Tests of the labels of a CASE.
-ghost use Rattle.std.specs.Prelude.{◌≡◌, ◌∷◌, [], map, IfOk};
-ghost use Rattle.st_tree.specs.Tree.{chain};
-ghost use Rattle.st_tree.specs.View.{expr_view, operand_view, operands_of};
-ghost use Rattle.fb_inline.specs.FlatLists.{label_test, or_test, labels_test};
+ghost use Rattle.std.specs.Prelude.{◌≡◌, map, IfOk};
+ghost use Rattle.st_tree.specs.View.{expr_view, operand_view};
+ghost use Rattle.flat_form.specs.FlatLists.{label_test, or_test, labels_test};
 
+use crate::joins::{chain, joined};
 use st_tree::{Elementary, Operand, Operator, Range, TypedExpr};
 use std::alloc::{AllocError, Global};
 
@@ -65,29 +65,4 @@ fn label_test(
     let value = TypedExpr::Cell(place);
     let up_to = joined(alloc, value, Operator::LessEqual, kind, high)?;
     joined(alloc, from, Operator::And, Elementary::Bool, up_to)
-}
-
-// An operator between two operands.
-fn joined(
-    alloc: Global,
-    left: TypedExpr,
-    operator: Operator,
-    kind: Elementary,
-    right: TypedExpr,
-) -> Result<TypedExpr, AllocError>
-    ensures { IfOk result (λ e. expr_view e ≡ chain (expr_view left) (operands_of ((operator, kind, expr_view right) ∷ []))) }
-{
-    let mut operands = Vec::new(alloc);
-    operands.push(Operand {
-        operator,
-        kind,
-        right,
-    })?;
-    chain(alloc, left, operands)
-}
-
-fn chain(alloc: Global, first: TypedExpr, operands: Vec<Operand>) -> Result<TypedExpr, AllocError>
-    ensures { IfOk result (λ e. expr_view e ≡ chain (expr_view first) (operands_of (map operand_view operands.items))) }
-{
-    Ok(TypedExpr::Chain(Box::new(alloc, first)?, operands))
 }

@@ -2,11 +2,16 @@
 #![tactic(auto)]
 
 mod calls;
+mod chart_lists;
+mod chart_tests;
+mod charts;
 mod count;
 mod count_calls;
+mod count_charts;
 mod counts;
 mod fault;
 mod frames;
+mod joins;
 mod kinds;
 mod labels;
 mod places;

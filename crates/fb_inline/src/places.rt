@@ -2,7 +2,7 @@
 ghost use Rattle.std.specs.Prelude.{◌≡◌, ◌+◌, ◌∷◌, slice_index_or, IfOk};
 ghost use Rattle.st_tree.specs.Tree.{cell};
 ghost use Rattle.st_tree.specs.View.{expr_view};
-ghost use Rattle.fb_inline.specs.Owners.{owner_view};
+ghost use Rattle.fb_inline.specs.Views.{owner_view};
 
 use crate::scope::{FlatScope, Owner};
 use st_tree::TypedExpr;

@@ -1,9 +1,10 @@
 // The flat form of a program.
 ghost use Rattle.std.specs.Prelude.{◌≡◌, IfOk, MatchResult, IsTrue};
 ghost use Rattle.st_tree.specs.View.{cells_view, program_view};
+ghost use Rattle.flat_core.specs.FlatRules.{IsFlat};
 ghost use Rattle.flat_core.specs.FlatView.{flat_program_view};
-ghost use Rattle.fb_inline.specs.FlatPrograms.{flat_program, is_short};
-ghost use Rattle.fb_inline.specs.FlatLaws.{KeepsMeaning, KeepsRules};
+ghost use Rattle.flat_form.specs.FlatLaws.{LeavesTheSame};
+ghost use Rattle.flat_form.specs.FlatPrograms.{flat_program, is_short};
 ghost use Rattle.fb_inline.specs.Faults.{IsFault};
 
 use crate::count::{count_all, count_pous};
@@ -14,17 +15,19 @@ use crate::scope::{FlatScope, Owner};
 use crate::statements::flatten_all;
 use crate::sums::MOST_STATEMENTS;
 use flat_core::Flat;
+use flat_form::idle_blocks;
+use flat_typing::check_program;
 use st_tree::{Cell, Program, Refusal, Rule};
 use std::alloc::{AllocError, Global};
 
-/// The flat form of a program; none that has more than 200,000 statements, which are counted before any is built. A FOR
-/// with a value that is no i64, or a place that is no usize, which no checked program has, counts as want of memory. The form keeps
-/// the meaning of programs that call no FUNCTION and have no chart, neither in the blocks that they run.
+/// The flat form of a program; none that has more than 200,000 statements, which are counted before any is built. A program that is
+/// not well typed, which none is that a text states, counts as want of memory, and so does a FOR with a value that is no i64, or a place
+/// that is no usize.
 pub fn flatten(alloc: Global, program: &Program) -> Result<Flat, FlatFault>
     ensures list { IfOk result (λ f. flat_program_view f ≡ flat_program (program_view program.now)) }
     ensures refused { MatchResult result (λ f. IsTrue (is_short (program_view program.now))) (λ e. IsFault (program_view program.now) e) }
-    ensures meaning { IfOk result (λ f. KeepsMeaning (program_view program.now) (flat_program_view f)) }
-    ensures rules { IfOk result (λ f. KeepsRules (program_view program.now) (flat_program_view f)) }
+    ensures meaning { IfOk result (λ f. LeavesTheSame (program_view program.now) (flat_program_view f)) }
+    ensures rules { IfOk result (λ f. IsFlat (flat_program_view f)) }
 {
     if !is_short(alloc, program)? {
         return Err(FlatFault::Refused(Refusal {
@@ -32,6 +35,7 @@ pub fn flatten(alloc: Global, program: &Program) -> Result<Flat, FlatFault>
             at: 0,
         }));
     }
+    check_program(alloc, program)?;
     let flat = flat_program(alloc, program)?;
     Ok(flat)
 }
@@ -53,6 +57,7 @@ fn is_short(alloc: Global, program: &Program) -> Result<bool, AllocError>
 fn flat_program(alloc: Global, program: &Program) -> Result<Flat, AllocError>
     ensures { IfOk result (λ f. flat_program_view f ≡ flat_program (program_view program.now)) }
 {
+    let idle = idle_blocks(&program.called, alloc)?;
     let mut scratch = Vec::new(alloc);
     let mut body = Vec::new(alloc);
     put_number(&mut body, 0, 0)?;
@@ -61,6 +66,7 @@ fn flat_program(alloc: Global, program: &Program) -> Result<Flat, AllocError>
         owner: Owner::Program(&program.cells),
         base: 0,
         called: &program.called,
+        idle: &idle,
         below: program.called.len(),
     };
     flatten_all(&program.body, &scope, &mut scratch, &mut body, alloc)?;

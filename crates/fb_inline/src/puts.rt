@@ -2,14 +2,14 @@
 ghost use Rattle.std.specs.Prelude.{◌≡◌, ◌+◌, ◌++◌, ◌∷◌, [], length, IfOk, OnOk};
 ghost use Rattle.st_tree.specs.Tree.{number};
 ghost use Rattle.st_tree.specs.View.{expr_view};
-ghost use Rattle.flat_core.specs.FlatTree.{set};
-ghost use Rattle.flat_core.specs.FlatView.{nested, flat_view, flats_view, flat_arms_view};
-ghost use Rattle.fb_inline.specs.FlatLists.{selector_cell};
+ghost use Rattle.flat_core.specs.FlatTree.{set, branch, no_flats};
+ghost use Rattle.flat_core.specs.FlatView.{nested, flat_view, flats_of, flats_view, flat_arms_view};
+ghost use Rattle.flat_form.specs.FlatLists.{selector_cell};
 
 use crate::kinds::range;
 use flat_core::{FlatArm, FlatStmt, Scratch};
 use st_tree::{Elementary, TypedExpr};
-use std::alloc::AllocError;
+use std::alloc::{AllocError, Global};
 
 fn put(out: &mut Vec<FlatStmt>, flat: FlatStmt) -> Result<(), AllocError>
     ensures { OnOk result (flats_view out.new.items ≡ flats_view out.old.items ++ flat_view flat) }
@@ -60,6 +60,21 @@ pub fn put_arm(
         body,
     })?;
     Ok(())
+}
+
+/// One more condition, with what runs where it is TRUE.
+pub fn put_branch(
+    out: &mut Vec<FlatStmt>,
+    condition: TypedExpr,
+    body: Vec<FlatStmt>,
+    alloc: Global,
+) -> Result<(), AllocError>
+    ensures { OnOk result (flats_view out.new.items
+        ≡ flats_view out.old.items ++ branch (expr_view condition) (flats_of (flats_view body.items)) no_flats ∷ []) }
+{
+    let mut arms = Vec::new(alloc);
+    put_arm(&mut arms, Vec::new(alloc), condition, body)?;
+    put_if(out, arms, Vec::new(alloc))
 }
 
 /// One more scratch cell, behind so many cells and the scratch cells so far; its place.

@@ -10,12 +10,14 @@ pub enum Owner<'a> {
 }
 
 /// What a POU's flat list is made over: how many cells the program has, behind which scratch cells stand; the owner of the POU's cells,
-/// and where among the owner's its own begin; and the POUs that it may run and call, which are the first so many.
+/// and where among the owner's its own begin; and the POUs that it may run and call, which are the first so many, and
+/// whether a run of each of these does nothing.
 #[derive(Clone, Copy)]
 pub struct FlatScope<'a> {
     pub cells: usize,
     pub owner: Owner<'a>,
     pub base: usize,
     pub called: &'a [Called],
+    pub idle: &'a [bool],
     pub below: usize,
 }

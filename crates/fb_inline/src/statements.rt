@@ -1,19 +1,21 @@
 // Statements as flat statements.
-ghost use Rattle.std.specs.Prelude.{◌≡◌, ◌≤◌, ◌+◌, ◌++◌, ◌∷◌, [], ◌+ℤ◌, length, IfOk, OnOk};
+ghost use Rattle.std.specs.Prelude.{◌≡◌, ◌+◌, ◌++◌, ◌∷◌, [], ◌+ℤ◌, length, IfOk, OnOk};
 ghost use Rattle.st_tree.specs.Tree.{cases};
 ghost use Rattle.st_tree.specs.View.{expr_view, stmt_view, stmts_view, arm_view, choices_view, entries_view};
 ghost use Rattle.flat_core.specs.FlatView.{flats_view, flat_arms_view};
-ghost use Rattle.fb_inline.specs.Owners.{owner_view};
-ghost use Rattle.fb_inline.specs.FlatLists.{scratch_of, scratch_of_all, scratch_of_choices, scratch_of_entries, repeated, flat_of, flat_of_all, flat_choices, flat_choice, scratch_of_choice, flat_entries, unrolled};
-ghost use Rattle.fb_inline.specs.Pous.{bodies_here};
+ghost use Rattle.fb_inline.specs.Views.{owner_view};
+ghost use Rattle.flat_form.specs.FlatLists.{scratch_of, scratch_of_all, scratch_of_choices, scratch_of_entries, repeated, flat_of, flat_of_all, flat_choices, flat_choice, scratch_of_choice, flat_entries, unrolled};
+ghost use Rattle.fb_inline.specs.Views.{bodies_here, IsKnown};
 
 use crate::calls::flatten_expr;
+use crate::charts::flatten_chart;
 use crate::kinds::kind_of;
 use crate::labels::labels_test;
 use crate::places::{base_at, place_at};
 use crate::puts::{put_arm, put_if, put_number, put_selector, put_set};
 use crate::scope::FlatScope;
 use flat_core::{FlatArm, FlatStmt, Scratch};
+use flat_form::is_idle_block;
 use st_tree::{Called, Elementary, Turns, TypedArm, TypedEntry, TypedExpr, TypedStmt};
 use std::alloc::{AllocError, Global};
 
@@ -26,7 +28,7 @@ pub fn flatten_all(
     out: &mut Vec<FlatStmt>,
     alloc: Global,
 ) -> Result<(), AllocError>
-    requires known { scope.now.below ≤ length scope.now.called.now }
+    requires known { IsKnown scope.now }
     ensures list { OnOk result (flats_view out.new.items
         ≡ flats_view out.old.items ++ flat_of_all (bodies_here scope.now) (owner_view scope.now.owner) scope.now.base (stmts_view list.now) (scope.now.cells + length scratch.old.items)) }
     ensures scratch { OnOk result (scratch.new.items ≡ scratch.old.items ++ scratch_of_all (bodies_here scope.now) (owner_view scope.now.owner).kinds scope.now.base (stmts_view list.now)) }
@@ -45,7 +47,7 @@ fn flatten_one(
     out: &mut Vec<FlatStmt>,
     alloc: Global,
 ) -> Result<(), AllocError>
-    requires known { scope.now.below ≤ length scope.now.called.now }
+    requires known { IsKnown scope.now }
     ensures list { OnOk result (flats_view out.new.items
         ≡ flats_view out.old.items ++ flat_of (bodies_here scope.now) (owner_view scope.now.owner) scope.now.base (stmt_view stmt.now) (scope.now.cells + length scratch.old.items)) }
     ensures scratch { OnOk result (scratch.new.items ≡ scratch.old.items ++ scratch_of (bodies_here scope.now) (owner_view scope.now.owner).kinds scope.now.base (stmt_view stmt.now)) }
@@ -70,7 +72,9 @@ fn flatten_one(
             flatten_case(selector, entries, other, scope, scratch, out, alloc)
         }
         TypedStmt::For(turns, body) => unroll(body, *turns, scope, scratch, out, alloc),
-        TypedStmt::Chart(_, _, _) => Ok(()),
+        TypedStmt::Chart(steps, actions, transitions) => {
+            flatten_chart(steps, actions, transitions, scope, scratch, out, alloc)
+        }
     }
 }
 
@@ -85,7 +89,7 @@ fn flatten_case(
     out: &mut Vec<FlatStmt>,
     alloc: Global,
 ) -> Result<(), AllocError>
-    requires known { scope.now.below ≤ length scope.now.called.now }
+    requires known { IsKnown scope.now }
     ensures list { OnOk result (flats_view out.new.items
         ≡ flats_view out.old.items ++ flat_of (bodies_here scope.now) (owner_view scope.now.owner) scope.now.base (cases (expr_view selector.now) (entries_view entries.now) (stmts_view other.now)) (scope.now.cells + length scratch.old.items)) }
     ensures scratch { OnOk result (scratch.new.items
@@ -102,7 +106,8 @@ fn flatten_case(
     Ok(())
 }
 
-// The body of a FUNCTION_BLOCK, over the cells of an instance, which begin at a place of the POU's.
+// The body of a FUNCTION_BLOCK, over the cells of an instance, which begin at a place of the POU's. A block that does nothing is not walked,
+// so that blocks without statements which run each other 2 to the power of n times cost nothing.
 #[cycle(flatten)]
 fn flatten_block(
     block: usize,
@@ -112,12 +117,15 @@ fn flatten_block(
     out: &mut Vec<FlatStmt>,
     alloc: Global,
 ) -> Result<(), AllocError>
-    requires known { scope.now.below ≤ length scope.now.called.now }
+    requires known { IsKnown scope.now }
     ensures list { OnOk result (flats_view out.new.items
         ≡ flats_view out.old.items ++ (bodies_here scope.now).run_list (owner_view scope.now.owner) block (scope.now.base + offset) (scope.now.cells + length scratch.old.items)) }
     ensures scratch { OnOk result (scratch.new.items ≡ scratch.old.items ++ (bodies_here scope.now).run_scratch (owner_view scope.now.owner).kinds block (scope.now.base + offset)) }
 {
     if block < scope.below {
+        if is_idle_block(scope.idle, block) {
+            return Ok(());
+        }
         let callee = &scope.called[block];
         if let Called::Block(body) = callee {
             let base = base_at(scope, offset)?;
@@ -126,6 +134,7 @@ fn flatten_block(
                 owner: scope.owner,
                 base,
                 called: scope.called,
+                idle: scope.idle,
                 below: block,
             };
             flatten_all(body, &instance, scratch, out, alloc)?;
@@ -143,7 +152,7 @@ fn flatten_arms(
     out: &mut Vec<FlatArm>,
     alloc: Global,
 ) -> Result<(), AllocError>
-    requires known { scope.now.below ≤ length scope.now.called.now }
+    requires known { IsKnown scope.now }
     ensures list { OnOk result (flat_arms_view out.new.items
         ≡ flat_arms_view out.old.items ++ flat_choices (bodies_here scope.now) (owner_view scope.now.owner) scope.now.base (choices_view arms.now) (scope.now.cells + length scratch.old.items)) }
     ensures scratch { OnOk result (scratch.new.items ≡ scratch.old.items ++ scratch_of_choices (bodies_here scope.now) (owner_view scope.now.owner).kinds scope.now.base (choices_view arms.now)) }
@@ -162,7 +171,7 @@ fn flatten_arm(
     out: &mut Vec<FlatArm>,
     alloc: Global,
 ) -> Result<(), AllocError>
-    requires known { scope.now.below ≤ length scope.now.called.now }
+    requires known { IsKnown scope.now }
     ensures list { OnOk result (flat_arms_view out.new.items
         ≡ flat_arms_view out.old.items ++ flat_choice (bodies_here scope.now) (owner_view scope.now.owner) scope.now.base (arm_view arm.now) (scope.now.cells + length scratch.old.items) ∷ []) }
     ensures scratch { OnOk result (scratch.new.items ≡ scratch.old.items ++ scratch_of_choice (bodies_here scope.now) (owner_view scope.now.owner).kinds scope.now.base (arm_view arm.now)) }
@@ -186,7 +195,7 @@ fn flatten_entries(
     out: &mut Vec<FlatArm>,
     alloc: Global,
 ) -> Result<(), AllocError>
-    requires known { scope.now.below ≤ length scope.now.called.now }
+    requires known { IsKnown scope.now }
     ensures list { OnOk result (flat_arms_view out.new.items
         ≡ flat_arms_view out.old.items ++ flat_entries (bodies_here scope.now) (owner_view scope.now.owner) scope.now.base kind place (entries_view entries.now) (scope.now.cells + length scratch.old.items)) }
     ensures scratch { OnOk result (scratch.new.items ≡ scratch.old.items ++ scratch_of_entries (bodies_here scope.now) (owner_view scope.now.owner).kinds scope.now.base (entries_view entries.now)) }
@@ -210,7 +219,7 @@ fn unroll(
     out: &mut Vec<FlatStmt>,
     alloc: Global,
 ) -> Result<(), AllocError>
-    requires known { scope.now.below ≤ length scope.now.called.now }
+    requires known { IsKnown scope.now }
     ensures list { OnOk result (flats_view out.new.items
         ≡ flats_view out.old.items ++ unrolled turns.count ((owner_view scope.now.owner).place_at (scope.now.base + turns.control)) turns.first turns.step (length (scratch_of_all (bodies_here scope.now) (owner_view scope.now.owner).kinds scope.now.base (stmts_view body.now)))
         (flat_of_all (bodies_here scope.now) (owner_view scope.now.owner) scope.now.base (stmts_view body.now)) (scope.now.cells + length scratch.old.items)) }

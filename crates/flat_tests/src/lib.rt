@@ -6,6 +6,12 @@ mod call_lists;
 #[cfg(test)]
 mod calls;
 #[cfg(test)]
+mod chart_lists;
+#[cfg(test)]
+mod charts;
+#[cfg(test)]
+mod idle;
+#[cfg(test)]
 mod limits;
 #[cfg(test)]
 mod lists;

@@ -1,4 +1,5 @@
 // The limit on the statements of a flat form.
+use crate::charts::repeats_charts;
 use crate::programs::repeats_runs;
 use crate::trees::{A, Q, R, arm, at, is, program, set};
 use fb_inline::{FlatFault, flatten};
@@ -100,6 +101,18 @@ fn the_statements_of_runs_count(rt: HostRuntime) -> Result<(), Fail> {
     assert_eq!(rt; answer(alloc, &repeats_runs(alloc, 19_999)?)?, None);
     assert_eq!(rt;
         answer(alloc, &repeats_runs(alloc, 20_000)?)?,
+        Some(TOO_MANY)
+    );
+    Ok(())
+}
+
+// A chart is 29 statements, so that each turn is 30; with FAULT and the last value these are 199,982.
+#[test]
+fn the_statements_of_charts_count(rt: HostRuntime) -> Result<(), Fail> {
+    let alloc = rt.alloc();
+    assert_eq!(rt; answer(alloc, &repeats_charts(alloc, 6_666, 18)?)?, None);
+    assert_eq!(rt;
+        answer(alloc, &repeats_charts(alloc, 6_666, 19)?)?,
         Some(TOO_MANY)
     );
     Ok(())

@@ -25,13 +25,26 @@ pub fn program_with(
     called: Vec<Called>,
     body: Vec<TypedStmt>,
 ) -> Result<Program, AllocError> {
-    let cells = vec![in alloc;
+    program_with_cells(alloc, 0, called, body)
+}
+
+/// The same with so many more cells of BOOL.
+pub fn program_with_cells(
+    alloc: Global,
+    more: usize,
+    called: Vec<Called>,
+    body: Vec<TypedStmt>,
+) -> Result<Program, AllocError> {
+    let mut cells = vec![in alloc;
         cell(alloc, "FAULT", Part::Fault, Elementary::Bool)?,
         cell(alloc, "A", Part::Input, Elementary::Int)?,
         cell(alloc, "B", Part::Input, Elementary::Int)?,
         cell(alloc, "Q", Part::Output, Elementary::Int)?,
         cell(alloc, "R", Part::Output, Elementary::Int)?,
     ]?;
+    for _ in 0..more {
+        cells.push(cell(alloc, "S", Part::Local, Elementary::Bool)?)?;
+    }
     Ok(Program {
         name: String::from_str(alloc, "M")?,
         cells,

@@ -18,10 +18,10 @@ use Rattle.scan_model.specs.InRange.{Row, IsInRange, BeginsWithFault, IsProgram,
 use Rattle.scan_model.specs.Pairs.{RelationData, BelongsTo, is_allowed, after_row, Pair, IsPairInRange, IsCellOf, NamesCells, fits_lines, range_of_line, loaded_one, loaded}
 
 -- a test that holds, as two orders
-within : (v : ℤ) (r : Range) → in_range v r ≡ true → (r.low ≤ℤ v) × (v ≤ℤ r.high)
+pub within : (v : ℤ) (r : Range) → in_range v r ≡ true → (r.low ≤ℤ v) × (v ≤ℤ r.high)
 within v r h = search (rules, tests, ints)
 
-both : (a b : Bool) → (a && b) ≡ true → (a ≡ true) × (b ≡ true)
+pub both : (a b : Bool) → (a && b) ≡ true → (a ≡ true) × (b ≡ true)
 both true b h = (refl, h)
 both false b h = cc
 
@@ -39,16 +39,16 @@ IsInRange-set (r ∷ rs) (x ∷ s) zero v f h = let w = within v r h in (w.0, w.
 IsInRange-set (r ∷ rs) (x ∷ s) (suc c) v f h = (f.0, f.1, IsInRange-set rs s c v f.2 h)
 
 -- one of two states, where each is in range under its test
-either : (rs : List Range) (b : Bool) (x y : State) → (b ≡ true → IsInRange rs x) → (b ≡ false → IsInRange rs y) → IsInRange rs (if b then x else y)
+pub either : (rs : List Range) (b : Bool) (x y : State) → (b ≡ true → IsInRange rs x) → (b ≡ false → IsInRange rs y) → IsInRange rs (if b then x else y)
 either rs true x y p q = p refl
 either rs false x y p q = q refl
 
 -- the first range is that of a BOOL
-HoldsFault : List Range → Type 0
+pub HoldsFault : List Range → Type 0
 HoldsFault [] = ⊥
 HoldsFault (r ∷ rs) = (r.low ≡ pos 0) × (r.high ≡ pos 1)
 
-holds_fault : (cells : List CellData) → BeginsWithFault cells → HoldsFault (ranges_of cells)
+pub holds_fault : (cells : List CellData) → BeginsWithFault cells → HoldsFault (ranges_of cells)
 unfolding HoldsFault
 holds_fault [] begins = absurd begins
 holds_fault (c ∷ cells) begins = (ap (λ (r : Range). r.low) begins.2, ap (λ (r : Range). r.high) begins.2)
@@ -60,38 +60,38 @@ with_first (r ∷ rs) first v p q [] f = absurd f
 with_first (r ∷ rs) first v p q (x ∷ s) f = (omega (arith, ints), omega (arith, ints), f.2)
 
 module _ (rs : List Range) (first : HoldsFault rs) where
-  cleared : (s : State) → IsInRange rs s → IsInRange rs (slice_set s 0 (pos 0))
+  pub cleared : (s : State) → IsInRange rs s → IsInRange rs (slice_set s 0 (pos 0))
   cleared s f = with_first rs first (pos 0) (omega (arith, ints)) (omega (arith, ints)) s f
 
-  faulted : (s : State) → IsInRange rs s → IsInRange rs (slice_set s 0 (pos 1))
+  pub faulted : (s : State) → IsInRange rs s → IsInRange rs (slice_set s 0 (pos 1))
   faulted s f = with_first rs first (pos 1) (omega (arith, ints)) (omega (arith, ints)) s f
 
-  fault_added : (b : Bool) (s : State) → IsInRange rs s → IsInRange rs (with_fault b s)
+  pub fault_added : (b : Bool) (s : State) → IsInRange rs s → IsInRange rs (with_fault b s)
   fault_added b s f = either rs b _ _ (λ _. faulted s f) (λ _. f)
 
-  kept_by_store : (c : ℕ) (v : ℤ) (s : State) → IsInRange rs s → IsInRange rs (stored rs c v s)
+  pub kept_by_store : (c : ℕ) (v : ℤ) (s : State) → IsInRange rs s → IsInRange rs (stored rs c v s)
   kept_by_store c v s f = either rs (in_range v (range_at rs c)) _ _ (λ h. IsInRange-set rs s c v f h) (λ _. faulted s f)
 
-  kept_by_turns : (n c : ℕ) (v step : ℤ) (body : State → State) → ((s : State) → IsInRange rs s → IsInRange rs (body s)) → (s : State) → IsInRange rs s → IsInRange rs (effect_of_turns rs n c v step body s)
+  pub kept_by_turns : (n c : ℕ) (v step : ℤ) (body : State → State) → ((s : State) → IsInRange rs s → IsInRange rs (body s)) → (s : State) → IsInRange rs s → IsInRange rs (effect_of_turns rs n c v step body s)
   kept_by_turns zero c v step body keeps s f = kept_by_store c v s f
   kept_by_turns (suc n) c v step body keeps s f = kept_by_turns n c (v +ℤ step) step body keeps _ (keeps _ (kept_by_store c v s f))
 
-  kept_by_latch : (base : ℕ) (x : Marking) (latch : Option ℕ) (associations : List Association) (s : State) → IsInRange rs s → IsInRange rs (latched rs base x latch associations s)
+  pub kept_by_latch : (base : ℕ) (x : Marking) (latch : Option ℕ) (associations : List Association) (s : State) → IsInRange rs s → IsInRange rs (latched rs base x latch associations s)
   kept_by_latch base x None associations s f = f
   kept_by_latch base x (Some place) associations s f = kept_by_store (base + place) _ s f
 
-  kept_by_latches : (base : ℕ) (x : Marking) (actions : Actions) (s : State) → IsInRange rs s → IsInRange rs (all_latched rs base x actions s)
+  pub kept_by_latches : (base : ℕ) (x : Marking) (actions : Actions) (s : State) → IsInRange rs s → IsInRange rs (all_latched rs base x actions s)
   kept_by_latches base x no_actions s f = f
   kept_by_latches base x (action latch associations body rest) s f = kept_by_latches base x rest _ (kept_by_latch base x latch associations s f)
 
-  kept_by_marks : (base : ℕ) (x : Marking) (next : ℕ → Bool) (i : ℕ) (steps : List StepCells) (s : State) → IsInRange rs s → IsInRange rs (marked rs base x next i steps s)
+  pub kept_by_marks : (base : ℕ) (x : Marking) (next : ℕ → Bool) (i : ℕ) (steps : List StepCells) (s : State) → IsInRange rs s → IsInRange rs (marked rs base x next i steps s)
   kept_by_marks base x next i [] s f = f
   kept_by_marks base x next i (p ∷ rest) s f =
       kept_by_marks base x next (i + 1) rest _ (kept_by_store (base + p.active) _ _ (kept_by_store (base + p.before) _ s f))
 
   module _ (callees : Callees) (calls : (b base : ℕ) (s : State) → IsInRange rs s → IsInRange rs (callees.runs b rs base s)) where
     mutual
-      kept_by_statement : (base : ℕ) (a : Statement) (s : State) → IsInRange rs s → IsInRange rs (effect_of callees rs base a s)
+      pub kept_by_statement : (base : ℕ) (a : Statement) (s : State) → IsInRange rs s → IsInRange rs (effect_of callees rs base a s)
       kept_by_statement base (assign c e) s f = kept_by_store (base + c) _ _ (fault_added (faults callees base e s) s f)
       kept_by_statement base (run b offset) s f = calls b (base + offset) s f
       kept_by_statement base (choice arms other) s f = kept_by_choices base arms (effect_of_all callees rs base other) (λ x g. kept_by_all base other x g) s f
@@ -102,22 +102,22 @@ module _ (rs : List Range) (first : HoldsFault rs) where
       kept_by_statement base (chart steps actions ts) s f =
           kept_by_marks base _ _ 0 steps _ (fault_added _ _ (kept_by_actions base _ _ actions _ (kept_by_latches base _ actions s f)))
 
-      kept_by_all : (base : ℕ) (b : Statements) (s : State) → IsInRange rs s → IsInRange rs (effect_of_all callees rs base b s)
+      pub kept_by_all : (base : ℕ) (b : Statements) (s : State) → IsInRange rs s → IsInRange rs (effect_of_all callees rs base b s)
       kept_by_all base no_statements s f = f
       kept_by_all base (statement a rest) s f = kept_by_all base rest _ (kept_by_statement base a s f)
 
-      kept_by_choices : (base : ℕ) (arms : Choices) (other : State → State) → ((s : State) → IsInRange rs s → IsInRange rs (other s)) → (s : State) → IsInRange rs s → IsInRange rs (effect_of_choices callees rs base arms other s)
+      pub kept_by_choices : (base : ℕ) (arms : Choices) (other : State → State) → ((s : State) → IsInRange rs s → IsInRange rs (other s)) → (s : State) → IsInRange rs s → IsInRange rs (effect_of_choices callees rs base arms other s)
       kept_by_choices base no_choices other keeps s f = keeps s f
       kept_by_choices base (choose e b arms) other keeps s f =
           let g = fault_added (faults callees base e s) s f in
           either rs (is_truth (value_of callees base e s)) _ _ (λ _. kept_by_all base b _ g) (λ _. kept_by_choices base arms other keeps _ g)
 
-      kept_by_entries : (base : ℕ) (v : ℤ) (es : Entries) (other : State → State) → ((s : State) → IsInRange rs s → IsInRange rs (other s)) → (s : State) → IsInRange rs s → IsInRange rs (effect_of_entries callees rs base v es other s)
+      pub kept_by_entries : (base : ℕ) (v : ℤ) (es : Entries) (other : State → State) → ((s : State) → IsInRange rs s → IsInRange rs (other s)) → (s : State) → IsInRange rs s → IsInRange rs (effect_of_entries callees rs base v es other s)
       kept_by_entries base v no_entries other keeps s f = keeps s f
       kept_by_entries base v (entry labels b es) other keeps s f =
           either rs (is_labelled v labels) _ _ (λ _. kept_by_all base b s f) (λ _. kept_by_entries base v es other keeps s f)
 
-      kept_by_actions : (base : ℕ) (x l : Marking) (actions : Actions) (s : State) → IsInRange rs s → IsInRange rs (effect_of_actions callees rs base x l actions s)
+      pub kept_by_actions : (base : ℕ) (x l : Marking) (actions : Actions) (s : State) → IsInRange rs s → IsInRange rs (effect_of_actions callees rs base x l actions s)
       kept_by_actions base x l no_actions s f = f
       kept_by_actions base x l (action latch associations body rest) s f =
           kept_by_actions base x l rest _ (either rs (runs base x l latch associations s) _ _ (λ _. kept_by_all base body s f) (λ _. f))
@@ -126,7 +126,7 @@ module _ (rs : List Range) (first : HoldsFault rs) where
   kept_by_call callees calls (block body) base s f = kept_by_all callees calls base body s f
   kept_by_call callees calls (function types own start body) base s f = f
 
-  kept_by_calls : (ps : List CalledData) (n b base : ℕ) (s : State) → IsInRange rs s → IsInRange rs ((callees_of ps n).runs b rs base s)
+  pub kept_by_calls : (ps : List CalledData) (n b base : ℕ) (s : State) → IsInRange rs s → IsInRange rs ((callees_of ps n).runs b rs base s)
   kept_by_calls ps zero b base s f = f
   kept_by_calls ps (suc n) b base s f =
       either rs (b == n) _ _ (λ _. kept_by_call (callees_of ps n) (kept_by_calls ps n) (slice_index_or ps n nothing) base s f) (λ _. kept_by_calls ps n b base s f)

@@ -1,20 +1,24 @@
-use Rattle.std.proofs.Common.{◌≡◌, ℕ, ◌+◌, ◌*◌, ◌++◌, ◌∷◌, [], ap, refl, arith, length, length-append, drop, map, sym, ◌∙◌}
+use Rattle.std.proofs.Common.{◌≡◌, ℕ, ◌+◌, ◌*◌, ◌++◌, ap, refl, arith, length, length-append, drop, map, sym, ◌∙◌, true}
 use Rattle.std.proofs.lemmas.Int.{ints}
 use Rattle.st_tree.specs.declared.typed.Operand.{out-Operand}
 use Rattle.st_tree.specs.Tree.{Expression, Operands, operand, Expressions, Choices}
-use Rattle.st_tree.specs.View.{OperandData, expr_view, operand_view, operands_view, arguments_view, stmts_view, entries_view, arm_view, choices_view, called_view, all_called_view}
-use Rattle.effects.proofs.Sizes.{nodes, operand_nodes, all_nodes, body_nodes, choice_nodes, called_nodes}
+use Rattle.st_tree.specs.View.{OperandData, expr_view, operand_view, operands_view, arguments_view, stmts_view, entries_view, arm_view, choices_view, actions_view, transitions_view, called_view, all_called_view}
+use Rattle.effects.proofs.Sizes.{operand_nodes, all_nodes, body_nodes, choice_nodes, called_nodes}
 use Rattle.effects.proofs.Callees.{at-number, weight-call}
 use Rattle.flat_core.specs.FlatView.{flats_view, flat_arms_view}
-use Rattle.fb_inline.specs.Frames.{FrameData, frame_view}
-use Rattle.fb_inline.specs.Owners.{owner_view}
-use Rattle.fb_inline.specs.Kinds.{kind_of}
-use Rattle.fb_inline.specs.Calls.{arity, operand_scratch, all_scratch, input_scratch, input_places, moved_operands, all_moved, operands_before, all_before, inputs_before}
-use Rattle.fb_inline.specs.FlatLists.{scratch_of_all, scratch_of_choices, flat_of_all, flat_choices}
-use Rattle.fb_inline.specs.Pous.{bodies_here}
+use Rattle.flat_form.specs.Frames.{FrameData}
+use Rattle.fb_inline.specs.Views.{frame_view}
+use Rattle.fb_inline.specs.Views.{owner_view}
+use Rattle.flat_form.specs.Kinds.{kind_of}
+use Rattle.flat_form.specs.Calls.{operand_scratch, all_scratch, input_scratch, input_places, moved_operands, all_moved, operands_before, all_before, inputs_before}
+use Rattle.flat_form.specs.FlatLists.{scratch_of_all, scratch_of_choices, flat_of_all, flat_choices}
+use Rattle.fb_inline.specs.Views.{bodies_here}
+use Rattle.flat_form.specs.Idle.{idle_in}
+use Rattle.flat_form.proofs.IdleTables.{idle-first}
 use Rattle.fb_inline.proofs.CallLemmas.{operand_view-out, with_operands, with_expressions, with_operands-none, with_expressions-none, arity-length, left-operands, left-expressions, no-operands-left, no-expressions-left, more-operands, more-expressions, more-operands-before, more-before, more-operand-scratch, more-scratch, more-input-scratch, more-input-places, more-inputs-before, call-value, call-made, call-listed, pushed-operands, pushed-expressions}
+use Rattle.fb_inline.proofs.ChartLemmas.{chart-listed}
 use Rattle.fb_inline.proofs.CaseLemmas.{left-choices, more-choices, more-choices-scratch, case-made, case-listed}
-use Rattle.fb_inline.proofs.PouLemmas.{weight_here, list-ran, scratch-ran, list-none, scratch-none, list-over, scratch-over, call-ran, call-ran-scratch, frame-known, frames-here}
+use Rattle.fb_inline.proofs.PouLemmas.{weight_here, list-ran, scratch-ran, list-none, scratch-none, list-over, scratch-over, list-idle, scratch-idle, call-ran, call-ran-scratch, frame-known, frames-here}
 use Rattle.fb_inline.proofs.TurnLemmas.{unrolled-turn, repeated-turn}
 use Rattle.fb_inline.proofs.+flatten.Goals as goal
 
@@ -115,7 +119,7 @@ calls::flatten_answer-flatten_all-requires t c =
     let m = ap called_nodes is in
     let b = ap (λ l. body_nodes (stmts_view l)) c.deref-in-Function-2.ensures.value in
     let d : weight_here c.args.scope.now + 2 * all_nodes (arguments_view c.args.inputs.now) + 1 ≡ t = c.decreases in
-    (omega arith, omega arith)
+    (omega arith, record { called = omega arith; idle = idle-first c.args.scope.now.idle.now (all_called_view ps) c.args.function c.args.scope.now.below (omega arith) c.requires.known.idle })
 
 pub calls::flatten_answer-returns-in-Function-clause-value : goal.calls::flatten_answer-returns-in-Function-clause-value
 calls::flatten_answer-returns-in-Function-clause-value t c =
@@ -199,7 +203,7 @@ statements::flatten_block-flatten_all-requires t c =
     let m = ap called_nodes is in
     let b = ap (λ l. body_nodes (stmts_view l)) c.deref.ensures.value in
     let d : weight_here c.args.scope.now ≡ t = c.decreases in
-    (omega arith, omega arith)
+    (omega arith, record { called = omega arith; idle = idle-first c.args.scope.now.idle.now (all_called_view ps) c.args.block c.args.scope.now.below (omega arith) c.requires.known.idle })
 
 pub statements::flatten_block-returns-in_ok-flatten_all-clause-list : goal.statements::flatten_block-returns-in_ok-flatten_all-clause-list
 statements::flatten_block-returns-in_ok-flatten_all-clause-list t c =
@@ -214,6 +218,18 @@ statements::flatten_block-returns-in_ok-flatten_all-clause-scratch t c =
     let ps = scope.called.now in
     let is = at-number ps c.args.block c.index-scope-block.result _ (omega arith) (ap called_view c.in-Block.is) in
     scratch-ran (all_called_view ps) (owner_view scope.owner).kinds c.args.block scope.below (scope.base + c.args.offset) _ _ _ _ _ c.if-block-scope.true is (ap stmts_view c.deref.ensures.value) c.in_ok-base.ensures c.in_ok-flatten_all.ensures.scratch
+
+pub statements::flatten_block-returns-then-is_idle_block-clause-list : goal.statements::flatten_block-returns-then-is_idle_block-clause-list
+statements::flatten_block-returns-then-is_idle_block-clause-list t c =
+    let scope = c.args.scope.now in
+    let told : idle_in scope.idle.now c.args.block ≡ true = sym c.is_idle_block.ensures ∙ c.if-is_idle_block.true in
+    list-idle (all_called_view scope.called.now) (owner_view scope.owner) scope.idle.now c.args.block scope.below _ _ _ c.requires.known.idle c.if-block-scope.true told
+
+pub statements::flatten_block-returns-then-is_idle_block-clause-scratch : goal.statements::flatten_block-returns-then-is_idle_block-clause-scratch
+statements::flatten_block-returns-then-is_idle_block-clause-scratch t c =
+    let scope = c.args.scope.now in
+    let told : idle_in scope.idle.now c.args.block ≡ true = sym c.is_idle_block.ensures ∙ c.if-is_idle_block.true in
+    scratch-idle (all_called_view scope.called.now) (owner_view scope.owner).kinds scope.idle.now c.args.block scope.below _ _ c.requires.known.idle c.if-block-scope.true told
 
 pub statements::flatten_block-returns-in_default-clause-list : goal.statements::flatten_block-returns-in_default-clause-list
 statements::flatten_block-returns-in_default-clause-list t c =
@@ -238,3 +254,9 @@ pub statements::flatten_block-returns-else-block-scope-clause-scratch : goal.sta
 statements::flatten_block-returns-else-block-scope-clause-scratch t c =
     let scope = c.args.scope.now in
     scratch-over (all_called_view scope.called.now) (owner_view scope.owner).kinds c.args.block scope.below _ _ c.if-block-scope.false
+
+pub charts::flatten_chart-returns-clause-list : goal.charts::flatten_chart-returns-clause-list
+charts::flatten_chart-returns-clause-list t c =
+    let scope = c.args.scope.now in
+    chart-listed (bodies_here scope) (owner_view scope.owner) scope.base scope.cells c.args.steps.now (actions_view c.args.actions.now) (transitions_view c.args.transitions.now) c.args.scratch.now.items _ _ c.in_ok-flatten_actions.ensures.scratch c.in_ok-flags.ensures.scratch
+    _ _ _ _ _ _ c.in_ok-flags.flags c.in_ok-flags.ensures.place c.in_ok-put_latches.ensures c.in_ok-flatten_actions.ensures.list c.in_ok-flags.ensures.list c.in_ok-flatten_transitions.ensures.list c.in_ok-put_marks.ensures

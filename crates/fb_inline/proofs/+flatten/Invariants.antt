@@ -1,12 +1,13 @@
 use Rattle.std.proofs.Common.{◌≡◌, ◌+◌, ◌-◌, ◌*◌, ◌≤◌, ◌++◌, length, drop, map}
-use Rattle.st_tree.specs.View.{expr_view, operand_view, operands_view, arguments_view, stmt_view, stmts_view, arm_view, choices_view, entries_view}
+use Rattle.st_tree.specs.View.{expr_view, operand_view, operands_view, arguments_view, stmt_view, stmts_view, arm_view, choices_view, entries_view, action_view, actions_view, transition_view, transitions_view}
 use Rattle.flat_core.specs.FlatView.{flats_view, flat_arms_view}
-use Rattle.effects.proofs.Sizes.{nodes, operand_nodes, all_nodes, statement_nodes, body_nodes, choice_nodes, entry_nodes}
-use Rattle.fb_inline.specs.Frames.{frame_view}
-use Rattle.fb_inline.specs.Owners.{owner_view}
-use Rattle.fb_inline.specs.Calls.{operand_scratch, all_scratch, input_scratch, moved_operands, all_moved, operands_before, all_before, inputs_before, input_places}
-use Rattle.fb_inline.specs.FlatLists.{scratch_of_all, scratch_of_choices, scratch_of_entries, repeated, flat_of_all, flat_choices, flat_entries, unrolled}
-use Rattle.fb_inline.specs.Pous.{bodies_here}
+use Rattle.effects.proofs.Sizes.{nodes, operand_nodes, all_nodes, statement_nodes, body_nodes, choice_nodes, entry_nodes, action_nodes, transition_nodes}
+use Rattle.fb_inline.specs.Views.{frame_view}
+use Rattle.fb_inline.specs.Views.{owner_view}
+use Rattle.flat_form.specs.Calls.{operand_scratch, all_scratch, input_scratch, moved_operands, all_moved, operands_before, all_before, inputs_before, input_places}
+use Rattle.flat_form.specs.FlatCharts.{scratch_of_transitions, flat_transitions}
+use Rattle.flat_form.specs.FlatLists.{scratch_of_all, scratch_of_choices, scratch_of_entries, scratch_of_actions, repeated, flat_of_all, flat_choices, flat_entries, flat_actions, unrolled}
+use Rattle.fb_inline.specs.Views.{bodies_here}
 use Rattle.fb_inline.proofs.CallLemmas.{with_operands, with_expressions}
 use Rattle.fb_inline.proofs.PouLemmas.{weight_here}
 use Rattle.fb_inline.proofs.+flatten.Given as goal
@@ -84,6 +85,24 @@ invariant-statements::unroll-loop l = record {
       ≡ l.initial.scratch.items ++ repeated l.turns.count (scratch_of_all (bodies_here l.scope) (owner_view l.scope.owner).kinds l.scope.base (stmts_view l.body));
 }
 
+abbrev pub invariant-charts::flatten_actions-loop-action : goal.invariant-charts::flatten_actions-loop-action
+invariant-charts::flatten_actions-loop-action l = record {
+  list : flats_view l.out.items ++ flat_actions (bodies_here l.scope) (owner_view l.scope.owner) l.scope.base l.steps (actions_view (drop l.action-index l.actions)) (l.scope.cells + length l.scratch.items)
+      ≡ flats_view l.initial.out.items ++ flat_actions (bodies_here l.scope) (owner_view l.scope.owner) l.scope.base l.steps (actions_view l.actions) (l.scope.cells + length l.initial.scratch.items);
+  scratch : l.scratch.items ++ scratch_of_actions (bodies_here l.scope) (owner_view l.scope.owner).kinds l.scope.base (actions_view (drop l.action-index l.actions))
+      ≡ l.initial.scratch.items ++ scratch_of_actions (bodies_here l.scope) (owner_view l.scope.owner).kinds l.scope.base (actions_view l.actions);
+  weighs : action_nodes (actions_view (drop l.action-index l.actions)) ≤ action_nodes (actions_view l.actions);
+}
+
+abbrev pub invariant-charts::flatten_transitions-loop-transition : goal.invariant-charts::flatten_transitions-loop-transition
+invariant-charts::flatten_transitions-loop-transition l = record {
+  list : flats_view l.out.items ++ flat_transitions (bodies_here l.scope) (owner_view l.scope.owner) l.scope.base l.steps l.flags (transitions_view (drop l.transition-index l.transitions)) (l.scope.cells + length l.scratch.items)
+      ≡ flats_view l.initial.out.items ++ flat_transitions (bodies_here l.scope) (owner_view l.scope.owner) l.scope.base l.steps l.flags (transitions_view l.transitions) (l.scope.cells + length l.initial.scratch.items);
+  scratch : l.scratch.items ++ scratch_of_transitions (bodies_here l.scope) (transitions_view (drop l.transition-index l.transitions))
+      ≡ l.initial.scratch.items ++ scratch_of_transitions (bodies_here l.scope) (transitions_view l.transitions);
+  weighs : transition_nodes (transitions_view (drop l.transition-index l.transitions)) ≤ transition_nodes (transitions_view l.transitions);
+}
+
 -- what is left of the tree, and all that may be run and called
 
 abbrev pub decreases-calls::flatten_expr : goal.decreases-calls::flatten_expr
@@ -124,3 +143,18 @@ decreases-statements::flatten_case l = weight_here l.scope.now + 2 * (nodes (exp
 
 abbrev pub decreases-statements::flatten_arm : goal.decreases-statements::flatten_arm
 decreases-statements::flatten_arm l = weight_here l.scope.now + 2 * (nodes (arm_view l.arm.now).0 + body_nodes (arm_view l.arm.now).1) + 1
+
+abbrev pub decreases-charts::flatten_chart : goal.decreases-charts::flatten_chart
+decreases-charts::flatten_chart l = weight_here l.scope.now + 2 * (action_nodes (actions_view l.actions.now) + transition_nodes (transitions_view l.transitions.now)) + 1
+
+abbrev pub decreases-charts::flatten_actions : goal.decreases-charts::flatten_actions
+decreases-charts::flatten_actions l = weight_here l.scope.now + 2 * action_nodes (actions_view l.actions.now)
+
+abbrev pub decreases-charts::flatten_action : goal.decreases-charts::flatten_action
+decreases-charts::flatten_action l = weight_here l.scope.now + 2 * body_nodes (action_view l.action.now).2 + 1
+
+abbrev pub decreases-charts::flatten_transitions : goal.decreases-charts::flatten_transitions
+decreases-charts::flatten_transitions l = weight_here l.scope.now + 2 * transition_nodes (transitions_view l.transitions.now)
+
+abbrev pub decreases-charts::flatten_transition : goal.decreases-charts::flatten_transition
+decreases-charts::flatten_transition l = weight_here l.scope.now + 2 * nodes (transition_view l.transition.now).condition + 1

@@ -1,6 +1,6 @@
 use Rattle.std.proofs.Common.{◌≡◌, ◌+◌, ◌≤◌, drop}
-use Rattle.st_tree.specs.View.{stmts_view, choices_view, entries_view}
-use Rattle.fb_inline.specs.Counts.{count_of_all, count_of_choices, count_of_entries, counting_here, capped}
+use Rattle.st_tree.specs.View.{stmts_view, choices_view, entries_view, actions_view}
+use Rattle.fb_inline.specs.Counts.{count_of_all, count_of_choices, count_of_entries, count_of_actions, counting_here, capped}
 use Rattle.fb_inline.proofs.count.+count.Given as goal
 
 -- what is counted with what is left
@@ -19,5 +19,11 @@ invariant-count_arms-loop-arm l = record {
 abbrev pub invariant-count_entries-loop-entry : goal.invariant-count_entries-loop-entry
 invariant-count_entries-loop-entry l = record {
   all : capped (l.total + count_of_entries (counting_here l.counts) (entries_view (drop l.entry-index l.entries))) ≡ capped (count_of_entries (counting_here l.counts) (entries_view l.entries));
+  fits : l.total ≤ 200001;
+}
+
+abbrev pub invariant-count_actions-loop-action : goal.invariant-count_actions-loop-action
+invariant-count_actions-loop-action l = record {
+  all : capped (l.total + count_of_actions (counting_here l.counts) (actions_view (drop l.action-index l.actions))) ≡ capped (count_of_actions (counting_here l.counts) (actions_view l.actions));
   fits : l.total ≤ 200001;
 }

@@ -2,8 +2,8 @@ use Rattle.std.proofs.Common.{◌∷◌, [], length, length-append, slice_index_
 use Rattle.st_tree.specs.View.{called_view, all_called_view}
 use Rattle.effects.specs.Calls.{nothing}
 use Rattle.effects.proofs.Callees.{at-number}
-use Rattle.fb_inline.specs.Frames.{function_body}
-use Rattle.fb_inline.specs.Pous.{block_body}
+use Rattle.flat_form.specs.Frames.{function_body}
+use Rattle.flat_form.specs.Pous.{block_body}
 use Rattle.fb_inline.specs.Counts.{counting}
 use Rattle.fb_inline.proofs.CountLemmas.{counts-more, counts-all, body-counted, counting-same}
 use Rattle.fb_inline.proofs.count.count_pous.Goals as goal

@@ -1,7 +1,7 @@
 use Rattle.std.proofs.Common.{◌≡◌, ℕ, length, ap, sym}
 use Rattle.st_tree.specs.View.{arguments_view, all_called_view}
-use Rattle.fb_inline.specs.Frames.{frames_of, others_behind}
-use Rattle.fb_inline.specs.Calls.{arity}
+use Rattle.flat_form.specs.Frames.{frames_of, others_behind}
+use Rattle.flat_form.specs.Calls.{arity}
 use Rattle.fb_inline.specs.Counts.{count_in_inputs, counting_here, counted}
 use Rattle.fb_inline.proofs.CallLemmas.{arity-length}
 use Rattle.fb_inline.proofs.CountLemmas.{answer-counted}

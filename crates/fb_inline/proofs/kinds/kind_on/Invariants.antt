@@ -1,6 +1,6 @@
 use Rattle.std.proofs.Common.{◌≡◌, drop}
 use Rattle.st_tree.specs.View.{operands_view}
-use Rattle.fb_inline.specs.Kinds.{kind_on}
+use Rattle.flat_form.specs.Kinds.{kind_on}
 use Rattle.fb_inline.proofs.kinds.kind_on.Given as goal
 
 abbrev pub invariant-loop-operand : goal.invariant-loop-operand

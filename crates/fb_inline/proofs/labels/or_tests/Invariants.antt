@@ -1,6 +1,6 @@
 use Rattle.std.proofs.Common.{◌≡◌, map, take}
 use Rattle.st_tree.specs.View.{operand_view}
-use Rattle.fb_inline.specs.FlatLists.{or_test}
+use Rattle.flat_form.specs.FlatLists.{or_test}
 use Rattle.fb_inline.proofs.labels.or_tests.Given as goal
 
 abbrev pub invariant-loop-label : goal.invariant-loop-label

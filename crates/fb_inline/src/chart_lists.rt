@@ -1,0 +1,169 @@
+// The flat statements of a chart that its steps and latches alone become.
+ghost use Rattle.std.specs.Prelude.{◌≡◌, ◌+◌, ◌++◌, ◌∷◌, [], length, map, pos, IfOk, OnOk};
+ghost use Rattle.st_tree.specs.Tree.{number};
+ghost use Rattle.st_tree.specs.View.{action_view, actions_view};
+ghost use Rattle.flat_core.specs.FlatTree.{set};
+ghost use Rattle.flat_core.specs.FlatView.{flats_view};
+ghost use Rattle.fb_inline.specs.Views.{owner_view};
+ghost use Rattle.flat_form.specs.FlatCharts.{latch_set, latch_list, flag_cell, flags_of, clear_flags, left_flag, left_set, come_set, fired_list, mark_before, mark_active, mark_list};
+
+use crate::chart_tests::{latch_test, left_flag, own_cell};
+use crate::joins::{joined, without};
+use crate::kinds::range;
+use crate::places::{cell_at, place_at};
+use crate::puts::{new_scratch, put_number, put_set};
+use crate::scope::FlatScope;
+use flat_core::{FlatStmt, Scratch};
+use st_tree::{Elementary, Operator, StepCells, TypedAction};
+use std::alloc::{AllocError, Global};
+
+/// Sets the latches of actions.
+pub fn put_latches(
+    actions: &[TypedAction],
+    steps: &[StepCells],
+    scope: &FlatScope<'_>,
+    out: &mut Vec<FlatStmt>,
+    alloc: Global,
+) -> Result<(), AllocError>
+    ensures { OnOk result (flats_view out.new.items
+        ≡ flats_view out.old.items ++ latch_list (owner_view scope.now.owner) scope.now.base steps.now (actions_view actions.now)) }
+{
+    for action in actions {
+        put_latch(action, steps, scope, out, alloc)?;
+    }
+    Ok(())
+}
+
+fn put_latch(
+    action: &TypedAction,
+    steps: &[StepCells],
+    scope: &FlatScope<'_>,
+    out: &mut Vec<FlatStmt>,
+    alloc: Global,
+) -> Result<(), AllocError>
+    ensures { OnOk result (flats_view out.new.items
+        ≡ flats_view out.old.items ++ latch_set (owner_view scope.now.owner) scope.now.base steps.now (action_view action.now).0 (action_view action.now).1) }
+{
+    if let Some(latch) = action.latch {
+        let test = latch_test(alloc, latch, &action.associations, steps, scope)?;
+        let there = place_at(scope, latch)?;
+        put_set(out, there, test)?;
+    }
+    Ok(())
+}
+
+/// Makes two flags for each step, which a transition sets that leaves or enters it, and clears them; the place of the first.
+pub fn put_flags(
+    steps: &[StepCells],
+    cells: usize,
+    scratch: &mut Vec<Scratch>,
+    out: &mut Vec<FlatStmt>,
+) -> Result<usize, AllocError>
+    ensures place { IfOk result (λ place. place ≡ cells + length scratch.old.items) }
+    ensures list { OnOk result (flats_view out.new.items ≡ flats_view out.old.items ++ clear_flags steps.now (cells + length scratch.old.items)) }
+    ensures scratch { OnOk result (scratch.new.items ≡ scratch.old.items ++ flags_of steps.now) }
+{
+    let first = cells.checked_add(scratch.len()).ok_or(AllocError)?;
+    for _ in steps {
+        put_flag(cells, scratch, out)?;
+        put_flag(cells, scratch, out)?;
+    }
+    Ok(first)
+}
+
+fn put_flag(
+    cells: usize,
+    scratch: &mut Vec<Scratch>,
+    out: &mut Vec<FlatStmt>,
+) -> Result<(), AllocError>
+    ensures list { OnOk result (flats_view out.new.items ≡ flats_view out.old.items ++ set (cells + length scratch.old.items) (number (pos 0)) ∷ []) }
+    ensures scratch { OnOk result (scratch.new.items ≡ scratch.old.items ++ flag_cell ∷ []) }
+{
+    let flag = Scratch {
+        kind: Elementary::Bool,
+        range: range(Elementary::Bool),
+        limited: false,
+    };
+    let place = new_scratch(flag, cells, scratch)?;
+    put_number(out, place, 0)
+}
+
+/// Sets the flags of the steps that a transition leaves, and of those that it enters.
+pub fn put_fired(
+    from: &[usize],
+    to: &[usize],
+    flags: usize,
+    out: &mut Vec<FlatStmt>,
+) -> Result<(), AllocError>
+    ensures { OnOk result (flats_view out.new.items ≡ flats_view out.old.items ++ fired_list flags from.now to.now) }
+{
+    put_left(from, flags, out)?;
+    put_come(to, flags, out)?;
+    Ok(())
+}
+
+fn put_left(list: &[usize], flags: usize, out: &mut Vec<FlatStmt>) -> Result<(), AllocError>
+    ensures { OnOk result (flats_view out.new.items ≡ flats_view out.old.items ++ map (left_set flags) list.now) }
+{
+    for step in list {
+        let flag = left_flag(flags, *step)?;
+        put_number(out, flag, 1)?;
+    }
+    Ok(())
+}
+
+fn put_come(list: &[usize], flags: usize, out: &mut Vec<FlatStmt>) -> Result<(), AllocError>
+    ensures { OnOk result (flats_view out.new.items ≡ flats_view out.old.items ++ map (come_set flags) list.now) }
+{
+    for step in list {
+        let left = left_flag(flags, *step)?;
+        let flag = behind(left, 1)?;
+        put_number(out, flag, 1)?;
+    }
+    Ok(())
+}
+
+/// Sets the cells of steps by their flags, the first of which stands at a place.
+pub fn put_marks(
+    steps: &[StepCells],
+    flags: usize,
+    scope: &FlatScope<'_>,
+    out: &mut Vec<FlatStmt>,
+    alloc: Global,
+) -> Result<(), AllocError>
+    ensures { OnOk result (flats_view out.new.items
+        ≡ flats_view out.old.items ++ mark_list (owner_view scope.now.owner) scope.now.base steps.now flags) }
+{
+    let mut flag = flags;
+    for step in steps {
+        put_mark(*step, flag, scope, out, alloc)?;
+        flag = behind(flag, 2)?;
+    }
+    Ok(())
+}
+
+fn put_mark(
+    step: StepCells,
+    left: usize,
+    scope: &FlatScope<'_>,
+    out: &mut Vec<FlatStmt>,
+    alloc: Global,
+) -> Result<(), AllocError>
+    ensures { OnOk result (flats_view out.new.items ≡ flats_view out.old.items
+        ++ mark_before (owner_view scope.now.owner) scope.now.base step ∷ mark_active (owner_view scope.now.owner) scope.now.base step left ∷ []) }
+{
+    let come = behind(left, 1)?;
+    let before = place_at(scope, step.before)?;
+    let active = place_at(scope, step.active)?;
+    put_set(out, before, cell_at(active))?;
+    let stays = without(alloc, cell_at(active), cell_at(left))?;
+    let next = joined(alloc, stays, Operator::Or, Elementary::Bool, cell_at(come))?;
+    put_set(out, active, next)
+}
+
+// A place behind another. One that is no usize, which no flag of a chart has, has no place in memory.
+fn behind(place: usize, more: usize) -> Result<usize, AllocError>
+    ensures { IfOk result (λ there. there ≡ place + more) }
+{
+    place.checked_add(more).ok_or(AllocError)
+}

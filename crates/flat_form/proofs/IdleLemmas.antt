@@ -1,0 +1,117 @@
+-- What an idle block becomes: no scratch cells and no statements; and its run changes nothing.
+use Rattle.std.proofs.Common.{◌≡◌, ℕ, zero, suc, ◌+◌, ◌&&◌, Bool, true, false, List, [], ◌++◌, length, refl, ap, ◌∙◌}
+use Rattle.std.specs.Prelude.{◌==◌, slice_index_or, if◌then◌else◌}
+use Rattle.st_tree.specs.declared.data_type.DataType.{DataType}
+use Rattle.st_tree.specs.declared.typed.Range.{Range}
+use Rattle.st_tree.specs.Tree.{Statement, assign, run, choice, cases, repeat, chart, Statements, no_statements, statement, CalledData, block, function}
+use Rattle.effects.specs.Values.{State, Callees}
+use Rattle.effects.specs.Effects.{effect_of, effect_of_all}
+use Rattle.effects.specs.Calls.{nothing, run_of as effect_of_run, callees_of}
+use Rattle.flat_core.specs.declared.flat_tree.Scratch.{Scratch}
+use Rattle.flat_core.specs.FlatTree.{FlatStatement}
+use Rattle.flat_form.specs.Owners.{OwnerData}
+use Rattle.flat_form.specs.Bodies.{Bodies}
+use Rattle.flat_form.specs.FlatLists.{scratch_of, scratch_of_all, flat_of, flat_of_all}
+use Rattle.flat_form.specs.Pous.{block_body, bodies_of}
+use Rattle.flat_form.specs.Idle.{is_idle, is_idle_all, idle_of}
+
+both_hold : (a b : Bool) → (a && b) ≡ true → (a ≡ true) × (b ≡ true)
+both_hold true b h = (refl, h)
+both_hold false b h = cc
+
+-- ---- statements, where each block that is told idle becomes and does nothing
+
+module _ (idle : ℕ → Bool) where
+  module _ (bodies : Bodies) (kinds : List DataType) (each : (b base : ℕ) → idle b ≡ true → bodies.run_scratch kinds b base ≡ []) where
+    one-scratch : (base : ℕ) (t : Statement) → is_idle idle t ≡ true → scratch_of bodies kinds base t ≡ []
+    one-scratch base (assign target e) h = cc
+    one-scratch base (run b offset) h = each b (base + offset) h
+    one-scratch base (choice arms other) h = cc
+    one-scratch base (cases e es other) h = cc
+    one-scratch base (repeat turns body) h = cc
+    one-scratch base (chart _ _ _) h = cc
+
+    all-scratch : (base : ℕ) (ts : Statements) → is_idle_all idle ts ≡ true → scratch_of_all bodies kinds base ts ≡ []
+    all-scratch base no_statements h = refl
+    all-scratch base (statement t ts) h =
+        let each_holds = both_hold (is_idle idle t) (is_idle_all idle ts) h in
+        ap (λ (l : List Scratch). l ++ scratch_of_all bodies kinds base ts) (one-scratch base t each_holds.0) ∙ all-scratch base ts each_holds.1
+
+  module _ (bodies : Bodies) (owner : OwnerData) (each : (b base k : ℕ) → idle b ≡ true → bodies.run_list owner b base k ≡ []) where
+    one-list : (base : ℕ) (t : Statement) (k : ℕ) → is_idle idle t ≡ true → flat_of bodies owner base t k ≡ []
+    one-list base (assign target e) k h = cc
+    one-list base (run b offset) k h = each b (base + offset) k h
+    one-list base (choice arms other) k h = cc
+    one-list base (cases e es other) k h = cc
+    one-list base (repeat turns body) k h = cc
+    one-list base (chart _ _ _) k h = cc
+
+    all-list : (base : ℕ) (ts : Statements) (k : ℕ) → is_idle_all idle ts ≡ true → flat_of_all bodies owner base ts k ≡ []
+    all-list base no_statements k h = refl
+    all-list base (statement t ts) k h =
+        let each_holds = both_hold (is_idle idle t) (is_idle_all idle ts) h in
+        ap (λ (l : List FlatStatement). l ++ flat_of_all bodies owner base ts (k + length (scratch_of bodies owner.kinds base t))) (one-list base t k each_holds.0)
+        ∙ all-list base ts (k + length (scratch_of bodies owner.kinds base t)) each_holds.1
+
+  module _ (callees : Callees) (rs : List Range) (each : (b base : ℕ) (s : State) → idle b ≡ true → callees.runs b rs base s ≡ s) where
+    one-effect : (base : ℕ) (t : Statement) (s : State) → is_idle idle t ≡ true → effect_of callees rs base t s ≡ s
+    one-effect base (assign target e) s h = cc
+    one-effect base (run b offset) s h = each b (base + offset) s h
+    one-effect base (choice arms other) s h = cc
+    one-effect base (cases e es other) s h = cc
+    one-effect base (repeat turns body) s h = cc
+    one-effect base (chart _ _ _) s h = cc
+
+    all-effect : (base : ℕ) (ts : Statements) (s : State) → is_idle_all idle ts ≡ true → effect_of_all callees rs base ts s ≡ s
+    all-effect base no_statements s h = refl
+    all-effect base (statement t ts) s h =
+        let each_holds = both_hold (is_idle idle t) (is_idle_all idle ts) h in
+        ap (λ (u : State). effect_of_all callees rs base ts u) (one-effect base t s each_holds.0) ∙ all-effect base ts s each_holds.1
+
+    run-effect : (q : CalledData) (base : ℕ) (s : State) → is_idle_all idle (block_body q) ≡ true → effect_of_run callees q rs base s ≡ s
+    run-effect (block body) base s h = all-effect base body s h
+    run-effect (function types ranges start body) base s h = refl
+
+-- ---- POUs, each of which runs those before it
+
+module _ (ps : List CalledData) where
+  abbrev IdleBody : ℕ → ℕ → Bool → Type 0
+  IdleBody n b test = (if test then is_idle_all (idle_of ps n) (block_body (slice_index_or ps n nothing)) else idle_of ps n b) ≡ true
+
+  next-scratch : (n : ℕ) (kinds : List DataType) (each : (b base : ℕ) → idle_of ps n b ≡ true → (bodies_of ps n).run_scratch kinds b base ≡ []) (b base : ℕ) (test : Bool) → IdleBody n b test
+      → (if test then scratch_of_all (bodies_of ps n) kinds base (block_body (slice_index_or ps n nothing)) else (bodies_of ps n).run_scratch kinds b base) ≡ []
+  next-scratch n kinds each b base true h = all-scratch (idle_of ps n) (bodies_of ps n) kinds each base (block_body (slice_index_or ps n nothing)) h
+  next-scratch n kinds each b base false h = each b base h
+
+  pub idle-scratch : (n : ℕ) (kinds : List DataType) (b base : ℕ) → idle_of ps n b ≡ true → (bodies_of ps n).run_scratch kinds b base ≡ []
+  idle-scratch zero kinds b base h = refl
+  idle-scratch (suc n) kinds b base h = next-scratch n kinds (idle-scratch n kinds) b base (b == n) h
+
+  next-list : (n : ℕ) (owner : OwnerData) (each : (b base k : ℕ) → idle_of ps n b ≡ true → (bodies_of ps n).run_list owner b base k ≡ []) (b base k : ℕ) (test : Bool) → IdleBody n b test
+      → (if test then flat_of_all (bodies_of ps n) owner base (block_body (slice_index_or ps n nothing)) k else (bodies_of ps n).run_list owner b base k) ≡ []
+  next-list n owner each b base k true h = all-list (idle_of ps n) (bodies_of ps n) owner each base (block_body (slice_index_or ps n nothing)) k h
+  next-list n owner each b base k false h = each b base k h
+
+  pub idle-list : (n : ℕ) (owner : OwnerData) (b base k : ℕ) → idle_of ps n b ≡ true → (bodies_of ps n).run_list owner b base k ≡ []
+  idle-list zero owner b base k h = refl
+  idle-list (suc n) owner b base k h = next-list n owner (idle-list n owner) b base k (b == n) h
+
+  next-effect : (n : ℕ) (rs : List Range) (each : (b base : ℕ) (s : State) → idle_of ps n b ≡ true → (callees_of ps n).runs b rs base s ≡ s) (b base : ℕ) (s : State) (test : Bool) → IdleBody n b test
+      → (if test then effect_of_run (callees_of ps n) (slice_index_or ps n nothing) rs base s else (callees_of ps n).runs b rs base s) ≡ s
+  next-effect n rs each b base s true h = run-effect (idle_of ps n) (callees_of ps n) rs each (slice_index_or ps n nothing) base s h
+  next-effect n rs each b base s false h = each b base s h
+
+  pub idle-effect : (n : ℕ) (rs : List Range) (b base : ℕ) (s : State) → idle_of ps n b ≡ true → (callees_of ps n).runs b rs base s ≡ s
+  idle-effect zero rs b base s h = refl
+  idle-effect (suc n) rs b base s h = next-effect n rs (idle-effect n rs) b base s (b == n) h
+
+  -- ---- statements that do nothing, over the first so many POUs
+
+  pub idle_body-scratch : (n : ℕ) (kinds : List DataType) (base : ℕ) (ts : Statements) → is_idle_all (idle_of ps n) ts ≡ true → scratch_of_all (bodies_of ps n) kinds base ts ≡ []
+  idle_body-scratch n kinds base ts h = all-scratch (idle_of ps n) (bodies_of ps n) kinds (idle-scratch n kinds) base ts h
+
+  pub idle_body-list : (n : ℕ) (owner : OwnerData) (base : ℕ) (ts : Statements) (k : ℕ) → is_idle_all (idle_of ps n) ts ≡ true → flat_of_all (bodies_of ps n) owner base ts k ≡ []
+  idle_body-list n owner base ts k h = all-list (idle_of ps n) (bodies_of ps n) owner (idle-list n owner) base ts k h
+
+  pub idle_body-effect : (n : ℕ) (rs : List Range) (q : CalledData) (base : ℕ) (s : State) → is_idle_all (idle_of ps n) (block_body q) ≡ true → effect_of_run (callees_of ps n) q rs base s ≡ s
+  idle_body-effect n rs q base s h = run-effect (idle_of ps n) (callees_of ps n) rs (idle-effect n rs) q base s h

@@ -1,0 +1,135 @@
+-- The flat list of statements. Scratch cells are numbered from a place on, in the order of the text.
+use Rattle.std.specs.Prelude.{ℕ, zero, suc, ◌+◌, List, [], ◌∷◌, ◌++◌, map, length, false, ℤ, pos, ◌+ℤ◌, if◌then◌else◌}
+use Rattle.std.specs.Ordering.{int_eq}
+use Rattle.st_tree.specs.declared.elementary.Elementary.{Elementary}
+use Rattle.st_tree.specs.declared.elementary.Elementary.TheVariants.{Bool}
+use Rattle.st_tree.specs.declared.token.Operator.TheVariants.{Or, And, Equal, LessEqual}
+use Rattle.st_tree.specs.declared.data_type.DataType.{DataType}
+use Rattle.st_tree.specs.declared.typed.Range.{Range}
+use Rattle.st_tree.specs.declared.typed.StepCells.{StepCells}
+use Rattle.st_tree.specs.Types.{range_of}
+use Rattle.st_tree.specs.Tree.{Expression, number, cell, chain, no_operands, operand, Statement, assign, run, choice, cases, repeat, chart, Statements, no_statements, statement, Choices, no_choices, choose, Entries, no_entries, entry, Actions, no_actions, action}
+use Rattle.st_tree.specs.View.{OperandData, operands_of, ChoiceData, ActionData}
+use Rattle.flat_core.specs.declared.flat_tree.Scratch.{Scratch}
+use Rattle.flat_core.specs.FlatTree.{FlatStatement, set, branch, no_flats}
+use Rattle.flat_core.specs.FlatView.{FlatArmData, nested, flats_of}
+use Rattle.flat_form.specs.Kinds.{kind_of}
+use Rattle.flat_form.specs.Owners.{OwnerData}
+use Rattle.flat_form.specs.Bodies.{Bodies}
+use Rattle.flat_form.specs.Calls.{scratch_in, before, moved}
+use Rattle.flat_form.specs.FlatCharts.{latch_list, runs_test, of_associated, scratch_of_moves, flat_moves}
+
+-- the scratch cell of a CASE, which keeps the selector's value
+abbrev pub selector_cell : Elementary → Scratch
+selector_cell kind = record { kind = kind; range = range_of kind; limited = false }
+
+abbrev pub repeated : ℕ → List Scratch → List Scratch
+repeated zero cs = []
+repeated (suc n) cs = cs ++ repeated n cs
+
+-- The scratch cells that statements make, whose own cells begin at a base among their owner's: those of the calls in their expressions,
+-- one for each CASE, in each turn of the FORs around it, those of the blocks that they run, and two for each step of a chart.
+abbrev mutual
+  pub scratch_of : Bodies → List DataType → ℕ → Statement → List Scratch
+  scratch_of bodies kinds base (assign target e) = scratch_in bodies e
+  scratch_of bodies kinds base (run b offset) = bodies.run_scratch kinds b (base + offset)
+  scratch_of bodies kinds base (choice arms other) = scratch_of_choices bodies kinds base arms ++ scratch_of_all bodies kinds base other
+  scratch_of bodies kinds base (cases e es other) =
+      scratch_in bodies e ++ selector_cell (kind_of bodies.frame kinds base e) ∷ (scratch_of_entries bodies kinds base es ++ scratch_of_all bodies kinds base other)
+  scratch_of bodies kinds base (repeat turns body) = repeated turns.count (scratch_of_all bodies kinds base body)
+  scratch_of bodies kinds base (chart steps actions ts) = scratch_of_actions bodies kinds base actions ++ scratch_of_moves bodies steps ts
+
+  pub scratch_of_all : Bodies → List DataType → ℕ → Statements → List Scratch
+  scratch_of_all bodies kinds base no_statements = []
+  scratch_of_all bodies kinds base (statement t ts) = scratch_of bodies kinds base t ++ scratch_of_all bodies kinds base ts
+
+  pub scratch_of_choices : Bodies → List DataType → ℕ → Choices → List Scratch
+  scratch_of_choices bodies kinds base no_choices = []
+  scratch_of_choices bodies kinds base (choose e ss arms) = scratch_in bodies e ++ (scratch_of_all bodies kinds base ss ++ scratch_of_choices bodies kinds base arms)
+
+  pub scratch_of_entries : Bodies → List DataType → ℕ → Entries → List Scratch
+  scratch_of_entries bodies kinds base no_entries = []
+  scratch_of_entries bodies kinds base (entry labels ss es) = scratch_of_all bodies kinds base ss ++ scratch_of_entries bodies kinds base es
+
+  pub scratch_of_actions : Bodies → List DataType → ℕ → Actions → List Scratch
+  scratch_of_actions bodies kinds base no_actions = []
+  scratch_of_actions bodies kinds base (action latch associations ss rest) =
+      of_associated associations (scratch_of_all bodies kinds base ss) ++ scratch_of_actions bodies kinds base rest
+
+-- a label's test of the selector's scratch cell t: `t = k` for one value, and `low <= t AND t <= high` for several
+abbrev pub label_test : Elementary → ℕ → Range → Expression
+label_test kind t r =
+    if int_eq r.low r.high then chain (cell t) (operand Equal kind (number r.low) no_operands)
+    else chain (chain (number r.low) (operand LessEqual kind (cell t) no_operands)) (operand And Bool (chain (cell t) (operand LessEqual kind (number r.high) no_operands)) no_operands)
+
+abbrev pub or_test : Elementary → ℕ → Range → OperandData
+or_test kind t r = (Or, Bool, label_test kind t r)
+
+-- the tests of labels, joined by OR from the left
+abbrev pub labels_test : Elementary → ℕ → List Range → Expression
+labels_test kind t [] = number (pos 0)
+labels_test kind t (r ∷ []) = label_test kind t r
+labels_test kind t (r ∷ more ∷ rs) = chain (label_test kind t r) (operands_of (map (or_test kind t) (more ∷ rs)))
+
+-- So many turns: the control variable is set to the value of each, and the body follows; last it is set to the value that ends
+-- the FOR. A turn's body has m scratch cells.
+abbrev pub unrolled : ℕ → ℕ → ℤ → ℤ → ℕ → (ℕ → List FlatStatement) → ℕ → List FlatStatement
+unrolled zero control v step m body k = set control (number v) ∷ []
+unrolled (suc n) control v step m body k = set control (number v) ∷ (body k ++ unrolled n control (v +ℤ step) step m body (k + m))
+
+-- The calls of an expression run before it is asked for. An IF is nested ones, an ELSIF being an IF in the rest. A CASE sets a scratch
+-- cell to the selector's value and goes on as an IF. A run of a block is the list of its body. A chart sets its latches, runs its
+-- actions, tries its transitions, and marks its steps.
+abbrev mutual
+  pub flat_of : Bodies → OwnerData → ℕ → Statement → ℕ → List FlatStatement
+  flat_of bodies owner base (assign target e) k = before bodies owner base e k ++ set (owner.place_at (base + target)) (moved bodies owner base e k) ∷ []
+  flat_of bodies owner base (run b offset) k = bodies.run_list owner b (base + offset) k
+  flat_of bodies owner base (choice arms other) k =
+      nested (flat_choices bodies owner base arms k) (flat_of_all bodies owner base other (k + length (scratch_of_choices bodies owner.kinds base arms)))
+  flat_of bodies owner base (cases e es other) k =
+      before bodies owner base e k ++ set (k + length (scratch_in bodies e)) (moved bodies owner base e k)
+      ∷ nested (flat_entries bodies owner base (kind_of bodies.frame owner.kinds base e) (k + length (scratch_in bodies e)) es (k + length (scratch_in bodies e) + 1))
+      (flat_of_all bodies owner base other (k + length (scratch_in bodies e) + 1 + length (scratch_of_entries bodies owner.kinds base es)))
+  flat_of bodies owner base (repeat turns body) k =
+      unrolled turns.count (owner.place_at (base + turns.control)) turns.first turns.step (length (scratch_of_all bodies owner.kinds base body)) (flat_of_all bodies owner base body) k
+  flat_of bodies owner base (chart steps actions ts) k =
+      latch_list owner base steps actions
+      ++ (flat_actions bodies owner base steps actions k ++ flat_moves bodies owner base steps ts (k + length (scratch_of_actions bodies owner.kinds base actions)))
+
+  pub flat_of_all : Bodies → OwnerData → ℕ → Statements → ℕ → List FlatStatement
+  flat_of_all bodies owner base no_statements k = []
+  flat_of_all bodies owner base (statement t ts) k = flat_of bodies owner base t k ++ flat_of_all bodies owner base ts (k + length (scratch_of bodies owner.kinds base t))
+
+  -- what runs before each condition, the condition and its statements
+  pub flat_choices : Bodies → OwnerData → ℕ → Choices → ℕ → List FlatArmData
+  flat_choices bodies owner base no_choices k = []
+  flat_choices bodies owner base (choose e ss arms) k =
+      (before bodies owner base e k, moved bodies owner base e k, flat_of_all bodies owner base ss (k + length (scratch_in bodies e)))
+      ∷ flat_choices bodies owner base arms (k + length (scratch_in bodies e) + length (scratch_of_all bodies owner.kinds base ss))
+
+  -- the test of each entry's labels with its statements; t is the selector's scratch cell, and kind its type
+  pub flat_entries : Bodies → OwnerData → ℕ → Elementary → ℕ → Entries → ℕ → List FlatArmData
+  flat_entries bodies owner base kind t no_entries k = []
+  flat_entries bodies owner base kind t (entry labels ss es) k =
+      ([], labels_test kind t labels, flat_of_all bodies owner base ss k) ∷ flat_entries bodies owner base kind t es (k + length (scratch_of_all bodies owner.kinds base ss))
+
+  -- the actions of a chart, in the order of the text
+  pub flat_actions : Bodies → OwnerData → ℕ → List StepCells → Actions → ℕ → List FlatStatement
+  flat_actions bodies owner base steps no_actions k = []
+  flat_actions bodies owner base steps (action latch associations ss rest) k =
+      of_associated associations (branch (runs_test owner base steps latch associations) (flats_of (flat_of_all bodies owner base ss k)) no_flats ∷ [])
+      ++ flat_actions bodies owner base steps rest (k + length (of_associated associations (scratch_of_all bodies owner.kinds base ss)))
+
+-- one condition with its statements
+abbrev pub scratch_of_choice : Bodies → List DataType → ℕ → ChoiceData → List Scratch
+scratch_of_choice bodies kinds base c = scratch_in bodies c.0 ++ scratch_of_all bodies kinds base c.1
+
+abbrev pub flat_choice : Bodies → OwnerData → ℕ → ChoiceData → ℕ → FlatArmData
+flat_choice bodies owner base c k = (before bodies owner base c.0 k, moved bodies owner base c.0 k, flat_of_all bodies owner base c.1 (k + length (scratch_in bodies c.0)))
+
+-- one action
+abbrev pub scratch_of_action : Bodies → List DataType → ℕ → ActionData → List Scratch
+scratch_of_action bodies kinds base a = of_associated a.1 (scratch_of_all bodies kinds base a.2)
+
+abbrev pub flat_action : Bodies → OwnerData → ℕ → List StepCells → ActionData → ℕ → List FlatStatement
+flat_action bodies owner base steps a k = of_associated a.1 (branch (runs_test owner base steps a.0 a.1) (flats_of (flat_of_all bodies owner base a.2 k)) no_flats ∷ [])

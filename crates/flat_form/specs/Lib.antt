@@ -1,0 +1,12 @@
+pub mod Frames
+pub mod Owners
+pub mod Bodies
+pub mod Kinds
+pub mod Calls
+pub mod FlatCharts
+pub mod FlatLists
+pub mod Pous
+pub mod FlatPrograms
+pub mod Idle
+pub mod WellTyped
+pub mod FlatLaws

@@ -1,0 +1,15 @@
+use Rattle.std.proofs.Common.{drop}
+use Rattle.st_tree.specs.View.{actions_view}
+use Rattle.flat_form.specs.WellTyped.{latch_places, chart_places}
+use Rattle.flat_typing.specs.Scopes.{ArePlacesIn}
+use Rattle.flat_typing.proofs.marks.are_places.Given as goal
+
+-- what is left gives the whole
+
+abbrev pub invariant-loop-step : goal.invariant-loop-step
+invariant-loop-step l =
+    ArePlacesIn l.scope l.next (chart_places (drop l.step-index l.steps) (actions_view l.actions)) → ArePlacesIn l.scope l.low (chart_places l.steps (actions_view l.actions))
+
+abbrev pub invariant-loop-action : goal.invariant-loop-action
+invariant-loop-action l =
+    ArePlacesIn l.scope l.next (latch_places (actions_view (drop l.action-index l.actions))) → ArePlacesIn l.scope l.low (chart_places l.steps (actions_view l.actions))
