@@ -3,7 +3,7 @@
 
 A line for each stage has the time on half of the text, on all of it, and their ratio; the line "process" has
 the processor time of the whole run instead, which other work on the machine changes less.
-Use: measure.py PROGRAM FOLDER RUNS
+Use: measure.py PROGRAM FOLDER RUNS [KIND ..]
 """
 import os
 import sys
@@ -37,7 +37,7 @@ def least(program, text, runs):
 
 def main():
     program, folder, runs = sys.argv[1], Path(sys.argv[2]), int(sys.argv[3])
-    for kind in ["statements", "chain", "variables"]:
+    for kind in sys.argv[4:] or ["statements", "chain", "variables"]:
         half, _ = least(program, folder / f"{kind}.half.st", runs)
         whole, said = least(program, folder / f"{kind}.whole.st", runs)
         print(f"{kind}: {said}")

@@ -1,5 +1,6 @@
 // The stages of reading a program.
 use crate::stages::Stages;
+use fb_inline::{FlatFault, flatten};
 use front_end::{AcceptFault, tokens_of};
 use st_names::{Resolved, resolve};
 use st_parser::parse_file;
@@ -23,6 +24,15 @@ impl From<AcceptFault> for Stop {
         match fault {
             AcceptFault::Refused(refusal) => Stop::Refused(refusal),
             AcceptFault::Memory => Stop::Memory,
+        }
+    }
+}
+
+impl From<FlatFault> for Stop {
+    fn from(fault: FlatFault) -> Self {
+        match fault {
+            FlatFault::Refused(refusal) => Stop::Refused(refusal),
+            FlatFault::Memory => Stop::Memory,
         }
     }
 }
@@ -60,5 +70,7 @@ pub fn read<R: Clock + Print>(
     stages.done(rt, "resolve")?;
     let program = checked(alloc, names)?;
     stages.done(rt, "check")?;
+    let _flat = flatten(alloc, &program)?;
+    stages.done(rt, "flatten")?;
     Ok((toks.len(), program.cells.len()))
 }

@@ -1,0 +1,37 @@
+#!/usr/bin/env python3
+"""Writes programs whose flat forms have some 200,000 statements into a folder, each whole and half.
+
+loops: two nested FORs around an assignment (199,796 statements).
+assignments: one assignment after the other.
+calls: assignments of what a FUNCTION answers, each of which becomes six flat statements.
+Use: make_programs.py FOLDER
+"""
+import sys
+from pathlib import Path
+
+CELLS = "VAR i, j, x : INT; END_VAR"
+
+
+def loops(share):
+    turns = 497 // share
+    return f"PROGRAM M {CELLS} FOR i := 1 TO {turns} DO FOR j := 1 TO 200 DO x := x; END_FOR; END_FOR; END_PROGRAM"
+
+
+def assignments(share):
+    return f"PROGRAM M {CELLS} " + "x:=x;" * (199_000 // share) + " END_PROGRAM"
+
+
+def calls(share):
+    function = "FUNCTION f : INT VAR_INPUT p : INT; END_VAR VAR k : INT; END_VAR k := p; f := k + 1; END_FUNCTION "
+    return function + f"PROGRAM M {CELLS} " + "x := f(x);" * (33_000 // share) + " END_PROGRAM"
+
+
+def main():
+    folder = Path(sys.argv[1])
+    for kind in [loops, assignments, calls]:
+        for name, share in [("whole", 1), ("half", 2)]:
+            (folder / f"{kind.__name__}.{name}.st").write_text(kind(share))
+
+
+if __name__ == "__main__":
+    main()
