@@ -19,7 +19,9 @@ fn print_outcome(rt: &impl Print, number: usize, outcome: Outcome) -> io::Result
         Outcome::NotTyped => println!(rt; "program {number} is not well typed"),
         Outcome::OutOfRange => println!(rt; "program {number} has a state that is out of range"),
         Outcome::ScanDiffers => println!(rt; "a scan of program {number} leaves another state"),
-        Outcome::FlatDiffers => println!(rt; "a scan of the flat form of program {number} leaves another state"),
+        Outcome::FlatDiffers => println!(rt;
+            "a scan of the flat form of program {number} leaves another state"
+        ),
     }
 }
 
@@ -44,5 +46,8 @@ fn main(rt: HostRuntime) -> io::Result<()> {
     let list = groups(alloc, text.as_str())?;
     let counts = try_all(&rt, alloc, blocks.as_str(), &list)?;
     let (scans, statements) = (counts.scans, counts.statements);
-    println!(rt; "{} programs, {scans} scans, {statements} flat statements", list.len())
+    println!(rt;
+        "{} programs, {scans} scans, {statements} flat statements",
+        list.len()
+    )
 }

@@ -1,0 +1,8 @@
+use Rattle.st_tree.specs.View.{program_view}
+use Rattle.flat_front.specs.FlatTexts.HasNoFlatForm.{by_size}
+use Rattle.flat_front.proofs.accept.accept_flat.Goals as goal
+
+pub returns-in-Err-Refused-flatten-clause-refused : goal.returns-in-Err-Refused-flatten-clause-refused
+returns-in-Err-Refused-flatten-clause-refused c =
+    let fault = rw c.in-Err-Refused-flatten.field-0-is at c.in-Err-Refused-flatten.ensures.refused in
+    by_size (program_view c.in-Ok.program) c.in-Ok.ensures.program fault.0 fault.1
