@@ -2,6 +2,9 @@
 -- cells of the POU begin at a base.
 use Rattle.std.specs.Prelude.{ℕ, suc, zero, ◌+◌, List, [], ◌∷◌, Bool, false, ◌||◌, Option, None, Some, slice_set, slice_index_or, ℤ, pos, ◌+ℤ◌, if◌then◌else◌}
 use Rattle.st_tree.specs.declared.typed.Range.{Range}
+use Rattle.st_tree.specs.declared.typed.TypedLabel.{TypedLabel}
+use Rattle.st_tree.specs.declared.typed.TypedLabel.TheVariants.{Single, Span}
+use Rattle.std.specs.Ordering.{int_eq}
 use Rattle.std.specs.List.{list_any}
 use Rattle.st_tree.specs.declared.typed.StepCells.{StepCells}
 use Rattle.st_tree.specs.declared.typed.Association.{Association}
@@ -22,10 +25,15 @@ with_fault fault s = if fault then slice_set s 0 (pos 1) else s
 abbrev pub stored : List Range → ℕ → ℤ → State → State
 stored rs target v s = if in_range v (range_at rs target) then slice_set s target v else slice_set s 0 (pos 1)
 
+-- a value is that of a label, or one of its range
+abbrev pub is_named : ℤ → TypedLabel → Bool
+is_named v (Single k) = int_eq v k
+is_named v (Span r) = in_range v r
+
 -- a value is among those of the labels of an entry
-abbrev pub is_labelled : ℤ → List Range → Bool
+abbrev pub is_labelled : ℤ → List TypedLabel → Bool
 is_labelled v [] = false
-is_labelled v (r ∷ rs) = in_range v r || is_labelled v rs
+is_labelled v (l ∷ ls) = is_named v l || is_labelled v ls
 
 -- So many turns of a body: the control variable gets its value, and the body runs; behind the last turn the variable gets the
 -- value that ends the FOR.

@@ -2,7 +2,7 @@
 ghost use Rattle.std.specs.Prelude.{◌≡◌, ◌≤◌, ◌+◌, ◌*◌, ◌^◌, length, if◌then◌else◌};
 ghost use Rattle.st_tree.specs.View.{choices_view, entries_view};
 ghost use Rattle.effects.specs.Values.{State};
-ghost use Rattle.effects.specs.Effects.{is_labelled, effect_of_choices, effect_of_entries};
+ghost use Rattle.effects.specs.Effects.{is_named, is_labelled, effect_of_choices, effect_of_entries};
 ghost use Rattle.effects.specs.Room.{markings_in_choices, markings_in_entries};
 ghost use Rattle.effects.specs.Scopes.{callees_here, room_here};
 
@@ -10,7 +10,7 @@ use crate::cells::{add_fault, is_in_range};
 use crate::evaluation::evaluate_over;
 use crate::scope::Scope;
 use crate::statements::run_all;
-use st_tree::{Range, TypedArm, TypedEntry};
+use st_tree::{TypedArm, TypedEntry, TypedLabel};
 
 /// Evaluates conditions up to the first that is TRUE, and runs its statements; whether there is one.
 #[cycle(run)]
@@ -59,22 +59,31 @@ pub fn run_entries(
 }
 
 // Most entries have one label, which needs no loop.
-fn is_labelled(value: i64, labels: &[Range]) -> bool
+fn is_labelled(value: i64, labels: &[TypedLabel]) -> bool
     ensures { result ≡ is_labelled value labels.now }
 {
     match labels {
-        [only] => is_in_range(value, *only),
+        [only] => is_named(value, *only),
         _ => is_in_any(value, labels),
     }
 }
 
-fn is_in_any(value: i64, labels: &[Range]) -> bool
+fn is_in_any(value: i64, labels: &[TypedLabel]) -> bool
     ensures { result ≡ is_labelled value labels.now }
 {
     for label in labels {
-        if is_in_range(value, *label) {
+        if is_named(value, *label) {
             return true;
         }
     }
     false
+}
+
+fn is_named(value: i64, label: TypedLabel) -> bool
+    ensures { result ≡ is_named value label }
+{
+    match label {
+        TypedLabel::Single(only) => value == only,
+        TypedLabel::Span(range) => is_in_range(value, range),
+    }
 }

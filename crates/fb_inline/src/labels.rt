@@ -1,10 +1,11 @@
 // Tests of the labels of a CASE.
 ghost use Rattle.std.specs.Prelude.{◌≡◌, map, IfOk};
 ghost use Rattle.st_tree.specs.View.{expr_view, operand_view};
+ghost use Rattle.st_tree.specs.declared.typed.TypedLabel.TheVariants.{Span};
 ghost use Rattle.flat_form.specs.FlatLists.{label_test, or_test, labels_test};
 
 use crate::joins::{chain, joined};
-use st_tree::{Elementary, Operand, Operator, Range, TypedExpr};
+use st_tree::{Elementary, Operand, Operator, Range, TypedExpr, TypedLabel};
 use std::alloc::{AllocError, Global};
 
 /// Whether the value at a place is one of those of labels: their tests, joined by OR from the left.
@@ -12,7 +13,7 @@ pub fn labels_test(
     alloc: Global,
     kind: Elementary,
     place: usize,
-    labels: &[Range],
+    labels: &[TypedLabel],
 ) -> Result<TypedExpr, AllocError>
     ensures { IfOk result (λ e. expr_view e ≡ labels_test kind place labels.now) }
 {
@@ -31,7 +32,7 @@ fn or_tests(
     alloc: Global,
     kind: Elementary,
     place: usize,
-    labels: &[Range],
+    labels: &[TypedLabel],
 ) -> Result<Vec<Operand>, AllocError>
     ensures { IfOk result (λ os. map operand_view os.items ≡ map (or_test kind place) labels.now) }
 {
@@ -51,16 +52,30 @@ fn label_test(
     alloc: Global,
     kind: Elementary,
     place: usize,
-    label: Range,
+    label: TypedLabel,
 ) -> Result<TypedExpr, AllocError>
     ensures { IfOk result (λ e. expr_view e ≡ label_test kind place label) }
 {
-    let value = TypedExpr::Cell(place);
-    let low = TypedExpr::Number(label.low);
-    if label.low == label.high {
-        return joined(alloc, value, Operator::Equal, kind, low);
+    match label {
+        TypedLabel::Single(only) => {
+            let value = TypedExpr::Cell(place);
+            joined(alloc, value, Operator::Equal, kind, TypedExpr::Number(only))
+        }
+        TypedLabel::Span(range) => range_test(alloc, kind, place, range),
     }
-    let high = TypedExpr::Number(label.high);
+}
+
+fn range_test(
+    alloc: Global,
+    kind: Elementary,
+    place: usize,
+    range: Range,
+) -> Result<TypedExpr, AllocError>
+    ensures { IfOk result (λ e. expr_view e ≡ label_test kind place (Span range)) }
+{
+    let low = TypedExpr::Number(range.low);
+    let high = TypedExpr::Number(range.high);
+    let value = TypedExpr::Cell(place);
     let from = joined(alloc, low, Operator::LessEqual, kind, value)?;
     let value = TypedExpr::Cell(place);
     let up_to = joined(alloc, value, Operator::LessEqual, kind, high)?;

@@ -5,6 +5,8 @@ use Rattle.std.specs.Prelude.{◌==◌, Option, None, Some, slice_index_or, if�
 use Rattle.std.specs.Ordering.{int_eq}
 use Rattle.st_tree.specs.declared.elementary.Elementary.{Elementary}
 use Rattle.st_tree.specs.declared.typed.Range.{Range}
+use Rattle.st_tree.specs.declared.typed.TypedLabel.{TypedLabel}
+use Rattle.st_tree.specs.declared.typed.TypedLabel.TheVariants.{Single, Span}
 use Rattle.st_tree.specs.declared.typed.StepCells.{StepCells}
 use Rattle.st_tree.specs.declared.typed.Association.{Association}
 use Rattle.st_tree.specs.Types.{in_range}
@@ -36,19 +38,16 @@ use Rattle.flat_form.proofs.RulesOfCharts.{latches_own, NamedIn, latch_list-keep
 
 -- ---- the tests of labels
 
-either_reads : (P : ℕ → Type 0) (b : Bool) (e f : Expression) → Reads P e → Reads P f → Reads P (if b then e else f)
-either_reads P true e f p q = p
-either_reads P false e f p q = q
-
 module _ (P : ℕ → Type 0) (kind : Elementary) (t : ℕ) (may : P t) where
-  label_test-reads : (r : Range) → Reads P (label_test kind t r)
-  label_test-reads r = either_reads P (int_eq r.low r.high) _ _ (may, (tt, tt)) ((tt, (may, tt)), ((may, (tt, tt)), tt))
+  label_test-reads : (l : TypedLabel) → Reads P (label_test kind t l)
+  label_test-reads (Single k) = (may, (tt, tt))
+  label_test-reads (Span r) = ((tt, (may, tt)), ((may, (tt, tt)), tt))
 
-  or_tests-read : (rs : List Range) → AllRead P (operands_of (map (or_test kind t) rs))
+  or_tests-read : (rs : List TypedLabel) → AllRead P (operands_of (map (or_test kind t) rs))
   or_tests-read [] = tt
   or_tests-read (r ∷ rs) = (label_test-reads r, or_tests-read rs)
 
-  labels_test-reads : (rs : List Range) → Reads P (labels_test kind t rs)
+  labels_test-reads : (rs : List TypedLabel) → Reads P (labels_test kind t rs)
   labels_test-reads [] = tt
   labels_test-reads (r ∷ []) = label_test-reads r
   labels_test-reads (r ∷ more ∷ rs) = (label_test-reads r, or_tests-read (more ∷ rs))

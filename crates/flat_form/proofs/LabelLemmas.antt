@@ -6,12 +6,13 @@ use Rattle.std.proofs.lemmas.Int.{ints}
 use Rattle.st_tree.specs.declared.elementary.Elementary.{Elementary}
 use Rattle.st_tree.specs.declared.elementary.Elementary.TheVariants.{Bool as Bit}
 use Rattle.st_tree.specs.declared.token.Operator.TheVariants.{Or, And}
-use Rattle.st_tree.specs.declared.typed.Range.{Range}
+use Rattle.st_tree.specs.declared.typed.TypedLabel.{TypedLabel}
+use Rattle.st_tree.specs.declared.typed.TypedLabel.TheVariants.{Single, Span}
 use Rattle.st_tree.specs.Types.{in_range, wrap_to}
 use Rattle.st_tree.specs.Tree.{Expression}
 use Rattle.st_tree.specs.View.{operands_of}
 use Rattle.effects.specs.Values.{State, no_callees, value_of, value_on, faults, any_faults, applied, number_of, is_truth}
-use Rattle.effects.specs.Effects.{is_labelled}
+use Rattle.effects.specs.Effects.{is_named, is_labelled}
 use Rattle.flat_form.specs.FlatLists.{label_test, or_test, labels_test}
 
 -- ---- truth values
@@ -40,51 +41,37 @@ regroup : (a b c : Bool) → ((a || b) || c) ≡ (a || (b || c))
 regroup true b c = refl
 regroup false b c = refl
 
-equal_is_within : (v low : ℤ) → int_eq v low ≡ (int_le low v && int_le v low)
-equal_is_within v low = search (rules, tests, ints)
-
-equal_bounds : (low high : ℤ) → int_eq low high ≡ true → low ≡ high
-equal_bounds low high h = search (rules, tests, ints)
-
 -- ---- the tests
 
-either_value : (b : Bool) (e f : Expression) (x : State) (v : ℤ) → (b ≡ true → value_of no_callees 0 e x ≡ v) → (b ≡ false → value_of no_callees 0 f x ≡ v) → value_of no_callees 0 (if b then e else f) x ≡ v
-either_value true e f x v p q = p refl
-either_value false e f x v p q = q refl
-
-either_fault : (b : Bool) (e f : Expression) (x : State) → faults no_callees 0 e x ≡ false → faults no_callees 0 f x ≡ false → faults no_callees 0 (if b then e else f) x ≡ false
-either_fault true e f x p q = p
-either_fault false e f x p q = q
-
 module _ (kind : Elementary) (t : ℕ) (x : State) where
-  label_test-fault : (r : Range) → faults no_callees 0 (label_test kind t r) x ≡ false
-  label_test-fault r = either_fault (int_eq r.low r.high) _ _ x refl refl
+  label_test-fault : (l : TypedLabel) → faults no_callees 0 (label_test kind t l) x ≡ false
+  label_test-fault (Single k) = refl
+  label_test-fault (Span r) = refl
 
-  any_faults-or_tests : (rs : List Range) → any_faults no_callees 0 (operands_of (map (or_test kind t) rs)) x ≡ false
+  any_faults-or_tests : (rs : List TypedLabel) → any_faults no_callees 0 (operands_of (map (or_test kind t) rs)) x ≡ false
   any_faults-or_tests [] = refl
   any_faults-or_tests (r ∷ rs) = rw (label_test-fault r, any_faults-or_tests rs)
 
-  pub labels_test-fault : (rs : List Range) → faults no_callees 0 (labels_test kind t rs) x ≡ false
+  pub labels_test-fault : (rs : List TypedLabel) → faults no_callees 0 (labels_test kind t rs) x ≡ false
   labels_test-fault [] = refl
   labels_test-fault (r ∷ []) = label_test-fault r
   labels_test-fault (r ∷ more ∷ rs) = rw (label_test-fault r) (any_faults-or_tests (more ∷ rs))
 
   module _ (v : ℤ) (held : slice_index_or x t (pos 0) ≡ v) where
-    label_test-value : (r : Range) → value_of no_callees 0 (label_test kind t r) x ≡ number_of (in_range v r)
-    label_test-value r = either_value (int_eq r.low r.high) _ _ x _
-        (λ same. rw (zero-add t, held, wrapped (int_eq v r.low), equal_is_within v r.low, equal_bounds r.low r.high same))
-        (λ _. rw (zero-add t, held, wrapped (int_le r.low v), wrapped (int_le v r.high)) (both (int_le r.low v) (int_le v r.high)))
+    label_test-value : (l : TypedLabel) → value_of no_callees 0 (label_test kind t l) x ≡ number_of (is_named v l)
+    label_test-value (Single k) = rw (zero-add t, held, wrapped (int_eq v k))
+    label_test-value (Span r) = rw (zero-add t, held, wrapped (int_le r.low v), wrapped (int_le v r.high)) (both (int_le r.low v) (int_le v r.high))
 
-    value_on-or_tests : (b : Bool) (rs : List Range) → value_on no_callees 0 (number_of b) (operands_of (map (or_test kind t) rs)) x ≡ number_of (b || is_labelled v rs)
+    value_on-or_tests : (b : Bool) (rs : List TypedLabel) → value_on no_callees 0 (number_of b) (operands_of (map (or_test kind t) rs)) x ≡ number_of (b || is_labelled v rs)
     value_on-or_tests true [] = refl
     value_on-or_tests false [] = refl
-    value_on-or_tests b (r ∷ rs) = rw (label_test-value r, one_of b (in_range v r)) (rw (value_on-or_tests (b || in_range v r) rs, regroup b (in_range v r) (is_labelled v rs)))
+    value_on-or_tests b (r ∷ rs) = rw (label_test-value r, one_of b (is_named v r)) (rw (value_on-or_tests (b || is_named v r) rs, regroup b (is_named v r) (is_labelled v rs)))
 
-    pub labels_test-value : (rs : List Range) → value_of no_callees 0 (labels_test kind t rs) x ≡ number_of (is_labelled v rs)
+    pub labels_test-value : (rs : List TypedLabel) → value_of no_callees 0 (labels_test kind t rs) x ≡ number_of (is_labelled v rs)
     labels_test-value [] = refl
-    labels_test-value (r ∷ []) = rw (label_test-value r) (only (in_range v r))
+    labels_test-value (r ∷ []) = rw (label_test-value r) (only (is_named v r))
       where
         only : (b : Bool) → number_of b ≡ number_of (b || false)
         only true = refl
         only false = refl
-    labels_test-value (r ∷ more ∷ rs) = rw (label_test-value r) (value_on-or_tests (in_range v r) (more ∷ rs))
+    labels_test-value (r ∷ more ∷ rs) = rw (label_test-value r) (value_on-or_tests (is_named v r) (more ∷ rs))

@@ -5,7 +5,8 @@ use Rattle.st_tree.specs.declared.elementary.Elementary.{Elementary}
 use Rattle.st_tree.specs.declared.elementary.Elementary.TheVariants.{Bool}
 use Rattle.st_tree.specs.declared.token.Operator.TheVariants.{Or, And, Equal, LessEqual}
 use Rattle.st_tree.specs.declared.data_type.DataType.{DataType}
-use Rattle.st_tree.specs.declared.typed.Range.{Range}
+use Rattle.st_tree.specs.declared.typed.TypedLabel.{TypedLabel}
+use Rattle.st_tree.specs.declared.typed.TypedLabel.TheVariants.{Single, Span}
 use Rattle.st_tree.specs.declared.typed.StepCells.{StepCells}
 use Rattle.st_tree.specs.Types.{range_of}
 use Rattle.st_tree.specs.Tree.{Expression, number, cell, chain, no_operands, operand, Statement, assign, run, choice, cases, repeat, chart, Statements, no_statements, statement, Choices, no_choices, choose, Entries, no_entries, entry, Actions, no_actions, action}
@@ -56,20 +57,20 @@ abbrev mutual
   scratch_of_actions bodies kinds base (action latch associations ss rest) =
       of_associated associations (scratch_of_all bodies kinds base ss) ++ scratch_of_actions bodies kinds base rest
 
--- a label's test of the selector's scratch cell t: `t = k` for one value, and `low <= t AND t <= high` for several
-abbrev pub label_test : Elementary → ℕ → Range → Expression
-label_test kind t r =
-    if int_eq r.low r.high then chain (cell t) (operand Equal kind (number r.low) no_operands)
-    else chain (chain (number r.low) (operand LessEqual kind (cell t) no_operands)) (operand And Bool (chain (cell t) (operand LessEqual kind (number r.high) no_operands)) no_operands)
+-- a label's test of the selector's scratch cell t: `t = k` for a value, and `low <= t AND t <= high` for a range
+abbrev pub label_test : Elementary → ℕ → TypedLabel → Expression
+label_test kind t (Single k) = chain (cell t) (operand Equal kind (number k) no_operands)
+label_test kind t (Span r) =
+    chain (chain (number r.low) (operand LessEqual kind (cell t) no_operands)) (operand And Bool (chain (cell t) (operand LessEqual kind (number r.high) no_operands)) no_operands)
 
-abbrev pub or_test : Elementary → ℕ → Range → OperandData
-or_test kind t r = (Or, Bool, label_test kind t r)
+abbrev pub or_test : Elementary → ℕ → TypedLabel → OperandData
+or_test kind t l = (Or, Bool, label_test kind t l)
 
 -- the tests of labels, joined by OR from the left
-abbrev pub labels_test : Elementary → ℕ → List Range → Expression
+abbrev pub labels_test : Elementary → ℕ → List TypedLabel → Expression
 labels_test kind t [] = number (pos 0)
-labels_test kind t (r ∷ []) = label_test kind t r
-labels_test kind t (r ∷ more ∷ rs) = chain (label_test kind t r) (operands_of (map (or_test kind t) (more ∷ rs)))
+labels_test kind t (l ∷ []) = label_test kind t l
+labels_test kind t (l ∷ more ∷ ls) = chain (label_test kind t l) (operands_of (map (or_test kind t) (more ∷ ls)))
 
 -- So many turns: the control variable is set to the value of each, and the body follows; last it is set to the value that ends
 -- the FOR. A turn's body has m scratch cells.

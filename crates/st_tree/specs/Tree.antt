@@ -7,6 +7,7 @@ use Rattle.st_tree.specs.declared.syntax.UnaryOperator.{UnaryOperator}
 use Rattle.st_tree.specs.declared.function.Function.{Function}
 use Rattle.st_tree.specs.declared.typed.Part.{Part}
 use Rattle.st_tree.specs.declared.typed.Range.{Range}
+use Rattle.st_tree.specs.declared.typed.TypedLabel.{TypedLabel}
 use Rattle.st_tree.specs.declared.typed.CellType.{CellType}
 use Rattle.st_tree.specs.declared.typed.ChartCells.{ChartCells}
 use Rattle.st_tree.specs.declared.typed.Turns.{Turns}
@@ -61,7 +62,7 @@ mutual
 
   pub data Entries : Type 0 where
     no_entries : Entries
-    entry : List Range → Statements → Entries → Entries
+    entry : List TypedLabel → Statements → Entries → Entries
 
   pub data Actions : Type 0 where
     no_actions : Actions

@@ -13,7 +13,7 @@ use Rattle.st_tree.specs.declared.typed.TypedEntry.{TypedEntry}
 use Rattle.st_tree.specs.declared.typed.TypedAction.{TypedAction}
 use Rattle.st_tree.specs.declared.typed.TypedTransition.{TypedTransition}
 use Rattle.st_tree.specs.declared.typed.Association.{Association}
-use Rattle.st_tree.specs.declared.typed.Range.{Range}
+use Rattle.st_tree.specs.declared.typed.TypedLabel.{TypedLabel}
 use Rattle.st_tree.specs.declared.typed.TypedStmt.TheOpen.{TypedStmt-F, TypedArm-F, TypedEntry-F, TypedAction-F}
 use Rattle.st_tree.specs.declared.typed.TypedStmt.TheFolds.{fold-TypedStmt, fold-TypedArm, fold-TypedEntry, fold-TypedAction}
 use Rattle.st_tree.specs.declared.typed.Cell.{Cell}
@@ -72,9 +72,9 @@ abbrev pub choices_of : List ChoiceData → Choices
 choices_of [] = no_choices
 choices_of (c ∷ cs) = choose c.0 c.1 (choices_of cs)
 
--- the values of an entry's labels and its statements
+-- an entry's labels and its statements
 abbrev pub EntryData : Type 0
-EntryData = List Range × Statements
+EntryData = List TypedLabel × Statements
 
 abbrev pub entries_of : List EntryData → Entries
 entries_of [] = no_entries

@@ -29,6 +29,6 @@ pub use syntax::{
 pub use token::{Kind, Mark, Operator, PartWord, Terminal, Tok};
 pub use typed::{
     Association, Called, Cell, CellType, ChartCells, Frame, Operand, Part, Program, Qualifier,
-    Range, StepCells, Turns, TypedAction, TypedArm, TypedEntry, TypedExpr, TypedStmt,
+    Range, StepCells, Turns, TypedAction, TypedArm, TypedEntry, TypedExpr, TypedLabel, TypedStmt,
     TypedTransition,
 };

@@ -93,11 +93,11 @@ pub struct TypedArm {
     pub body: Vec<TypedStmt>,
 }
 
-/// The values of an entry of a CASE, and the statements that run where it is the first that has the selector's.
+/// The labels of an entry of a CASE, and the statements that run where it is the first that has the selector's value.
 #[derive(Drop)]
 #[cycle(typed_stmt)]
 pub struct TypedEntry {
-    pub labels: Vec<Range>,
+    pub labels: Vec<TypedLabel>,
     pub body: Vec<TypedStmt>,
 }
 
@@ -125,6 +125,14 @@ pub enum Part {
 pub struct Range {
     pub low: i64,
     pub high: i64,
+}
+
+/// A label of a CASE (IEC 61131-3, 3.3.2.3): one value, or each value from one to another. A range of one value stays a range,
+/// since its test compares twice.
+#[derive(Clone, Copy, Debug, PartialEq, Eq)]
+pub enum TypedLabel {
+    Single(i64),
+    Span(Range),
 }
 
 /// A cell: its path, the part that it plays, its type, its range, whether its type is a subrange, which is another than the

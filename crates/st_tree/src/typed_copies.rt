@@ -4,7 +4,7 @@ ghost use Rattle.st_tree.specs.View.{expr_view, operand_view, stmt_view, arm_vie
 
 use crate::typed::{
     Association, Called, Cell, Frame, Operand, Program, Range, StepCells, TypedAction, TypedArm,
-    TypedEntry, TypedExpr, TypedStmt, TypedTransition,
+    TypedEntry, TypedExpr, TypedLabel, TypedStmt, TypedTransition,
 };
 use std::alloc::{AllocError, Global};
 
@@ -201,12 +201,22 @@ fn copy_entries(entries: &[TypedEntry], alloc: Global) -> Result<Vec<TypedEntry>
     Ok(copies)
 }
 
-fn copy_labels(labels: &[Range], alloc: Global) -> Result<Vec<Range>, AllocError>
+fn copy_labels(labels: &[TypedLabel], alloc: Global) -> Result<Vec<TypedLabel>, AllocError>
     ensures { IfOk result (λ copies. copies.items ≡ labels.now) }
 {
     let mut copies = Vec::new(alloc);
     for label in labels {
         copies.push(*label)?;
+    }
+    Ok(copies)
+}
+
+fn copy_ranges(ranges: &[Range], alloc: Global) -> Result<Vec<Range>, AllocError>
+    ensures { IfOk result (λ copies. copies.items ≡ ranges.now) }
+{
+    let mut copies = Vec::new(alloc);
+    for range in ranges {
+        copies.push(*range)?;
     }
     Ok(copies)
 }
@@ -289,7 +299,7 @@ impl Frame {
     {
         Ok(Frame {
             types: Vec::from_slice(alloc, &self.types)?,
-            ranges: copy_labels(&self.ranges, alloc)?,
+            ranges: copy_ranges(&self.ranges, alloc)?,
             start: copy_numbers(&self.start, alloc)?,
         })
     }

@@ -10,7 +10,7 @@ use Rattle.st_tree.specs.View.{operands_of, expressions_of, statements_of, choic
 use Rattle.st_types.specs.Typing.{Scope, by_path, kind_at, next_type, type_of, Parameter, fixed, common, amount, parameter_of}
 use Rattle.st_types.specs.Judged.{wanted_at}
 use Rattle.st_types.specs.Typed.{with_operand, typed, typed_links, typed_operands}
-use Rattle.st_types.specs.Labels.{label_range}
+use Rattle.st_types.specs.Labels.{typed_label}
 use Rattle.st_types.specs.TypedStatements.{cell_of, typed_invoke, and_then, turns_of, typed_stmts, typed_arms, typed_entries, typed_else}
 use Rattle.st_types.specs.TypedLists.{operand_list, before_operands, expression_list, statement_list, choice_list, entry_list}
 
@@ -51,4 +51,4 @@ choices_of-list scope (arm e ss arms) = ap (choose (typed scope None e) (typed_s
 
 pub entries_of-list : (scope : Scope) (t : DataType) (es : Entries) → entries_of (entry_list scope t es) ≡ typed_entries scope t es
 entries_of-list scope t no_entries = refl
-entries_of-list scope t (entry ls ss es) = ap (typed_entry (map (label_range scope t) ls) (typed_stmts scope ss)) (entries_of-list scope t es)
+entries_of-list scope t (entry ls ss es) = ap (typed_entry (map (typed_label scope t) ls) (typed_stmts scope ss)) (entries_of-list scope t es)

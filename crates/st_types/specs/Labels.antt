@@ -5,6 +5,8 @@ use Rattle.st_tree.specs.declared.data_type.DataType.{DataType}
 use Rattle.st_tree.specs.DataTypes.{is_same_type}
 use Rattle.st_tree.specs.declared.rule.Rule.TheVariants.{OperandType, OutsideType, Overlap}
 use Rattle.st_tree.specs.declared.typed.Range.{Range}
+use Rattle.st_tree.specs.declared.typed.TypedLabel.{TypedLabel}
+use Rattle.st_tree.specs.declared.typed.TypedLabel.TheVariants.{Single, Span}
 use Rattle.st_tree.specs.Syntax.{Tree, LabelData}
 use Rattle.st_types.specs.Typing.{Scope, type_of, place_of}
 use Rattle.st_types.specs.Judged.{Judgement, sound, also, tested, judged}
@@ -17,6 +19,14 @@ high_value scope t low (Some e) = constant_of scope t e
 -- the values of a label: one, or all from one to another
 abbrev pub label_range : Scope → DataType → LabelData → Range
 label_range scope t l = record { low = constant_of scope t l.low; high = high_value scope t l.low l.high }
+
+-- a label as typed programs have it: its value, or its range where the text writes one
+abbrev pub labelled_by : Range → Option Tree → TypedLabel
+labelled_by r None = Single r.low
+labelled_by r (Some e) = Span r
+
+abbrev pub typed_label : Scope → DataType → LabelData → TypedLabel
+typed_label scope t l = labelled_by (label_range scope t l) l.high
 
 abbrev pub judged_high : Scope → DataType → Option Tree → Judgement
 judged_high scope t None = sound

@@ -9,7 +9,7 @@ use Rattle.st_tree.specs.View.{OperandData, ChoiceData, EntryData}
 use Rattle.st_types.specs.Typing.{Scope, by_path, kind_at, next_type, type_of, Parameter, fixed, common, amount, parameter_of}
 use Rattle.st_types.specs.Judged.{wanted_at}
 use Rattle.st_types.specs.Typed.{typed}
-use Rattle.st_types.specs.Labels.{label_range}
+use Rattle.st_types.specs.Labels.{typed_label}
 use Rattle.st_types.specs.TypedStatements.{cell_of, typed_invoke, turns_of, typed_stmts, typed_arms, typed_entries, typed_else}
 
 abbrev pub operand_list : Scope → DataType → Links → List OperandData
@@ -48,4 +48,4 @@ choice_list scope (arm e ss arms) = (typed scope None e, typed_stmts scope ss) �
 
 abbrev pub entry_list : Scope → DataType → Entries → List EntryData
 entry_list scope t no_entries = []
-entry_list scope t (entry ls ss es) = (map (label_range scope t) ls, typed_stmts scope ss) ∷ entry_list scope t es
+entry_list scope t (entry ls ss es) = (map (typed_label scope t) ls, typed_stmts scope ss) ∷ entry_list scope t es

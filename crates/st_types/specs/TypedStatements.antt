@@ -10,7 +10,7 @@ use Rattle.st_types.specs.declared.scope.Place.TheVariants as places
 use Rattle.st_types.specs.Typing.{Meaning, Instance, Scope, by_path, kind_at, or_dint, type_of}
 use Rattle.st_types.specs.Typed.{meaning_read, typed}
 use Rattle.st_types.specs.Constants.{turn_count}
-use Rattle.st_types.specs.Labels.{label_range}
+use Rattle.st_types.specs.Labels.{typed_label}
 use Rattle.st_types.specs.JudgedStatements.{member, bound_value, step_value}
 
 abbrev pub place_cell : Place → ℕ
@@ -77,7 +77,7 @@ abbrev mutual
 
   pub typed_entries : Scope → DataType → Entries → TypedEntries
   typed_entries scope t no_entries = no_typed_entries
-  typed_entries scope t (entry ls ss es) = typed_entry (map (label_range scope t) ls) (typed_stmts scope ss) (typed_entries scope t es)
+  typed_entries scope t (entry ls ss es) = typed_entry (map (typed_label scope t) ls) (typed_stmts scope ss) (typed_entries scope t es)
 
   pub typed_else : Scope → Otherwise → Statements
   typed_else scope no_else = no_statements

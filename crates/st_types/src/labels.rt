@@ -1,7 +1,7 @@
 // The labels of a CASE.
 ghost use Rattle.std.specs.Prelude.{◌≡◌, [], map, not, int_le, IfOk, List, Some};
 ghost use Rattle.st_tree.specs.SyntaxView.{tree_view, initial_view, label_view, labels_view, entries_view};
-ghost use Rattle.st_types.specs.Labels.{label_range, judged_high, is_of_type, high_is_of_type, overlaps, judged_label, judged_labels, seen_with, seen_behind};
+ghost use Rattle.st_types.specs.Labels.{label_range, labelled_by, typed_label, judged_high, is_of_type, high_is_of_type, overlaps, judged_label, judged_labels, seen_with, seen_behind};
 ghost use Rattle.st_types.specs.Outcomes.{outcome_of, labels_outcome, all_labels};
 ghost use Rattle.st_types.specs.Seen.{Keeps};
 ghost use Rattle.st_types.specs.Judged.{also, judged};
@@ -11,7 +11,7 @@ use crate::kinds::{place_of, type_of};
 use crate::outcome::Outcome;
 use crate::scope::Scope;
 use crate::typed_expressions::constant_of;
-use st_tree::{DataType, Entry, Expr, Label, Range, Rule};
+use st_tree::{DataType, Entry, Expr, Label, Range, Rule, TypedLabel};
 use std::alloc::{AllocError, Global};
 use std::collections::BTreeMap;
 
@@ -37,20 +37,42 @@ pub(crate) fn label_range<S: Scope>(
     }
 }
 
-/// The values of labels.
-pub(crate) fn label_ranges<S: Scope>(
+/// Labels as typed programs have them.
+pub(crate) fn typed_labels<S: Scope>(
     alloc: Global,
     scope: &S,
     kind: DataType,
     labels: &[Label],
-) -> Result<Vec<Range>, AllocError>
-    ensures { IfOk result (λ ranges. ranges.items ≡ map (label_range (S.means scope.now) kind) (labels_view labels.now)) }
+) -> Result<Vec<TypedLabel>, AllocError>
+    ensures { IfOk result (λ list. list.items ≡ map (typed_label (S.means scope.now) kind) (labels_view labels.now)) }
 {
-    let mut ranges = Vec::new(alloc);
+    let mut list = Vec::new(alloc);
     for label in labels {
-        ranges.push(label_range(alloc, scope, kind, label)?)?;
+        list.push(typed_label(alloc, scope, kind, label)?)?;
     }
-    Ok(ranges)
+    Ok(list)
+}
+
+// A label of one value, or a range where the text writes one.
+fn typed_label<S: Scope>(
+    alloc: Global,
+    scope: &S,
+    kind: DataType,
+    label: &Label,
+) -> Result<TypedLabel, AllocError>
+    ensures { IfOk result (λ typed. typed ≡ typed_label (S.means scope.now) kind (label_view label.now)) }
+{
+    let range = label_range(alloc, scope, kind, label)?;
+    Ok(labelled_by(range, &label.high))
+}
+
+fn labelled_by(range: Range, high: &Option<Expr>) -> TypedLabel
+    ensures { result ≡ labelled_by range (initial_view high.now) }
+{
+    match high {
+        None => TypedLabel::Single(range.low),
+        Some(_) => TypedLabel::Span(range),
+    }
 }
 
 fn judge_high<S: Scope>(

@@ -8,7 +8,7 @@ ghost use Rattle.st_types.specs.TypedLists.{statements_for};
 use crate::connections::type_invoke;
 use crate::iteration::turns_of;
 use crate::kinds::{kind_at, type_of};
-use crate::labels::label_ranges;
+use crate::labels::typed_labels;
 use crate::scope::Scope;
 use crate::typed_expressions::{cell_of, type_expr};
 use st_tree::{Arm, DataType, Entry, Stmt, TypedArm, TypedEntry, TypedStmt};
@@ -96,7 +96,7 @@ fn type_entries<S: Scope>(
 {
     let mut list = Vec::new(alloc);
     for entry in entries {
-        let labels = label_ranges(alloc, scope, kind, &entry.labels)?;
+        let labels = typed_labels(alloc, scope, kind, &entry.labels)?;
         let body = type_stmts(alloc, scope, &entry.body)?;
         list.push(TypedEntry { labels, body })?;
     }
