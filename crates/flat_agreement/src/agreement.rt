@@ -2,7 +2,7 @@
 use crate::flat_run::{run_all, size_of};
 use crate::groups::{Group, Scan};
 use flat_core::Flat;
-use flat_front::accept_flat;
+use front_end::accept_flat;
 use flat_typing::check_program;
 use scan_replay::Machine;
 use st_tree::Program;

@@ -1,3 +1,4 @@
 pub mod StandardBlocks
 pub mod Texts
+pub mod FlatTexts
 pub mod Faults
