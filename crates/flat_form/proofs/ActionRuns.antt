@@ -1,5 +1,5 @@
 -- What the flat list of a chart asks of its actions: the list of each one's statements shows what they do.
-use Rattle.std.proofs.Common.{◌≡◌, ℕ, ◌+◌, ◌<◌, ◌≤◌, Bool, List, length, ℤ}
+use Rattle.std.proofs.Common.{ℕ, ◌+◌, ◌<◌, ◌≤◌, Bool, List, length, ℤ}
 use Rattle.st_tree.specs.declared.typed.Range.{Range}
 use Rattle.st_tree.specs.Tree.{Actions, no_actions, action}
 use Rattle.effects.specs.Values.{State, Callees}

@@ -11,19 +11,14 @@ use Rattle.effects.specs.Effects.{range_at, with_fault, stored}
 use Rattle.effects.specs.Calls.{given}
 use Rattle.scan_model.specs.InRange.{IsInRange}
 use Rattle.flat_core.specs.declared.flat_tree.Scratch.{Scratch}
-use Rattle.flat_core.specs.FlatTree.{FlatStatement, set}
+use Rattle.flat_core.specs.FlatTree.{set}
 use Rattle.flat_core.specs.FlatView.{flats_of}
 use Rattle.flat_core.specs.FlatScans.{takes, placed, run_of, run_of_all}
 use Rattle.flat_form.specs.Frames.{FrameData, type_at, scratch_at, initial_at, input_start, others_behind, other_scratch, other_starts, counted_from, places_of}
 use Rattle.flat_form.specs.Owners.{call_owner}
 use Rattle.flat_form.specs.WellTyped.{FrameFits, tested_in}
 use Rattle.flat_form.proofs.Shown.{held, Owns, Shows, SameUpTo, Stands}
-
--- ---- one list after another
-
-pub run-append : (rs : List Range) (cs : List Scratch) (a b : List FlatStatement) (x : State) → run_of_all rs cs (flats_of (a ++ b)) x ≡ run_of_all rs cs (flats_of b) (run_of_all rs cs (flats_of a) x)
-run-append rs cs [] b x = refl
-run-append rs cs (t ∷ a) b x = run-append rs cs a b (run_of rs cs t x)
+use Rattle.flat_form.proofs.Sequences.{Stands-front, Stands-back}
 
 -- ---- a run that leaves the places below k as they are, and may set FAULT
 
@@ -68,26 +63,7 @@ Reached-with_fault k true x some = record {
 
 -- ---- scratch cells among all
 
-takes-front : (a b : List Scratch) (i : ℕ) (v : ℤ) → i < length a → takes (a ++ b) i v ≡ takes a i v
-takes-front [] b i v h = absurd (omega (arith, h))
-takes-front (c ∷ a) b zero v h = refl
-takes-front (c ∷ a) b (suc i) v h = takes-front a b i v (omega (arith, h))
-
-takes-back : (a b : List Scratch) (i j : ℕ) (v : ℤ) → j ≡ length a + i → takes (a ++ b) j v ≡ takes b i v
-takes-back [] b i j v e = ap (λ n. takes b n v) (let same : j ≡ i = omega (arith, e) in same)
-takes-back (c ∷ a) b i zero v e = absurd (omega (arith, e))
-takes-back (c ∷ a) b i (suc j) v e = takes-back a b i j v (omega (arith, e))
-
 module _ (rs : List Range) (cs : List Scratch) where
-  pub Stands-front : (k : ℕ) (a b : List Scratch) → Stands rs cs k (a ++ b) → Stands rs cs k a
-  Stands-front k a b h = λ i v less. h i v (let parts = length-append a b in omega arith) ∙ takes-front a b i v less
-
-  pub Stands-back : (k : ℕ) (a b : List Scratch) → Stands rs cs k (a ++ b) → Stands rs cs (k + length a) b
-  Stands-back k a b h = λ i v less.
-      let parts = length-append a b in
-      let same : k + length a + i - length rs ≡ k + (length a + i) - length rs = omega arith in
-      ap (λ n. takes cs n v) same ∙ h (length a + i) v (omega arith) ∙ takes-back a b i (length a + i) v refl
-
   pub placed_scratch : (j : ℕ) (v : ℤ) (x : State) → length rs ≤ j → placed rs cs j v x ≡ (if takes cs (j - length rs) v then slice_set x j v else slice_set x 0 (pos 1))
   placed_scratch j v x h = let behind : nat_lt j (length rs) ≡ false = search (rules, tests) in rw behind refl
 

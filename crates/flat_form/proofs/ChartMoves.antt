@@ -1,5 +1,5 @@
 -- The last two parts of a chart's run: the transitions, and the next marking.
-use Rattle.std.proofs.Common.{◌≡◌, ◌≢◌, ℕ, zero, suc, ◌+◌, ◌-◌, ◌*◌, ◌<◌, ◌≤◌, Bool, true, false, not, ◌&&◌, ◌||◌, List, [], ◌∷◌, ◌++◌, length, map, ℤ, pos, refl, sym, ap, subst, ◌∙◌, arith, rules, tests, zero-add}
+use Rattle.std.proofs.Common.{◌≡◌, ◌≢◌, ℕ, zero, suc, ◌+◌, ◌-◌, ◌*◌, ◌<◌, ◌≤◌, Bool, true, false, not, ◌&&◌, ◌||◌, List, [], ◌∷◌, ◌++◌, length, map, ℤ, pos, refl, sym, ap, subst, ◌∙◌, arith, rules, tests, zero-add, length-append}
 use Rattle.std.specs.Prelude.{◌==◌, slice_set, slice_index_or, nat_lt, if◌then◌else◌}
 use Rattle.std.specs.List.{list_any}
 use Rattle.std.proofs.lemmas.List.{length-set, get_or-set_same, get_or-set_other}
@@ -25,7 +25,8 @@ use Rattle.flat_form.specs.FlatCharts.{no_step, flags_of, left_flag, come_flag, 
 use Rattle.flat_form.specs.WellTyped.{IsTypedValue, AreTypedOperands, AreTypedValues, AreTypedInputs, AreSteps, AreFlags, AreRisingFrom, chart_places, AreTypedTransitions}
 use Rattle.flat_form.proofs.Shown.{held, Owns, Owns-later, Shows, Shows-scratch, Shows-kept, Ran-scratch, Ran-both, Ran-kept, Done, Done-stored, SameUpTo, Evaluated, Stands}
 use Rattle.scan_model.proofs.Keeping.{HoldsFault, fault_added}
-use Rattle.flat_form.proofs.ChartStores.{run-append, Done-both, length-both, Stands-front, Stands-back, with_fault-both, held-with_fault, stored-other, Done-evaluated, is_truth-number_of, fits_bit, held_bit}
+use Rattle.flat_form.proofs.ChartStores.{Done-both, with_fault-both, held-with_fault, stored-other, Done-evaluated, is_truth-number_of, fits_bit, held_bit}
+use Rattle.flat_form.proofs.Sequences.{run-append, Stands-front, Stands-back}
 use Rattle.flat_form.proofs.ChartTests.{IsTest, IsTest-cell, IsTest-not, IsTest-and, IsTest-or, IsTest-ready}
 
 -- ---- expressions do not read FAULT
@@ -305,7 +306,7 @@ module _ (rs : List Range) (cs : List Scratch) (bodies : Bodies) (MayCall MayRun
       → After (fault_after xm (holds_in callees base s) (faults_in callees base s) ts left b) (left_after xm (holds_in callees base s) ts left) (come_after xm (holds_in callees base s) ts left come) (run_of_all rs cs (flats_of (flat_transitions bodies owner base steps k ts j)) y)
   transitions [] j b left come y typed behind fits stands so_far = so_far
   transitions (t ∷ ts) j b left come y typed behind fits stands so_far =
-      let parts = length-both (scratch_in bodies t.condition) (scratch_of_transitions bodies ts) in
+      let parts = length-append (scratch_in bodies t.condition) (scratch_of_transitions bodies ts) in
       let one = transition t j b left come y typed.0 typed.1 typed.2 behind (omega arith) (Stands-front rs cs j (scratch_in bodies t.condition) (scratch_of_transitions bodies ts) stands) so_far in
       transitions ts (j + length (scratch_in bodies t.condition)) (b || (may_leave xm left t.from && faults_in callees base s t)) (left_with xm (holds_in callees base s) t left) (come_with xm (holds_in callees base s) t left come) _ typed.3
       (omega arith) (omega arith) (Stands-back rs cs j (scratch_in bodies t.condition) (scratch_of_transitions bodies ts) stands) one
@@ -471,7 +472,7 @@ module _ (rs : List Range) (cs : List Scratch) (bodies : Bodies) (MayCall MayRun
       let faulty = faults_in callees base s in
       let none = no_steps xm in
       let two_each = length-flags steps in
-      let parts = length-both (flags_of steps) (scratch_of_transitions bodies ts) in
+      let parts = length-append (flags_of steps) (scratch_of_transitions bodies ts) in
       let long_now = length-now base s steps in
       let long : length xm ≡ m = ap length (sym marking) ∙ long_now in
       let long_none : length none ≡ m = length-none xm ∙ long in

@@ -1,5 +1,5 @@
 -- Stores behind runs of lists, one behind the other, and behind expressions; and the values of flags.
-use Rattle.std.proofs.Common.{◌≡◌, ◌≢◌, ℕ, zero, suc, ◌+◌, ◌-◌, ◌<◌, ◌≤◌, Bool, true, false, ◌||◌, List, [], ◌∷◌, ◌++◌, length, ℤ, pos, ◌≤ℤ◌, refl, sym, ap, subst, ◌∙◌, arith, rules, tests, zero-add}
+use Rattle.std.proofs.Common.{◌≡◌, ◌≢◌, ℕ, zero, suc, ◌<◌, ◌≤◌, Bool, true, false, ◌||◌, List, [], ◌∷◌, length, ℤ, pos, ◌≤ℤ◌, refl, sym, ap, subst, ◌∙◌, arith, rules, tests}
 use Rattle.std.specs.Prelude.{slice_set, if◌then◌else◌}
 use Rattle.std.proofs.lemmas.Int.{ints}
 use Rattle.std.proofs.lemmas.List.{length-set, get_or-set_same, get_or-set_other}
@@ -10,21 +10,13 @@ use Rattle.effects.specs.Values.{State, Callees, no_callees, is_truth, number_of
 use Rattle.effects.specs.Charts.{is_on}
 use Rattle.effects.specs.Effects.{range_at, with_fault, stored}
 use Rattle.scan_model.specs.InRange.{IsInRange}
-use Rattle.flat_core.specs.declared.flat_tree.Scratch.{Scratch}
-use Rattle.flat_core.specs.FlatTree.{FlatStatement}
-use Rattle.flat_core.specs.FlatView.{flats_of}
-use Rattle.flat_core.specs.FlatScans.{takes, run_of, run_of_all}
-use Rattle.flat_form.proofs.Shown.{held, Shows, Ran, Done, SameUpTo, Evaluated, Stands, Ran-none, Ran-both, Ran-with_fault, Shows-with_fault, Shows-kept}
+use Rattle.flat_form.proofs.Shown.{held, Shows, Ran, Done, SameUpTo, Evaluated, Ran-none, Ran-both, Ran-with_fault, Shows-with_fault, Shows-kept}
 
 pub by_cases : {P : Type 0} (b : Bool) → (b ≡ true → P) → (b ≡ false → P) → P
 by_cases true p q = p refl
 by_cases false p q = q refl
 
 -- ---- runs, one behind the other
-
-pub run-append : (rs : List Range) (cs : List Scratch) (a b : List FlatStatement) (x : State) → run_of_all rs cs (flats_of (a ++ b)) x ≡ run_of_all rs cs (flats_of b) (run_of_all rs cs (flats_of a) x)
-run-append rs cs [] b x = refl
-run-append rs cs (t ∷ a) b x = run-append rs cs a b (run_of rs cs t x)
 
 module _ (n k : ℕ) (place_at : ℕ → ℕ) where
   pub Ran-earlier : (j : ℕ) (x y : State) → k ≤ j → Ran n j place_at x y → Ran n k place_at x y
@@ -38,31 +30,6 @@ module _ (n k : ℕ) (place_at : ℕ → ℕ) where
 
   pub Done-none : (f : ℤ) (s x : State) → Shows n place_at f s x → Done n k place_at f s x x
   Done-none f s x h = record { shown = h; ran = Ran-none n k place_at x }
-
--- ---- scratch cells, one behind the other
-
-takes-front : (a b : List Scratch) (i : ℕ) (v : ℤ) → i < length a → takes (a ++ b) i v ≡ takes a i v
-takes-front [] b i v h = absurd (omega arith)
-takes-front (c ∷ a) b zero v h = refl
-takes-front (c ∷ a) b (suc i) v h = takes-front a b i v (omega arith)
-
-takes-back : (a b : List Scratch) (i : ℕ) (v : ℤ) → takes (a ++ b) (length a + i) v ≡ takes b i v
-takes-back [] b i v = rw (zero-add i) refl
-takes-back (c ∷ a) b i v = let e : suc (length a) + i ≡ suc (length a + i) = omega arith in rw e (takes-back a b i v)
-
-pub length-both : (a b : List Scratch) → length (a ++ b) ≡ length a + length b
-length-both [] b = sym (zero-add (length b))
-length-both (c ∷ a) b = let e = length-both a b in omega arith
-
-module _ (rs : List Range) (cs : List Scratch) (k : ℕ) (a b : List Scratch) where
-  pub Stands-front : Stands rs cs k (a ++ b) → Stands rs cs k a
-  Stands-front h i v less = let e = length-both a b in h i v (omega arith) ∙ takes-front a b i v less
-
-  pub Stands-back : Stands rs cs k (a ++ b) → Stands rs cs (k + length a) b
-  Stands-back h i v less =
-      let e = length-both a b in
-      let same : k + length a + i - length rs ≡ k + (length a + i) - length rs = omega arith in
-      ap (λ (j : ℕ). takes cs j v) same ∙ h (length a + i) v (omega arith) ∙ takes-back a b i v
 
 -- ---- FAULT
 

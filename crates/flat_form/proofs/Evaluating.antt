@@ -1,6 +1,6 @@
 -- Expressions and calls of FUNCTIONs: what the types say holds of values, and the statements that calls become leave an expression of the
 -- same value.
-use Rattle.std.proofs.Common.{◌≡◌, ℕ, suc, ◌+◌, ◌-◌, ◌*◌, ◌^◌, ◌<◌, ◌≤◌, Bool, true, false, not, ◌&&◌, ◌||◌, List, [], ◌∷◌, ◌++◌, length, ℤ, pos, ◌+ℤ◌, ◌*ℤ◌, refl, sym, ap, subst, ◌∙◌, arith, rules, tests, length-append, zero-add}
+use Rattle.std.proofs.Common.{◌≡◌, ℕ, suc, ◌+◌, ◌-◌, ◌^◌, ◌<◌, ◌≤◌, Bool, true, false, not, ◌&&◌, ◌||◌, List, [], ◌∷◌, ◌++◌, length, ℤ, pos, ◌+ℤ◌, ◌*ℤ◌, refl, sym, ap, subst, ◌∙◌, arith, rules, tests, length-append, zero-add}
 use Rattle.std.specs.Prelude.{if◌then◌else◌, ◌≤ℤ◌}
 use Rattle.std.proofs.lemmas.Int.{ints}
 use Rattle.num_core.proofs.Wrapped.{wraps_defined, wrap_is}
@@ -27,7 +27,8 @@ use Rattle.flat_form.specs.Calls.{arity, rest_scratch, rest_list, scratch_in, op
 use Rattle.flat_form.specs.WellTyped.{FrameFits, covers, last_stays, chosen_stay, stays_in, each_stays, IsTypedValue, AreTypedOperands, AreTypedValues, AreTypedInputs}
 use Rattle.scan_model.proofs.Keeping.{IsInRange-length, IsInRange-set, either}
 use Rattle.flat_form.proofs.Shown.{held, Owns, Shows, Done, SameUpTo, Evaluated, Stands, CallRuns, Owns-later}
-use Rattle.flat_form.proofs.Calling.{run-append, either_fault, or_false, Reached, Reached-none, Reached-both, Reached-same, Stands-front, Stands-back, in_range-at, unfit, given-long, given-before, given-behind, given-fault, Seated, Seated-order, Filled, input_set, CallBegun, begins, call_begun, length-stored, stored-same, stored-other, length-other}
+use Rattle.flat_form.proofs.Calling.{either_fault, or_false, Reached, Reached-none, Reached-both, Reached-same, in_range-at, unfit, given-long, given-before, given-behind, given-fault, Seated, Seated-order, Filled, input_set, CallBegun, begins, call_begun, length-stored, stored-same, stored-other, length-other}
+use Rattle.flat_form.proofs.Sequences.{run-append, Stands-front, Stands-back}
 
 -- ---- ranges of types
 

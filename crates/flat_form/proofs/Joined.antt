@@ -1,5 +1,5 @@
 -- The parts of the law on meaning together.
-use Rattle.std.proofs.Common.{◌≡◌, ℕ, ◌<◌, List, length}
+use Rattle.std.proofs.Common.{◌≡◌, ◌<◌, List, length}
 use Rattle.st_tree.specs.declared.typed.Range.{Range}
 use Rattle.st_tree.specs.Tree.{ProgramData}
 use Rattle.effects.specs.Values.{State}

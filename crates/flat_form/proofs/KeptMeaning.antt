@@ -1,5 +1,5 @@
 -- What the bodies of POUs become shows what they do, and the flat form of a program leaves the cells that the program leaves.
-use Rattle.std.proofs.Common.{◌≡◌, ℕ, zero, suc, ◌+◌, ◌-◌, ◌<◌, ◌≤◌, Bool, true, false, not, ◌&&◌, ◌||◌, List, [], ◌∷◌, ◌++◌, length, map, ℤ, pos, refl, sym, ap, subst, ◌∙◌, take, ◌≤ℤ◌, arith, rules, tests, length-append}
+use Rattle.std.proofs.Common.{◌≡◌, ℕ, zero, suc, ◌+◌, ◌-◌, ◌<◌, ◌≤◌, Bool, true, false, List, [], ◌∷◌, ◌++◌, length, map, ℤ, pos, refl, sym, ap, subst, ◌∙◌, take, ◌≤ℤ◌, arith, rules, tests, length-append}
 use Rattle.std.specs.Prelude.{◌==◌, slice_set, slice_index_or, if◌then◌else◌, nat_lt}
 use Rattle.std.proofs.lemmas.List.{length-map, length-set, get_or-set_same, get_or-set_other, get_or_append_left}
 use Rattle.std.proofs.lemmas.Int.{ints}

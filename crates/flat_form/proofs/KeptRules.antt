@@ -2,7 +2,6 @@
 use Rattle.std.proofs.Common.{◌≡◌, ℕ, zero, suc, ◌+◌, ◌-◌, ◌<◌, Bool, true, false, not, ◌||◌, List, [], ◌∷◌, ◌++◌, length, map, ℤ, ◌+ℤ◌, refl, sym, ap, subst, inl, inr, arith, rules, tests}
 use Rattle.std.proofs.lemmas.List.{length-map}
 use Rattle.std.specs.Prelude.{◌==◌, Option, None, Some, slice_index_or, if◌then◌else◌}
-use Rattle.std.specs.Ordering.{int_eq}
 use Rattle.st_tree.specs.declared.elementary.Elementary.{Elementary}
 use Rattle.st_tree.specs.declared.typed.Range.{Range}
 use Rattle.st_tree.specs.declared.typed.TypedLabel.{TypedLabel}
@@ -10,7 +9,7 @@ use Rattle.st_tree.specs.declared.typed.TypedLabel.TheVariants.{Single, Span}
 use Rattle.st_tree.specs.declared.typed.StepCells.{StepCells}
 use Rattle.st_tree.specs.declared.typed.Association.{Association}
 use Rattle.st_tree.specs.Types.{in_range}
-use Rattle.st_tree.specs.Tree.{Expression, Statement, assign, run, choice, cases, repeat, chart, Statements, no_statements, statement, Choices, no_choices, choose, Entries, no_entries, entry, Actions, no_actions, action, CellData, CalledData, ProgramData}
+use Rattle.st_tree.specs.Tree.{Statement, assign, run, choice, cases, repeat, chart, Statements, no_statements, statement, Choices, no_choices, choose, Entries, no_entries, entry, Actions, no_actions, action, CellData, CalledData, ProgramData}
 use Rattle.st_tree.specs.View.{operands_of}
 use Rattle.effects.specs.Calls.{nothing}
 use Rattle.scan_model.specs.Scans.{ranges_of}

@@ -1,15 +1,13 @@
 -- The tests of labels: TRUE where the selector's value is among those of the labels, and never a fault.
-use Rattle.std.proofs.Common.{◌≡◌, ℕ, Bool, true, false, ◌&&◌, ◌||◌, List, [], ◌∷◌, map, ℤ, pos, refl, rules, tests, zero-add}
-use Rattle.std.specs.Prelude.{slice_index_or, if◌then◌else◌, int_le}
+use Rattle.std.proofs.Common.{◌≡◌, ℕ, Bool, true, false, ◌&&◌, ◌||◌, List, [], ◌∷◌, map, ℤ, pos, refl, zero-add}
+use Rattle.std.specs.Prelude.{slice_index_or, int_le}
 use Rattle.std.specs.Ordering.{int_eq}
-use Rattle.std.proofs.lemmas.Int.{ints}
 use Rattle.st_tree.specs.declared.elementary.Elementary.{Elementary}
 use Rattle.st_tree.specs.declared.elementary.Elementary.TheVariants.{Bool as Bit}
 use Rattle.st_tree.specs.declared.token.Operator.TheVariants.{Or, And}
 use Rattle.st_tree.specs.declared.typed.TypedLabel.{TypedLabel}
 use Rattle.st_tree.specs.declared.typed.TypedLabel.TheVariants.{Single, Span}
-use Rattle.st_tree.specs.Types.{in_range, wrap_to}
-use Rattle.st_tree.specs.Tree.{Expression}
+use Rattle.st_tree.specs.Types.{wrap_to}
 use Rattle.st_tree.specs.View.{operands_of}
 use Rattle.effects.specs.Values.{State, no_callees, value_of, value_on, faults, any_faults, applied, number_of, is_truth}
 use Rattle.effects.specs.Effects.{is_named, is_labelled}

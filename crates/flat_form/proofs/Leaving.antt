@@ -1,6 +1,6 @@
 -- Statements leave the cells from their extent on, FAULT apart.
-use Rattle.std.proofs.Common.{◌≡◌, ◌≢◌, ℕ, zero, suc, ◌+◌, ◌<◌, ◌≤◌, Bool, true, false, List, [], ◌∷◌, ℤ, pos, ◌+ℤ◌, refl, sym, ◌∙◌, arith}
-use Rattle.std.specs.Prelude.{◌==◌, max, Option, None, Some, slice_set, slice_index_or, if◌then◌else◌}
+use Rattle.std.proofs.Common.{◌≡◌, ◌≢◌, ℕ, zero, suc, ◌+◌, ◌<◌, ◌≤◌, Bool, true, false, List, [], ◌∷◌, ℤ, pos, ◌+ℤ◌, refl, ◌∙◌, arith}
+use Rattle.std.specs.Prelude.{◌==◌, max, Option, None, Some, slice_index_or, if◌then◌else◌}
 use Rattle.std.proofs.Math.Nat.{le-max_left, le-max_right}
 use Rattle.std.proofs.lemmas.List.{get_or-set_other}
 use Rattle.st_tree.specs.declared.typed.Range.{Range}

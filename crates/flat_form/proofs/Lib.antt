@@ -1,4 +1,5 @@
 pub mod Shown
+pub mod Sequences
 pub mod IdleLemmas
 pub mod IdleTables
 pub mod Owed

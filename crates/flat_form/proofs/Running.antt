@@ -1,27 +1,26 @@
 -- The flat list of statements shows what they do.
-use Rattle.std.proofs.Common.{◌≡◌, ℕ, zero, suc, ◌+◌, ◌-◌, ◌<◌, ◌≤◌, Bool, true, false, not, ◌&&◌, ◌||◌, List, [], ◌∷◌, ◌++◌, length, ℤ, pos, ◌+ℤ◌, ◌*ℤ◌, ◌≤ℤ◌, refl, sym, ap, subst, ◌∙◌, arith, rules, tests, length-append}
+use Rattle.std.proofs.Common.{◌≡◌, ℕ, zero, suc, ◌+◌, ◌-◌, ◌<◌, ◌≤◌, Bool, true, false, ◌||◌, List, [], ◌∷◌, ◌++◌, length, ℤ, pos, ◌+ℤ◌, refl, sym, ap, subst, ◌∙◌, arith, rules, tests, length-append}
 use Rattle.std.specs.Prelude.{slice_set, slice_index_or, if◌then◌else◌, nat_lt}
 use Rattle.std.proofs.lemmas.List.{length-set, get_or-set_same, get_or-set_other}
-use Rattle.std.proofs.lemmas.Int.{ints}
 use Rattle.st_tree.specs.declared.typed.Range.{Range}
 use Rattle.st_tree.specs.Types.{in_range}
-use Rattle.effects.specs.Values.{State, Callees, no_callees, fault_in, value_of, faults, is_truth}
+use Rattle.effects.specs.Values.{State, Callees, no_callees, value_of, faults, is_truth}
 use Rattle.effects.specs.Effects.{range_at, with_fault, stored, is_labelled, effect_of_turns, effect_of, effect_of_all, effect_of_choices, effect_of_entries}
 use Rattle.scan_model.specs.InRange.{IsInRange}
 use Rattle.st_tree.specs.declared.elementary.Elementary.{Elementary}
-use Rattle.st_tree.specs.declared.typed.StepCells.{StepCells}
-use Rattle.st_tree.specs.Tree.{Expression, TransitionData, number, Statement, assign, run, choice, cases, repeat, chart, Statements, no_statements, statement, Choices, no_choices, choose, Entries, no_entries, entry, Actions, no_actions, action}
+use Rattle.st_tree.specs.Tree.{Expression, Statement, assign, run, choice, cases, repeat, chart, Statements, no_statements, statement, Choices, no_choices, choose, Entries, no_entries, entry, Actions, no_actions, action}
 use Rattle.flat_core.specs.declared.flat_tree.Scratch.{Scratch}
 use Rattle.flat_core.specs.FlatTree.{FlatStatement, set}
 use Rattle.flat_core.specs.FlatView.{flats_of, nested}
-use Rattle.flat_core.specs.FlatScans.{takes, placed, run_of, run_of_all}
+use Rattle.flat_core.specs.FlatScans.{takes, placed, run_of_all}
 use Rattle.flat_form.specs.Owners.{OwnerData}
 use Rattle.flat_form.specs.Bodies.{Bodies}
 use Rattle.flat_form.specs.Kinds.{kind_of}
 use Rattle.flat_form.specs.Calls.{scratch_in, before, moved}
 use Rattle.flat_form.specs.FlatLists.{selector_cell, repeated, scratch_of, scratch_of_all, scratch_of_choices, scratch_of_entries, unrolled, flat_of, flat_of_all, flat_choices, flat_entries}
-use Rattle.flat_form.specs.WellTyped.{stays_in, IsOwnPlace, IsTypedValue, IsTyped, AreTyped, AreTypedChoices, AreTypedEntries, AreTypedActions}
+use Rattle.flat_form.specs.WellTyped.{IsOwnPlace, IsTyped, AreTyped, AreTypedChoices, AreTypedEntries, AreTypedActions}
 use Rattle.flat_form.proofs.Shown.{held, Owns, Shows, Ran, Done, SameUpTo, Evaluated, Stands, BlockRuns, Owns-later, Ran-none, Ran-both, Ran-with_fault, Ran-scratch, Ran-kept, Shows-with_fault, Shows-scratch, Shows-kept, Done-stored}
+use Rattle.flat_form.proofs.Sequences.{run-append, Stands-front, Stands-back}
 use Rattle.scan_model.proofs.Keeping.{HoldsFault, fault_added, kept_by_store, kept_by_statement, kept_by_all}
 use Rattle.flat_form.proofs.LabelLemmas.{is_truth-number_of, labels_test-fault, labels_test-value}
 use Rattle.flat_form.proofs.TurnValues.{stay_from, first-fits, later-fit}
@@ -29,11 +28,7 @@ use Rattle.flat_form.proofs.ActionRuns.{EachActionRuns}
 use Rattle.flat_form.proofs.Owed.{with_turns}
 use Rattle.flat_form.proofs.Claims.{ExpressionsRun, ExpressionsStay, ChartsRun, RunsKeep}
 
--- ---- one list after another
-
-pub run-append : (rs : List Range) (cs : List Scratch) (a b : List FlatStatement) (x : State) → run_of_all rs cs (flats_of (a ++ b)) x ≡ run_of_all rs cs (flats_of b) (run_of_all rs cs (flats_of a) x)
-run-append rs cs [] b x = refl
-run-append rs cs (t ∷ a) b x = run-append rs cs a b (run_of rs cs t x)
+-- ---- one run after another
 
 pub Ran-earlier : (n k j : ℕ) (place_at : ℕ → ℕ) (x y : State) → k ≤ j → Ran n j place_at x y → Ran n k place_at x y
 Ran-earlier n k j place_at x y h r = record { long = r.long; same = λ p a b c. r.same p a (omega arith) c }
@@ -47,25 +42,7 @@ Done-both n k j place_at f s t x y z h a b = record { shown = b.shown; ran = Ran
 
 -- ---- scratch cells one behind the other
 
-pub takes-front : (a b : List Scratch) (i : ℕ) (v : ℤ) → i < length a → takes (a ++ b) i v ≡ takes a i v
-takes-front [] b i v h = absurd (omega (arith, h))
-takes-front (c ∷ a) b zero v h = refl
-takes-front (c ∷ a) b (suc i) v h = takes-front a b i v (omega arith)
-
-pub takes-behind : (a b : List Scratch) (i : ℕ) (v : ℤ) → takes (a ++ b) (length a + i) v ≡ takes b i v
-takes-behind [] b i v = let same : 0 + i ≡ i = omega arith in ap (λ n. takes b n v) same
-takes-behind (c ∷ a) b i v = let same : suc (length a) + i ≡ suc (length a + i) = omega arith in ap (λ n. takes (c ∷ (a ++ b)) n v) same ∙ takes-behind a b i v
-
 module _ (rs : List Range) (cs : List Scratch) where
-  pub Stands-front : (k : ℕ) (a b : List Scratch) → Stands rs cs k (a ++ b) → Stands rs cs k a
-  Stands-front k a b h i v low = let parts = length-append a b in h i v (omega arith) ∙ takes-front a b i v low
-
-  pub Stands-behind : (k : ℕ) (a b : List Scratch) → Stands rs cs k (a ++ b) → Stands rs cs (k + length a) b
-  Stands-behind k a b h i v low =
-      let parts = length-append a b in
-      let same : k + length a + i - length rs ≡ k + (length a + i) - length rs = omega arith in
-      ap (λ n. takes cs n v) same ∙ h (length a + i) v (omega arith) ∙ takes-behind a b i v
-
   pub Stands-tail : (k : ℕ) (c : Scratch) (b : List Scratch) → Stands rs cs k (c ∷ b) → Stands rs cs (k + 1) b
   Stands-tail k c b h i v low =
       let same : k + 1 + i - length rs ≡ k + suc i - length rs = omega arith in
@@ -148,7 +125,7 @@ module _ (rs : List Range) (cs : List Scratch) (own : List Range) (tested : ℕ 
       let one = each (omega arith) k f s1 x1 owns begun.shown range1 le some (omega arith) (Stands-front rs cs k made (repeated n made) stands) in
       let l2 = one.ran.long in
       let rest = done_turns n c (v +ℤ step) step made body effect own_place (later-fit (tested c) n v step (range_at own c) fits) keeps (λ more. each (omega arith)) (k + m) f (effect s1) x2
-      (Owns-later rs cs own tested place_at k (k + m) (omega arith) owns) one.shown (keeps s1 range1) (omega arith) some (omega arith) (Stands-behind rs cs k made (repeated n made) stands) in
+      (Owns-later rs cs own tested place_at k (k + m) (omega arith) owns) one.shown (keeps s1 range1) (omega arith) some (omega arith) (Stands-back rs cs k made (repeated n made) stands) in
       let all = Done-both (length own) k k place_at f s1 (effect s1) x x1 x2 (omega arith) begun one in
       subst (λ z. Done (length own) k place_at f (effect_of_turns own (suc n) c v step effect s) x z) (sym (run-append rs cs (body k) (unrolled n (place_at c) (v +ℤ step) step m body (k + m)) x1))
       (Done-both (length own) k (k + m) place_at f (effect s1) (effect_of_turns own n c (v +ℤ step) step effect (effect s1)) x x2 _ (omega arith) all rest)
@@ -193,7 +170,7 @@ module _ (rs : List Range) (cs : List Scratch) (own : List Range) (tested : ℕ 
             let parts = length-append made (scratch_of_all bodies owner.kinds base other) in
             let m = k + length made in
             done_choices base arms typed.0 k f s x owns shows range le some (omega arith) (Stands-front rs cs k made (scratch_of_all bodies owner.kinds base other) stands) m (flat_of_all bodies owner base other m) (effect_of_all callees own base other) (omega arith)
-            (λ t y shown in_range_now long. done_each base other typed.1 m f t y (Owns-later rs cs own tested owner.place_at k m (omega arith) owns) shown in_range_now (omega arith) some (omega arith) (Stands-behind rs cs k made (scratch_of_all bodies owner.kinds base other) stands))
+            (λ t y shown in_range_now long. done_each base other typed.1 m f t y (Owns-later rs cs own tested owner.place_at k m (omega arith) owns) shown in_range_now (omega arith) some (omega arith) (Stands-back rs cs k made (scratch_of_all bodies owner.kinds base other) stands))
         done_statement base (cases e es other) typed k f s x owns shows range le some room stands =
             let place_at = owner.place_at in
             let n = length own in
@@ -219,12 +196,12 @@ module _ (rs : List Range) (cs : List Scratch) (own : List Range) (tested : ℕ 
             let held_now : held z j ≡ v = get_or-set_same y1 j v (pos 0) (omega arith) in
             let shown : Shows n place_at f s1 z = Shows-scratch n place_at owns.above f k s1 y1 j v owns.below (omega arith) (omega arith) begun.shown in
             let kept : Done n k place_at f s1 x z = record { shown = shown; ran = Ran-both n k place_at x y1 z begun.ran (Ran-scratch n k place_at y1 j v (omega arith)) } in
-            let stands_here = Stands-behind rs cs k (scratch_in bodies e) (selector_cell kind ∷ (made ++ last)) stands in
+            let stands_here = Stands-back rs cs k (scratch_in bodies e) (selector_cell kind ∷ (made ++ last)) stands in
             let free : placed rs cs j v y1 ≡ z = placed-behind rs cs j v y1 (omega arith) (Stands-free rs cs j (selector_cell kind) (made ++ last) v refl stands_here) in
             let stands_after = Stands-tail rs cs j (selector_cell kind) (made ++ last) stands_here in
             let owns_after = Owns-later rs cs own tested place_at k (j + 1) (omega arith) owns in
             let rest = nested (flat_entries bodies owner base kind j es (j + 1)) (flat_of_all bodies owner base other m) in
-            let behind = done_each base other typed.2 m f s1 z (Owns-later rs cs own tested place_at k m (omega arith) owns) shown range1 (omega arith) some (omega arith) (Stands-behind rs cs (j + 1) made last stands_after) in
+            let behind = done_each base other typed.2 m f s1 z (Owns-later rs cs own tested place_at k m (omega arith) owns) shown range1 (omega arith) some (omega arith) (Stands-back rs cs (j + 1) made last stands_after) in
             let ended = done_entries base v kind j es typed.1 (j + 1) f s1 z owns_after shown range1 (omega arith) some (omega arith) (Stands-front rs cs (j + 1) made last stands_after) held_now m (flat_of_all bodies owner base other m) (effect_of_all callees own base other) (omega arith) behind in
             let answer_state = effect_of_entries callees own base v es (effect_of_all callees own base other) s1 in
             let all : Done n k place_at f answer_state x (run_of_all rs cs (flats_of rest) z) = Done-both n k (j + 1) place_at f s1 answer_state x z _ (omega arith) kept ended in
@@ -249,7 +226,7 @@ module _ (rs : List Range) (cs : List Scratch) (own : List Range) (tested : ℕ 
             let s1 = effect_of callees own base t s in
             let one = done_statement base t typed.0 k f s x owns shows range le some (omega arith) (Stands-front rs cs k made later stands) in
             let long = one.ran.long in
-            let rest = done_each base ts typed.1 m f s1 y (Owns-later rs cs own tested place_at k m (omega arith) owns) one.shown (kept_by_statement own first callees calls base t s range) (omega arith) some (omega arith) (Stands-behind rs cs k made later stands) in
+            let rest = done_each base ts typed.1 m f s1 y (Owns-later rs cs own tested place_at k m (omega arith) owns) one.shown (kept_by_statement own first callees calls base t s range) (omega arith) some (omega arith) (Stands-back rs cs k made later stands) in
             subst (λ z. Done (length own) k place_at f (effect_of_all callees own base ts s1) x z) (sym (run-append rs cs (flat_of bodies owner base t k) (flat_of_all bodies owner base ts m) x))
             (Done-both (length own) k m place_at f s1 (effect_of_all callees own base ts s1) x y _ (omega arith) one rest)
 
@@ -278,9 +255,9 @@ module _ (rs : List Range) (cs : List Scratch) (own : List Range) (tested : ℕ 
             let begun : Done n k place_at f s1 x y1 = Done-evaluated n place_at owns.above f k owns.below callees base e left j s x y filled (omega arith) is shows in
             let long = begun.ran.long in
             let range1 = fault_added own first (faults callees base e s) s range in
-            let stands_here = Stands-behind rs cs k (scratch_in bodies e) (made ++ later) stands in
+            let stands_here = Stands-back rs cs k (scratch_in bodies e) (made ++ later) stands in
             let here = done_each base ss typed.1 j f s1 y1 (Owns-later rs cs own tested place_at k j (omega arith) owns) begun.shown range1 (omega arith) some (omega arith) (Stands-front rs cs j made later stands_here) in
-            let others = done_choices base arms typed.2 i f s1 y1 (Owns-later rs cs own tested place_at k i (omega arith) owns) begun.shown range1 (omega arith) some (omega arith) (Stands-behind rs cs j made later stands_here) m rest other (omega arith)
+            let others = done_choices base arms typed.2 i f s1 y1 (Owns-later rs cs own tested place_at k i (omega arith) owns) begun.shown range1 (omega arith) some (omega arith) (Stands-back rs cs j made later stands_here) m rest other (omega arith)
             (λ t z shown now same_long. behind t z shown now (same_long ∙ long)) in
             let here_all = Done-both n k j place_at f s1 _ x y1 _ (omega arith) begun here in
             let others_all = Done-both n k i place_at f s1 _ x y1 _ (omega arith) begun others in
@@ -303,7 +280,7 @@ module _ (rs : List Range) (cs : List Scratch) (own : List Range) (tested : ℕ 
             let parts = length-append made later in
             let i = k + length made in
             let here = done_each base ss typed.0 k f s x owns shows range le some (omega arith) (Stands-front rs cs k made later stands) in
-            let others = done_entries base v kind t es typed.1 i f s x (Owns-later rs cs own tested place_at k i (omega arith) owns) shows range (omega arith) some (omega arith) (Stands-behind rs cs k made later stands) held_now m rest other (omega arith) behind in
+            let others = done_entries base v kind t es typed.1 i f s x (Owns-later rs cs own tested place_at k i (omega arith) owns) shows range (omega arith) some (omega arith) (Stands-back rs cs k made later stands) held_now m rest other (omega arith) behind in
             let others_all = Done-earlier n k i place_at f _ x _ (omega arith) others in
             rw (labels_test-value kind t x v held_now labels, labels_test-fault kind t x labels, is_truth-number_of (is_labelled v labels)) (Done-if n k place_at f (is_labelled v labels) _ _ x _ _ here others_all)
 

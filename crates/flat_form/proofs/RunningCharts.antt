@@ -1,5 +1,5 @@
 -- The flat list of a chart shows what the chart does.
-use Rattle.std.proofs.Common.{◌≡◌, ℕ, zero, suc, ◌+◌, ◌<◌, ◌≤◌, Bool, true, false, ◌||◌, List, [], ◌∷◌, ◌++◌, length, ℤ, refl, sym, subst, ◌∙◌, arith}
+use Rattle.std.proofs.Common.{◌≡◌, ℕ, zero, suc, ◌+◌, ◌<◌, ◌≤◌, Bool, true, false, ◌||◌, List, [], ◌∷◌, ◌++◌, length, ℤ, refl, sym, subst, ◌∙◌, arith, length-append}
 use Rattle.std.specs.Prelude.{slice_index_or, if◌then◌else◌, Option, None, Some}
 use Rattle.st_tree.specs.declared.typed.Range.{Range}
 use Rattle.st_tree.specs.declared.typed.StepCells.{StepCells}
@@ -23,7 +23,8 @@ use Rattle.flat_form.proofs.Shown.{held, Owns, Owns-later, Shows, Done, Done-sto
 use Rattle.scan_model.proofs.Keeping.{HoldsFault, kept_by_store, kept_by_latches, kept_by_all}
 use Rattle.flat_form.proofs.ActionRuns.{EachActionRuns}
 use Rattle.flat_form.proofs.Leaving.{all-leave}
-use Rattle.flat_form.proofs.ChartStores.{run-append, Done-both, Done-earlier, Done-none, length-both, Stands-front, Stands-back, stored-other, fits_bit, held_bit}
+use Rattle.flat_form.proofs.ChartStores.{Done-both, Done-earlier, Done-none, stored-other, fits_bit, held_bit}
+use Rattle.flat_form.proofs.Sequences.{run-append, Stands-front, Stands-back}
 use Rattle.flat_form.proofs.ChartTests.{IsTest, IsTest-cell, IsTest-latch, IsTest-runs}
 use Rattle.flat_form.proofs.ChartMoves.{EachEvaluated, test_run, run_test, now-at, was-at, IsFlag, active_flag, before_flag, flag_value, done_moves}
 
@@ -194,13 +195,13 @@ module _ (rs : List Range) (cs : List Scratch) (bodies : Bodies) (MayCall MayRun
     actions_run (action None (a ∷ more) ss rest) j s x y fl each typed now_above was_above behind fits stands so_far =
         let made = scratch_of_all bodies owner.kinds base ss in
         let others = scratch_of_actions bodies owner.kinds base rest in
-        let parts = length-both made others in
+        let parts = length-append made others in
         let one = acted_action None a more ss j s x y (record { value = refl; fault = refl }) typed.1 each.0 (λ i h. let less = now_above i h in omega arith) (λ i h. let less = was_above i h in omega arith) behind (omega arith) (Stands-front rs cs j made others stands) so_far in
         actions_run rest (j + length made) _ x _ fl each.1 typed.3 (λ i h. let less = now_above i h in omega arith) (λ i h. let less = was_above i h in omega arith) (omega arith) (omega arith) (Stands-back rs cs j made others stands) one
     actions_run (action (Some place) (a ∷ more) ss rest) j s x y fl each typed now_above was_above behind fits stands so_far =
         let made = scratch_of_all bodies owner.kinds base ss in
         let others = scratch_of_actions bodies owner.kinds base rest in
-        let parts = length-both made others in
+        let parts = length-append made others in
         let c = base + place in
         let start = IsTest-cell y (owner.place_at c) (is_on s c) (so_far.done.shown.cells c fl.0.0 fl.0.1 ∙ held_bit own s c so_far.within fl.0.1 fl.1 fl.2) in
         let one = acted_action (Some place) a more ss j s x y start typed.1 each.0 (λ i h. let less = now_above i h in omega arith) (λ i h. let less = was_above i h in omega arith) behind (omega arith) (Stands-front rs cs j made others stands) so_far in
@@ -217,7 +218,7 @@ module _ (rs : List Range) (cs : List Scratch) (bodies : Bodies) (MayCall MayRun
       let bound = extent_of_bodies extents actions in
       let made = scratch_of_actions bodies owner.kinds base actions in
       let moving = scratch_of_moves bodies steps ts in
-      let parts = length-both made moving in
+      let parts = length-append made moving in
       let j = k + length made in
       let xm = marking_now base steps s in
       let lm = marking_before base steps s in

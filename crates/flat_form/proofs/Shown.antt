@@ -1,12 +1,12 @@
 -- How a store shows the state of an owner of cells: each cell stands at a place of the store, and FAULT, the first of both, is shared
 -- with whoever called the owner.
-use Rattle.std.proofs.Common.{◌≡◌, ◌≢◌, ℕ, zero, suc, ◌+◌, ◌-◌, ◌<◌, ◌≤◌, Bool, true, false, not, ◌||◌, List, [], ◌∷◌, ◌++◌, length, ℤ, pos, refl, sym, ap, subst, ◌∙◌, arith, rules, tests}
+use Rattle.std.proofs.Common.{◌≡◌, ◌≢◌, ℕ, ◌+◌, ◌-◌, ◌<◌, ◌≤◌, Bool, true, false, not, ◌||◌, List, length, ℤ, pos, refl, sym, ap, ◌∙◌, arith, rules, tests}
 use Rattle.std.specs.Prelude.{◌==◌, slice_set, slice_index_or, if◌then◌else◌}
 use Rattle.std.proofs.lemmas.List.{length-set, get_or-set_same, get_or-set_other}
 use Rattle.st_tree.specs.declared.typed.Range.{Range}
 use Rattle.st_tree.specs.Types.{in_range}
 use Rattle.st_tree.specs.Tree.{Expression}
-use Rattle.effects.specs.Values.{State, Callees, no_callees, fault_in, is_truth, value_of, faults}
+use Rattle.effects.specs.Values.{State, Callees, no_callees, fault_in, value_of, faults}
 use Rattle.effects.specs.Effects.{range_at, with_fault, stored}
 use Rattle.flat_core.specs.declared.flat_tree.Scratch.{Scratch}
 use Rattle.effects.specs.Calls.{given}

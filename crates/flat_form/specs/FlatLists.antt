@@ -1,6 +1,5 @@
 -- The flat list of statements. Scratch cells are numbered from a place on, in the order of the text.
-use Rattle.std.specs.Prelude.{ℕ, zero, suc, ◌+◌, List, [], ◌∷◌, ◌++◌, map, length, false, ℤ, pos, ◌+ℤ◌, if◌then◌else◌}
-use Rattle.std.specs.Ordering.{int_eq}
+use Rattle.std.specs.Prelude.{ℕ, zero, suc, ◌+◌, List, [], ◌∷◌, ◌++◌, map, length, false, ℤ, pos, ◌+ℤ◌}
 use Rattle.st_tree.specs.declared.elementary.Elementary.{Elementary}
 use Rattle.st_tree.specs.declared.elementary.Elementary.TheVariants.{Bool}
 use Rattle.st_tree.specs.declared.token.Operator.TheVariants.{Or, And, Equal, LessEqual}

@@ -1,7 +1,7 @@
 -- Well-typed programs, as far as their flat form asks for it: statements name the cells of their owner alone, and FAULT by no name;
 -- the FUNCTIONs that are called have so many inputs; what is assigned to a variable of a FUNCTION that is no subrange lies in its
 -- range; and the actions of a chart leave the chart's own cells.
-use Rattle.std.specs.Prelude.{◌≡◌, ◌<◌, ◌≤◌, ◌+◌, ◌*◌, ◌==◌, ◌&&◌, ◌||◌, ℕ, zero, suc, max, Bool, true, false, not, List, [], ◌∷◌, length, ℤ, pos, ◌+ℤ◌, ◌*ℤ◌, int_le, slice_index_or, Option, None, Some, if◌then◌else◌}
+use Rattle.std.specs.Prelude.{◌≡◌, ◌<◌, ◌≤◌, ◌+◌, ◌==◌, ◌&&◌, ◌||◌, ℕ, zero, suc, max, Bool, true, false, List, [], ◌∷◌, length, pos, ◌+ℤ◌, ◌*ℤ◌, int_le, slice_index_or, Option, None, Some, if◌then◌else◌}
 use Rattle.st_tree.specs.declared.function.Function.{Function}
 use Rattle.st_tree.specs.declared.function.Function.TheVariants as functions
 use Rattle.st_tree.specs.declared.typed.Range.{Range}
@@ -15,7 +15,7 @@ use Rattle.effects.specs.Effects.{range_at}
 use Rattle.effects.specs.Calls.{nothing}
 use Rattle.scan_model.specs.Scans.{ranges_of}
 use Rattle.scan_model.specs.InRange.{IsInRange}
-use Rattle.flat_form.specs.Frames.{FrameData, frame_of, frames_of, function_body, type_at}
+use Rattle.flat_form.specs.Frames.{FrameData, frames_of, function_body, type_at}
 use Rattle.flat_form.specs.Calls.{arity}
 use Rattle.flat_form.specs.Pous.{block_body}
 use Rattle.flat_form.specs.Idle.{is_idle_all, idle_of}
