@@ -1,1 +1,3 @@
 pub mod Inserted
+pub mod Chartless
+pub mod Insertions
