@@ -108,7 +108,7 @@ module _ (callees : Callees) (each : Inserts callees) (c m : ℕ) (zr rs : List 
         (entries-match (value_of callees base e s) es free.0 (effect_of_all callees rs base other) (effect_of_all callees (with_more c zr rs) q other) (λ x y g. all-match other free.1 x y g) _ _ (Matches-faulted (faults callees base e s) s t h))
     statement-match (repeat turns body) free s t h =
         turns-match turns.count (base + turns.control) (q + turns.control) turns.first turns.step (effect_of_all callees rs base body) (effect_of_all callees (with_more c zr rs) q body) (omega arith) (omega arith) (λ x y g. all-match body free x y g) s t h
-    statement-match (chart steps actions ts) free s t h = absurd free
+    statement-match (chart _ _ _) free s t h = absurd free
 
     pub all-match : (ss : Statements) → AreWithoutChart ss → (s t : State) → Matches c m z s t → Matches c m z (effect_of_all callees rs base ss s) (effect_of_all callees (with_more c zr rs) q ss t)
     all-match no_statements free s t h = h
