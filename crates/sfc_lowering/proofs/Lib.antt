@@ -5,3 +5,4 @@ pub mod PlainTests
 pub mod ChartCells
 pub mod LatchRuns
 pub mod Expressions
+pub mod StatementRuns
