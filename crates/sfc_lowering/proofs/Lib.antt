@@ -1,0 +1,3 @@
+pub mod PlainTests
+pub mod Inserted
+pub mod ChartCells
