@@ -10,20 +10,20 @@ use Rattle.st_tree.specs.declared.typed.Association.{Association}
 use Rattle.st_tree.specs.Types.{range_of}
 use Rattle.st_tree.specs.Tree.{Statements, cell, Actions, action}
 use Rattle.effects.specs.Values.{State, Callees, number_of, is_truth}
-use Rattle.effects.specs.Charts.{Marking, is_on, marking_now, marking_before, asks, resets, latch_is_on, runs}
+use Rattle.effects.specs.Charts.{Marking, is_on, marking_now, marking_before, sets, resets, asks, latch_is_on, next_latch, runs}
 use Rattle.effects.specs.Effects.{stored}
 use Rattle.scan_model.specs.InRange.{IsInRange}
-use Rattle.flat_form.specs.FlatCharts.{no_step, active_at, before_at, latch_start, runs_test}
+use Rattle.flat_form.specs.FlatCharts.{no_step, active_at, before_at, latch_test, latch_start, runs_test}
 use Rattle.flat_form.specs.WellTyped.{AreFlags, NameSteps, latch_places}
 use Rattle.flat_form.proofs.Shown.{held}
 use Rattle.flat_form.proofs.ChartStores.{held_bit}
-use Rattle.flat_form.proofs.ChartTests.{IsTest, IsTest-cell, IsTest-runs}
+use Rattle.flat_form.proofs.ChartTests.{IsTest, IsTest-cell, IsTest-latch, IsTest-runs}
 use Rattle.flat_form.proofs.ChartMoves.{now-at, was-at, IsFlag, flag_value}
 use Rattle.sfc_lowering.specs.Shifts.{shifted_step, shifted_steps, shifted_latch}
 use Rattle.sfc_lowering.specs.LoweredCharts.{in_place}
 use Rattle.sfc_lowering.specs.LoweredScans.{with_more}
 use Rattle.sfc_lowering.proofs.Inserted.{read-behind, stored-inserted}
-use Rattle.sfc_lowering.proofs.PlainTests.{Tells, Tells-plain, held-from, runs-plain}
+use Rattle.sfc_lowering.proofs.PlainTests.{Tells, Tells-plain, held-from, latch-plain, runs-plain}
 
 -- the ranges of an owner's cells, where a POU has k scratch variables from place c on
 abbrev pub ranges_with : ℕ → ℕ → List Range → List Range
@@ -98,6 +98,21 @@ module _ (rs : List Range) (base c k : ℕ) (first : 0 < c) (own : (p : ℕ) →
         let e = held-seen place h.above in
         IsTest-cell (drop base (with_more c z s)) (0 + (place + k)) (is_on (drop base (with_more c z s)) (0 + (place + k)))
         (e ∙ held_bit rs s (base + place) within h.below h.least h.most ∙ sym (ap (λ (v : ℤ). number_of (is_truth v)) e))
+
+    -- what a latch becomes
+    pub latch-told : (callees : Callees) (steps : List StepCells) (xm : Marking) (place : ℕ) (links : List Association) → marking_now base steps s ≡ xm
+        → ((i : ℕ) → i < length steps → IsFlag rs (base + (slice_index_or steps i no_step).active)) → NameSteps (length steps) links → IsFlag rs (base + place)
+        → Tells callees base (with_more c z s) (latch_test in_place 0 (shifted_steps k steps) (place + k) links) (next_latch base xm (Some place) links s)
+    latch-told callees steps xm place links now flag_now names is_flag =
+        let y = with_more c z s in
+        let x = drop base y in
+        let moved = shifted_steps k steps in
+        let named : NameSteps (length moved) links = subst (λ (n : ℕ). NameSteps n links) (sym (length-shifted k steps)) names in
+        let told = IsTest-latch in_place 0 moved x xm (now-told within steps xm now flag_now) (place + k) x links named (start-told (Some place) is_flag) in
+        let same : next_latch 0 xm (Some (place + k)) links x ≡ next_latch base xm (Some place) links s =
+        ap (λ (b : Bool). (b || list_any (sets xm) links) && not (list_any (resets xm) links)) (latch-same (Some place) is_flag) in
+        Tells-plain callees base y (latch_test in_place 0 moved (place + k) links) (next_latch base xm (Some place) links s) (latch-plain in_place 0 moved (place + k) links)
+        (subst (λ (b : Bool). IsTest x (latch_test in_place 0 moved (place + k) links) b) same told)
 
     -- the test of an action
     pub runs-told : (callees : Callees) (steps : List StepCells) (xm lm : Marking) (latch : Option ℕ) (links : List Association) → marking_now base steps s ≡ xm → marking_before base steps s ≡ lm

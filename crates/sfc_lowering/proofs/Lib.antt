@@ -1,3 +1,4 @@
 pub mod PlainTests
 pub mod Inserted
 pub mod ChartCells
+pub mod LatchRuns
