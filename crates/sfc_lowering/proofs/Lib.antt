@@ -2,3 +2,4 @@ pub mod PlainTests
 pub mod Inserted
 pub mod ChartCells
 pub mod LatchRuns
+pub mod Flagging
