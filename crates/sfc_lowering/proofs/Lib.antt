@@ -3,3 +3,4 @@ pub mod Inserted
 pub mod ChartCells
 pub mod LatchRuns
 pub mod Flagging
+pub mod MoveRuns
