@@ -42,8 +42,8 @@ pub record Parted (low : ℕ) (steps : List StepCells) (places : List ℕ) : Typ
   pub inside : (i : ℕ) → i < length steps → Inside low bound (slice_index_or steps i no_step)
 
 pub parted : (steps : List StepCells) (actions : Actions) (low : ℕ) → AreRisingFrom low (chart_places steps actions) → Parted low steps (latch_places actions)
-parted [] actions low h = record { bound = low; above = omega arith; rising = h; inside = λ i g. absurd (omega arith) }
-parted (p ∷ ps) actions low h = one_more low p ps (latch_places actions) h.0 h.1.0 (parted ps actions (p.before + 1) h.1.1)
+parted [] acts low h = record { bound = low; above = omega arith; rising = h; inside = λ i g. absurd (omega arith) }
+parted (p ∷ ps) acts low h = one_more low p ps (latch_places acts) h.0 h.1.0 (parted ps acts (p.before + 1) h.1.1)
   where
     one_more : (low : ℕ) (p : StepCells) (ps : List StepCells) (places : List ℕ) → low ≤ p.active → p.active + 1 ≤ p.before → Parted (p.before + 1) ps places → Parted low (p ∷ ps) places
     one_more low p ps places a b r = record { bound = r.bound; above = let e = r.above in omega arith; rising = r.rising; inside = λ i g. at_each i g }
@@ -86,8 +86,8 @@ names-typed frames MayCall MayRun extents rs tested base n no_actions h = tt
 names-typed frames MayCall MayRun extents rs tested base n (action latch links ss rest) h = (h.1, names-typed frames MayCall MayRun extents rs tested base n rest h.3)
 
 pub all_latch_flags : (rs : List Range) (base : ℕ) (steps : List StepCells) (actions : Actions) → AreFlags rs base (chart_places steps actions) → AreFlags rs base (latch_places actions)
-all_latch_flags rs base [] actions fl = fl
-all_latch_flags rs base (p ∷ ps) actions fl = all_latch_flags rs base ps actions fl.3.3
+all_latch_flags rs base [] acts fl = fl
+all_latch_flags rs base (p ∷ ps) acts fl = all_latch_flags rs base ps acts fl.3.3
 
 module _ (callees : Callees) (rs : List Range) (base c k : ℕ) (first : 0 < c) (room : c ≤ length rs) (own : (p : ℕ) → 0 < base + p → c ≤ base + p) (z : State) (long : length z ≡ k) (steps : List StepCells) (xm : Marking)
     (flag_now : (i : ℕ) → i < length steps → IsFlag rs (base + (slice_index_or steps i no_step).active)) where

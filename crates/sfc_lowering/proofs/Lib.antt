@@ -4,5 +4,7 @@ pub mod Insertions
 pub mod PlainTests
 pub mod ChartCells
 pub mod LatchRuns
+pub mod Flagging
+pub mod MoveRuns
 pub mod Expressions
 pub mod StatementRuns

@@ -33,6 +33,7 @@ use Rattle.sfc_lowering.proofs.Insertions.{Matches, Inserts}
 use Rattle.sfc_lowering.proofs.PlainTests.{Tells}
 use Rattle.sfc_lowering.proofs.ChartCells.{ranges_with, LatchIsFlag, latches_of, runs-told}
 use Rattle.sfc_lowering.proofs.LatchRuns.{parted, all_latch_flags, now-same, was-same, latches_run}
+use Rattle.sfc_lowering.proofs.MoveRuns.{Carried, AreCarried, Moved, moves_run}
 use Rattle.sfc_lowering.proofs.Expressions.{EndAlike, HasCells, value-shifted, fault-shifted}
 
 -- ---- lists one behind the other, and an IF without ELSE
@@ -69,30 +70,12 @@ pub Extends-if : (c k : ℕ) (rs : List Range) (b : Bool) (s t u v : State) → 
 Extends-if c k rs true s t u v g h = g
 Extends-if c k rs false s t u v g h = h
 
--- the conditions of transitions are worth what they were, whatever the scratch variables and FAULT hold
-abbrev pub ConditionsAlike : Callees → Callees → ℕ → ℕ → ℕ → List TransitionData → State → Type 0
-ConditionsAlike callees new_callees base c k [] s = Unit {0}
-ConditionsAlike callees new_callees base c k (t ∷ ts) s =
-    ((z : State) (b : Bool) → length z ≡ k → value_of new_callees base (shifted k t.condition) (with_more c z (with_fault b s)) ≡ value_of callees base t.condition s)
-    × ((z : State) (b : Bool) → length z ≡ k → faults new_callees base (shifted k t.condition) (with_more c z (with_fault b s)) ≡ faults callees base t.condition s)
-    × ConditionsAlike callees new_callees base c k ts s
-
--- a state with scratch variables that is the one told, with others
-pub record After (c k : ℕ) (s t : State) : Type 0 where
-  pub flags : State
-  pub count : length flags ≡ k
-  pub same : t ≡ with_more c flags s
-
 -- A POU's own cells are those from place c of its owner on, behind its k scratch variables, of which a chart takes those from a place
 -- of the POU on. Runs and calls do what they did.
 module _ (frames : ℕ → FrameData) (MayCall MayRun : ℕ → ℕ → Type 0) (extents : ℕ → ℕ) (rs : List Range) (tested : ℕ → Bool) (callees new_callees : Callees) (base flags c k : ℕ)
     (head : HoldsFault rs) (first : 0 < c) (room : c ≤ length rs) (own : (p : ℕ) → 0 < base + p → c ≤ base + p) (there : (p : ℕ) → 0 < base + p → base + p < length rs → base + flags ≡ c)
     (calls_alike : EndAlike MayCall callees new_callees) (runs_alike : (b at : ℕ) → MayRun b at → 0 < at → (s : State) → IsInRange rs s → new_callees.runs b rs at s ≡ callees.runs b rs at s)
-    (inserts : Inserts new_callees) (keeps : RunsKeep callees rs) (leaves : RunsLeave callees extents rs)
-    (moves_run : (steps : List StepCells) (actions : Actions) (ts : List TransitionData) → IsTyped frames MayCall MayRun extents rs tested base (chart steps actions ts) → (0 < length steps → base + flags ≡ c) → 2 * length steps ≤ k
-    → (z s : State) → length z ≡ k → IsInRange rs s → ConditionsAlike callees new_callees base c k ts s
-    → After c k (effect_of_transitions callees rs base (marking_now base steps s) steps ts s) (effect_of_all new_callees (ranges_with c k rs) base (statements_of (moves k (shifted_steps k steps) flags ts)) (with_more c z s)))
-  where
+    (inserts : Inserts new_callees) (keeps : RunsKeep callees rs) (leaves : RunsLeave callees extents rs) where
   -- ---- expressions
 
   cells_in : (s t : State) → Extends c k rs s t → HasCells base k s t
@@ -108,12 +91,15 @@ module _ (frames : ℕ → FrameData) (MayCall MayRun : ℕ → ℕ → Type 0) 
   cells_behind : (z s : State) (b : Bool) → length z ≡ k → HasCells base k s (with_more c z (with_fault b s))
   cells_behind z s b many p above = read-behind c z (with_fault b s) (base + p) (base + (p + k)) _ (own p above) (omega arith) ∙ held-with_fault b s (base + p) above
 
-  conditions : (n : ℕ) (ts : List TransitionData) → AreTypedTransitions frames MayCall MayRun extents rs tested base n ts → (s : State) → ConditionsAlike callees new_callees base c k ts s
+  conditions : (n : ℕ) (ts : List TransitionData) → AreTypedTransitions frames MayCall MayRun extents rs tested base n ts → (s : State) → AreCarried new_callees callees base c k s ts
   conditions n [] typed s = tt
-  conditions n (t ∷ ts) typed s =
-      (λ z b many. value-shifted frames MayCall rs base k callees new_callees calls_alike s _ (cells_behind z s b many) t.condition typed.0,
-      λ z b many. fault-shifted frames MayCall rs base k callees new_callees calls_alike s _ (cells_behind z s b many) t.condition typed.0,
-      conditions n ts typed.3 s)
+  conditions n (t ∷ ts) typed s = (
+    record {
+      value = λ z b many. value-shifted frames MayCall rs base k callees new_callees calls_alike s _ (cells_behind z s b many) t.condition typed.0;
+      fault = λ z b many. fault-shifted frames MayCall rs base k callees new_callees calls_alike s _ (cells_behind z s b many) t.condition typed.0;
+    },
+    conditions n ts typed.3 s,
+  )
 
   -- ---- single steps
 
@@ -259,15 +245,16 @@ module _ (frames : ℕ → FrameData) (MayCall MayRun : ℕ → ℕ → Type 0) 
         let rest = moves k (shifted_steps k steps) flags ts in
         let t3 = effect_of_all new_callees (ranges_with c k rs) base (statements_of rest) t2 in
         let ext = two.extends in
-        let three = moves_run steps acts ts typed (λ some. let flag = flag_now 0 some in there (slice_index_or steps 0 no_step).active flag.above flag.below) (omega arith) ext.flags s2 ext.count ext.within (conditions (length steps) ts typed.3 s2) in
-        let moved : effect_of_transitions callees rs base (marking_now base steps s2) steps ts s2 ≡ s3 = ap (λ (x : Marking). effect_of_transitions callees rs base x steps ts s2) two.is_now in
+        let three : Moved c k s3 (effect_of_all new_callees (ranges_with c k rs) base (statements_of rest) (with_more c ext.flags s2)) =
+        moves_run new_callees callees rs base c k flags first room own head frames MayCall MayRun extents tested steps acts ts typed (λ some. let flag = flag_now 0 some in there (slice_index_or steps 0 no_step).active flag.above flag.below) (omega arith)
+        ext.flags s2 ext.count ext.within now two.is_now (conditions (length steps) ts typed.3 s2) in
         let ran : effect_of_all new_callees (ranges_with c k rs) base (statements_of (lowered flags k (chart steps acts ts))) t ≡ t3 =
         all-append new_callees (ranges_with c k rs) base (latches (shifted_steps k steps) k acts) (lowered_actions flags k (shifted_steps k steps) acts ++ rest) t
         ∙ all-append new_callees (ranges_with c k rs) base (lowered_actions flags k (shifted_steps k steps) acts) rest t1 in
         record {
-          flags = three.flags;
-          count = three.count;
-          same = ran ∙ ap (effect_of_all new_callees (ranges_with c k rs) base (statements_of rest)) ext.same ∙ three.same ∙ ap (with_more c three.flags) moved;
+          flags = three.variables;
+          count = three.long;
+          same = ran ∙ ap (effect_of_all new_callees (ranges_with c k rs) base (statements_of rest)) ext.same ∙ three.is;
           within = kept_by_statement rs head callees keeps base (chart steps acts ts) s h.within;
         }
 
