@@ -8,3 +8,4 @@ pub mod Flagging
 pub mod MoveRuns
 pub mod Expressions
 pub mod StatementRuns
+pub mod KeptMeaning
