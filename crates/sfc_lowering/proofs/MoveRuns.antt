@@ -236,8 +236,6 @@ pub record Moved (c k : ℕ) (s y : State) : Type 0 where
 moved-same : (c k : ℕ) (s t x y : State) → s ≡ t → x ≡ y → Moved c k s y → Moved c k t x
 moved-same c k s t x y p q h = record { variables = h.variables; long = h.long; is = q ∙ h.is ∙ ap (with_more c h.variables) p }
 
--- A POU's own cells stand behind its k scratch variables, the first of which stands at place c of its owner, and at a place of the POU;
--- its base is such that its own cells are those from c on.
 module _ (lcallees callees : Callees) (rs : List Range) (base c k flags : ℕ) (first : 0 < c) (room : c ≤ length rs) (own : (p : ℕ) → 0 < base + p → c ≤ base + p) (holds_fault : HoldsFault rs)
     (frames : ℕ → FrameData) (MayCall MayRun : ℕ → ℕ → Type 0) (extents : ℕ → ℕ) (tested : ℕ → Bool) (steps : List StepCells) (actions : Actions) (ts : List TransitionData) (typed : IsTyped frames MayCall MayRun extents rs tested base (chart steps actions ts))
     (there : 0 < length steps → base + flags ≡ c) (many : 2 * length steps ≤ k) where
@@ -285,9 +283,9 @@ module _ (lcallees callees : Callees) (rs : List Range) (base c k flags : ℕ) (
         marks-run lcallees rs base c k first room own (length steps) many xm left come next_on actions w h.long h.says bits next_same steps 0 flags (extent_of_bodies extents actions) t (λ some. let here = there some in omega arith) (omega arith) typed.0 typed.1 holding (omega arith) in
         record { variables = w; long = h.long; is = ap (run_of (marks (shifted_steps k steps) flags)) h.is ∙ last }
 
-    pub moves_run : (z : State) → length z ≡ k → AreCarried lcallees callees base c k s ts
+    whole : (z : State) → length z ≡ k → AreCarried lcallees callees base c k s ts
         → Moved c k (effect_of_transitions callees rs base xm steps ts s) (effect_of_all lcallees (ranges_with c k rs) base (statements_of (moves k (shifted_steps k steps) flags ts)) (with_more c z s))
-    moves_run z long carried =
+    whole z long carried =
         let holds = holds_in callees base s in
         let faulty = faults_in callees base s in
         let none = no_steps xm in
@@ -305,3 +303,12 @@ module _ (lcallees callees : Callees) (rs : List Range) (base c k flags : ℕ) (
         let last = ends left come next_on fault y1 (λ i h. moved_on xm holds faulty ts i (omega arith)) behind in
         moved-same c k _ _ _ _ (ap (λ (b : Bool). marked rs base xm next_on 0 steps (with_fault b s)) (met_faults xm holds faulty ts))
         (effect-three lcallees (ranges_with c k rs) base (cleared moved flags) (all_tried k moved flags ts) (marks moved flags) (with_more c z s)) last
+
+-- A POU's own cells stand behind its k scratch variables, the first of which stands at place c of its owner, and at a place of the POU;
+-- its base is such that its own cells are those from c on.
+module _ (lcallees callees : Callees) (rs : List Range) (base c k flags : ℕ) (first : 0 < c) (room : c ≤ length rs) (own : (p : ℕ) → 0 < base + p → c ≤ base + p) (holds_fault : HoldsFault rs) where
+  pub moves_run : (frames : ℕ → FrameData) (MayCall MayRun : ℕ → ℕ → Type 0) (extents : ℕ → ℕ) (tested : ℕ → Bool) (steps : List StepCells) (actions : Actions) (ts : List TransitionData) → IsTyped frames MayCall MayRun extents rs tested base (chart steps actions ts)
+      → (0 < length steps → base + flags ≡ c) → 2 * length steps ≤ k → (z s : State) → length z ≡ k → IsInRange rs s → (xm : Marking) → marking_now base steps s ≡ xm → AreCarried lcallees callees base c k s ts
+      → Moved c k (effect_of_transitions callees rs base xm steps ts s) (effect_of_all lcallees (ranges_with c k rs) base (statements_of (moves k (shifted_steps k steps) flags ts)) (with_more c z s))
+  moves_run frames MayCall MayRun extents tested steps actions ts typed there many z s long within xm marking carried =
+      whole lcallees callees rs base c k flags first room own holds_fault frames MayCall MayRun extents tested steps actions ts typed there many s within xm marking z long carried
