@@ -1,5 +1,5 @@
 -- The cells of a chart of a POU that has scratch variables: each stands behind them, and the tests of the lowered chart read it there.
-use Rattle.std.proofs.Common.{◌≡◌, ℕ, zero, suc, ◌+◌, ◌<◌, ◌≤◌, Bool, true, false, not, ◌&&◌, ◌||◌, List, [], ◌∷◌, length, drop, ℤ, pos, refl, sym, ap, subst, ◌∙◌, arith, zero-add}
+use Rattle.std.proofs.Common.{◌≡◌, ℕ, ◌+◌, ◌<◌, ◌≤◌, Bool, not, ◌&&◌, ◌||◌, List, length, drop, ℤ, pos, refl, sym, ap, subst, ◌∙◌, arith, zero-add}
 use Rattle.std.specs.Prelude.{replicate, slice_index_or, Option, None, Some}
 use Rattle.std.specs.List.{list_any}
 use Rattle.std.proofs.lemmas.List.{length-map, length-replicate, get_or-map}
@@ -8,7 +8,7 @@ use Rattle.st_tree.specs.declared.typed.Range.{Range}
 use Rattle.st_tree.specs.declared.typed.StepCells.{StepCells}
 use Rattle.st_tree.specs.declared.typed.Association.{Association}
 use Rattle.st_tree.specs.Types.{range_of}
-use Rattle.st_tree.specs.Tree.{Statements, cell, Actions, action}
+use Rattle.st_tree.specs.Tree.{Statements, Actions, action}
 use Rattle.effects.specs.Values.{State, Callees, number_of, is_truth}
 use Rattle.effects.specs.Charts.{Marking, is_on, marking_now, marking_before, sets, resets, asks, latch_is_on, next_latch, runs}
 use Rattle.effects.specs.Effects.{stored}

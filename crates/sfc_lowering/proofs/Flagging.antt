@@ -1,7 +1,7 @@
 -- The scratch variables of a lowered chart: they are cleared, and they say which steps the transitions so far have left, and which they
 -- have entered.
-use Rattle.std.proofs.Common.{◌≡◌, ◌≢◌, ℕ, zero, suc, ◌+◌, ◌*◌, ◌<◌, ◌≤◌, Bool, true, false, List, [], ◌∷◌, ◌++◌, length, map, drop, ℤ, pos, refl, sym, ap, subst, ◌∙◌, arith, rules, tests}
-use Rattle.std.specs.Prelude.{◌==◌, ◌||◌, slice_set, slice_index_or, if◌then◌else◌}
+use Rattle.std.proofs.Common.{◌≡◌, ◌≢◌, ℕ, zero, suc, ◌+◌, ◌*◌, ◌<◌, ◌≤◌, Bool, true, false, List, [], ◌∷◌, ◌++◌, length, map, ℤ, pos, refl, sym, ap, subst, ◌∙◌, arith, rules, tests}
+use Rattle.std.specs.Prelude.{◌==◌, slice_set, if◌then◌else◌}
 use Rattle.std.proofs.lemmas.List.{length-set, get_or-set_same, get_or-set_other}
 use Rattle.st_tree.specs.declared.typed.Range.{Range}
 use Rattle.st_tree.specs.declared.typed.StepCells.{StepCells}
@@ -19,7 +19,7 @@ use Rattle.flat_form.proofs.ChartMoves.{Flags}
 use Rattle.sfc_lowering.specs.Shifts.{shifted_steps}
 use Rattle.sfc_lowering.specs.LoweredCharts.{only_where, cleared, flag_left, flag_entered, flagged}
 use Rattle.sfc_lowering.specs.LoweredScans.{with_more}
-use Rattle.sfc_lowering.proofs.Inserted.{read-new, stored-new}
+use Rattle.sfc_lowering.proofs.Inserted.{stored-new}
 use Rattle.sfc_lowering.proofs.PlainTests.{Tells}
 use Rattle.sfc_lowering.proofs.ChartCells.{ranges_with}
 
@@ -28,6 +28,10 @@ use Rattle.sfc_lowering.proofs.ChartCells.{ranges_with}
 pub effect-append : (callees : Callees) (rs : List Range) (base : ℕ) (a b : List Statement) (y : State) → effect_of_all callees rs base (statements_of (a ++ b)) y ≡ effect_of_all callees rs base (statements_of b) (effect_of_all callees rs base (statements_of a) y)
 effect-append callees rs base [] b y = refl
 effect-append callees rs base (t ∷ a) b y = effect-append callees rs base a b (effect_of callees rs base t y)
+
+pub effect-three : (callees : Callees) (rs : List Range) (base : ℕ) (a b d : List Statement) (y : State)
+    → effect_of_all callees rs base (statements_of (a ++ (b ++ d))) y ≡ effect_of_all callees rs base (statements_of d) (effect_of_all callees rs base (statements_of b) (effect_of_all callees rs base (statements_of a) y))
+effect-three callees rs base a b d y = effect-append callees rs base a (b ++ d) y ∙ effect-append callees rs base b d (effect_of_all callees rs base (statements_of a) y)
 
 module _ (callees : Callees) (rs : List Range) (base : ℕ) (e : Expression) (ss : List Statement) (y : State) where
   -- by the condition's truth and whether it meets a fault

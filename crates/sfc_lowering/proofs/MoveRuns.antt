@@ -1,5 +1,5 @@
 -- The last two parts of a lowered chart leave the cells that those of the chart leave.
-use Rattle.std.proofs.Common.{◌≡◌, ℕ, zero, suc, ◌+◌, ◌*◌, ◌<◌, ◌≤◌, Bool, true, false, not, ◌&&◌, ◌||◌, List, [], ◌∷◌, ◌++◌, length, drop, ℤ, pos, refl, sym, ap, subst, ◌∙◌, arith, zero-add}
+use Rattle.std.proofs.Common.{◌≡◌, ℕ, suc, ◌+◌, ◌*◌, ◌<◌, ◌≤◌, Bool, true, false, not, ◌&&◌, ◌||◌, List, [], ◌∷◌, length, drop, ℤ, pos, refl, sym, ap, subst, ◌∙◌, arith, zero-add}
 use Rattle.std.specs.Prelude.{slice_index_or, if◌then◌else◌}
 use Rattle.std.specs.List.{list_any}
 use Rattle.st_tree.specs.declared.typed.Range.{Range}
@@ -18,16 +18,16 @@ use Rattle.flat_form.specs.FlatCharts.{no_step, negated, left_flag, come_flag, r
 use Rattle.flat_form.specs.WellTyped.{AreFlags, AreRisingFrom, AreSteps, chart_places, extent_of_bodies, IsTypedValue, AreTypedTransitions, IsTyped}
 use Rattle.flat_form.proofs.Shown.{held}
 use Rattle.flat_form.proofs.ChartStores.{with_fault-both, length-with_fault, held-with_fault, stored-other}
-use Rattle.flat_form.proofs.ChartTests.{IsTest, IsTest-cell, IsTest-not, IsTest-and, IsTest-or, IsTest-ready}
+use Rattle.flat_form.proofs.ChartTests.{IsTest-cell, IsTest-not, IsTest-and, IsTest-or, IsTest-ready}
 use Rattle.flat_form.proofs.ChartMoves.{value-agree, faults-agree, Flags, length-now, now-at, IsFlag, active_flag, flag_value}
 use Rattle.sfc_lowering.specs.Shifts.{shifted, shifted_steps}
 use Rattle.sfc_lowering.specs.LoweredCharts.{in_place, only_where, cleared, flagged, tried, all_tried, stays_or_comes, marks, moves}
 use Rattle.sfc_lowering.specs.LoweredScans.{with_more}
 use Rattle.sfc_lowering.proofs.Inserted.{read-new, with_fault-inserted, length-stored}
 use Rattle.sfc_lowering.proofs.PlainTests.{Tells, Tells-plain, held-from, ready-plain}
-use Rattle.sfc_lowering.proofs.ChartCells.{ranges_with, length-shifted, held-own, held-seen, stored-own, now-told}
+use Rattle.sfc_lowering.proofs.ChartCells.{ranges_with, length-shifted, held-own, stored-own, now-told}
 use Rattle.sfc_lowering.proofs.LatchRuns.{assigned-told, now-same}
-use Rattle.sfc_lowering.proofs.Flagging.{effect-append, where-run, where-told, Reached, Zeroed, clears, flags_set}
+use Rattle.sfc_lowering.proofs.Flagging.{effect-three, where-run, where-told, Reached, clears, flags_set}
 
 -- ---- conditions
 
@@ -46,7 +46,7 @@ abbrev pub LinkSteps : ℕ → List TransitionData → Type 0
 LinkSteps n [] = Unit {0}
 LinkSteps n (t ∷ ts) = AreSteps n t.from × AreSteps n t.to × LinkSteps n ts
 
--- what is told of each expression in each state in range
+-- such premises, from what is told of each expression in each state in range
 module _ (frames : ℕ → FrameData) (MayCall MayRun : ℕ → ℕ → Type 0) (extents : ℕ → ℕ) (rs : List Range) (tested : ℕ → Bool) (base : ℕ) where
   pub links-typed : (n : ℕ) (ts : List TransitionData) → AreTypedTransitions frames MayCall MayRun extents rs tested base n ts → LinkSteps n ts
   links-typed n [] h = tt
@@ -227,62 +227,88 @@ module _ (x : Marking) (holds faulty : TransitionData → Bool) (ts : List Trans
   met_faults : fault_after x holds faulty ts (no_steps x) false ≡ list_any faulty (evaluated x holds [] ts)
   met_faults = fault-same x holds faulty ts [] (no_steps x) false (sym (length-none x)) (λ j g. on-none x j)
 
--- what the scratch variables are behind the last two parts of a chart, and that the cells are those that the chart leaves
+-- A state y is a state s with k scratch variables from place c on.
 pub record Moved (c k : ℕ) (s y : State) : Type 0 where
   pub variables : State
   pub long : length variables ≡ k
   pub is : y ≡ with_more c variables s
 
+moved-same : (c k : ℕ) (s t x y : State) → s ≡ t → x ≡ y → Moved c k s y → Moved c k t x
+moved-same c k s t x y p q h = record { variables = h.variables; long = h.long; is = q ∙ h.is ∙ ap (with_more c h.variables) p }
+
+module _ (lcallees callees : Callees) (rs : List Range) (base c k flags : ℕ) (first : 0 < c) (room : c ≤ length rs) (own : (p : ℕ) → 0 < base + p → c ≤ base + p) (holds_fault : HoldsFault rs)
+    (frames : ℕ → FrameData) (MayCall MayRun : ℕ → ℕ → Type 0) (extents : ℕ → ℕ) (tested : ℕ → Bool) (steps : List StepCells) (actions : Actions) (ts : List TransitionData) (typed : IsTyped frames MayCall MayRun extents rs tested base (chart steps actions ts))
+    (there : 0 < length steps → base + flags ≡ c) (many : 2 * length steps ≤ k) where
+  abbrev run_of : List Statement → State → State
+  run_of ss y = effect_of_all lcallees (ranges_with c k rs) base (statements_of ss) y
+
+  flag_of : (i : ℕ) → i < length steps → IsFlag rs (base + (slice_index_or steps i no_step).active)
+  flag_of i h = active_flag rs base actions steps i typed.0 h
+
+  module _ (s : State) (within : IsInRange rs s) (xm : Marking) (marking : marking_now base steps s ≡ xm) where
+    now-held : (i : ℕ) → i < length steps → held s (base + (slice_index_or steps i no_step).active) ≡ held xm i
+    now-held i h = now-at base s steps i h ∙ ap (λ (q : Marking). held q i) marking
+
+    -- the flags are cleared
+    begins : (z : State) → length z ≡ k → Reached c k (length steps) (no_steps xm) (no_steps xm) (with_fault false s) (run_of (cleared (shifted_steps k steps) flags) (with_more c z s))
+    begins z long =
+        let same_length = IsInRange-length rs s within in
+        let long_none : length (no_steps xm) ≡ length steps = length-none xm ∙ ap length (sym marking) ∙ length-now base s steps in
+        let zeroed = clears lcallees rs base c k room steps flags 0 z s (λ some. let here = there some in omega arith) (omega arith) long (omega arith) in
+        record {
+          variables = zeroed.variables;
+          long = zeroed.long ∙ long;
+          is = zeroed.is;
+          says = record {
+            left_long = long_none;
+            come_long = long_none;
+            left_held = λ i h. zeroed.left i h ∙ sym (ap number_of (on-none xm i));
+            come_held = λ i h. zeroed.come i h ∙ sym (ap number_of (on-none xm i));
+          };
+        }
+
+    -- the next marking, by what the flags say
+    ends : (left come : Marking) (next_on : ℕ → Bool) (b : Bool) (y : State) → ((i : ℕ) → i < length steps → is_next_from xm left come i ≡ next_on i) → Reached c k (length steps) left come (with_fault b s) y
+        → Moved c k (marked rs base xm next_on 0 steps (with_fault b s)) (run_of (marks (shifted_steps k steps) flags) y)
+    ends left come next_on b y next_same h =
+        let t = with_fault b s in
+        let w = h.variables in
+        let same_length = IsInRange-length rs s within in
+        let long_t = length-with_fault b s in
+        let bits : (i : ℕ) → i < length steps → held xm i ≡ number_of (is_on xm i) = λ i g.
+        sym (now-held i g) ∙ flag_value rs s (base + (slice_index_or steps i no_step).active) xm i within (flag_of i g) (now-held i g) in
+        let holding : Holding base xm 0 steps t = Holding-now rs base xm actions steps 0 t
+        (λ i g. let flag = flag_of i g in held-with_fault b s (base + (slice_index_or steps i no_step).active) flag.above ∙ now-held i g ∙ ap (λ (q : ℕ). held xm q) (sym (zero-add i))) in
+        let last : run_of (marks (shifted_steps k steps) flags) (with_more c w t) ≡ with_more c w (marked rs base xm next_on 0 steps t) =
+        marks-run lcallees rs base c k first room own (length steps) many xm left come next_on actions w h.long h.says bits next_same steps 0 flags (extent_of_bodies extents actions) t (λ some. let here = there some in omega arith) (omega arith) typed.0 typed.1 holding (omega arith) in
+        record { variables = w; long = h.long; is = ap (run_of (marks (shifted_steps k steps) flags)) h.is ∙ last }
+
+    whole : (z : State) → length z ≡ k → AreCarried lcallees callees base c k s ts
+        → Moved c k (effect_of_transitions callees rs base xm steps ts s) (effect_of_all lcallees (ranges_with c k rs) base (statements_of (moves k (shifted_steps k steps) flags ts)) (with_more c z s))
+    whole z long carried =
+        let holds = holds_in callees base s in
+        let faulty = faults_in callees base s in
+        let none = no_steps xm in
+        let long_now = length-now base s steps in
+        let long_x : length xm ≡ length steps = ap length (sym marking) ∙ long_now in
+        let left = left_after xm holds ts none in
+        let come = come_after xm holds ts none none in
+        let fault = fault_after xm holds faulty ts none false in
+        let next_on = is_next xm (fired xm holds ts) in
+        let moved = shifted_steps k steps in
+        let y0 = run_of (cleared moved flags) (with_more c z s) in
+        let y1 = run_of (all_tried k moved flags ts) y0 in
+        let behind : Reached c k (length steps) left come (with_fault fault s) y1 =
+        transitions lcallees callees rs base c k flags first room own holds_fault steps there many s within xm marking (λ i h. flag_of i h) ts false none none y0 carried (links-typed frames MayCall MayRun extents rs tested base (length steps) ts typed.3) (begins z long) in
+        let last = ends left come next_on fault y1 (λ i h. moved_on xm holds faulty ts i (omega arith)) behind in
+        moved-same c k _ _ _ _ (ap (λ (b : Bool). marked rs base xm next_on 0 steps (with_fault b s)) (met_faults xm holds faulty ts))
+        (effect-three lcallees (ranges_with c k rs) base (cleared moved flags) (all_tried k moved flags ts) (marks moved flags) (with_more c z s)) last
+
+-- A POU's own cells stand behind its k scratch variables, the first of which stands at place c of its owner, and at a place of the POU;
+-- its base is such that its own cells are those from c on.
 module _ (lcallees callees : Callees) (rs : List Range) (base c k flags : ℕ) (first : 0 < c) (room : c ≤ length rs) (own : (p : ℕ) → 0 < base + p → c ≤ base + p) (holds_fault : HoldsFault rs) where
   pub moves_run : (frames : ℕ → FrameData) (MayCall MayRun : ℕ → ℕ → Type 0) (extents : ℕ → ℕ) (tested : ℕ → Bool) (steps : List StepCells) (actions : Actions) (ts : List TransitionData) → IsTyped frames MayCall MayRun extents rs tested base (chart steps actions ts)
       → (0 < length steps → base + flags ≡ c) → 2 * length steps ≤ k → (z s : State) → length z ≡ k → IsInRange rs s → (xm : Marking) → marking_now base steps s ≡ xm → AreCarried lcallees callees base c k s ts
       → Moved c k (effect_of_transitions callees rs base xm steps ts s) (effect_of_all lcallees (ranges_with c k rs) base (statements_of (moves k (shifted_steps k steps) flags ts)) (with_more c z s))
   moves_run frames MayCall MayRun extents tested steps actions ts typed there many z s long within xm marking carried =
-      let m = length steps in
-      let ranges = ranges_with c k rs in
-      let moved = shifted_steps k steps in
-      let holds = holds_in callees base s in
-      let faulty = faults_in callees base s in
-      let none = no_steps xm in
-      let same_length = IsInRange-length rs s within in
-      let long_now = length-now base s steps in
-      let long_x : length xm ≡ m = ap length (sym marking) ∙ long_now in
-      let long_none : length none ≡ m = length-none xm ∙ long_x in
-      let flag_now = λ (i : ℕ) (h : i < length steps). active_flag rs base actions steps i typed.0 h in
-      let now = λ (i : ℕ) (h : i < length steps). now-at base s steps i h ∙ ap (λ (q : Marking). held q i) marking in
-      let run = λ (ss : List Statement) (y : State). effect_of_all lcallees ranges base (statements_of ss) y in
-      let y0 = run (cleared moved flags) (with_more c z s) in
-      let zeroed : Zeroed c m 0 z s y0 = clears lcallees rs base c k room steps flags 0 z s (λ some. let here = there some in omega arith) (omega arith) long (omega arith) in
-      let begun : Reached c k m none none (with_fault false s) y0 = record {
-        variables = zeroed.variables;
-        long = zeroed.long ∙ long;
-        is = zeroed.is;
-        says = record {
-          left_long = long_none;
-          come_long = long_none;
-          left_held = λ i h. zeroed.left i h ∙ sym (ap number_of (on-none xm i));
-          come_held = λ i h. zeroed.come i h ∙ sym (ap number_of (on-none xm i));
-        };
-      } in
-      let left = left_after xm holds ts none in
-      let come = come_after xm holds ts none none in
-      let fault = fault_after xm holds faulty ts none false in
-      let t = with_fault fault s in
-      let y1 = run (all_tried k moved flags ts) y0 in
-      let behind : Reached c k m left come t y1 =
-      transitions lcallees callees rs base c k flags first room own holds_fault steps there many s within xm marking flag_now ts false none none y0 carried (links-typed frames MayCall MayRun extents rs tested base m ts typed.3) begun in
-      let bits : (i : ℕ) → i < m → held xm i ≡ number_of (is_on xm i) = λ i h. let flag = flag_now i h in
-      sym (now i h) ∙ flag_value rs s (base + (slice_index_or steps i no_step).active) xm i within flag (now i h) in
-      let next_on = is_next xm (fired xm holds ts) in
-      let next_same : (i : ℕ) → i < m → is_next_from xm left come i ≡ next_on i = λ i h. moved_on xm holds faulty ts i (omega arith) in
-      let holding : Holding base xm 0 steps t =
-      Holding-now rs base xm actions steps 0 t (λ i h. let flag = flag_now i h in held-with_fault fault s (base + (slice_index_or steps i no_step).active) flag.above ∙ now i h ∙ ap (λ (q : ℕ). held xm q) (sym (zero-add i))) in
-      let long_t = length-with_fault fault s in
-      let w = behind.variables in
-      let last : run (marks moved flags) (with_more c w t) ≡ with_more c w (marked rs base xm next_on 0 steps t) =
-      marks-run lcallees rs base c k first room own m many xm left come next_on actions w behind.long behind.says bits next_same steps 0 flags (extent_of_bodies extents actions) t (λ some. let here = there some in omega arith) (omega arith) typed.0 typed.1 holding (omega arith) in
-      let met : marked rs base xm next_on 0 steps t ≡ effect_of_transitions callees rs base xm steps ts s =
-      ap (λ (b : Bool). marked rs base xm next_on 0 steps (with_fault b s)) (met_faults xm holds faulty ts) in
-      let ran : run (moves k moved flags ts) (with_more c z s) ≡ run (marks moved flags) y1 =
-      effect-append lcallees ranges base (cleared moved flags) (all_tried k moved flags ts ++ marks moved flags) (with_more c z s) ∙ effect-append lcallees ranges base (all_tried k moved flags ts) (marks moved flags) y0 in
-      record { variables = w; long = behind.long; is = ran ∙ ap (run (marks moved flags)) behind.is ∙ last ∙ ap (with_more c w) met }
+      whole lcallees callees rs base c k flags first room own holds_fault frames MayCall MayRun extents tested steps actions ts typed there many s within xm marking z long carried

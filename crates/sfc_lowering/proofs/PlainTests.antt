@@ -1,10 +1,9 @@
 -- Tests without calls have the same value over the cells of a POU, wherever they stand among those of its owner.
-use Rattle.std.proofs.Common.{◌≡◌, ℕ, ◌+◌, ◌<◌, Bool, true, false, List, [], ◌∷◌, ◌++◌, map, drop, length, refl, sym, ap, ◌∙◌, pos, ℤ, arith, zero-add}
-use Rattle.std.specs.Prelude.{slice_index_or, if◌then◌else◌, Option, None, Some}
+use Rattle.std.proofs.Common.{◌≡◌, ℕ, ◌+◌, Bool, false, List, [], ◌∷◌, ◌++◌, map, drop, refl, sym, ap, ◌∙◌, pos, ℤ, zero-add}
+use Rattle.std.specs.Prelude.{Option, None, Some}
 use Rattle.std.proofs.lemmas.List.{get_or-drop}
 use Rattle.st_tree.specs.declared.token.Operator.{Operator}
 use Rattle.st_tree.specs.declared.token.Operator.TheVariants.{Or, And}
-use Rattle.st_tree.specs.declared.elementary.Elementary.TheVariants.{Bool as Bit}
 use Rattle.st_tree.specs.declared.typed.StepCells.{StepCells}
 use Rattle.st_tree.specs.declared.typed.Association.{Association}
 use Rattle.st_tree.specs.declared.typed.Qualifier.{Qualifier}
@@ -13,7 +12,7 @@ use Rattle.st_tree.specs.Tree.{Expression, number, cell, unary, chain, call, ans
 use Rattle.effects.specs.Values.{State, Callees, no_callees, number_of, value_of, value_on, faults, any_faults, applied}
 use Rattle.effects.specs.Charts.{is_set, is_reset}
 use Rattle.flat_form.specs.Owners.{OwnerData}
-use Rattle.flat_form.specs.FlatCharts.{negated, both, operands_by, joined_by, active_at, before_at, steps_that, unless_reset, latch_test, asking, terms, latch_start, runs_test, ready_term, ready_test}
+use Rattle.flat_form.specs.FlatCharts.{operands_by, joined_by, active_at, before_at, steps_that, unless_reset, latch_test, asking, terms, latch_start, runs_test, ready_term, ready_test}
 use Rattle.flat_form.proofs.Shown.{held}
 use Rattle.flat_form.proofs.ChartTests.{IsTest}
 
