@@ -1,16 +1,16 @@
 -- What statements become has no chart.
-use Rattle.std.proofs.Common.{◌≡◌, ℕ, zero, suc, ◌+◌, List, [], ◌∷◌, ◌++◌, map}
+use Rattle.std.proofs.Common.{ℕ, zero, suc, ◌+◌, List, [], ◌∷◌, ◌++◌, map}
 use Rattle.std.specs.Prelude.{Option, None, Some, slice_index_or}
 use Rattle.st_tree.specs.declared.typed.StepCells.{StepCells}
 use Rattle.st_tree.specs.declared.typed.Association.{Association}
-use Rattle.st_tree.specs.Tree.{TransitionData, Statement, assign, run, choice, cases, repeat, chart, Statements, no_statements, statement, Choices, no_choices, choose, Entries, no_entries, entry, Actions, no_actions, action, CalledData, block, function, ProgramData}
+use Rattle.st_tree.specs.Tree.{TransitionData, Statement, assign, run, choice, cases, repeat, chart, Statements, no_statements, statement, Choices, no_choices, choose, Entries, no_entries, entry, Actions, no_actions, action, CalledData, block, function}
 use Rattle.st_tree.specs.View.{statements_of}
 use Rattle.effects.specs.Calls.{nothing}
 use Rattle.flat_form.specs.FlatCharts.{runs_test, of_associated}
 use Rattle.sfc_lowering.specs.Shifts.{shifted_steps, shifted_latch}
-use Rattle.sfc_lowering.specs.LoweredCharts.{in_place, only_where, latch_statements, cleared, flag_left, flag_entered, flagged, tried, all_tried, marks, moves}
-use Rattle.sfc_lowering.specs.LoweredLists.{flags_in_all, latches, lowered, lowered_all, lowered_choices, lowered_entries, lowered_actions, IsWithoutChart, AreWithoutChart, ChoicesAreWithoutChart, EntriesAreWithoutChart}
-use Rattle.sfc_lowering.specs.LoweredPrograms.{lowered_called, lowered_program, CalledIsWithoutChart, CalledAreWithoutChart}
+use Rattle.sfc_lowering.specs.LoweredCharts.{in_place, only_where, latch_statements, cleared, flag_left, flag_entered, flagged, all_tried, marks, moves}
+use Rattle.sfc_lowering.specs.LoweredLists.{flags_in_all, latches, lowered, lowered_all, lowered_choices, lowered_entries, lowered_actions, AreWithoutChart, ChoicesAreWithoutChart, EntriesAreWithoutChart}
+use Rattle.sfc_lowering.specs.LoweredPrograms.{lowered_called, CalledIsWithoutChart, CalledAreWithoutChart}
 use Rattle.sfc_lowering.specs.LoweringLaws.{LoweringLeavesNoChart}
 
 -- no statement of a list is or has a chart

@@ -1,5 +1,5 @@
 -- Expressions of a POU whose own cells stand further on: they are worth what they were, and meet the same faults.
-use Rattle.std.proofs.Common.{◌≡◌, ℕ, ◌+◌, ◌<◌, ◌≤◌, Bool, ◌||◌, List, [], ◌∷◌, length, ℤ, refl, sym, ap, ◌∙◌, arith}
+use Rattle.std.proofs.Common.{◌≡◌, ℕ, ◌+◌, ◌<◌, Bool, ◌||◌, List, ◌∷◌, length, ℤ, refl, ap, ◌∙◌, arith}
 use Rattle.st_tree.specs.declared.typed.Range.{Range}
 use Rattle.st_tree.specs.Tree.{Expression, number, cell, unary, chain, call, answer, Operands, no_operands, operand, Expressions, no_expressions, expression}
 use Rattle.effects.specs.Values.{State, Callees, unary_applied, applied, called, answer_in, fault_in, divides_by_zero, value_of, value_on, values_of, faults, any_faults, one_faults}

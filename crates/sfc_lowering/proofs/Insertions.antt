@@ -1,14 +1,12 @@
 -- Values that are put in front of all cells of a POU change nothing of what its body does, and the body leaves them.
-use Rattle.std.proofs.Common.{◌≡◌, ℕ, zero, suc, ◌+◌, ◌<◌, ◌≤◌, Bool, true, false, ◌||◌, List, [], ◌∷◌, length, take, drop, min, ℤ, pos, ◌+ℤ◌, refl, sym, ap, ◌∙◌, arith}
-use Rattle.std.specs.Prelude.{◌==◌, slice_set, slice_index_or, if◌then◌else◌, replicate}
+use Rattle.std.proofs.Common.{◌≡◌, ℕ, zero, suc, ◌+◌, ◌<◌, ◌≤◌, Bool, true, false, ◌||◌, List, ◌∷◌, length, take, drop, min, ℤ, pos, ◌+ℤ◌, refl, ap, ◌∙◌, arith}
+use Rattle.std.specs.Prelude.{◌==◌, slice_index_or, if◌then◌else◌, replicate}
 use Rattle.std.proofs.lemmas.List.{length-append, length-replicate, length-take, length-drop}
-use Rattle.st_tree.specs.declared.elementary.Elementary.{Elementary}
 use Rattle.st_tree.specs.declared.elementary.Elementary.TheVariants.{Bool as truth}
 use Rattle.st_tree.specs.declared.typed.Range.{Range}
-use Rattle.st_tree.specs.declared.typed.TypedLabel.{TypedLabel}
 use Rattle.st_tree.specs.Types.{range_of}
 use Rattle.st_tree.specs.Tree.{Expression, number, cell, unary, chain, call, answer, Operands, no_operands, operand, Expressions, no_expressions, expression, Statement, assign, run, choice, cases, repeat, chart, Statements, no_statements, statement, Choices, no_choices, choose, Entries, no_entries, entry, CalledData, block, function}
-use Rattle.effects.specs.Values.{State, Callees, no_callees, unary_applied, applied, called, answer_in, fault_in, divides_by_zero, is_truth, value_of, value_on, values_of, faults, any_faults, one_faults}
+use Rattle.effects.specs.Values.{State, Callees, unary_applied, applied, called, answer_in, fault_in, divides_by_zero, is_truth, value_of, value_on, values_of, faults, any_faults, one_faults}
 use Rattle.effects.specs.Effects.{with_fault, stored, is_labelled, effect_of_turns, effect_of, effect_of_all, effect_of_choices, effect_of_entries}
 use Rattle.effects.specs.Calls.{nothing}
 use Rattle.sfc_lowering.specs.LoweredLists.{IsWithoutChart, AreWithoutChart, ChoicesAreWithoutChart, EntriesAreWithoutChart}

@@ -1,31 +1,31 @@
 -- What POUs become does what they do, and a program without charts leaves the cells that the program leaves.
-use Rattle.std.proofs.Common.{◌≡◌, ℕ, zero, suc, ◌+◌, ◌<◌, ◌≤◌, Bool, true, false, ◌&&◌, List, [], ◌∷◌, length, map, min, ℤ, pos, refl, sym, ap, ◌∙◌, arith, rules, tests}
+use Rattle.std.proofs.Common.{◌≡◌, ℕ, zero, suc, ◌+◌, ◌<◌, ◌≤◌, Bool, true, false, ◌&&◌, List, [], ◌∷◌, length, map, min, ℤ, pos, refl, sym, ap, ◌∙◌, arith}
 use Rattle.std.specs.Prelude.{◌==◌, slice_set, slice_index_or, if◌then◌else◌, replicate}
 use Rattle.std.proofs.lemmas.List.{length-map, length-replicate}
 use Rattle.st_tree.specs.declared.elementary.Elementary.TheVariants.{Bool as truth}
 use Rattle.st_tree.specs.declared.typed.Range.{Range}
 use Rattle.st_tree.specs.Types.{range_of}
-use Rattle.st_tree.specs.Tree.{Statement, assign, run, choice, cases, repeat, chart, Statements, no_statements, statement, CalledData, block, function, CellData, ProgramData}
+use Rattle.st_tree.specs.Tree.{assign, run, choice, cases, repeat, chart, Statements, no_statements, statement, CalledData, block, function, CellData}
 use Rattle.effects.specs.Values.{State, Callees}
-use Rattle.effects.specs.Effects.{stored, effect_of_all}
+use Rattle.effects.specs.Effects.{effect_of_all}
 use Rattle.effects.specs.Calls.{given, nothing, run_of, ends_of, callees_of}
-use Rattle.scan_model.specs.Scans.{ranges_of, callees_in, scanned}
-use Rattle.scan_model.specs.InRange.{IsInRange, BeginsWithFault, IsProgram}
-use Rattle.scan_model.proofs.Keeping.{HoldsFault, holds_fault, IsInRange-length, cleared as fault_cleared, kept_by_store, kept_by_all, kept_by_calls}
-use Rattle.flat_form.specs.Frames.{FrameData, frame_of, frames_of, function_body}
+use Rattle.scan_model.specs.Scans.{ranges_of}
+use Rattle.scan_model.specs.InRange.{IsInRange, BeginsWithFault}
+use Rattle.scan_model.proofs.Keeping.{HoldsFault, holds_fault, IsInRange-length, cleared as fault_cleared, kept_by_store, kept_by_calls}
+use Rattle.flat_form.specs.Frames.{frame_of, frames_of, function_body}
 use Rattle.flat_form.specs.Pous.{block_body}
-use Rattle.flat_form.specs.Idle.{is_idle, is_idle_all, idle_of}
-use Rattle.flat_form.specs.WellTyped.{each_tested, IsWellTyped, AreTyped, extents_of, Choice, tested_in, FrameFits, MayRunOf, MayCallOf}
+use Rattle.flat_form.specs.Idle.{is_idle_all, idle_of}
+use Rattle.flat_form.specs.WellTyped.{each_tested, AreTyped, extents_of, Choice, tested_in, FrameFits, MayRunOf, MayCallOf}
 use Rattle.flat_form.proofs.Claims.{RunsKeep, RunsLeave}
 use Rattle.flat_form.proofs.IdleLemmas.{idle_body-effect}
 use Rattle.flat_form.proofs.KeptMeaning.{frame-fault}
 use Rattle.flat_form.proofs.Leaving.{runs-leave}
-use Rattle.sfc_lowering.specs.LoweredLists.{flags_in_all, lowered_all, lowered_body}
-use Rattle.sfc_lowering.specs.LoweredPrograms.{flags_of_called, lowered_called, lowered_program}
-use Rattle.sfc_lowering.specs.LoweredScans.{with_more, without, over_scratch, lowered_run_of, lowered_ends_of, lowered_callees_of, lowered_scanned}
+use Rattle.sfc_lowering.specs.LoweredLists.{flags_in_all, lowered_body}
+use Rattle.sfc_lowering.specs.LoweredPrograms.{flags_of_called, lowered_called}
+use Rattle.sfc_lowering.specs.LoweredScans.{with_more, without, over_scratch, lowered_run_of, lowered_ends_of, lowered_callees_of}
 use Rattle.sfc_lowering.specs.LoweringLaws.{LoweringKeepsMeaning}
 use Rattle.sfc_lowering.proofs.Inserted.{without-with_more}
-use Rattle.sfc_lowering.proofs.Insertions.{Inserts, lowered-Inserts}
+use Rattle.sfc_lowering.proofs.Insertions.{lowered-Inserts}
 use Rattle.sfc_lowering.proofs.Chartless.{each_called-chartless}
 use Rattle.sfc_lowering.proofs.Expressions.{EndAlike}
 use Rattle.sfc_lowering.proofs.StatementRuns.{Extends, all_extend}

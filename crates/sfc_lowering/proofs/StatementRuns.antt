@@ -1,6 +1,6 @@
 -- The statements of a POU whose own cells stand behind its scratch variables, without charts, do to its own cells what the statements do.
-use Rattle.std.proofs.Common.{◌≡◌, ℕ, zero, suc, ◌+◌, ◌*◌, ◌<◌, ◌≤◌, Bool, true, false, List, [], ◌∷◌, ◌++◌, length, ℤ, ◌+ℤ◌, refl, sym, ap, subst, ◌∙◌, arith, rules, tests}
-use Rattle.std.specs.Prelude.{◌==◌, max, slice_index_or, if◌then◌else◌, replicate, Option, None, Some}
+use Rattle.std.proofs.Common.{◌≡◌, ℕ, zero, suc, ◌+◌, ◌*◌, ◌<◌, ◌≤◌, Bool, true, false, List, [], ◌∷◌, ◌++◌, length, ℤ, ◌+ℤ◌, refl, sym, ap, subst, ◌∙◌, arith}
+use Rattle.std.specs.Prelude.{slice_index_or, if◌then◌else◌, replicate, Option, None, Some}
 use Rattle.std.proofs.lemmas.List.{length-replicate}
 use Rattle.std.proofs.Math.Nat.{le-max_left, le-max_right}
 use Rattle.st_tree.specs.declared.elementary.Elementary.TheVariants.{Bool as truth}
@@ -14,7 +14,7 @@ use Rattle.effects.specs.Values.{State, Callees, is_truth, value_of, faults}
 use Rattle.effects.specs.Charts.{Marking, marking_now, marking_before, runs}
 use Rattle.effects.specs.Effects.{with_fault, stored, is_labelled, effect_of_turns, all_latched, effect_of, effect_of_all, effect_of_choices, effect_of_entries, effect_of_actions, effect_of_transitions}
 use Rattle.scan_model.specs.InRange.{IsInRange}
-use Rattle.scan_model.proofs.Keeping.{HoldsFault, IsInRange-length, fault_added, kept_by_store, kept_by_latches, kept_by_statement, kept_by_all}
+use Rattle.scan_model.proofs.Keeping.{HoldsFault, IsInRange-length, fault_added, kept_by_store, kept_by_latches, kept_by_marks}
 use Rattle.flat_form.specs.Frames.{FrameData}
 use Rattle.flat_form.specs.FlatCharts.{no_step, runs_test}
 use Rattle.flat_form.specs.WellTyped.{IsTypedValue, IsTyped, AreTyped, AreTypedChoices, AreTypedEntries, AreTypedActions, AreTypedTransitions, AreFlags, AreRisingFrom, NameSteps, latch_places, chart_places, extent_of_all, extent_of_bodies}
@@ -24,7 +24,7 @@ use Rattle.flat_form.proofs.ChartStores.{stored-other, held-with_fault}
 use Rattle.flat_form.proofs.ChartMoves.{IsFlag, active_flag, before_flag}
 use Rattle.flat_form.proofs.Leaving.{all-leave}
 use Rattle.flat_form.proofs.Owed.{with_turns}
-use Rattle.sfc_lowering.specs.Shifts.{shifted, shifted_turns, shifted_steps, shifted_latch}
+use Rattle.sfc_lowering.specs.Shifts.{shifted, shifted_steps, shifted_latch}
 use Rattle.sfc_lowering.specs.LoweredCharts.{in_place, only_where, moves}
 use Rattle.sfc_lowering.specs.LoweredLists.{flags_in, flags_in_all, flags_in_choices, flags_in_entries, flags_in_actions, latches, lowered, lowered_all, lowered_choices, lowered_entries, lowered_actions}
 use Rattle.sfc_lowering.specs.LoweredScans.{with_more}
@@ -33,7 +33,7 @@ use Rattle.sfc_lowering.proofs.Insertions.{Matches, Inserts}
 use Rattle.sfc_lowering.proofs.PlainTests.{Tells}
 use Rattle.sfc_lowering.proofs.ChartCells.{ranges_with, LatchIsFlag, latches_of, runs-told}
 use Rattle.sfc_lowering.proofs.LatchRuns.{parted, all_latch_flags, now-same, was-same, latches_run}
-use Rattle.sfc_lowering.proofs.MoveRuns.{Carried, AreCarried, Moved, moves_run}
+use Rattle.sfc_lowering.proofs.MoveRuns.{AreCarried, Moved, moves_run}
 use Rattle.sfc_lowering.proofs.Expressions.{EndAlike, HasCells, value-shifted, fault-shifted}
 
 -- ---- lists one behind the other, and an IF without ELSE
@@ -194,6 +194,60 @@ module _ (frames : ℕ → FrameData) (MayCall MayRun : ℕ → ℕ → Type 0) 
       subst (λ (x : State). Acted steps now before (if b then effect_of_all callees rs base ss s else s) x) (sym (only-told new_callees (ranges_with c k rs) base test (lowered_all flags k ss) t b told))
       (Acted-if steps now before b (effect_of_all callees rs base ss s) (new t) s t (body_acted steps now before ss new m each s t h) h)
 
+  -- ---- a chart, but for its actions
+
+  chart_marked : (steps : List StepCells) (now before : Marking) (acts : Actions) → AreFlags rs base (chart_places steps acts) → AreRisingFrom (extent_of_bodies extents acts) (chart_places steps acts) → Marked steps now before (extent_of_bodies extents acts)
+  chart_marked steps now before acts fl rising =
+      let parts = parted steps acts (extent_of_bodies extents acts) rising in
+      record {
+        flag_now = λ i g. active_flag rs base acts steps i fl g;
+        flag_was = λ i g. before_flag rs base acts steps i fl g;
+        now_above = λ i g. let inside = parts.inside i g in inside.now_low;
+        was_above = λ i g. let inside = parts.inside i g in inside.was_low;
+      }
+
+  latches_acted : (steps : List StepCells) (acts : Actions) (ts : List TransitionData) → IsTyped frames MayCall MayRun extents rs tested base (chart steps acts ts) → (s t : State) → Extends c k rs s t
+      → Acted steps (marking_now base steps s) (marking_before base steps s) (all_latched rs base (marking_now base steps s) acts s) (effect_of_all new_callees (ranges_with c k rs) base (statements_of (latches (shifted_steps k steps) k acts)) t)
+  latches_acted steps acts ts typed s t h =
+      let now = marking_now base steps s in
+      let parts = parted steps acts (extent_of_bodies extents acts) typed.1 in
+      let kept = λ (p : ℕ) (low : p < parts.bound) (above : 0 < base + p). latches-leave rs base now acts parts.bound p s parts.rising low above in
+      record {
+        extends = record {
+          flags = h.flags;
+          count = h.count;
+          same = ap (effect_of_all new_callees (ranges_with c k rs) base (statements_of (latches (shifted_steps k steps) k acts))) h.same
+          ∙ latches_run new_callees rs base c k first room own frames MayCall MayRun extents tested steps acts ts typed h.flags s h.count h.within;
+          within = kept_by_latches rs head base now acts s h.within;
+        };
+        is_now = now-same base steps s (all_latched rs base now acts s) (λ i g. let inside = parts.inside i g in let flag = active_flag rs base acts steps i typed.0 g in kept (slice_index_or steps i no_step).active inside.now_high flag.above);
+        was = was-same base steps s (all_latched rs base now acts s) (λ i g. let inside = parts.inside i g in let flag = before_flag rs base acts steps i typed.0 g in kept (slice_index_or steps i no_step).before inside.was_high flag.above);
+      }
+
+  -- the last two parts, behind the actions
+  moves_extend : (steps : List StepCells) (acts : Actions) (ts : List TransitionData) → IsTyped frames MayCall MayRun extents rs tested base (chart steps acts ts) → 2 * length steps ≤ k → (now before : Marking) (s t : State) → Acted steps now before s t
+      → Extends c k rs (effect_of_transitions callees rs base now steps ts s) (effect_of_all new_callees (ranges_with c k rs) base (statements_of (moves k (shifted_steps k steps) flags ts)) t)
+  moves_extend steps acts ts typed few now before s t h =
+      let ext = h.extends in
+      let moved = moves_run new_callees callees rs base c k flags first room own head frames MayCall MayRun extents tested steps acts ts typed
+      (λ some. let flag = active_flag rs base acts steps 0 typed.0 some in there (slice_index_or steps 0 no_step).active flag.above flag.below) few ext.flags s ext.count ext.within now h.is_now (conditions (length steps) ts typed.3 s) in
+      record {
+        flags = moved.variables;
+        count = moved.long;
+        same = ap (effect_of_all new_callees (ranges_with c k rs) base (statements_of (moves k (shifted_steps k steps) flags ts))) ext.same ∙ moved.is;
+        within = kept_by_marks rs head base now _ 0 steps _ (fault_added rs head _ s ext.within);
+      }
+
+  -- its three parts, one behind the other
+  chart_same : (steps : List StepCells) (acts : Actions) (ts : List TransitionData) (s t : State)
+      → Extends c k rs s (effect_of_all new_callees (ranges_with c k rs) base (statements_of (moves k (shifted_steps k steps) flags ts)) (effect_of_all new_callees (ranges_with c k rs) base (statements_of (lowered_actions flags k (shifted_steps k steps) acts)) (effect_of_all new_callees (ranges_with c k rs) base (statements_of (latches (shifted_steps k steps) k acts)) t)))
+      → Extends c k rs s (effect_of_all new_callees (ranges_with c k rs) base (statements_of (lowered flags k (chart steps acts ts))) t)
+  chart_same steps acts ts s t h =
+      let cells = shifted_steps k steps in
+      let rest = lowered_actions flags k cells acts ++ moves k cells flags ts in
+      let behind_latches = effect_of_all new_callees (ranges_with c k rs) base (statements_of (latches cells k acts)) t in
+      rw (all-append new_callees (ranges_with c k rs) base (latches cells k acts) rest t, all-append new_callees (ranges_with c k rs) base (lowered_actions flags k cells acts) (moves k cells flags ts) behind_latches) h
+
   mutual
     pub statement_extends : (a : Statement) → IsTyped frames MayCall MayRun extents rs tested base a → flags_in a ≤ k → (s t : State) → Extends c k rs s t
         → Extends c k rs (effect_of callees rs base a s) (effect_of_all new_callees (ranges_with c k rs) base (statements_of (lowered flags k a)) t)
@@ -217,46 +271,9 @@ module _ (frames : ℕ → FrameData) (MayCall MayRun : ℕ → ℕ → Type 0) 
         let q = le-max_right (2 * length steps) (flags_in_actions acts) in
         let now = marking_now base steps s in
         let before = marking_before base steps s in
-        let parts = parted steps acts (extent_of_bodies extents acts) typed.1 in
-        let flag_now = λ (i : ℕ) (g : i < length steps). active_flag rs base acts steps i typed.0 g in
-        let flag_was = λ (i : ℕ) (g : i < length steps). before_flag rs base acts steps i typed.0 g in
-        let m : Marked steps now before (extent_of_bodies extents acts) = record {
-          flag_now = flag_now;
-          flag_was = flag_was;
-          now_above = λ i g. let inside = parts.inside i g in inside.now_low;
-          was_above = λ i g. let inside = parts.inside i g in inside.was_low;
-        } in
-        let s1 = all_latched rs base now acts s in
-        let t1 = effect_of_all new_callees (ranges_with c k rs) base (statements_of (latches (shifted_steps k steps) k acts)) t in
-        let one : Acted steps now before s1 t1 = record {
-          extends = record {
-            flags = h.flags;
-            count = h.count;
-            same = ap (effect_of_all new_callees (ranges_with c k rs) base (statements_of (latches (shifted_steps k steps) k acts))) h.same ∙ latches_run new_callees rs base c k first room own frames MayCall MayRun extents tested steps acts ts typed h.flags s h.count h.within;
-            within = kept_by_latches rs head base now acts s h.within;
-          };
-          is_now = now-same base steps s s1 (λ i g. let inside = parts.inside i g in let flag = flag_now i g in latches-leave rs base now acts parts.bound (slice_index_or steps i no_step).active s parts.rising inside.now_high flag.above);
-          was = was-same base steps s s1 (λ i g. let inside = parts.inside i g in let flag = flag_was i g in latches-leave rs base now acts parts.bound (slice_index_or steps i no_step).before s parts.rising inside.was_high flag.above);
-        } in
-        let s2 = effect_of_actions callees rs base now before acts s1 in
-        let t2 = effect_of_all new_callees (ranges_with c k rs) base (statements_of (lowered_actions flags k (shifted_steps k steps) acts)) t1 in
-        let two : Acted steps now before s2 t2 = actions_extend acts steps now before typed.2 (omega arith) (all_latch_flags rs base steps acts typed.0) m s1 t1 one in
-        let s3 = effect_of_transitions callees rs base now steps ts s2 in
-        let rest = moves k (shifted_steps k steps) flags ts in
-        let t3 = effect_of_all new_callees (ranges_with c k rs) base (statements_of rest) t2 in
-        let ext = two.extends in
-        let three : Moved c k s3 (effect_of_all new_callees (ranges_with c k rs) base (statements_of rest) (with_more c ext.flags s2)) =
-        moves_run new_callees callees rs base c k flags first room own head frames MayCall MayRun extents tested steps acts ts typed (λ some. let flag = flag_now 0 some in there (slice_index_or steps 0 no_step).active flag.above flag.below) (omega arith)
-        ext.flags s2 ext.count ext.within now two.is_now (conditions (length steps) ts typed.3 s2) in
-        let ran : effect_of_all new_callees (ranges_with c k rs) base (statements_of (lowered flags k (chart steps acts ts))) t ≡ t3 =
-        all-append new_callees (ranges_with c k rs) base (latches (shifted_steps k steps) k acts) (lowered_actions flags k (shifted_steps k steps) acts ++ rest) t
-        ∙ all-append new_callees (ranges_with c k rs) base (lowered_actions flags k (shifted_steps k steps) acts) rest t1 in
-        record {
-          flags = three.variables;
-          count = three.long;
-          same = ran ∙ ap (effect_of_all new_callees (ranges_with c k rs) base (statements_of rest)) ext.same ∙ three.is;
-          within = kept_by_statement rs head callees keeps base (chart steps acts ts) s h.within;
-        }
+        let behind_latches = latches_acted steps acts ts typed s t h in
+        let behind_actions = actions_extend acts steps now before typed.2 (omega arith) (all_latch_flags rs base steps acts typed.0) (chart_marked steps now before acts typed.0 typed.1) _ _ behind_latches in
+        chart_same steps acts ts _ t (moves_extend steps acts ts typed (omega arith) now before _ _ behind_actions)
 
     pub all_extend : (ss : Statements) → AreTyped frames MayCall MayRun extents rs tested base ss → flags_in_all ss ≤ k → (s t : State) → Extends c k rs s t
         → Extends c k rs (effect_of_all callees rs base ss s) (effect_of_all new_callees (ranges_with c k rs) base (statements_of (lowered_all flags k ss)) t)
