@@ -124,7 +124,7 @@ pub stored-new : (c k : ℕ) (rs : List Range) (z s : State) (i q : ℕ) (b : Bo
     → stored (with_more c (replicate k (range_of truth)) rs) q (number_of b) (with_more c z s) ≡ with_more c (slice_set z i (number_of b)) s
 stored-new c k rs z s i q b room_rs room long h e =
     let r : range_at (with_more c (replicate k (range_of truth)) rs) q ≡ range_of truth =
-        read-new c (replicate k (range_of truth)) rs i q _ room_rs (omega (arith, length-replicate k (range_of truth))) e ∙ get_or-replicate k i (range_of truth) _ h in
+    read-new c (replicate k (range_of truth)) rs i q _ room_rs (omega (arith, length-replicate k (range_of truth))) e ∙ get_or-replicate k i (range_of truth) _ h in
     rw r (by_bit b)
   where
     by_bit : (b : Bool) → (if in_range (number_of b) (range_of truth) then slice_set (with_more c z s) q (number_of b) else slice_set (with_more c z s) 0 (pos 1)) ≡ with_more c (slice_set z i (number_of b)) s

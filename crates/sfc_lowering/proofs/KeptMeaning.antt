@@ -73,6 +73,10 @@ given-within : (rs : List Range) → HoldsFault rs → (place : ℕ) (vs : List 
 given-within rs head place [] s within = within
 given-within rs head place (v ∷ vs) s within = given-within rs head (place + 1) vs _ (kept_by_store rs head place v s within)
 
+-- the scratch variables are taken out again
+taken_out : (c k : ℕ) (rs : List Range) (s t : State) → c ≤ length rs → Extends c k rs s t → without c k t ≡ s
+taken_out c k rs s t room h = let long = IsInRange-length rs s h.within in ap (without c k) h.same ∙ without-with_more c h.flags s k (omega arith) h.count
+
 module _ (ps : List CalledData) where
   abbrev lowered_callees : ℕ → Callees
   lowered_callees n = lowered_callees_of (map lowered_called ps) (map flags_of_called ps) n
@@ -101,8 +105,7 @@ module _ (ps : List CalledData) where
       let ran : Extends c k rs (effect_of_all (callees_of ps n) rs base body s) (effect_of_all (lowered_callees n) (with_more c (replicate k (range_of truth)) rs) base (lowered_body flags k body) (with_more c z s)) =
       all_extend (frames_of ps) (MayCallOf ps n) (MayRunOf ps rs tested n) (extents_of ps n) rs tested (callees_of ps n) (lowered_callees n) base flags c k head (omega arith) (omega arith) (λ p h. let far = own p h in omega arith) (λ p h low. let e = there p h low in let far = own p h in omega arith)
       ends_alike (λ b at may h t i. runs_alike rs tested head some b at may h t i) (lowered-Inserts (map lowered_called ps) (each_called-chartless ps) (map flags_of_called ps) n) keeps leaves body typed (omega arith) s (with_more c z s) begun in
-      let long = IsInRange-length rs (effect_of_all (callees_of ps n) rs base body s) ran.within in
-      ap (without c k) ran.same ∙ without-with_more c ran.flags (effect_of_all (callees_of ps n) rs base body s) k (omega arith) ran.count
+      taken_out c k rs _ _ (omega arith) ran
 
   -- ---- a POU more
 

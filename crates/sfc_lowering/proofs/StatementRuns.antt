@@ -33,7 +33,7 @@ use Rattle.sfc_lowering.proofs.Insertions.{Matches, Inserts}
 use Rattle.sfc_lowering.proofs.PlainTests.{Tells}
 use Rattle.sfc_lowering.proofs.ChartCells.{ranges_with, LatchIsFlag, latches_of, runs-told}
 use Rattle.sfc_lowering.proofs.LatchRuns.{parted, all_latch_flags, now-same, was-same, latches_run}
-use Rattle.sfc_lowering.proofs.MoveRuns.{AreCarried, Moved, moves_run}
+use Rattle.sfc_lowering.proofs.MoveRuns.{AreCarried, moves_run}
 use Rattle.sfc_lowering.proofs.Expressions.{EndAlike, HasCells, value-shifted, fault-shifted}
 
 -- ---- lists one behind the other, and an IF without ELSE
@@ -122,7 +122,7 @@ module _ (frames : ℕ → FrameData) (MayCall MayRun : ℕ → ℕ → Type 0) 
         flags = h.flags;
         count = h.count;
         same = ap (stored (ranges_with c k rs) (base + (target + k)) v) h.same
-        ∙ stored-inserted c (replicate k (range_of truth)) rs h.flags s (base + target) (base + (target + k)) v first (long_enough s h.within) (omega arith) (own target above) (omega arith);
+            ∙ stored-inserted c (replicate k (range_of truth)) rs h.flags s (base + target) (base + (target + k)) v first (long_enough s h.within) (omega arith) (own target above) (omega arith);
         within = kept_by_store rs head (base + target) v s h.within;
       }
 
@@ -217,7 +217,7 @@ module _ (frames : ℕ → FrameData) (MayCall MayRun : ℕ → ℕ → Type 0) 
           flags = h.flags;
           count = h.count;
           same = ap (effect_of_all new_callees (ranges_with c k rs) base (statements_of (latches (shifted_steps k steps) k acts))) h.same
-          ∙ latches_run new_callees rs base c k first room own frames MayCall MayRun extents tested steps acts ts typed h.flags s h.count h.within;
+              ∙ latches_run new_callees rs base c k first room own frames MayCall MayRun extents tested steps acts ts typed h.flags s h.count h.within;
           within = kept_by_latches rs head base now acts s h.within;
         };
         is_now = now-same base steps s (all_latched rs base now acts s) (λ i g. let inside = parts.inside i g in let flag = active_flag rs base acts steps i typed.0 g in kept (slice_index_or steps i no_step).active inside.now_high flag.above);
