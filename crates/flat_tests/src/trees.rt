@@ -126,12 +126,9 @@ pub fn entry(
     labels: &[TypedLabel],
     stmt: TypedStmt,
 ) -> Result<TypedEntry, AllocError> {
-    let mut list = Vec::new(alloc);
-    for label in labels {
-        list.push(*label)?;
-    }
+    let labels = Vec::from_slice(alloc, labels)?;
     let body = vec![in alloc; stmt]?;
-    Ok(TypedEntry { labels: list, body })
+    Ok(TypedEntry { labels, body })
 }
 
 /// A CASE of one entry that has one label and one statement.
