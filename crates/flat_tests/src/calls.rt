@@ -1,6 +1,6 @@
 // Small typed programs that call FUNCTIONs.
 use crate::programs::run;
-use crate::trees::{A, B, Q, R, arm, at, binary, case_of_one, number, program_with, set};
+use crate::trees::{A, B, Q, R, arm, at, binary, case_of_one, number, program_with, set, single};
 use st_tree::{
     Called, CellType, DataType, Elementary, Frame, Operator, Program, Range, TypedExpr, TypedStmt,
 };
@@ -113,7 +113,7 @@ pub fn calls_in_conditions(alloc: Global) -> Result<Program, AllocError> {
 /// `CASE F(A, 1) OF 1: Q := 1; END_CASE;`
 pub fn calls_in_selector(alloc: Global) -> Result<Program, AllocError> {
     let called = call(alloc, 0, at(A), number(1))?;
-    let body = vec![in alloc; case_of_one(alloc, called, 1, 1, set(Q, 1))?]?;
+    let body = vec![in alloc; case_of_one(alloc, called, single(1), set(Q, 1))?]?;
     with_function(alloc, body)
 }
 

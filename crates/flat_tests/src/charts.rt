@@ -1,6 +1,8 @@
 // Small typed programs with charts. The cells of their steps stand behind the others, two for each step, and behind them those of latches.
 use crate::programs::run;
-use crate::trees::{A, B, Q, R, at, binary, case_of_one, is, number, program_with_cells, set};
+use crate::trees::{
+    A, B, Q, R, at, binary, case_of_one, is, number, program_with_cells, set, single,
+};
 use st_tree::{
     Association, Called, CellType, DataType, Elementary, Frame, Operator, Program, Qualifier,
     Range, StepCells, Turns, TypedAction, TypedExpr, TypedStmt, TypedTransition,
@@ -190,7 +192,7 @@ fn is_less(alloc: Global, place: usize, value: i64) -> Result<TypedExpr, AllocEr
 
 /// An action with a CASE, and conditions that call a FUNCTION.
 pub fn charts_with_scratch(alloc: Global) -> Result<Program, AllocError> {
-    let case = case_of_one(alloc, at(A), 1, 1, set(Q, 1))?;
+    let case = case_of_one(alloc, at(A), single(1), set(Q, 1))?;
     let actions = vec![in alloc; action(alloc, None, &[(Qualifier::NonStored, 0)], case)?]?;
     let transitions = vec![in alloc;
         transition(alloc, &[0], &[1], is_less(alloc, A, 1)?)?,

@@ -22,4 +22,6 @@ mod programs;
 #[cfg(test)]
 mod runs;
 #[cfg(test)]
+mod texts;
+#[cfg(test)]
 mod trees;

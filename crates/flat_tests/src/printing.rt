@@ -150,8 +150,10 @@ fn print_expressions(
 fn kind_name(kind: Elementary) -> &'static str {
     match kind {
         Elementary::Bool => "BOOL",
+        Elementary::Sint => "SINT",
         Elementary::Int => "INT",
         Elementary::Dint => "DINT",
+        Elementary::Usint => "USINT",
         _ => "?",
     }
 }

@@ -1,10 +1,10 @@
 // Small typed programs.
 use crate::trees::{
     A, B, Q, R, arm, at, binary, case_of_one, entry, is, number, program, program_with, set,
+    single, span,
 };
 use st_tree::{
-    Called, Elementary, Function, Operator, Program, Range, Turns, TypedEntry, TypedExpr,
-    TypedStmt, UnaryOperator,
+    Called, Elementary, Function, Operator, Program, Turns, TypedExpr, TypedStmt, UnaryOperator,
 };
 use std::alloc::{AllocError, Global};
 
@@ -36,33 +36,13 @@ pub fn chooses_without_else(alloc: Global) -> Result<Program, AllocError> {
     program(alloc, body)
 }
 
-// `1, 3..5:` and `-3..-1, 9, 11..12:`
-fn several(
-    alloc: Global,
-    labels: &[(i64, i64)],
-    stmt: TypedStmt,
-) -> Result<TypedEntry, AllocError> {
-    let mut ranges = Vec::new(alloc);
-    for (low, high) in labels {
-        ranges.push(Range {
-            low: *low,
-            high: *high,
-        })?;
-    }
-    let body = vec![in alloc; stmt]?;
-    Ok(TypedEntry {
-        labels: ranges,
-        body,
-    })
-}
-
 /// `CASE A / B OF 1, 3..5: Q := 1; 7: R := 2; -3..-1, 9, 11..12: Q := 3; ELSE Q := 4; END_CASE;`
 pub fn selects(alloc: Global) -> Result<Program, AllocError> {
     let selector = binary(alloc, at(A), Operator::Divide, at(B))?;
     let entries = vec![in alloc;
-        several(alloc, &[(1, 1), (3, 5)], set(Q, 1))?,
-        several(alloc, &[(7, 7)], set(R, 2))?,
-        several(alloc, &[(-3, -1), (9, 9), (11, 12)], set(Q, 3))?,
+        entry(alloc, &[single(1), span(3, 5)], set(Q, 1))?,
+        entry(alloc, &[single(7)], set(R, 2))?,
+        entry(alloc, &[span(-3, -1), single(9), span(11, 12)], set(Q, 3))?,
     ]?;
     let other = vec![in alloc; set(Q, 4)]?;
     let body = vec![in alloc; TypedStmt::Case(selector, entries, other)]?;
@@ -72,13 +52,16 @@ pub fn selects(alloc: Global) -> Result<Program, AllocError> {
 /// `CASE A OF 1: CASE B OF 5: Q := 1; END_CASE; 2: CASE B OF 6..7: Q := 2; END_CASE;`
 /// `ELSE CASE B OF 8: Q := 3; END_CASE; END_CASE; CASE R OF 0: R := 9; END_CASE;`
 pub fn selects_within(alloc: Global) -> Result<Program, AllocError> {
-    let first = case_of_one(alloc, at(B), 5, 5, set(Q, 1))?;
-    let second = case_of_one(alloc, at(B), 6, 7, set(Q, 2))?;
-    let entries = vec![in alloc; entry(alloc, 1, 1, first)?, entry(alloc, 2, 2, second)?]?;
-    let other = vec![in alloc; case_of_one(alloc, at(B), 8, 8, set(Q, 3))?]?;
+    let first = case_of_one(alloc, at(B), single(5), set(Q, 1))?;
+    let second = case_of_one(alloc, at(B), span(6, 7), set(Q, 2))?;
+    let entries = vec![in alloc;
+        entry(alloc, &[single(1)], first)?,
+        entry(alloc, &[single(2)], second)?,
+    ]?;
+    let other = vec![in alloc; case_of_one(alloc, at(B), single(8), set(Q, 3))?]?;
     let body = vec![in alloc;
         TypedStmt::Case(at(A), entries, other),
-        case_of_one(alloc, at(R), 0, 0, set(R, 9))?,
+        case_of_one(alloc, at(R), single(0), set(R, 9))?,
     ]?;
     program(alloc, body)
 }
@@ -110,10 +93,10 @@ pub fn repeats_never(alloc: Global) -> Result<Program, AllocError> {
 /// `FOR Q := 0 TO 1 DO CASE A OF 1: R := Q; END_CASE; END_FOR; CASE B OF 2: R := 7; END_CASE;`
 pub fn repeats_cases(alloc: Global) -> Result<Program, AllocError> {
     let copies = TypedStmt::Assign(R, at(Q));
-    let inner = vec![in alloc; case_of_one(alloc, at(A), 1, 1, copies)?]?;
+    let inner = vec![in alloc; case_of_one(alloc, at(A), single(1), copies)?]?;
     let body = vec![in alloc;
         TypedStmt::For(turns(2, 0, 1), inner),
-        case_of_one(alloc, at(B), 2, 2, set(R, 7))?,
+        case_of_one(alloc, at(B), single(2), set(R, 7))?,
     ]?;
     program(alloc, body)
 }
@@ -126,10 +109,10 @@ pub fn selects_by_expressions(alloc: Global) -> Result<Program, AllocError> {
     let negated = TypedExpr::Unary(UnaryOperator::Minus, kind, Box::new(alloc, at(B))?);
     let difference = binary(alloc, at(A), Operator::Minus, at(B))?;
     let body = vec![in alloc;
-        case_of_one(alloc, absolute, 1, 1, set(Q, 1))?,
-        case_of_one(alloc, negated, 1, 1, set(Q, 2))?,
-        case_of_one(alloc, difference, 1, 1, set(Q, 3))?,
-        case_of_one(alloc, number(3), 3, 3, set(R, 1))?,
+        case_of_one(alloc, absolute, single(1), set(Q, 1))?,
+        case_of_one(alloc, negated, single(1), set(Q, 2))?,
+        case_of_one(alloc, difference, single(1), set(Q, 3))?,
+        case_of_one(alloc, number(3), single(3), set(R, 1))?,
     ]?;
     program(alloc, body)
 }
@@ -140,7 +123,7 @@ fn two_blocks(alloc: Global) -> Result<Vec<Called>, AllocError> {
     let sum = binary(alloc, at(0), Operator::Plus, at(1))?;
     let inner = vec![in alloc;
         TypedStmt::Assign(0, sum),
-        case_of_one(alloc, at(0), 1, 1, set(1, 0))?,
+        case_of_one(alloc, at(0), single(1), set(1, 0))?,
     ]?;
     let outer = vec![in alloc; run(0, 1), run(0, 1), TypedStmt::Assign(0, at(1))]?;
     Ok(vec![in alloc; Called::Block(inner), Called::Block(outer)]?)

@@ -1,7 +1,7 @@
 // Pieces of small typed programs.
 use st_tree::{
     Called, Cell, DataType, Elementary, Operand, Operator, Part, Program, Range, TypedArm,
-    TypedEntry, TypedExpr, TypedStmt,
+    TypedEntry, TypedExpr, TypedLabel, TypedStmt,
 };
 use std::alloc::{AllocError, Global};
 
@@ -110,26 +110,34 @@ pub fn arm(condition: TypedExpr, body: Vec<TypedStmt>) -> TypedArm {
     TypedArm { condition, body }
 }
 
-/// An entry of one label, and one assignment.
+/// A label that is one value.
+pub fn single(value: i64) -> TypedLabel {
+    TypedLabel::Single(value)
+}
+
+/// A label that is written as a range.
+pub fn span(low: i64, high: i64) -> TypedLabel {
+    TypedLabel::Span(Range { low, high })
+}
+
+/// An entry of these labels, and one statement.
 pub fn entry(
     alloc: Global,
-    low: i64,
-    high: i64,
+    labels: &[TypedLabel],
     stmt: TypedStmt,
 ) -> Result<TypedEntry, AllocError> {
-    let labels = vec![in alloc; Range { low, high }]?;
+    let labels = Vec::from_slice(alloc, labels)?;
     let body = vec![in alloc; stmt]?;
     Ok(TypedEntry { labels, body })
 }
 
-/// A CASE of one entry that has one label and one assignment.
+/// A CASE of one entry that has one label and one statement.
 pub fn case_of_one(
     alloc: Global,
     selector: TypedExpr,
-    low: i64,
-    high: i64,
+    label: TypedLabel,
     stmt: TypedStmt,
 ) -> Result<TypedStmt, AllocError> {
-    let entries = vec![in alloc; entry(alloc, low, high, stmt)?]?;
+    let entries = vec![in alloc; entry(alloc, &[label], stmt)?]?;
     Ok(TypedStmt::Case(selector, entries, Vec::new(alloc)))
 }

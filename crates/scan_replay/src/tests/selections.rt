@@ -1,7 +1,7 @@
 // CASE and FOR: values that were worked out by hand.
 use super::machines::{INT, ran};
 use super::trees::{A, B, Q, R, at, binary, number, program};
-use st_tree::{Elementary, Operator, Program, Range, Turns, TypedEntry, TypedStmt};
+use st_tree::{Elementary, Operator, Program, Range, Turns, TypedEntry, TypedLabel, TypedStmt};
 use std::alloc::{AllocError, Global};
 
 // Q := value; R := R + 1;
@@ -22,11 +22,8 @@ fn entry(
     value: i64,
 ) -> Result<TypedEntry, AllocError> {
     let labels = vec![in alloc;
-        Range { low, high },
-        Range {
-            low: other,
-            high: other
-        },
+        TypedLabel::Span(Range { low, high }),
+        TypedLabel::Single(other),
     ]?;
     let body = counted(alloc, value)?;
     Ok(TypedEntry { labels, body })
