@@ -2,7 +2,7 @@
 use crate::printing::print;
 use crate::programs::{
     assigns, chooses, chooses_without_else, repeats, repeats_cases, repeats_never, runs_blocks,
-    selects, selects_by_expressions, selects_within,
+    selects, selects_by_expressions, selects_ranges_of_one_value, selects_within,
 };
 use fb_inline::{FlatFault, flatten};
 use st_tree::Program;
@@ -48,6 +48,17 @@ fn labels_are_joined_from_the_left(rt: HostRuntime) -> Result<(), Fail> {
         5))) { #3 := 1; } { If (#5 =:INT 7) { #4 := 2; } { If ((((-3 <=:INT #5) AND:BOOL (#5 <=:INT \
         -1)) OR:BOOL (#5 =:INT 9)) OR:BOOL ((11 <=:INT #5) AND:BOOL (#5 <=:INT 12))) { #3 := 3; } { #3 \
         := 4; } } }";
+    assert_eq!(rt; text.as_str(), wanted);
+    Ok(())
+}
+
+#[test]
+fn a_range_of_one_value_is_compared_twice(rt: HostRuntime) -> Result<(), Fail> {
+    let text = printed(rt.alloc(), &selects_ranges_of_one_value(rt.alloc())?)?;
+    let wanted =
+        "INT INT | #0 := 0; #5 := #1; If ((3 <=:INT #5) AND:BOOL (#5 <=:INT 3)) { #3 := 1; } { If (#5 \
+        =:INT 5) { #3 := 2; } { #3 := 3; } } #6 := #2; If (((#6 =:INT 1) OR:BOOL ((3 <=:INT #6) AND:BOOL \
+        (#6 <=:INT 3))) OR:BOOL ((4 <=:INT #6) AND:BOOL (#6 <=:INT 6))) { #4 := 1; } { }";
     assert_eq!(rt; text.as_str(), wanted);
     Ok(())
 }

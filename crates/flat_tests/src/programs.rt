@@ -49,6 +49,21 @@ pub fn selects(alloc: Global) -> Result<Program, AllocError> {
     program(alloc, body)
 }
 
+/// `CASE A OF 3..3: Q := 1; 5: Q := 2; ELSE Q := 3; END_CASE; CASE B OF 1, 3..3, 4..6: R := 1; END_CASE;`
+pub fn selects_ranges_of_one_value(alloc: Global) -> Result<Program, AllocError> {
+    let entries = vec![in alloc;
+        entry(alloc, &[span(3, 3)], set(Q, 1))?,
+        entry(alloc, &[single(5)], set(Q, 2))?,
+    ]?;
+    let other = vec![in alloc; set(Q, 3)]?;
+    let several = entry(alloc, &[single(1), span(3, 3), span(4, 6)], set(R, 1))?;
+    let body = vec![in alloc;
+        TypedStmt::Case(at(A), entries, other),
+        TypedStmt::Case(at(B), vec![in alloc; several]?, Vec::new(alloc)),
+    ]?;
+    program(alloc, body)
+}
+
 /// `CASE A OF 1: CASE B OF 5: Q := 1; END_CASE; 2: CASE B OF 6..7: Q := 2; END_CASE;`
 /// `ELSE CASE B OF 8: Q := 3; END_CASE; END_CASE; CASE R OF 0: R := 9; END_CASE;`
 pub fn selects_within(alloc: Global) -> Result<Program, AllocError> {

@@ -1,5 +1,7 @@
 // Runs of flat programs by a plain evaluator: values of another implementation, which runs the programs themselves.
-use crate::programs::{chooses, repeats, repeats_cases, selects, selects_within};
+use crate::programs::{
+    chooses, repeats, repeats_cases, selects, selects_ranges_of_one_value, selects_within,
+};
 use crate::trees::{A, B, Q, R};
 use effects::evaluate;
 use fb_inline::{FlatFault, flatten};
@@ -110,6 +112,17 @@ fn a_case_runs_the_entry_of_its_value(rt: HostRuntime) -> Result<(), Fail> {
     assert_eq!(rt; ran(rt.alloc(), &program, 12, 1)?, [0, 3, 0]);
     assert_eq!(rt; ran(rt.alloc(), &program, 2, 1)?, [0, 4, 0]);
     assert_eq!(rt; ran(rt.alloc(), &program, 5, 0)?, [1, 4, 0]);
+    Ok(())
+}
+
+#[test]
+fn a_range_of_one_value_takes_it_alone(rt: HostRuntime) -> Result<(), Fail> {
+    let program = selects_ranges_of_one_value(rt.alloc())?;
+    assert_eq!(rt; ran(rt.alloc(), &program, 3, 3)?, [0, 1, 1]);
+    assert_eq!(rt; ran(rt.alloc(), &program, 5, 1)?, [0, 2, 1]);
+    assert_eq!(rt; ran(rt.alloc(), &program, 4, 2)?, [0, 3, 0]);
+    assert_eq!(rt; ran(rt.alloc(), &program, 2, 6)?, [0, 3, 1]);
+    assert_eq!(rt; ran(rt.alloc(), &program, 3, 7)?, [0, 1, 0]);
     Ok(())
 }
 

@@ -32,7 +32,7 @@ const BODIES: [(&str, &str); 5] = [
 ];
 
 // Calls of FUNCTIONs.
-const CALLS: [(&str, &str); 6] = [
+const CALLS: [(&str, &str); 7] = [
     // Inputs are evaluated in declared order, whatever the order of the text, and calls in them come first. An input of a
     // subrange begins with its initial value.
     (
@@ -43,6 +43,11 @@ const CALLS: [(&str, &str); 6] = [
     (
         "FUNCTION F : INT VAR_INPUT X : INT; Y : INT (2..9) := 5; END_VAR F := X - Y; END_FUNCTION PROGRAM M VAR A, B, Q : INT; END_VAR Q := F(A, 3) - F(B, 4); END_PROGRAM",
         "INT INT! INT INT INT! INT | #0 := 0; #4 := #1; #5 := 5; #5 := 3; #6 := 0; #6 := (#4 -:INT #5); #7 := #2; #8 := 5; #8 := 4; #9 := 0; #9 := (#7 -:INT #8); #3 := (#6 -:INT #9);",
+    ),
+    // A standard function stays a part of its expression.
+    (
+        "FUNCTION F : INT VAR_INPUT X : INT; Y : INT (2..9) := 5; END_VAR F := X - Y; END_FUNCTION PROGRAM M VAR A, B, Q : INT; END_VAR Q := B + ABS(F(A, 3)); END_PROGRAM",
+        "INT INT! INT | #0 := 0; #4 := #1; #5 := 5; #5 := 3; #6 := 0; #6 := (#4 -:INT #5); #3 := (#2 +:INT ABS:INT(#6));",
     ),
     // Behind the inputs the other variables begin in declared order, an instance with each of its cells in its place and a
     // constant with none, and then the result.
@@ -140,7 +145,7 @@ const TURNS: [(&str, &str); 2] = [
 ];
 
 // Charts.
-const CHARTS: [(&str, &str); 8] = [
+const CHARTS: [(&str, &str); 9] = [
     // Latches of all actions come before any action, and terms of an action stand in the order of the text; where there is no
     // latch, FALSE stands before them.
     (
@@ -176,6 +181,11 @@ const CHARTS: [(&str, &str); 8] = [
     (
         "FUNCTION_BLOCK B VAR C : INT; END_VAR INITIAL_STEP S: X(S); END_STEP ACTION X: C := 1; END_ACTION END_FUNCTION_BLOCK PROGRAM M VAR K : B; END_VAR K(); K(); END_PROGRAM",
         "BOOL BOOL BOOL BOOL | #0 := 0; #4 := (#4 OR:BOOL #2); If #4 { #1 := 1; } { } #5 := 0; #6 := 0; #3 := #2; #2 := ((#2 AND:BOOL NOT:BOOL #5) OR:BOOL #6); #4 := (#4 OR:BOOL #2); If #4 { #1 := 1; } { } #7 := 0; #8 := 0; #3 := #2; #2 := ((#2 AND:BOOL NOT:BOOL #7) OR:BOOL #8);",
+    ),
+    // An instance of a FUNCTION begins at its initial step at each call.
+    (
+        "FUNCTION_BLOCK B VAR_OUTPUT N : INT; END_VAR INITIAL_STEP S: X(S); END_STEP ACTION X: N := 1; END_ACTION END_FUNCTION_BLOCK FUNCTION G : INT VAR K : B; R : INT; END_VAR K(N => R); G := R; END_FUNCTION PROGRAM M VAR Q : INT; END_VAR Q := G(); END_PROGRAM",
+        "INT BOOL BOOL BOOL INT INT BOOL BOOL | #0 := 0; #2 := 0; #3 := 1; #4 := 0; #5 := 0; #6 := 0; #7 := 0; #5 := (#5 OR:BOOL #3); If #5 { #2 := 1; } { } #8 := 0; #9 := 0; #4 := #3; #3 := ((#3 AND:BOOL NOT:BOOL #8) OR:BOOL #9); #6 := #2; #7 := #6; #1 := #7;",
     ),
     // Where an instance is not run its markings stay.
     (
