@@ -1,0 +1,2 @@
+pub mod ShiftLemmas
+pub mod StatementLemmas

@@ -82,7 +82,7 @@ abbrev mutual
   IsWithoutChart (choice arms other) = ChoicesAreWithoutChart arms × AreWithoutChart other
   IsWithoutChart (cases e es other) = EntriesAreWithoutChart es × AreWithoutChart other
   IsWithoutChart (repeat turns body) = AreWithoutChart body
-  IsWithoutChart (chart steps actions ts) = ⊥
+  IsWithoutChart (chart _ _ _) = ⊥
 
   pub AreWithoutChart : Statements → Type 0
   AreWithoutChart no_statements = Unit {0}
