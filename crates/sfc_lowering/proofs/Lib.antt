@@ -1,2 +1,3 @@
+pub mod ClearedLemmas
 pub mod ShiftLemmas
 pub mod StatementLemmas
