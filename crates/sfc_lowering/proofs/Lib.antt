@@ -1,3 +1,14 @@
 pub mod ClearedLemmas
 pub mod ShiftLemmas
 pub mod StatementLemmas
+pub mod Inserted
+pub mod Chartless
+pub mod Insertions
+pub mod PlainTests
+pub mod ChartCells
+pub mod LatchRuns
+pub mod Flagging
+pub mod MoveRuns
+pub mod Expressions
+pub mod StatementRuns
+pub mod KeptMeaning
