@@ -3,10 +3,12 @@
 
 mod charts;
 mod counts;
+mod laws;
 mod program;
 mod puts;
 mod shifts;
 mod statements;
 mod tests_in_place;
 
+pub use laws::{lowering_keeps_meaning, lowering_leaves_no_chart};
 pub use program::{Lowered, lower};

@@ -1,8 +1,11 @@
 // Programs without charts.
 ghost use Rattle.std.specs.Prelude.{◌≡◌, map, IfOk};
 ghost use Rattle.st_tree.specs.View.{stmts_view, called_view, all_called_view, program_view};
+ghost use Rattle.scan_model.specs.InRange.{IsProgram};
+ghost use Rattle.flat_form.specs.WellTyped.{IsWellTyped};
 ghost use Rattle.sfc_lowering.specs.LoweredLists.{flags_in_all, lowered_body};
-ghost use Rattle.sfc_lowering.specs.LoweredPrograms.{lowered_called, lowered_program};
+ghost use Rattle.sfc_lowering.specs.LoweredPrograms.{lowered_called, lowered_program, IsChartless};
+ghost use Rattle.sfc_lowering.specs.LoweringLaws.{ScansTheSame};
 ghost use Rattle.sfc_lowering.specs.LoweredView.{lowered_view};
 
 use crate::counts::{flags_in_all, flags_of_all_called};
@@ -26,6 +29,8 @@ pub struct Lowered {
 pub fn lower(program: &Program, alloc: Global) -> Result<Lowered, AllocError>
     ensures list { IfOk result (λ l. lowered_view l ≡ lowered_program (program_view program.now)) }
     ensures cells { IfOk result (λ l. (lowered_view l).program.cells ≡ (program_view program.now).cells) }
+    ensures no_charts { IfOk result (λ l. IsChartless (lowered_view l).program) }
+    ensures meaning { IfOk result (λ l. IsProgram (program_view program.now) → IsWellTyped (program_view program.now) → ScansTheSame (program_view program.now) (lowered_view l)) }
 {
     let lowered = lower_whole(program, alloc)?;
     Ok(lowered)
