@@ -21,5 +21,8 @@ mod scope;
 mod statements;
 mod sums;
 
+pub use chart_tests::{latch_test, left_flag, ready_test, runs_test};
 pub use fault::FlatFault;
+pub use joins::{joined, without};
 pub use program::flatten;
+pub use scope::{FlatScope, Owner};

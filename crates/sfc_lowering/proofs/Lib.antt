@@ -1,3 +1,6 @@
+pub mod ClearedLemmas
+pub mod ShiftLemmas
+pub mod StatementLemmas
 pub mod Inserted
 pub mod Chartless
 pub mod Insertions

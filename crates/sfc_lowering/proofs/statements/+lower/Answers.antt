@@ -1,0 +1,42 @@
+use Rattle.std.proofs.Common.{◌≡◌, ◌+◌, ap, map, drop, sym, ◌∙◌}
+use Rattle.st_tree.specs.Tree.{Choices, Entries}
+use Rattle.st_tree.specs.View.{statements_of, arm_view, choices_view, entry_view, entries_view}
+use Rattle.sfc_lowering.specs.LoweredLists.{lowered_choices, lowered_entries}
+use Rattle.sfc_lowering.proofs.StatementLemmas.{with_choices, with_entries, with_choices-none, with_entries-none, left-choices, left-entries, no-choices-left, no-entries-left, more-choices, more-entries}
+use Rattle.sfc_lowering.proofs.statements.+lower.Goals as goal
+
+pub lower_arms-loop-arm-preserved : goal.lower_arms-loop-arm-preserved
+lower_arms-loop-arm-preserved t c =
+    let flags = c.args.flags in
+    let more = c.args.more in
+    let i = c.loop-arm.arm-index in
+    let item = c.arm-item.result in
+    let ds = map arm_view c.loop-arm.out.items in
+    let rest = choices_view (drop (i + 1) c.args.arms.now) in
+    let left = left-choices c.args.arms.now i item item c.loop-arm-test.true (sym c.arm-item.is) in
+    more-choices flags more (arm_view item).0 _ (arm_view item).1 _ rest ds _ c.in_ok-put_arm.ensures c.in_ok-condition.ensures (ap statements_of c.in_ok-body.ensures)
+    ∙ ap (λ (cs : Choices). with_choices ds (lowered_choices flags more cs)) (sym left) ∙ c.loop-arm.invariant
+
+pub lower_arms-returns : goal.lower_arms-returns
+lower_arms-returns t c =
+    let ds = map arm_view c.loop-arm.out.items in
+    let none = no-choices-left c.args.arms.now c.loop-arm.arm-index c.loop-arm-test.false in
+    sym (with_choices-none ds) ∙ ap (λ (cs : Choices). with_choices ds (lowered_choices c.args.flags c.args.more cs)) (sym none) ∙ c.loop-arm.invariant
+
+pub lower_entries-loop-entry-preserved : goal.lower_entries-loop-entry-preserved
+lower_entries-loop-entry-preserved t c =
+    let flags = c.args.flags in
+    let more = c.args.more in
+    let i = c.loop-entry.entry-index in
+    let item = c.entry-item.result in
+    let ds = map entry_view c.loop-entry.out.items in
+    let rest = entries_view (drop (i + 1) c.args.entries.now) in
+    let left = left-entries c.args.entries.now i item item c.loop-entry-test.true (sym c.entry-item.is) in
+    more-entries flags more (entry_view item).0 _ (entry_view item).1 _ rest ds _ c.in_ok-put_entry.ensures c.in_ok-labels.ensures.items (ap statements_of c.in_ok-body.ensures)
+    ∙ ap (λ (es : Entries). with_entries ds (lowered_entries flags more es)) (sym left) ∙ c.loop-entry.invariant
+
+pub lower_entries-returns : goal.lower_entries-returns
+lower_entries-returns t c =
+    let ds = map entry_view c.loop-entry.out.items in
+    let none = no-entries-left c.args.entries.now c.loop-entry.entry-index c.loop-entry-test.false in
+    sym (with_entries-none ds) ∙ ap (λ (es : Entries). with_entries ds (lowered_entries c.args.flags c.args.more es)) (sym none) ∙ c.loop-entry.invariant

@@ -1,0 +1,13 @@
+use Rattle.std.proofs.Common.{◌≡◌, subst, IfOk}
+use Rattle.st_tree.specs.Tree.{Expression}
+use Rattle.st_tree.specs.View.{expr_view}
+use Rattle.fb_inline.specs.Views.{owner_view}
+use Rattle.flat_form.specs.FlatCharts.{runs_test}
+use Rattle.sfc_lowering.specs.LoweredCharts.{in_place}
+use Rattle.sfc_lowering.proofs.tests_in_place.runs_in_place.Goals as goal
+
+pub returns : goal.returns
+returns c =
+    let scope = c.scope_in_place-scope.result in
+    let here : runs_test (owner_view scope.owner) scope.base c.args.steps.now c.args.latch c.args.associations.now ≡ runs_test in_place 0 c.args.steps.now c.args.latch c.args.associations.now = rw (c.scope_in_place-scope.ensures.owner, c.scope_in_place-scope.ensures.base) in
+    subst (λ (test : Expression). IfOk c.runs_test.result (λ e. expr_view e ≡ test)) here c.runs_test.ensures
