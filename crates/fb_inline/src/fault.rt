@@ -9,6 +9,8 @@ use thiserror::Error;
 pub enum FlatFault {
     #[error("the flat form of the program has too many statements")]
     Refused(Refusal),
+    #[error("the program is not well typed")]
+    Untyped,
     #[error("memory was wanting")]
     Memory,
 }
@@ -26,11 +28,14 @@ impl From<AllocError> for FlatFault {
 
 impl From<TypingFault> for FlatFault {
     ghost use Rattle.std.specs.Prelude.{◌≡◌};
-    ghost use Rattle.fb_inline.specs.declared.fault.FlatFault.TheVariants.{Memory};
+    ghost use Rattle.fb_inline.specs.Faults.{fault_of};
 
-    ghost from_gives = { λ _ e. e ≡ Memory };
+    ghost from_gives = { λ fault e. e ≡ fault_of fault };
 
-    fn from(_: TypingFault) -> Self {
-        FlatFault::Memory
+    fn from(fault: TypingFault) -> Self {
+        match fault {
+            TypingFault::Untyped => FlatFault::Untyped,
+            TypingFault::Memory => FlatFault::Memory,
+        }
     }
 }

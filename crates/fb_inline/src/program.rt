@@ -20,9 +20,8 @@ use flat_typing::check_program;
 use st_tree::{Cell, Program, Refusal, Rule};
 use std::alloc::{AllocError, Global};
 
-/// The flat form of a program; none that has more than 200,000 statements, which are counted before any is built. A program that is
-/// not well typed, which none is that a text states, counts as want of memory, and so does a FOR with a value that is no i64, or a place
-/// that is no usize.
+/// The flat form of a program; none that has more than 200,000 statements, which are counted before any is built, and then none of a
+/// program that is not well typed. A FOR with a value that is no i64 counts as want of memory, and so does a place that is no usize.
 pub fn flatten(alloc: Global, program: &Program) -> Result<Flat, FlatFault>
     ensures list { IfOk result (λ f. flat_program_view f ≡ flat_program (program_view program.now)) }
     ensures refused { MatchResult result (λ f. IsTrue (is_short (program_view program.now))) (λ e. IsFault (program_view program.now) e) }

@@ -17,7 +17,7 @@ fn answer(alloc: Global, program: &Program) -> Result<Option<Refusal>, AllocErro
     match flatten(alloc, program) {
         Ok(_) => Ok(None),
         Err(FlatFault::Refused(refusal)) => Ok(Some(refusal)),
-        Err(FlatFault::Memory) => Err(AllocError),
+        Err(_) => Err(AllocError),
     }
 }
 

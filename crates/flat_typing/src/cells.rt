@@ -1,5 +1,5 @@
 // The cells of a program.
-ghost use Rattle.std.specs.Prelude.{◌≡◌, OnOk};
+ghost use Rattle.std.specs.Prelude.{◌≡◌, IfErr, OnOk};
 ghost use Rattle.st_tree.specs.declared.elementary.Elementary.TheVariants as types;
 ghost use Rattle.st_tree.specs.declared.data_type.DataType.TheVariants as kinds;
 ghost use Rattle.st_tree.specs.declared.typed.Part.TheVariants.{Fault};
@@ -7,6 +7,7 @@ ghost use Rattle.st_tree.specs.Types.{range_of};
 ghost use Rattle.st_tree.specs.View.{cells_view};
 ghost use Rattle.scan_model.specs.Scans.{ranges_of, initial};
 ghost use Rattle.scan_model.specs.InRange.{BeginsWithFault, IsInRange};
+ghost use Rattle.flat_typing.specs.Faults.{Refutes};
 
 use crate::fault::TypingFault;
 use crate::ranges::{is_in_range, range_of};
@@ -16,13 +17,15 @@ use st_tree::{Cell, DataType, Elementary, Part};
 pub fn check_cells(cells: &[Cell]) -> Result<(), TypingFault>
     ensures fault { OnOk result (BeginsWithFault (cells_view cells.now)) }
     ensures start { OnOk result (IsInRange (ranges_of (cells_view cells.now)) (initial (cells_view cells.now))) }
+    ensures refused { IfErr result (Refutes (BeginsWithFault (cells_view cells.now) × IsInRange (ranges_of (cells_view cells.now)) (initial (cells_view cells.now)))) }
 {
     begins_with_fault(cells)?;
     start_in_range(cells)
 }
 
 fn begins_with_fault(cells: &[Cell]) -> Result<(), TypingFault>
-    ensures { OnOk result (BeginsWithFault (cells_view cells.now)) }
+    ensures fault { OnOk result (BeginsWithFault (cells_view cells.now)) }
+    ensures refused { IfErr result (Refutes (BeginsWithFault (cells_view cells.now))) }
 {
     match cells {
         [] => Err(TypingFault::Untyped),
@@ -35,16 +38,23 @@ fn is_fault(cell: &Cell) -> Result<(), TypingFault>
     ensures part { OnOk result (cell.now.part ≡ Fault) }
     ensures kind { OnOk result (cell.now.kind ≡ kinds.Elementary types.Bool) }
     ensures range { OnOk result (cell.now.range ≡ range_of types.Bool) }
+    ensures refused { IfErr result (Refutes ((cell.now.part ≡ Fault) × (cell.now.kind ≡ kinds.Elementary types.Bool) × (cell.now.range ≡ range_of types.Bool))) }
 {
-    let whole = range_of(Elementary::Bool);
-    match (cell.part, cell.kind) {
-        (Part::Fault, DataType::Elementary(Elementary::Bool)) if cell.range == whole => Ok(()),
-        _ => Err(TypingFault::Untyped),
+    if cell.part != Part::Fault {
+        return Err(TypingFault::Untyped);
     }
+    if cell.kind != DataType::Elementary(Elementary::Bool) {
+        return Err(TypingFault::Untyped);
+    }
+    if cell.range != range_of(Elementary::Bool) {
+        return Err(TypingFault::Untyped);
+    }
+    Ok(())
 }
 
 fn start_in_range(cells: &[Cell]) -> Result<(), TypingFault>
-    ensures { OnOk result (IsInRange (ranges_of (cells_view cells.now)) (initial (cells_view cells.now))) }
+    ensures start { OnOk result (IsInRange (ranges_of (cells_view cells.now)) (initial (cells_view cells.now))) }
+    ensures refused { IfErr result (Refutes (IsInRange (ranges_of (cells_view cells.now)) (initial (cells_view cells.now)))) }
 {
     for cell in cells {
         if !is_in_range(cell.initial, cell.range) {

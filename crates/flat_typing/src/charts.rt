@@ -1,8 +1,9 @@
 // Charts.
-ghost use Rattle.std.specs.Prelude.{◌≡◌, ◌+◌, OnOk};
+ghost use Rattle.std.specs.Prelude.{◌≡◌, ◌+◌, IfErr, OnOk};
 ghost use Rattle.st_tree.specs.Tree.{chart};
 ghost use Rattle.st_tree.specs.View.{action_view, actions_view, transitions_view};
 ghost use Rattle.flat_form.specs.WellTyped.{OfAssociated};
+ghost use Rattle.flat_typing.specs.Faults.{Refutes};
 ghost use Rattle.flat_typing.specs.Scopes.{IsKnown, IsTypedIn, AreTypedIn, AreTypedActionsIn, AreTypedTransitionsIn};
 
 use crate::extents::extent_of_bodies;
@@ -22,7 +23,8 @@ pub fn typed_chart(
     scope: &TypingScope<'_>,
 ) -> Result<(), TypingFault>
     requires known { IsKnown scope.now }
-    ensures { OnOk result (IsTypedIn scope.now (chart steps.now (actions_view actions.now) (transitions_view transitions.now))) }
+    ensures typed { OnOk result (IsTypedIn scope.now (chart steps.now (actions_view actions.now) (transitions_view transitions.now))) }
+    ensures refused { IfErr result (Refutes (IsTypedIn scope.now (chart steps.now (actions_view actions.now) (transitions_view transitions.now)))) }
 {
     let low = extent_of_bodies(actions, scope.extents)?;
     are_places(steps, actions, low, scope)?;
@@ -38,7 +40,8 @@ fn typed_actions(
     scope: &TypingScope<'_>,
 ) -> Result<(), TypingFault>
     requires known { IsKnown scope.now }
-    ensures { OnOk result (AreTypedActionsIn scope.now steps (actions_view actions.now)) }
+    ensures typed { OnOk result (AreTypedActionsIn scope.now steps (actions_view actions.now)) }
+    ensures refused { IfErr result (Refutes (AreTypedActionsIn scope.now steps (actions_view actions.now))) }
 {
     for action in actions {
         is_associated(action.latch, &action.associations)?;
@@ -52,7 +55,8 @@ fn typed_actions(
 #[cycle(typing)]
 fn typed_action(action: &TypedAction, scope: &TypingScope<'_>) -> Result<(), TypingFault>
     requires known { IsKnown scope.now }
-    ensures { OnOk result (OfAssociated (action_view action.now).1 (AreTypedIn scope.now (action_view action.now).2)) }
+    ensures typed { OnOk result (OfAssociated (action_view action.now).1 (AreTypedIn scope.now (action_view action.now).2)) }
+    ensures refused { IfErr result (Refutes (OfAssociated (action_view action.now).1 (AreTypedIn scope.now (action_view action.now).2))) }
 {
     if action.associations.is_empty() {
         return Ok(());
@@ -67,7 +71,8 @@ fn typed_transitions(
     scope: &TypingScope<'_>,
 ) -> Result<(), TypingFault>
     requires known { IsKnown scope.now }
-    ensures { OnOk result (AreTypedTransitionsIn scope.now steps (transitions_view transitions.now)) }
+    ensures typed { OnOk result (AreTypedTransitionsIn scope.now steps (transitions_view transitions.now)) }
+    ensures refused { IfErr result (Refutes (AreTypedTransitionsIn scope.now steps (transitions_view transitions.now))) }
 {
     for transition in transitions {
         typed_value(&transition.condition, scope)?;

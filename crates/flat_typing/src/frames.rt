@@ -1,10 +1,11 @@
 // The frames of FUNCTIONs.
-ghost use Rattle.std.specs.Prelude.{◌≡◌, ◌||◌, true, OnOk};
+ghost use Rattle.std.specs.Prelude.{◌≡◌, ◌||◌, true, IfErr, OnOk};
 ghost use Rattle.st_tree.specs.View.{expr_view};
 ghost use Rattle.effects.specs.Effects.{range_at};
 ghost use Rattle.scan_model.specs.InRange.{IsInRange};
 ghost use Rattle.flat_form.specs.Frames.{type_at};
 ghost use Rattle.flat_form.specs.WellTyped.{stays_in, FrameFits};
+ghost use Rattle.flat_typing.specs.Faults.{Refutes};
 ghost use Rattle.flat_typing.specs.Scopes.{frame_view, frames_here};
 
 use crate::fault::TypingFault;
@@ -21,8 +22,10 @@ pub fn may_take(
     expr: &TypedExpr,
     scope: &TypingScope<'_>,
 ) -> Result<(), TypingFault>
-    ensures { OnOk result (((type_at frame.now.types.items place).limited
+    ensures typed { OnOk result (((type_at frame.now.types.items place).limited
         || stays_in (frames_here scope.now) scope.now.ranges.now scope.now.base (expr_view expr.now) (range_at frame.now.ranges.items place)) ≡ true) }
+    ensures refused { IfErr result (Refutes (((type_at frame.now.types.items place).limited
+        || stays_in (frames_here scope.now) scope.now.ranges.now scope.now.base (expr_view expr.now) (range_at frame.now.ranges.items place)) ≡ true)) }
 {
     if type_at(&frame.types, place).limited {
         return Ok(());
@@ -35,7 +38,8 @@ pub fn may_take(
 
 /// The cells of a FUNCTION begin in their ranges, and there are so many inputs.
 pub fn frame_fits(frame: &Frame, inputs: usize) -> Result<(), TypingFault>
-    ensures { OnOk result (FrameFits (frame_view frame.now) inputs) }
+    ensures fits { OnOk result (FrameFits (frame_view frame.now) inputs) }
+    ensures refused { IfErr result (Refutes (FrameFits (frame_view frame.now) inputs)) }
 {
     let cells = frame.types.len();
     if frame.ranges.len() != cells {
@@ -60,7 +64,8 @@ pub fn frame_fits(frame: &Frame, inputs: usize) -> Result<(), TypingFault>
 }
 
 fn starts_in_range(ranges: &[Range], start: &[i64]) -> Result<(), TypingFault>
-    ensures { OnOk result (IsInRange ranges.now start.now) }
+    ensures start { OnOk result (IsInRange ranges.now start.now) }
+    ensures refused { IfErr result (Refutes (IsInRange ranges.now start.now)) }
 {
     if ranges.len() != start.len() {
         return Err(TypingFault::Untyped);

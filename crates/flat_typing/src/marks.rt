@@ -1,7 +1,8 @@
 // The steps that charts name, and the cells of charts.
-ghost use Rattle.std.specs.Prelude.{◌≡◌, ◌+◌, OnOk};
+ghost use Rattle.std.specs.Prelude.{◌≡◌, ◌+◌, IfErr, OnOk};
 ghost use Rattle.st_tree.specs.View.{actions_view};
 ghost use Rattle.flat_form.specs.WellTyped.{AreSteps, NameSteps, IsAssociated, chart_places};
+ghost use Rattle.flat_typing.specs.Faults.{Refutes};
 ghost use Rattle.flat_typing.specs.Scopes.{ArePlacesIn};
 
 use crate::fault::TypingFault;
@@ -11,7 +12,8 @@ use st_tree::{Association, StepCells, TypedAction};
 
 /// Numbers are those of steps.
 pub fn are_steps(numbers: &[usize], steps: usize) -> Result<(), TypingFault>
-    ensures { OnOk result (AreSteps steps numbers.now) }
+    ensures typed { OnOk result (AreSteps steps numbers.now) }
+    ensures refused { IfErr result (Refutes (AreSteps steps numbers.now)) }
 {
     for number in numbers {
         if *number >= steps {
@@ -23,7 +25,8 @@ pub fn are_steps(numbers: &[usize], steps: usize) -> Result<(), TypingFault>
 
 /// Associations name steps.
 pub fn name_steps(associations: &[Association], steps: usize) -> Result<(), TypingFault>
-    ensures { OnOk result (NameSteps steps associations.now) }
+    ensures typed { OnOk result (NameSteps steps associations.now) }
+    ensures refused { IfErr result (Refutes (NameSteps steps associations.now)) }
 {
     for association in associations {
         if association.step >= steps {
@@ -35,7 +38,8 @@ pub fn name_steps(associations: &[Association], steps: usize) -> Result<(), Typi
 
 /// An action with a latch has an association.
 pub fn is_associated(latch: Option<usize>, associations: &[Association]) -> Result<(), TypingFault>
-    ensures { OnOk result (IsAssociated latch associations.now) }
+    ensures typed { OnOk result (IsAssociated latch associations.now) }
+    ensures refused { IfErr result (Refutes (IsAssociated latch associations.now)) }
 {
     match (latch, associations) {
         (Some(_), []) => Err(TypingFault::Untyped),
@@ -50,7 +54,8 @@ pub fn are_places(
     low: usize,
     scope: &TypingScope<'_>,
 ) -> Result<(), TypingFault>
-    ensures { OnOk result (ArePlacesIn scope.now low (chart_places steps.now (actions_view actions.now))) }
+    ensures typed { OnOk result (ArePlacesIn scope.now low (chart_places steps.now (actions_view actions.now))) }
+    ensures refused { IfErr result (Refutes (ArePlacesIn scope.now low (chart_places steps.now (actions_view actions.now)))) }
 {
     let mut next = low;
     for step in steps {

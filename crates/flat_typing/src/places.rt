@@ -1,9 +1,10 @@
 // Places of an owner's cells.
-ghost use Rattle.std.specs.Prelude.{◌≡◌, ◌+◌, ◌≤◌, ◌||◌, pos, true, IfOk, OnOk};
+ghost use Rattle.std.specs.Prelude.{◌≡◌, ◌+◌, ◌≤◌, ◌||◌, pos, true, IfOk, IfErr, OnOk};
 ghost use Rattle.st_tree.specs.View.{expr_view};
 ghost use Rattle.effects.specs.Effects.{range_at};
 ghost use Rattle.flat_form.specs.Frames.{type_at};
 ghost use Rattle.flat_form.specs.WellTyped.{IsOwnPlace, stays_in, turns_stay};
+ghost use Rattle.flat_typing.specs.Faults.{Refutes};
 ghost use Rattle.flat_typing.specs.Scopes.{tested_by, frames_here};
 
 use crate::fault::TypingFault;
@@ -11,6 +12,7 @@ use crate::ranges::{range_at, turns_stay};
 use crate::scope::{Owner, TypingScope};
 use crate::stays::stays_in;
 use st_tree::{CellType, DataType, Turns, TypedExpr};
+use std::alloc::AllocError;
 
 const NO_TYPE: CellType = CellType {
     kind: DataType::Unknown,
@@ -24,19 +26,20 @@ pub fn type_at(types: &[CellType], place: usize) -> CellType
     types.get(place).copied().unwrap_or(NO_TYPE)
 }
 
-/// Where a cell of a POU stands among its owner's.
-pub fn place_at(scope: &TypingScope<'_>, place: usize) -> Result<usize, TypingFault>
+/// Where a cell of a POU stands among its owner's. A place that is no usize has none in memory.
+pub fn place_at(scope: &TypingScope<'_>, place: usize) -> Result<usize, AllocError>
     ensures { IfOk result (λ there. there ≡ scope.now.base + place) }
 {
-    scope.base.checked_add(place).ok_or(TypingFault::Untyped)
+    scope.base.checked_add(place).ok_or(AllocError)
 }
 
 /// Where a cell of a POU stands among its owner's, and is not FAULT.
 pub fn own_place(scope: &TypingScope<'_>, place: usize) -> Result<usize, TypingFault>
     ensures place { IfOk result (λ there. there ≡ scope.now.base + place) }
     ensures own { OnOk result (IsOwnPlace scope.now.ranges.now (scope.now.base + place)) }
+    ensures refused { IfErr result (Refutes (IsOwnPlace scope.now.ranges.now (scope.now.base + place))) }
 {
-    let there = place_at(scope, place)?;
+    let there = scope.base.checked_add(place).ok_or(TypingFault::Untyped)?;
     if 0 < there && there < scope.ranges.len() {
         return Ok(there);
     }
@@ -54,8 +57,10 @@ fn is_tested(owner: &Owner<'_>, place: usize) -> bool
 
 /// An assignment to an owner's cell tests the range, or need not.
 pub fn may_store(expr: &TypedExpr, there: usize, scope: &TypingScope<'_>) -> Result<(), TypingFault>
-    ensures { OnOk result ((tested_by scope.now.owner there
+    ensures typed { OnOk result ((tested_by scope.now.owner there
         || stays_in (frames_here scope.now) scope.now.ranges.now scope.now.base (expr_view expr.now) (range_at scope.now.ranges.now there)) ≡ true) }
+    ensures refused { IfErr result (Refutes ((tested_by scope.now.owner there
+        || stays_in (frames_here scope.now) scope.now.ranges.now scope.now.base (expr_view expr.now) (range_at scope.now.ranges.now there)) ≡ true)) }
 {
     if is_tested(&scope.owner, there) {
         return Ok(());
@@ -68,7 +73,8 @@ pub fn may_store(expr: &TypedExpr, there: usize, scope: &TypingScope<'_>) -> Res
 
 /// So may the turns of a FOR.
 pub fn may_turn(turns: Turns, there: usize, scope: &TypingScope<'_>) -> Result<(), TypingFault>
-    ensures { OnOk result ((tested_by scope.now.owner there || turns_stay turns (range_at scope.now.ranges.now there)) ≡ true) }
+    ensures typed { OnOk result ((tested_by scope.now.owner there || turns_stay turns (range_at scope.now.ranges.now there)) ≡ true) }
+    ensures refused { IfErr result (Refutes ((tested_by scope.now.owner there || turns_stay turns (range_at scope.now.ranges.now there)) ≡ true)) }
 {
     if is_tested(&scope.owner, there) {
         return Ok(());
@@ -86,6 +92,8 @@ pub fn behind_flag(place: usize, low: usize, scope: &TypingScope<'_>) -> Result<
     ensures own { OnOk result (IsOwnPlace scope.now.ranges.now (scope.now.base + place)) }
     ensures least { OnOk result ((range_at scope.now.ranges.now (scope.now.base + place)).low ≡ pos 0) }
     ensures greatest { OnOk result ((range_at scope.now.ranges.now (scope.now.base + place)).high ≡ pos 1) }
+    ensures refused { IfErr result (Refutes ((low ≤ place) × IsOwnPlace scope.now.ranges.now (scope.now.base + place)
+        × ((range_at scope.now.ranges.now (scope.now.base + place)).low ≡ pos 0) × ((range_at scope.now.ranges.now (scope.now.base + place)).high ≡ pos 1))) }
 {
     let there = own_place(scope, place)?;
     let range = range_at(scope.ranges, there);

@@ -1,11 +1,12 @@
 // Programs.
-ghost use Rattle.std.specs.Prelude.{◌≡◌, IfOk, OnOk};
+ghost use Rattle.std.specs.Prelude.{◌≡◌, IfOk, IfErr, OnOk};
 ghost use Rattle.st_tree.specs.View.{cells_view, stmts_view, all_called_view, program_view};
 ghost use Rattle.scan_model.specs.Scans.{ranges_of};
 ghost use Rattle.scan_model.specs.InRange.{IsProgram};
 ghost use Rattle.flat_form.specs.WellTyped.{IsWellTyped};
 ghost use Rattle.flat_form.specs.Idle.{AreIdle};
 ghost use Rattle.flat_typing.specs.Extents.{AreExtents};
+ghost use Rattle.flat_typing.specs.Faults.{Refutes};
 ghost use Rattle.flat_typing.specs.Scopes.{AreTypedOver};
 
 use crate::cells::check_cells;
@@ -17,10 +18,12 @@ use flat_form::idle_blocks;
 use st_tree::{Called, Cell, Program, Range, TypedStmt};
 use std::alloc::{AllocError, Global};
 
-/// A program is one that scans are run of, and well typed. A place that is no usize, which no checked program has, is none.
+/// A program is one that scans are run of, and well typed. A place that is no usize, which no checked program has, has no place in
+/// memory.
 pub fn check_program(alloc: Global, program: &Program) -> Result<(), TypingFault>
     ensures program { OnOk result (IsProgram (program_view program.now)) }
     ensures typed { OnOk result (IsWellTyped (program_view program.now)) }
+    ensures refused { IfErr result (Refutes (IsProgram (program_view program.now) × IsWellTyped (program_view program.now))) }
 {
     check_cells(&program.cells)?;
     let ranges = ranges_of(&program.cells, alloc)?;
@@ -40,7 +43,8 @@ fn typed_body<'a>(
 ) -> Result<(), TypingFault>
     requires extents { AreExtents extents.now (all_called_view called.now) }
     requires idle { AreIdle idle.now (all_called_view called.now) }
-    ensures { OnOk result (AreTypedOver (all_called_view called.now) ranges.now (stmts_view body.now)) }
+    ensures typed { OnOk result (AreTypedOver (all_called_view called.now) ranges.now (stmts_view body.now)) }
+    ensures refused { IfErr result (Refutes (AreTypedOver (all_called_view called.now) ranges.now (stmts_view body.now))) }
 {
     let owner: Owner<'a> = Owner::Program;
     let scope = TypingScope {

@@ -1,7 +1,8 @@
 // Statements.
-ghost use Rattle.std.specs.Prelude.{◌≡◌, ◌+◌, ◌<◌, ◌==◌, OnOk};
+ghost use Rattle.std.specs.Prelude.{◌≡◌, ◌+◌, ◌<◌, ◌==◌, IfErr, OnOk};
 ghost use Rattle.st_tree.specs.View.{stmt_view, stmts_view, choices_view, entries_view};
 ghost use Rattle.flat_form.specs.WellTyped.{Choice};
+ghost use Rattle.flat_typing.specs.Faults.{Refutes};
 ghost use Rattle.flat_typing.specs.Scopes.{IsKnown, IsTypedIn, AreTypedIn, AreTypedChoicesIn, AreTypedEntriesIn, MayRunHere};
 
 use crate::charts::typed_chart;
@@ -17,7 +18,8 @@ use st_tree::{Called, TypedArm, TypedEntry, TypedStmt};
 #[cycle(typing)]
 pub fn typed_all(list: &[TypedStmt], scope: &TypingScope<'_>) -> Result<(), TypingFault>
     requires known { IsKnown scope.now }
-    ensures { OnOk result (AreTypedIn scope.now (stmts_view list.now)) }
+    ensures typed { OnOk result (AreTypedIn scope.now (stmts_view list.now)) }
+    ensures refused { IfErr result (Refutes (AreTypedIn scope.now (stmts_view list.now))) }
 {
     for stmt in list {
         typed_one(stmt, scope)?;
@@ -28,7 +30,8 @@ pub fn typed_all(list: &[TypedStmt], scope: &TypingScope<'_>) -> Result<(), Typi
 #[cycle(typing)]
 fn typed_one(stmt: &TypedStmt, scope: &TypingScope<'_>) -> Result<(), TypingFault>
     requires known { IsKnown scope.now }
-    ensures { OnOk result (IsTypedIn scope.now (stmt_view stmt.now)) }
+    ensures typed { OnOk result (IsTypedIn scope.now (stmt_view stmt.now)) }
+    ensures refused { IfErr result (Refutes (IsTypedIn scope.now (stmt_view stmt.now))) }
 {
     match stmt {
         TypedStmt::Assign(target, expr) => {
@@ -62,7 +65,8 @@ fn typed_one(stmt: &TypedStmt, scope: &TypingScope<'_>) -> Result<(), TypingFaul
 #[cycle(typing)]
 fn typed_turn(count: u16, body: &[TypedStmt], scope: &TypingScope<'_>) -> Result<(), TypingFault>
     requires known { IsKnown scope.now }
-    ensures { OnOk result (Choice (count == 0) (Unit {0}) (AreTypedIn scope.now (stmts_view body.now))) }
+    ensures typed { OnOk result (Choice (count == 0) (Unit {0}) (AreTypedIn scope.now (stmts_view body.now))) }
+    ensures refused { IfErr result (Refutes (Choice (count == 0) (Unit {0}) (AreTypedIn scope.now (stmts_view body.now)))) }
 {
     if count == 0 {
         return Ok(());
@@ -77,6 +81,7 @@ fn typed_run(block: usize, offset: usize, scope: &TypingScope<'_>) -> Result<(),
     requires known { IsKnown scope.now }
     ensures above { OnOk result (0 < scope.now.base + offset) }
     ensures run { OnOk result (MayRunHere scope.now block (scope.now.base + offset)) }
+    ensures refused { IfErr result (Refutes ((0 < scope.now.base + offset) × MayRunHere scope.now block (scope.now.base + offset))) }
 {
     let base = place_at(scope, offset)?;
     if base == 0 {
@@ -107,7 +112,8 @@ fn typed_run(block: usize, offset: usize, scope: &TypingScope<'_>) -> Result<(),
 #[cycle(typing)]
 fn typed_arms(arms: &[TypedArm], scope: &TypingScope<'_>) -> Result<(), TypingFault>
     requires known { IsKnown scope.now }
-    ensures { OnOk result (AreTypedChoicesIn scope.now (choices_view arms.now)) }
+    ensures typed { OnOk result (AreTypedChoicesIn scope.now (choices_view arms.now)) }
+    ensures refused { IfErr result (Refutes (AreTypedChoicesIn scope.now (choices_view arms.now))) }
 {
     for arm in arms {
         typed_value(&arm.condition, scope)?;
@@ -119,7 +125,8 @@ fn typed_arms(arms: &[TypedArm], scope: &TypingScope<'_>) -> Result<(), TypingFa
 #[cycle(typing)]
 fn typed_entries(entries: &[TypedEntry], scope: &TypingScope<'_>) -> Result<(), TypingFault>
     requires known { IsKnown scope.now }
-    ensures { OnOk result (AreTypedEntriesIn scope.now (entries_view entries.now)) }
+    ensures typed { OnOk result (AreTypedEntriesIn scope.now (entries_view entries.now)) }
+    ensures refused { IfErr result (Refutes (AreTypedEntriesIn scope.now (entries_view entries.now))) }
 {
     for entry in entries {
         typed_all(&entry.body, scope)?;

@@ -1,7 +1,8 @@
 // Expressions, and the FUNCTIONs that they call.
-ghost use Rattle.std.specs.Prelude.{◌≡◌, ◌+◌, OnOk};
+ghost use Rattle.std.specs.Prelude.{◌≡◌, ◌+◌, IfErr, OnOk};
 ghost use Rattle.st_tree.specs.Tree.{answer};
 ghost use Rattle.st_tree.specs.View.{expr_view, operands_view, arguments_view};
+ghost use Rattle.flat_typing.specs.Faults.{Refutes};
 ghost use Rattle.flat_typing.specs.Scopes.{IsKnown, frame_view, IsTypedValueIn, AreTypedOperandsIn, AreTypedValuesIn, AreTypedInputsIn};
 
 use crate::extents::extents_below;
@@ -16,7 +17,8 @@ use st_tree::{Called, Frame, Operand, TypedExpr};
 #[cycle(typing)]
 pub fn typed_value(expr: &TypedExpr, scope: &TypingScope<'_>) -> Result<(), TypingFault>
     requires known { IsKnown scope.now }
-    ensures { OnOk result (IsTypedValueIn scope.now (expr_view expr.now)) }
+    ensures typed { OnOk result (IsTypedValueIn scope.now (expr_view expr.now)) }
+    ensures refused { IfErr result (Refutes (IsTypedValueIn scope.now (expr_view expr.now))) }
 {
     match expr {
         TypedExpr::Number(_) => Ok(()),
@@ -37,7 +39,8 @@ pub fn typed_value(expr: &TypedExpr, scope: &TypingScope<'_>) -> Result<(), Typi
 #[cycle(typing)]
 fn typed_operands(operands: &[Operand], scope: &TypingScope<'_>) -> Result<(), TypingFault>
     requires known { IsKnown scope.now }
-    ensures { OnOk result (AreTypedOperandsIn scope.now (operands_view operands.now)) }
+    ensures typed { OnOk result (AreTypedOperandsIn scope.now (operands_view operands.now)) }
+    ensures refused { IfErr result (Refutes (AreTypedOperandsIn scope.now (operands_view operands.now))) }
 {
     for operand in operands {
         typed_value(&operand.right, scope)?;
@@ -48,7 +51,8 @@ fn typed_operands(operands: &[Operand], scope: &TypingScope<'_>) -> Result<(), T
 #[cycle(typing)]
 fn typed_values(list: &[TypedExpr], scope: &TypingScope<'_>) -> Result<(), TypingFault>
     requires known { IsKnown scope.now }
-    ensures { OnOk result (AreTypedValuesIn scope.now (arguments_view list.now)) }
+    ensures typed { OnOk result (AreTypedValuesIn scope.now (arguments_view list.now)) }
+    ensures refused { IfErr result (Refutes (AreTypedValuesIn scope.now (arguments_view list.now))) }
 {
     for expr in list {
         typed_value(expr, scope)?;
@@ -64,11 +68,16 @@ fn typed_answer(
     scope: &TypingScope<'_>,
 ) -> Result<(), TypingFault>
     requires known { IsKnown scope.now }
-    ensures { OnOk result (IsTypedValueIn scope.now (answer function (arguments_view inputs.now))) }
+    ensures typed { OnOk result (IsTypedValueIn scope.now (answer function (arguments_view inputs.now))) }
+    ensures refused { IfErr result (Refutes (IsTypedValueIn scope.now (answer function (arguments_view inputs.now)))) }
 {
-    if function < scope.below {
-        let callee = &scope.called[function];
-        if let Called::Function(frame, body) = callee {
+    if function >= scope.below {
+        return Err(TypingFault::Untyped);
+    }
+    let callee = &scope.called[function];
+    match callee {
+        Called::Block(_) => Err(TypingFault::Untyped),
+        Called::Function(frame, body) => {
             typed_inputs(inputs, frame, scope)?;
             frame_fits(frame, inputs.len())?;
             let extents = extents_below(scope, function);
@@ -82,10 +91,9 @@ fn typed_answer(
                 below: function,
             };
             typed_all(body, &call)?;
-            return Ok(());
+            Ok(())
         }
     }
-    Err(TypingFault::Untyped)
 }
 
 #[cycle(typing)]
@@ -95,7 +103,8 @@ fn typed_inputs(
     scope: &TypingScope<'_>,
 ) -> Result<(), TypingFault>
     requires known { IsKnown scope.now }
-    ensures { OnOk result (AreTypedInputsIn scope.now (frame_view frame.now) 2 (arguments_view inputs.now)) }
+    ensures typed { OnOk result (AreTypedInputsIn scope.now (frame_view frame.now) 2 (arguments_view inputs.now)) }
+    ensures refused { IfErr result (Refutes (AreTypedInputsIn scope.now (frame_view frame.now) 2 (arguments_view inputs.now))) }
 {
     let mut place = 2;
     for input in inputs {

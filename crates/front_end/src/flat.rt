@@ -24,7 +24,8 @@ pub struct Accepted {
 }
 
 /// The program that a text states and its flat form, or the first rule that it breaks: those of `accept_text`, and then that on the
-/// number of flat statements (M5).
+/// number of flat statements (M5). No text states a program that is not well typed as far as tests show; no law says so, and one that did
+/// would count as want of memory.
 pub fn accept_flat(alloc: Global, text: &[u8]) -> Result<Accepted, AcceptFault>
     ensures program { IfOk result (λ a. IsProgram text.now (program_view a.program)) }
     ensures flat { IfOk result (λ a. flat_program_view a.flat ≡ flat_program (program_view a.program)) }
@@ -40,6 +41,7 @@ pub fn accept_flat(alloc: Global, text: &[u8]) -> Result<Accepted, AcceptFault>
     match flatten(alloc, &program) {
         Ok(flat) => Ok(Accepted { program, flat }),
         Err(FlatFault::Refused(refusal)) => Err(AcceptFault::Refused(refusal)),
+        Err(FlatFault::Untyped) => Err(AcceptFault::Memory),
         Err(FlatFault::Memory) => Err(AcceptFault::Memory),
     }
 }

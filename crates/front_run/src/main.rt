@@ -27,6 +27,7 @@ fn main(rt: HostRuntime) -> io::Result<()> {
     match read(&rt, alloc, &text, &mut stages) {
         Ok((tokens, cells)) => println!(rt; "{tokens} tokens, {cells} cells"),
         Err(Stop::Refused(refusal)) => print_refusal(&rt, refusal),
+        Err(Stop::Untyped) => println!(rt; "the program is not well typed"),
         Err(Stop::Memory) => println!(rt; "memory was wanting"),
         Err(Stop::Output(error)) => Err(error),
     }

@@ -15,6 +15,7 @@ use std::time::Clock;
 #[derive(Debug, Drop)]
 pub enum Stop {
     Refused(Refusal),
+    Untyped,
     Memory,
     Output(io::Error),
 }
@@ -32,6 +33,7 @@ impl From<FlatFault> for Stop {
     fn from(fault: FlatFault) -> Self {
         match fault {
             FlatFault::Refused(refusal) => Stop::Refused(refusal),
+            FlatFault::Untyped => Stop::Untyped,
             FlatFault::Memory => Stop::Memory,
         }
     }

@@ -5,17 +5,19 @@ use Rattle.flat_typing.specs.Scopes.{frame_view, AreTypedOperandsIn, AreTypedVal
 use Rattle.flat_typing.proofs.PouLemmas.{weight_here}
 use Rattle.flat_typing.proofs.+typing.Given as goal
 
--- what is left gives the whole, and is no more than it
+-- what is left gives the whole, the whole gives it, and it is no more than that
 
 abbrev pub invariant-values::typed_operands-loop-operand : goal.invariant-values::typed_operands-loop-operand
 invariant-values::typed_operands-loop-operand l = record {
   rest : AreTypedOperandsIn l.scope (operands_view (drop l.operand-index l.operands)) → AreTypedOperandsIn l.scope (operands_view l.operands);
+  whole : AreTypedOperandsIn l.scope (operands_view l.operands) → AreTypedOperandsIn l.scope (operands_view (drop l.operand-index l.operands));
   weighs : operand_nodes (operands_view (drop l.operand-index l.operands)) ≤ operand_nodes (operands_view l.operands);
 }
 
 abbrev pub invariant-values::typed_values-loop-expr : goal.invariant-values::typed_values-loop-expr
 invariant-values::typed_values-loop-expr l = record {
   rest : AreTypedValuesIn l.scope (arguments_view (drop l.expr-index l.list)) → AreTypedValuesIn l.scope (arguments_view l.list);
+  whole : AreTypedValuesIn l.scope (arguments_view l.list) → AreTypedValuesIn l.scope (arguments_view (drop l.expr-index l.list));
   weighs : all_nodes (arguments_view (drop l.expr-index l.list)) ≤ all_nodes (arguments_view l.list);
 }
 
@@ -23,36 +25,42 @@ abbrev pub invariant-values::typed_inputs-loop-input : goal.invariant-values::ty
 invariant-values::typed_inputs-loop-input l = record {
   place : l.place ≡ 2 + l.input-index;
   rest : AreTypedInputsIn l.scope (frame_view l.frame) l.place (arguments_view (drop l.input-index l.inputs)) → AreTypedInputsIn l.scope (frame_view l.frame) 2 (arguments_view l.inputs);
+  whole : AreTypedInputsIn l.scope (frame_view l.frame) 2 (arguments_view l.inputs) → AreTypedInputsIn l.scope (frame_view l.frame) l.place (arguments_view (drop l.input-index l.inputs));
   weighs : all_nodes (arguments_view (drop l.input-index l.inputs)) ≤ all_nodes (arguments_view l.inputs);
 }
 
 abbrev pub invariant-statements::typed_all-loop-stmt : goal.invariant-statements::typed_all-loop-stmt
 invariant-statements::typed_all-loop-stmt l = record {
   rest : AreTypedIn l.scope (stmts_view (drop l.stmt-index l.list)) → AreTypedIn l.scope (stmts_view l.list);
+  whole : AreTypedIn l.scope (stmts_view l.list) → AreTypedIn l.scope (stmts_view (drop l.stmt-index l.list));
   weighs : body_nodes (stmts_view (drop l.stmt-index l.list)) ≤ body_nodes (stmts_view l.list);
 }
 
 abbrev pub invariant-statements::typed_arms-loop-arm : goal.invariant-statements::typed_arms-loop-arm
 invariant-statements::typed_arms-loop-arm l = record {
   rest : AreTypedChoicesIn l.scope (choices_view (drop l.arm-index l.arms)) → AreTypedChoicesIn l.scope (choices_view l.arms);
+  whole : AreTypedChoicesIn l.scope (choices_view l.arms) → AreTypedChoicesIn l.scope (choices_view (drop l.arm-index l.arms));
   weighs : choice_nodes (choices_view (drop l.arm-index l.arms)) ≤ choice_nodes (choices_view l.arms);
 }
 
 abbrev pub invariant-statements::typed_entries-loop-entry : goal.invariant-statements::typed_entries-loop-entry
 invariant-statements::typed_entries-loop-entry l = record {
   rest : AreTypedEntriesIn l.scope (entries_view (drop l.entry-index l.entries)) → AreTypedEntriesIn l.scope (entries_view l.entries);
+  whole : AreTypedEntriesIn l.scope (entries_view l.entries) → AreTypedEntriesIn l.scope (entries_view (drop l.entry-index l.entries));
   weighs : entry_nodes (entries_view (drop l.entry-index l.entries)) ≤ entry_nodes (entries_view l.entries);
 }
 
 abbrev pub invariant-charts::typed_actions-loop-action : goal.invariant-charts::typed_actions-loop-action
 invariant-charts::typed_actions-loop-action l = record {
   rest : AreTypedActionsIn l.scope l.steps (actions_view (drop l.action-index l.actions)) → AreTypedActionsIn l.scope l.steps (actions_view l.actions);
+  whole : AreTypedActionsIn l.scope l.steps (actions_view l.actions) → AreTypedActionsIn l.scope l.steps (actions_view (drop l.action-index l.actions));
   weighs : action_nodes (actions_view (drop l.action-index l.actions)) ≤ action_nodes (actions_view l.actions);
 }
 
 abbrev pub invariant-charts::typed_transitions-loop-transition : goal.invariant-charts::typed_transitions-loop-transition
 invariant-charts::typed_transitions-loop-transition l = record {
   rest : AreTypedTransitionsIn l.scope l.steps (transitions_view (drop l.transition-index l.transitions)) → AreTypedTransitionsIn l.scope l.steps (transitions_view l.transitions);
+  whole : AreTypedTransitionsIn l.scope l.steps (transitions_view l.transitions) → AreTypedTransitionsIn l.scope l.steps (transitions_view (drop l.transition-index l.transitions));
   weighs : transition_nodes (transitions_view (drop l.transition-index l.transitions)) ≤ transition_nodes (transitions_view l.transitions);
 }
 
