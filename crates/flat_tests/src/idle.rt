@@ -2,6 +2,7 @@
 use crate::lists::printed;
 use crate::programs::run;
 use crate::trees::{A, Q, R, program_with, program_with_cells, set};
+use fb_inline::{FlatFault, flatten};
 use flat_typing::{TypingFault, check_program};
 use st_tree::{Called, Program, StepCells, Turns, TypedAction, TypedStmt};
 use std::alloc::{AllocError, Global};
@@ -129,5 +130,6 @@ fn a_program_begins_with_fault_and_in_range(rt: HostRuntime) -> Result<(), Fail>
     assert!(rt; check_program(alloc, &program).is_ok());
     program.cells.remove(0);
     assert_eq!(rt; check_program(alloc, &program), Err(TypingFault::Untyped));
+    assert!(rt; matches!(flatten(alloc, &program), Err(FlatFault::Untyped)));
     Ok(())
 }

@@ -5,7 +5,7 @@ use Rattle.st_tree.specs.declared.typed.Range.{Range}
 use Rattle.st_tree.specs.declared.typed.CellType.{CellType}
 use Rattle.st_tree.specs.Tree.{Statements, CalledData}
 use Rattle.effects.specs.Calls.{nothing}
-use Rattle.flat_form.specs.Frames.{FrameData, frame_of, frames_of, function_body, type_at}
+use Rattle.flat_form.specs.Frames.{frame_of, frames_of, function_body, type_at}
 use Rattle.flat_form.specs.Pous.{block_body}
 use Rattle.flat_form.specs.Idle.{is_idle_all, idle_of}
 use Rattle.flat_form.specs.WellTyped.{AreTyped, extents_of, Choice, FrameFits, MayRunOf, MayCallOf}
