@@ -1,13 +1,15 @@
 // Statements without charts.
-ghost use Rattle.std.specs.Prelude.{◌≡◌, ◌++◌, map, IfOk, OnOk};
-ghost use Rattle.st_tree.specs.View.{stmt_view, stmts_view, choices_view, entries_view, actions_view};
+ghost use Rattle.std.specs.Prelude.{◌≡◌, ◌+◌, ◌++◌, ◌∷◌, [], map, IfOk, OnOk};
+ghost use Rattle.st_tree.specs.Tree.{assign, run};
+ghost use Rattle.st_tree.specs.View.{expr_view, stmt_view, stmts_view, choices_view, entries_view, actions_view};
+ghost use Rattle.sfc_lowering.specs.Shifts.{shifted};
 ghost use Rattle.sfc_lowering.specs.LoweredLists.{lowered, lowered_all, lowered_choices, lowered_entries, lowered_actions};
 
 use crate::charts::{put_latches, put_moves};
 use crate::puts::{put, put_arm, put_assign, put_entry, put_only_where};
 use crate::shifts::{shift_expr, shift_latch, shift_place, shift_steps, shift_turns};
 use crate::tests_in_place::runs_in_place;
-use st_tree::{StepCells, TypedAction, TypedArm, TypedEntry, TypedStmt};
+use st_tree::{StepCells, TypedAction, TypedArm, TypedEntry, TypedExpr, TypedStmt};
 use std::alloc::{AllocError, Global};
 
 /// The body of a POU without charts: its scratch variables begin at a place, and its own cells stand so many places further on.
@@ -38,21 +40,8 @@ fn put_lowered(
     ensures { OnOk result (map stmt_view out.new.items ≡ map stmt_view out.old.items ++ lowered flags more (stmt_view stmt.now)) }
 {
     match stmt {
-        TypedStmt::Assign(target, expr) => {
-            let target = shift_place(*target, more)?;
-            let expr = shift_expr(expr, more, alloc)?;
-            put_assign(out, target, expr)
-        }
-        TypedStmt::Run { block, offset } => {
-            let offset = shift_place(*offset, more)?;
-            put(
-                out,
-                TypedStmt::Run {
-                    block: *block,
-                    offset,
-                },
-            )
-        }
+        TypedStmt::Assign(target, expr) => put_shifted(*target, expr, more, out, alloc),
+        TypedStmt::Run { block, offset } => put_run(*block, *offset, more, out),
         TypedStmt::If(arms, other) => {
             let arms = lower_arms(arms, flags, more, alloc)?;
             let other = lower_all(other, flags, more, alloc)?;
@@ -76,6 +65,35 @@ fn put_lowered(
             put_moves(&steps, transitions, flags, more, out, alloc)
         }
     }
+}
+
+// An assignment, whose cells stand so many places further on.
+fn put_shifted(
+    target: usize,
+    expr: &TypedExpr,
+    more: usize,
+    out: &mut Vec<TypedStmt>,
+    alloc: Global,
+) -> Result<(), AllocError>
+    ensures { OnOk result (map stmt_view out.new.items
+        ≡ map stmt_view out.old.items ++ assign (target + more) (shifted more (expr_view expr.now)) ∷ []) }
+{
+    let there = shift_place(target, more)?;
+    let value = shift_expr(expr, more, alloc)?;
+    put_assign(out, there, value)
+}
+
+// A run over the cells of an instance, which begin so many places further on.
+fn put_run(
+    block: usize,
+    offset: usize,
+    more: usize,
+    out: &mut Vec<TypedStmt>,
+) -> Result<(), AllocError>
+    ensures { OnOk result (map stmt_view out.new.items ≡ map stmt_view out.old.items ++ run block (offset + more) ∷ []) }
+{
+    let offset = shift_place(offset, more)?;
+    put(out, TypedStmt::Run { block, offset })
 }
 
 // The actions, each behind the test whether it runs; the cells of the steps stand further on already.
