@@ -1,4 +1,4 @@
-// Tests of flat forms.
+// Tests of flat forms, and of programs without charts.
 #![tactic(auto)]
 
 #[cfg(test)]
@@ -15,6 +15,10 @@ mod idle;
 mod limits;
 #[cfg(test)]
 mod lists;
+#[cfg(test)]
+mod lowered;
+#[cfg(test)]
+mod lowered_printing;
 #[cfg(test)]
 mod printing;
 #[cfg(test)]

@@ -77,8 +77,9 @@ fn print_arm(
     text.push_str(" } {")
 }
 
+/// An expression.
 #[cycle(print_expr)]
-fn print_expr(expr: &TypedExpr, alloc: Global, text: &mut String) -> Result<(), AllocError> {
+pub fn print_expr(expr: &TypedExpr, alloc: Global, text: &mut String) -> Result<(), AllocError> {
     match expr {
         TypedExpr::Number(value) => text.push_str(format!(in alloc; "{value}")?.as_str())?,
         TypedExpr::Cell(place) => text.push_str(format!(in alloc; "#{place}")?.as_str())?,
@@ -141,7 +142,10 @@ fn print_expressions(
     alloc: Global,
     text: &mut String,
 ) -> Result<(), AllocError> {
-    for expr in list {
+    for (i, expr) in list.iter().enumerate() {
+        if i > 0 {
+            text.push_str(", ")?;
+        }
         print_expr(expr, alloc, text)?;
     }
     Ok(())
