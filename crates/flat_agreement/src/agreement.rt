@@ -1,17 +1,20 @@
-// Whether a program and its flat form leave the states that they should.
+// Whether a program, its flat form and its form without charts leave the states that they should.
 use crate::flat_run::{run_all, size_of};
 use crate::groups::{Group, Scan};
+use crate::lowered_run::lowered_scan;
 use flat_core::Flat;
-use front_end::accept_flat;
 use flat_typing::check_program;
+use front_end::accept_flat;
 use scan_replay::Machine;
+use sfc_lowering::{Lowered, lower};
 use st_tree::Program;
 use std::alloc::{AllocError, Global};
 
-/// How many scans were tried, and how many statements the flat forms have.
+/// How many scans were tried, how many of these were of a program whose body is a chart, and how many statements the flat forms have.
 #[derive(Clone, Copy)]
 pub struct Counts {
     pub scans: u64,
+    pub charts: u64,
     pub statements: u64,
 }
 
@@ -24,6 +27,7 @@ pub enum Outcome {
     OutOfRange,
     ScanDiffers,
     FlatDiffers,
+    LoweredDiffers,
 }
 
 /// Tries a program, behind the text of its blocks, on its scans.
@@ -40,12 +44,16 @@ pub fn try_group(
     };
     let flat = &accepted.flat;
     counts.statements = counts.statements.wrapping_add(size_of(&flat.body));
+    let lowered = lower(&accepted.program, alloc)?;
     for scan in &group.scans {
-        let outcome = try_scan(alloc, &accepted.program, flat, scan)?;
+        let outcome = try_scan(alloc, &accepted.program, flat, &lowered, scan)?;
         if outcome != Outcome::Agrees {
             return Ok(outcome);
         }
         counts.scans = counts.scans.wrapping_add(1);
+        if lowered.own_scratch > 0 {
+            counts.charts = counts.charts.wrapping_add(1);
+        }
     }
     Ok(Outcome::Agrees)
 }
@@ -54,6 +62,7 @@ fn try_scan(
     alloc: Global,
     program: &Program,
     flat: &Flat,
+    lowered: &Lowered,
     scan: &Scan,
 ) -> Result<Outcome, AllocError> {
     let Ok(()) = check_program(alloc, program) else {
@@ -74,6 +83,10 @@ fn try_scan(
     let store = flat_scan(alloc, flat, &scan.before)?;
     if store.get(..scan.after.len()) != Some(scan.after.as_slice()) {
         return Ok(Outcome::FlatDiffers);
+    }
+    let cells = lowered_scan(alloc, program, lowered, &scan.before)?;
+    if cells.as_slice() != scan.after.as_slice() {
+        return Ok(Outcome::LoweredDiffers);
     }
     Ok(Outcome::Agrees)
 }

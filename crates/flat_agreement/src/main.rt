@@ -1,10 +1,11 @@
-// Reads programs with states, and tests that a scan of each program and a scan of its flat form both leave the states that another
-// implementation names.
+// Reads programs with states, and tests that a scan of each program, a scan of its flat form and a scan of its form without charts leave
+// the states that another implementation names.
 #![tactic(auto)]
 
 mod agreement;
 mod flat_run;
 mod groups;
+mod lowered_run;
 
 use agreement::{Counts, Outcome, try_group};
 use groups::{Group, groups};
@@ -22,12 +23,16 @@ fn print_outcome(rt: &impl Print, number: usize, outcome: Outcome) -> io::Result
         Outcome::FlatDiffers => println!(rt;
             "a scan of the flat form of program {number} leaves another state"
         ),
+        Outcome::LoweredDiffers => println!(rt;
+            "a scan of program {number} without its charts leaves another state"
+        ),
     }
 }
 
 fn try_all(rt: &impl Print, alloc: Global, blocks: &str, list: &[Group]) -> io::Result<Counts> {
     let mut counts = Counts {
         scans: 0,
+        charts: 0,
         statements: 0,
     };
     let mut number = 0usize;
@@ -45,9 +50,9 @@ fn main(rt: HostRuntime) -> io::Result<()> {
     let text = fs::read_to_string(&rt, "programs.txt")?;
     let list = groups(alloc, text.as_str())?;
     let counts = try_all(&rt, alloc, blocks.as_str(), &list)?;
-    let (scans, statements) = (counts.scans, counts.statements);
+    let (scans, charts, statements) = (counts.scans, counts.charts, counts.statements);
     println!(rt;
-        "{} programs, {scans} scans, {statements} flat statements",
+        "{} programs, {scans} scans, {charts} of them of charts, {statements} flat statements",
         list.len()
     )
 }
