@@ -5,8 +5,6 @@
 mod laws;
 mod reaching;
 mod taking;
-#[cfg(test)]
-mod tests;
 
 pub use laws::{
     has_each, is_below_length, none_reaches_itself, some_reaches_itself, stands_behind_its_uses,

@@ -11,8 +11,6 @@ mod order;
 mod plain;
 mod search;
 mod table;
-#[cfg(test)]
-mod tests;
 mod trail;
 
 pub use decide::decide_by;

@@ -14,8 +14,6 @@ mod log;
 mod propagation;
 mod status;
 mod step;
-#[cfg(test)]
-mod tests;
 mod truth;
 
 pub use assignment::Assignment;

@@ -3,8 +3,6 @@
 
 mod grammar;
 mod read;
-#[cfg(test)]
-mod tests;
 
 pub use read::read_words;
 

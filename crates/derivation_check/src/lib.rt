@@ -3,8 +3,6 @@
 
 mod checker;
 mod fault;
-#[cfg(test)]
-mod tests;
 
 pub use checker::{Ack, Checker};
 pub use fault::StepFault;

@@ -8,6 +8,3 @@ mod wrapping;
 pub use division::{quot, rem};
 pub use int_type::IntType;
 pub use wrapping::{fits, wrap};
-
-#[cfg(test)]
-mod tests;

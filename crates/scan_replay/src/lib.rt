@@ -12,6 +12,3 @@ mod two_states;
 pub use duo::Duo;
 pub use machine::Machine;
 pub use scan_model::Side;
-
-#[cfg(test)]
-mod tests;

@@ -2,16 +2,13 @@
 #![tactic(auto)]
 
 mod cells;
-mod chart_copies;
 mod data_type;
 mod elementary;
 mod function;
 mod parse_fault;
 mod rule;
 mod syntax;
-mod syntax_copies;
 mod token;
-mod type_copies;
 mod typed;
 mod typed_copies;
 

@@ -1,14 +1,28 @@
 // Trees of a text, as they print its tokens. A number beside a part is the place of the part's first token, or
 // of its operator, in bytes from 0. Operators of one level, the arms of an IF and statements are lists, so that
 // a long text is no deep tree.
+ghost use Rattle.std.specs.Prelude.{◌≡◌, IfOk};
+ghost use Rattle.st_tree.specs.SyntaxView.{name_view};
+
 use crate::elementary::Elementary;
 use crate::token::Operator;
+use std::alloc::{AllocError, Global};
 
 /// A name, in upper case, and its place.
 #[derive(Drop)]
 pub struct Name {
     pub text: String,
     pub at: usize,
+}
+
+impl Name {
+    /// The same name.
+    pub fn copy(&self, alloc: Global) -> Result<Name, AllocError>
+        ensures { IfOk result (λ n. name_view n ≡ name_view self.now) }
+    {
+        let text = String::from_str(alloc, self.text.as_str())?;
+        Ok(Name { text, at: self.at })
+    }
 }
 
 /// A name, and the names behind points.
