@@ -1,0 +1,69 @@
+// The door `accept`: a text is accepted, or refused by the rule and at the place that its mark names.
+use crate::case_file::Case;
+use crate::marks::Marked;
+use crate::report::{CaseFault, Mismatch, compare, malformed};
+use crate::section::Word;
+use crate::texts::program_of;
+use front_end::{AcceptFault, accept_text};
+use st_tree::Program;
+use std::alloc::{AllocError, Global};
+
+/// Runs a case of this door.
+pub fn run_accept(
+    alloc: Global,
+    head: &Case,
+    case: &Case,
+    found: &mut Vec<Mismatch>,
+) -> Result<(), CaseFault> {
+    let text = program_of(alloc, head, case, Word::Accept)?;
+    let expected = expected_answer(alloc, &text)?;
+    let got = match accept_text(alloc, &text.bytes) {
+        Ok(_) => String::from_str(alloc, "accepted")?,
+        Err(AcceptFault::Refused(refusal)) => {
+            refused_at(alloc, refusal.rule.name(), refusal.at, &text.bytes)?
+        }
+        Err(AcceptFault::Memory) => return Err(CaseFault::Memory),
+    };
+    compare(
+        alloc,
+        "answer to the text",
+        expected.as_str(),
+        got.as_str(),
+        found,
+    )?;
+    Ok(())
+}
+
+fn expected_answer(alloc: Global, text: &Marked) -> Result<String, CaseFault> {
+    match text.places.as_slice() {
+        [] => Ok(String::from_str(alloc, "accepted")?),
+        [place] => Ok(refused_at(alloc, place.rule.as_str(), place.at, &text.bytes)?),
+        _ => Err(malformed(alloc, "a text has two places of refusals", "")),
+    }
+}
+
+/// A refusal with its place in a text, also by line and column from 1.
+pub fn refused_at(alloc: Global, rule: &str, at: usize, text: &[u8]) -> Result<String, AllocError> {
+    let (mut line, mut column) = (1usize, 1usize);
+    for byte in text.iter().take(at) {
+        if *byte == b'\n' {
+            line = line.wrapping_add(1);
+            column = 1;
+        } else {
+            column = column.wrapping_add(1);
+        }
+    }
+    format!(in alloc; "{rule} at byte {at}, which is line {line}, column {column}")
+}
+
+/// The program of a text that has to be accepted.
+pub fn accepted(alloc: Global, text: &[u8]) -> Result<Program, CaseFault> {
+    match accept_text(alloc, text) {
+        Ok(program) => Ok(program),
+        Err(AcceptFault::Refused(refusal)) => {
+            let refusal = refused_at(alloc, refusal.rule.name(), refusal.at, text)?;
+            Err(malformed(alloc, "a program is refused: ", refusal.as_str()))
+        }
+        Err(AcceptFault::Memory) => Err(CaseFault::Memory),
+    }
+}

@@ -1,0 +1,60 @@
+// How many cases there are.
+use crate::section::Door;
+use std::fmt;
+
+/// How many cases there are of each door, and how many there are in all and have failed.
+#[derive(Clone, Copy, Debug, PartialEq, Eq)]
+pub struct Counts {
+    pub cases: u64,
+    pub accept: u64,
+    pub replay: u64,
+    pub flat: u64,
+    pub scan: u64,
+    pub relation: u64,
+    pub failed: u64,
+}
+
+impl Counts {
+    /// No case.
+    pub const NONE: Counts = Counts {
+        cases: 0,
+        accept: 0,
+        replay: 0,
+        flat: 0,
+        scan: 0,
+        relation: 0,
+        failed: 0,
+    };
+
+    /// Counts a case, which may have failed.
+    pub fn add_case(&mut self, failed: bool) {
+        self.cases = self.cases.saturating_add(1);
+        if failed {
+            self.failed = self.failed.saturating_add(1);
+        }
+    }
+
+    /// Counts a case for its door.
+    pub fn add_door(&mut self, door: Door) {
+        match door {
+            Door::Accept => self.accept = self.accept.saturating_add(1),
+            Door::Replay => self.replay = self.replay.saturating_add(1),
+            Door::Flat => self.flat = self.flat.saturating_add(1),
+            Door::Scan => self.scan = self.scan.saturating_add(1),
+            Door::Relation => self.relation = self.relation.saturating_add(1),
+        }
+    }
+}
+
+impl fmt::Display for Counts {
+    fn fmt<W: fmt::Write>(&self, f: &mut fmt::Formatter<W>) -> fmt::Result {
+        let (cases, failed) = (self.cases, self.failed);
+        let (accept, replay, flat) = (self.accept, self.replay, self.flat);
+        let (scan, relation) = (self.scan, self.relation);
+        write!(f, "{cases} cases: {accept} accept, {replay} replay, ")?;
+        write!(
+            f,
+            "{flat} flat, {scan} scan, {relation} relation, {failed} failed"
+        )
+    }
+}

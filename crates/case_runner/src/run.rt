@@ -1,0 +1,46 @@
+// A case through its door.
+use crate::accept::run_accept;
+use crate::case_file::Case;
+use crate::flat::run_flat;
+use crate::relation::run_relation;
+use crate::replay::run_replay;
+use crate::report::{CaseFault, Mismatch, malformed};
+use crate::scan::run_scan;
+use crate::section::Door;
+use std::alloc::{AllocError, Global};
+
+/// The door of a case: the one that its sections name, or that of replays where they are among those that several doors have.
+pub fn door_of(alloc: Global, case: &Case) -> Result<Door, CaseFault> {
+    let mut door = None;
+    for section in &case.sections {
+        match (section.word.door(), door) {
+            (Some(own), Some(other)) if own != other => {
+                return Err(malformed(alloc, "the sections are those of two doors", ""));
+            }
+            (Some(own), _) => door = Some(own),
+            (None, _) => {}
+        }
+    }
+    match (door, case.sections.first()) {
+        (Some(door), _) => Ok(door),
+        (None, Some(_)) => Ok(Door::Replay),
+        (None, None) => Err(malformed(alloc, "the case has no section", "")),
+    }
+}
+
+/// Runs a case, and adds what it finds.
+pub fn run_case(
+    alloc: Global,
+    door: Door,
+    head: &Case,
+    case: &Case,
+    found: &mut Vec<Mismatch>,
+) -> Result<(), CaseFault> {
+    match door {
+        Door::Accept => run_accept(alloc, head, case, found),
+        Door::Replay => run_replay(alloc, head, case, found),
+        Door::Flat => run_flat(alloc, head, case, found),
+        Door::Scan => run_scan(alloc, head, case, found),
+        Door::Relation => run_relation(alloc, head, case, found),
+    }
+}

@@ -1,0 +1,136 @@
+// The words that begin a section of a case file.
+
+/// The word of a section.
+#[derive(Clone, Copy, Debug, PartialEq, Eq)]
+pub enum Word {
+    Accept,
+    Old,
+    New,
+    Relation,
+    Trace,
+    Answer,
+    Flat,
+    List,
+    Lowered,
+    Scan,
+    Before,
+    After,
+    Statements,
+    Candidates,
+    Clauses,
+    Parts,
+    Lines,
+    Along,
+    Held,
+    Shared,
+}
+
+/// What runs a case.
+#[derive(Clone, Copy, Debug, PartialEq, Eq)]
+pub enum Door {
+    Accept,
+    Replay,
+    Flat,
+    Scan,
+    Relation,
+}
+
+impl Word {
+    /// The word that is spelled so, if there is one.
+    pub fn of(text: &str) -> Option<Word> {
+        match text {
+            "accept" => Some(Word::Accept),
+            "old" => Some(Word::Old),
+            "new" => Some(Word::New),
+            "relation" => Some(Word::Relation),
+            "trace" => Some(Word::Trace),
+            "answer" => Some(Word::Answer),
+            "flat" => Some(Word::Flat),
+            "list" => Some(Word::List),
+            "lowered" => Some(Word::Lowered),
+            "scan" => Some(Word::Scan),
+            "before" => Some(Word::Before),
+            "after" => Some(Word::After),
+            "shared" => Some(Word::Shared),
+            _ => Word::of_numbers_and_lists(text),
+        }
+    }
+
+    // The others.
+    fn of_numbers_and_lists(text: &str) -> Option<Word> {
+        match text {
+            "statements" => Some(Word::Statements),
+            "candidates" => Some(Word::Candidates),
+            "clauses" => Some(Word::Clauses),
+            "parts" => Some(Word::Parts),
+            "lines" => Some(Word::Lines),
+            "along" => Some(Word::Along),
+            "held" => Some(Word::Held),
+            _ => None,
+        }
+    }
+
+    /// Its spelling.
+    pub fn name(self) -> &'static str {
+        match self {
+            Word::Accept => "accept",
+            Word::Old => "old",
+            Word::New => "new",
+            Word::Relation => "relation",
+            Word::Trace => "trace",
+            Word::Answer => "answer",
+            Word::Flat => "flat",
+            Word::List => "list",
+            Word::Lowered => "lowered",
+            Word::Scan => "scan",
+            Word::Before => "before",
+            Word::After => "after",
+            Word::Statements => "statements",
+            Word::Candidates => "candidates",
+            Word::Clauses => "clauses",
+            Word::Parts => "parts",
+            Word::Lines => "lines",
+            Word::Along => "along",
+            Word::Held => "held",
+            Word::Shared => "shared",
+        }
+    }
+
+    /// The one door that has such sections, if there is only one.
+    pub fn door(self) -> Option<Door> {
+        match self {
+            Word::Accept => Some(Door::Accept),
+            Word::Trace | Word::Answer => Some(Door::Replay),
+            Word::Flat | Word::List | Word::Lowered => Some(Door::Flat),
+            Word::Scan | Word::Before | Word::After | Word::Statements => Some(Door::Scan),
+            Word::Candidates | Word::Clauses | Word::Parts => Some(Door::Relation),
+            Word::Lines | Word::Along | Word::Held => Some(Door::Relation),
+            Word::Old | Word::New | Word::Relation | Word::Shared => None,
+        }
+    }
+
+    /// Whether a case may have several such sections.
+    pub fn may_repeat(self) -> bool {
+        matches!(self, Word::Before | Word::After | Word::Lowered)
+    }
+
+    /// Whether a section may have this behind its word; it is empty where nothing stands there.
+    pub fn takes(self, argument: &str) -> bool {
+        match self {
+            Word::Answer => argument.parse::<u8>().is_ok(),
+            Word::Statements => argument.parse::<u64>().is_ok(),
+            Word::New => argument.is_empty() || argument == "same",
+            Word::Shared => argument.is_empty() || argument == "none",
+            Word::Lowered => argument.is_empty() || argument == "last",
+            Word::List | Word::Candidates => {
+                argument.is_empty() || argument.starts_with("refused ")
+            }
+            _ => argument.is_empty(),
+        }
+    }
+
+    /// Whether a section with this behind its word has a text.
+    pub fn has_text(self, argument: &str) -> bool {
+        argument.is_empty() || matches!(self, Word::Answer | Word::Lowered)
+    }
+}
