@@ -46,6 +46,7 @@ outcome_of-links scope t left (link o at e ls) =
     outcome_of-links scope (next_type o t) (tested (also left right) holds OperandType at) ls
     ∙ ap (λ (x : Outcome). links_outcome scope (next_type o t) x ls) (outcome_of-tested (also left right) holds OperandType at ∙ ap (λ (x : Outcome). tried x holds OperandType at) (outcome_of-also left right))
 
+-- parts one after the other
 pub both-assoc : (o p q : Outcome) → both (both o p) q ≡ both o (both p q)
 unfolding both
 both-assoc o p q = λ i. record { whole = and_assoc o.whole p.whole q.whole i; first = earlier-assoc o.first p.first q.first i }

@@ -1,4 +1,4 @@
-use Rattle.std.proofs.Common.{[], true, false, ap, ◌∙◌}
+use Rattle.std.proofs.Common.{[], ap, ◌∙◌}
 use Rattle.std.proofs.lemmas.Bool.{not-true, not-false}
 use Rattle.st_tree.specs.SyntaxView.{tree_view, entries_view}
 use Rattle.st_types.specs.Labels.{judged_labels}
