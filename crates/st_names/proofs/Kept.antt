@@ -5,7 +5,7 @@ use Rattle.std.specs.Option.{option_and_then, unwrap_or}
 use Rattle.std.specs.Str.{bytes_eq}
 use Rattle.std.proofs.lemmas.Bool.Decides.{nat_tests}
 use Rattle.std.proofs.lemmas.List.{append-nil}
-use Rattle.std.proofs.lemmas.Bool.{or_parts, and_parts}
+use Rattle.std.proofs.lemmas.Bool.{or_parts, and_parts, not-false}
 use Rattle.std.proofs.Math.Bool.{or-true}
 use Rattle.st_tree.specs.declared.rule.Refusal.{Refusal}
 use Rattle.st_tree.specs.declared.syntax.Section.{Section}
@@ -518,11 +518,7 @@ module _ (f : FileData) where
   body_typed (chart qs) = parts_typed (is_stored qs) qs
 
 whole_at : (f : FileData) (i : ℕ) (p : PouData) → pou_at f i ≡ Some p → is_broken_function f i ≡ false → is_whole_result f p.kind ≡ true
-whole_at f i p at h = by (is_whole_result f p.kind) refl (rw at at h)
-  where
-    by : (b : Bool) → is_whole_result f p.kind ≡ b → not b ≡ false → b ≡ true
-    by true e k = refl
-    by false e k = absurd (true≢false k)
+whole_at f i p at h = not-false (is_whole_result f p.kind) (rw at at h)
 
 clean_pou : (f : FileData) (ps : List PouData) (i : ℕ) (p : PouData) → in_pous f ps ≡ [] → slice_get ps i ≡ Some p → (in_pou f p).broken ≡ []
 clean_pou f [] i p h at = absurd (let e : ⊥ = cc in e)
