@@ -6,6 +6,7 @@ use Rattle.std.specs.Cmp.{nat_cmp_is}
 use Rattle.std.specs.BTreeSet.{insert_key}
 use Rattle.std.specs.BTreeMap.Range.{IsLtBy}
 use Rattle.std.specs.declared.cmp.Ordering.TheVariants.{Less, Equal, Greater}
+use Rattle.std.proofs.Math.Bool.{or-false, or_assoc, or_comm, or_self_left}
 use Rattle.std.proofs.lemmas.Bool.{cases_Bool, cases_eq, cases_order, cases_lt, eq-eqb, ne_eqb, cond-true, cond-false, or_cases, or_right, and_right, and_parts, and_from, not_from_false, not_from_true, both_ways, lt-ltb, le-ltb}
 use Rattle.std.proofs.lemmas.List.{get_or_past, get_or_at, length-append}
 use Rattle.std.proofs.lemmas.List.Sums.{sum_by-append, sum_by-cons}
@@ -17,27 +18,6 @@ use Rattle.call_order.proofs.Members.{is_among-head, is_among-append, is_among-p
 out_of : (x k : ℕ) (b : Bool) → eqb x k ≡ false → (b || is_among x (k ∷ [])) ≡ b
 out_of x k true h = refl
 out_of x k false h = subst (λ (t : Bool). (t || false) ≡ false) (sym h) refl
-
-refl_or : (a : Bool) → (a || false) ≡ (false || a)
-refl_or true = refl
-refl_or false = refl
-
-swap_or : (a b c : Bool) → (a || (b || c)) ≡ ((b || c) || a)
-swap_or true true c = refl
-swap_or true false true = refl
-swap_or true false false = refl
-swap_or false true c = refl
-swap_or false false true = refl
-swap_or false false false = refl
-
-twice_or : (a b : Bool) → (a || b) ≡ ((a || b) || a)
-twice_or true b = refl
-twice_or false true = refl
-twice_or false false = refl
-
-assoc_or : (a b c : Bool) → (a || (b || c)) ≡ ((a || b) || c)
-assoc_or true b c = refl
-assoc_or false b c = refl
 
 -- how two numbers compare
 compared_less : (a b : ℕ) → a < b → nat_cmp a b ≡ Less
@@ -164,12 +144,12 @@ untaken-more taken k (x ∷ xs) out =
 
 -- one number more in an ordered set
 pub is_among-insert : (k : ℕ) (xs : List ℕ) (y : ℕ) → is_among k (insert_key nat_cmp xs y) ≡ (is_among k xs || eqb k y)
-is_among-insert k [] y = refl_or (eqb k y)
+is_among-insert k [] y = or-false (eqb k y)
 is_among-insert k (x ∷ xs) y =
     let r = is_among-insert k xs y in
-    ⊎_elim (λ (less : y < x). rw (compared_less y x less) (swap_or (eqb k y) (eqb k x) (is_among k xs)))
-    (λ rest. ⊎_elim (λ (same : y ≡ x). rw (compared_equal y x same) (subst (λ (n : ℕ). (eqb k x || is_among k xs) ≡ ((eqb k x || is_among k xs) || eqb k n)) (sym same) (twice_or (eqb k x) (is_among k xs))))
-    (λ more. rw (compared_greater y x more) (ap (λ (b : Bool). eqb k x || b) r ∙ assoc_or (eqb k x) (is_among k xs) (eqb k y)))
+    ⊎_elim (λ (less : y < x). rw (compared_less y x less) (or_comm (eqb k y) (eqb k x || is_among k xs)))
+    (λ rest. ⊎_elim (λ (same : y ≡ x). rw (compared_equal y x same) (subst (λ (n : ℕ). (eqb k x || is_among k xs) ≡ ((eqb k x || is_among k xs) || eqb k n)) (sym same) (sym (or_comm (eqb k x || is_among k xs) (eqb k x) ∙ or_self_left (eqb k x) (is_among k xs)))))
+    (λ more. rw (compared_greater y x more) (ap (λ (b : Bool). eqb k x || b) r ∙ sym (or_assoc (eqb k x) (is_among k xs) (eqb k y))))
     rest)
     (three y x)
 
@@ -184,10 +164,6 @@ above k j rest all m =
 -- what is neither below the length nor uses anything
 pub past_times : (g : Graph) (k user : ℕ) → length g ≤ user → times k (uses_at g user) ≡ 0
 past_times g k user past = ap (times k) (get_or_past g user [] past)
-
-or_none : (a : Bool) → (a || false) ≡ a
-or_none true = refl
-or_none false = refl
 
 one_further : (k i : ℕ) → (k ≡ i → ⊥) → ltb k i ≡ ltb k (i + 1)
 one_further k i apart =
@@ -204,7 +180,7 @@ ready-inserted g i ready is none k =
     let here : eqb (length (uses_at g k)) 0 ≡ true = subst (λ (n : ℕ). eqb (length (uses_at g n)) 0 ≡ true) (sym e) none in
     or_right _ _ (eq-eqb k i e) ∙ sym (and_from _ _ (lt-ltb k (i + 1) (omega arith)) here))
     (λ apart.
-    ap (λ (b : Bool). is_among k ready || b) (ne_eqb k i apart) ∙ or_none (is_among k ready) ∙ is k ∙ ap (λ (b : Bool). b && eqb (length (uses_at g k)) 0) (one_further k i apart))
+    ap (λ (b : Bool). is_among k ready || b) (ne_eqb k i apart) ∙ or-false (is_among k ready) ∙ is k ∙ ap (λ (b : Bool). b && eqb (length (uses_at g k)) 0) (one_further k i apart))
     (cases_eq k i)
 
 pub ready-passed : (g : Graph) (i : ℕ) (ready : List ℕ) → ((k : ℕ) → is_among k ready ≡ (ltb k i && eqb (length (uses_at g k)) 0)) → eqb (length (uses_at g i)) 0 ≡ false

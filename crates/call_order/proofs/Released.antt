@@ -1,5 +1,6 @@
 -- What is missing and ready while users are released.
 use Rattle.std.proofs.Common.{◌≡◌, ℕ, ◌+◌, ◌-◌, ◌<◌, ◌≤◌, Bool, true, false, ◌&&◌, ◌||◌, eqb, List, [], ◌∷◌, ◌++◌, length, get_or, set, take, drop, refl, arith, ◌∙◌, sym, ap, subst, ⊎_elim}
+use Rattle.std.proofs.Math.Bool.{and-true, or-false}
 use Rattle.std.proofs.lemmas.Bool.{cases_eq, cases_lt, eq-eqb, ne_eqb, and_right}
 use Rattle.std.proofs.lemmas.List.{drop_more, take_more, drop_all, take_all, get_or_past, get_or-set_same, get_or-set_other}
 use Rattle.std.specs.BTreeSet.{insert_key}
@@ -15,12 +16,8 @@ pub record IsReleased (users : List ℕ) (i : ℕ) (old missing before ready : L
   pub less : (k : ℕ) → missing_at missing k + times k users ≡ missing_at old k + times k (drop i users)
   pub now : (k : ℕ) → is_among k ready ≡ (is_among k before || (is_among k (take i users) && eqb (missing_at missing k) 0))
 
-none_or : (a : Bool) → a ≡ (a || false)
-none_or true = refl
-none_or false = refl
-
 pub released-none : (users missing ready : List ℕ) → ((k : ℕ) → times k users ≤ missing_at missing k) → IsReleased users 0 missing missing ready ready
-released-none users missing ready enough = record { left = enough; less = λ k. refl; now = λ k. none_or (is_among k ready) }
+released-none users missing ready enough = record { left = enough; less = λ k. refl; now = λ k. sym (or-false (is_among k ready)) }
 
 -- the next user misses something
 pub misses : (users : List ℕ) (i : ℕ) (old missing before ready : List ℕ) (user : ℕ) → IsReleased users i old missing before ready → i < length users → user ≡ get_or users i user → 1 ≤ missing_at missing user
@@ -33,10 +30,6 @@ misses users i old missing before ready user is here read =
 pub is_inside : (missing : List ℕ) (user : ℕ) → 1 ≤ missing_at missing user → user < length missing
 is_inside missing user h =
     ⊎_elim (λ (l : user < length missing). l) (λ (past : length missing ≤ user). let z = get_or_past missing user 0 past in absurd (omega arith)) (cases_lt user (length missing))
-
-and_true : (a : Bool) → (a && true) ≡ a
-and_true true = refl
-and_true false = refl
 
 ready_here : (a b r among : Bool) → r ≡ (a || (among && false)) → (r || (true && b)) ≡ (a || ((among || true) && b))
 ready_here true b r true e = subst (λ (x : Bool). (x || (true && b)) ≡ true) (sym e) refl
@@ -53,11 +46,11 @@ ready_other a b d false false e = e
 -- a user that misses nothing any more is put among what is ready; another is not
 pub ready_with : (k user : ℕ) (ready : List ℕ) (n : ℕ) → n ≡ 0 → is_among k (insert_key nat_cmp ready user) ≡ (is_among k ready || (eqb k user && eqb n 0))
 ready_with k user ready n e =
-    is_among-insert k ready user ∙ ap (λ (b : Bool). is_among k ready || b) (sym (ap (λ (b : Bool). eqb k user && b) (eq-eqb n 0 e) ∙ and_true (eqb k user)))
+    is_among-insert k ready user ∙ ap (λ (b : Bool). is_among k ready || b) (sym (ap (λ (b : Bool). eqb k user && b) (eq-eqb n 0 e) ∙ and-true (eqb k user)))
 
 pub ready_without : (k user : ℕ) (ready : List ℕ) (n : ℕ) → (n ≡ 0 → ⊥) → is_among k ready ≡ (is_among k ready || (eqb k user && eqb n 0))
 ready_without k user ready n e =
-    none_or (is_among k ready) ∙ ap (λ (b : Bool). is_among k ready || b) (sym (and_right (eqb k user) (eqb n 0) (ne_eqb n 0 e)))
+    sym (or-false (is_among k ready)) ∙ ap (λ (b : Bool). is_among k ready || b) (sym (and_right (eqb k user) (eqb n 0) (ne_eqb n 0 e)))
 
 -- one user more
 pub released-more : (users : List ℕ) (i : ℕ) (old missing before ready : List ℕ) (user : ℕ) (less ready_now : List ℕ) → IsReleased users i old missing before ready

@@ -1,7 +1,7 @@
 -- Decisions in order, each under values that are closed.
 use Rattle.std.proofs.Common.{◌≡◌, ◌≢◌, ℕ, zero, suc, ◌<◌, ◌≤◌, ◌+◌, Bool, true, false, ◌&&◌, ◌||◌, List, [], ◌∷◌, ◌++◌, length, get_or, replicate, refl, sym, ◌∙◌, ap, subst, arith, cond, nat_lt, nat_le, below_more}
 use Rattle.std.specs.List.{All, Contains, list_any, list_all}
-use Rattle.std.proofs.lemmas.Bool.{false≢true}
+use Rattle.std.proofs.lemmas.Bool.{false≢true, and_parts}
 use Rattle.std.proofs.lemmas.Bool.Decides.{nat_tests}
 use Rattle.std.proofs.lemmas.List.{length-replicate}
 use Rattle.std.proofs.lemmas.List.Elements.{All-nil, All-cons, All-push}
@@ -14,7 +14,6 @@ use Rattle.clause_core.specs.Clauses.{rises, fits_in, is_inside, is_within}
 use Rattle.clause_core.specs.Steps.{assume_false}
 use Rattle.clause_core.specs.Propagation.{Below, Extends, IsClosed}
 use Rattle.clause_core.specs.Freshness.{Unforced, unforced, IsFresh}
-use Rattle.clause_core.proofs.Ranges.{and_both}
 use Rattle.clause_core.proofs.Extensions.{Unforced-closed, unforced-closed}
 use Rattle.clause_core.proofs.Assumed.{value-assume_false, False-extends, Extends-assume_false}
 use Rattle.clause_core.specs.declared.step.Step.{Step}
@@ -48,8 +47,8 @@ fits-push variables low [] l f b lt le = both (nat_lt low l.variable) (nat_le l.
     both : (a b : Bool) → a ≡ true → b ≡ true → (a && (b && true)) ≡ true
     both a b p q = ap (λ z. z && (b && true)) p ∙ ap (λ z. z && true) q
 fits-push variables low (m ∷ ms) l f b lt le =
-    let p = and_both (nat_lt low m.variable) (nat_le m.variable variables && fits_in variables m.variable ms) f in
-    let q = and_both (nat_le m.variable variables) (fits_in variables m.variable ms) p.1 in
+    let p = and_parts (nat_lt low m.variable) (nat_le m.variable variables && fits_in variables m.variable ms) f in
+    let q = and_parts (nat_le m.variable variables) (fits_in variables m.variable ms) p.1 in
     ap (λ z. z && (nat_le m.variable variables && fits_in variables m.variable (ms ++ l ∷ []))) p.0
     ∙ ap (λ z. z && fits_in variables m.variable (ms ++ l ∷ [])) q.0
     ∙ fits-push variables m.variable ms l q.1 (λ k d h. b (suc k) d (omega arith)) (b 0 m (omega arith)) le
@@ -144,8 +143,8 @@ any-true vs (l ∷ ls) h =
 none-open : (variables : ℕ) (vs : List Truth) (c : List Lit) → is_within variables c ≡ true → ((k : ℕ) → 0 < k → k ≤ variables → get_or vs k Open ≢ Open) → how_many (λ l. is_open (value vs l)) c ≡ 0
 none-open variables vs [] f h = refl
 none-open variables vs (l ∷ ls) f h =
-    let p = and_both (is_inside variables l) (is_within variables ls) f in
-    let q = and_both (nat_lt 0 l.variable) (nat_le l.variable variables) p.0 in
+    let p = and_parts (is_inside variables l) (is_within variables ls) f in
+    let q = and_parts (nat_lt 0 l.variable) (nat_le l.variable variables) p.0 in
     ap (λ z. cond z 1 0 + how_many (λ m. is_open (value vs m)) ls) (closed-literal l.negative (get_or vs l.variable Open) (h l.variable (grind (arith, nat_tests)) (grind (arith, nat_tests))))
     ∙ (let r : how_many (λ m. is_open (value vs m)) ls ≡ 0 = none-open variables vs ls p.1 h in omega arith)
 
@@ -160,7 +159,7 @@ found-clause variables vs c f u h =
 pub formula_true-closed : (variables : ℕ) (vs : List Truth) (held : List (List Lit)) → list_all (is_within variables) held ≡ true → IsClosed held vs → ((k : ℕ) → 0 < k → k ≤ variables → get_or vs k Open ≢ Open) → formula_true (assignment vs) held ≡ true
 formula_true-closed variables vs [] r c h = refl
 formula_true-closed variables vs (d ∷ ds) r c h =
-    let p = and_both (is_within variables d) (list_all (is_within variables) ds) r in
+    let p = and_parts (is_within variables d) (list_all (is_within variables) ds) r in
     ap (λ z. z && formula_true (assignment vs) ds) (found-clause variables vs d p.0 (unforced-closed vs d (c 0 d (omega arith))) h)
     ∙ formula_true-closed variables vs ds p.1 (λ k e lt. c (suc k) e (omega arith)) h
 

@@ -1,5 +1,6 @@
 -- What a rising clause is where its literals are assumed false.
 use Rattle.std.proofs.Common.{◌≡◌, ◌≢◌, ℕ, suc, ◌<◌, ◌≤◌, Bool, true, false, ◌&&◌, List, [], ◌∷◌, ◌++◌, length, get_or, refl, ◌∙◌, ap, subst, arith, nat_lt, nat_le}
+use Rattle.std.proofs.lemmas.Bool.{and_parts}
 use Rattle.std.specs.List.{All}
 use Rattle.std.proofs.lemmas.Bool.Decides.{nat_tests}
 use Rattle.std.proofs.lemmas.List.{get_or-set_other, get_or-set_same, length-set}
@@ -11,7 +12,6 @@ use Rattle.clause_core.specs.Values.{value, put_false, signed_truth}
 use Rattle.clause_core.specs.Clauses.{fits_in}
 use Rattle.clause_core.specs.Steps.{assume_false}
 use Rattle.clause_core.specs.Propagation.{Below, Extends}
-use Rattle.clause_core.proofs.Ranges.{and_both}
 use Rattle.clause_core.proofs.Extensions.{Below-value, Extends-put_false}
 
 pub above : (a b : ℕ) → nat_lt a b ≡ true → a < b
@@ -27,8 +27,8 @@ pub record FitsParts (variables low : ℕ) (l : Lit) (ls : List Lit) : Type 0 wh
 
 pub fits-parts : (variables low : ℕ) (l : Lit) (ls : List Lit) → fits_in variables low (l ∷ ls) ≡ true → FitsParts variables low l ls
 fits-parts variables low l ls h =
-    let p = and_both (nat_lt low l.variable) (nat_le l.variable variables && fits_in variables l.variable ls) h in
-    let q = and_both (nat_le l.variable variables) (fits_in variables l.variable ls) p.1 in
+    let p = and_parts (nat_lt low l.variable) (nat_le l.variable variables && fits_in variables l.variable ls) h in
+    let q = and_parts (nat_le l.variable variables) (fits_in variables l.variable ls) p.1 in
     record { rises = above low l.variable p.0; within = at_most l.variable variables q.0; rest = q.1 }
 
 pub length-assume_false : (c : List Lit) (vs : List Truth) → length (assume_false vs c) ≡ length vs

@@ -1,7 +1,7 @@
 -- Unit propagation stays below every partial assignment that leaves no held clause false or unit.
 use Rattle.std.proofs.Common.{◌≡◌, ℕ, zero, suc, ◌<◌, ◌+◌, Bool, true, false, not, ◌&&◌, ◌||◌, List, [], ◌∷◌, length, get_or, set, filter, refl, sym, ◌∙◌, ap, subst, arith, cond, nat_le}
 use Rattle.std.specs.List.{list_any, list_all, All}
-use Rattle.std.proofs.lemmas.Bool.{false≢true}
+use Rattle.std.proofs.lemmas.Bool.{false≢true, and_parts, or_right}
 use Rattle.std.proofs.lemmas.Bool.Decides.{nat_tests}
 use Rattle.clause_core.specs.declared.literal.Lit.{Lit}
 use Rattle.clause_core.specs.declared.truth.Truth.{Truth}
@@ -12,8 +12,7 @@ use Rattle.clause_core.specs.Values.{how_many, value, put_true, put_false, is_fa
 use Rattle.clause_core.specs.Steps.{not_false, left_of, status_of_one, status_of_left, clause_status}
 use Rattle.clause_core.specs.Propagation.{Below, Extends}
 use Rattle.clause_core.specs.Freshness.{unforced, Unforced}
-use Rattle.clause_core.proofs.Sound.{get_or-set_cases}
-use Rattle.clause_core.proofs.Ranges.{and_both}
+use Rattle.clause_core.proofs.Sound.{any_cond, get_or-set_cases}
 
 Below-signed : (n : Bool) (t u : Truth) → Below t u → Below (signed_truth n t) (signed_truth n u)
 Below-signed false t u h = h
@@ -45,10 +44,6 @@ any-skip : (t u : Truth) (r rest : Bool) → Below t u → r ≡ rest → (is_tr
 any-skip Open u r rest h e = ap (λ z. is_true u || z) e
 any-skip True u r rest h e = ap (λ z. is_true u || z) e
 any-skip False u r rest h e = ap (λ z. is_true z || r) h ∙ e
-
-any_cond : {X : Type 0} (p : X → Bool) (c : Bool) (x : X) (xs : List X) → list_any p (cond c (x ∷ xs) xs) ≡ cond c (p x || list_any p xs) (list_any p xs)
-any_cond p true x xs = refl
-any_cond p false x xs = refl
 
 left-any : (rho vs : List Truth) (c : List Lit) → Extends rho vs → list_any (λ l. is_true (value rho l)) c ≡ list_any (λ l. is_true (value rho l)) (left_of vs c)
 left-any rho vs [] e = refl
@@ -112,14 +107,10 @@ kept_all p (x ∷ xs) = kept_step p x (filter p xs) (p x) refl (kept_all p xs)
 two_more : (n : ℕ) → nat_le 2 (1 + (1 + n)) ≡ true
 two_more n = grind (arith, nat_tests)
 
-or_second : (a b : Bool) → b ≡ true → (a || b) ≡ true
-or_second true b h = refl
-or_second false b h = h
-
 two_left : (t u : Truth) (r : Bool) (n : ℕ) → not (is_false t) ≡ true → not (is_false u) ≡ true → ((is_true t || (is_true u || r)) || nat_le 2 (cond (is_open t) 1 0 + (cond (is_open u) 1 0 + n))) ≡ true
 two_left True u r n h k = refl
 two_left Open True r n h k = refl
-two_left Open Open r n h k = or_second r (nat_le 2 (1 + (1 + n))) (two_more n)
+two_left Open Open r n h k = or_right r (nat_le 2 (1 + (1 + n))) (two_more n)
 two_left Open False r n h k = absurd (false≢true k)
 two_left False u r n h k = absurd (false≢true h)
 
@@ -130,10 +121,10 @@ one_left False l h k = absurd (false≢true k)
 
 closed-left : (vs : List Truth) (ls : List Lit) → status_of_left vs ls ≡ Neither → list_all (not_false vs) ls ≡ true → unforced vs ls ≡ true
 closed-left vs [] h k = cc
-closed-left vs (l ∷ []) h k = one_left (value vs l) l h (and_both (not_false vs l) true k).0
+closed-left vs (l ∷ []) h k = one_left (value vs l) l h (and_parts (not_false vs l) true k).0
 closed-left vs (l ∷ (m ∷ ms)) h k =
-    let p = and_both (not_false vs l) (not_false vs m && list_all (not_false vs) ms) k in
-    let q = and_both (not_false vs m) (list_all (not_false vs) ms) p.1 in
+    let p = and_parts (not_false vs l) (not_false vs m && list_all (not_false vs) ms) k in
+    let q = and_parts (not_false vs m) (list_all (not_false vs) ms) p.1 in
     two_left (value vs l) (value vs m) (list_any (λ x. is_true (value vs x)) ms) (how_many (λ x. is_open (value vs x)) ms) p.0 q.0
 
 pub unforced-closed : (vs : List Truth) (c : List Lit) → clause_status vs c ≡ Neither → unforced vs c ≡ true

@@ -1,5 +1,6 @@
 -- A rising clause with all literals but one assumed false.
 use Rattle.std.proofs.Common.{◌≡◌, ◌≢◌, ℕ, zero, suc, ◌<◌, ◌≤◌, ◌+◌, ◌&&◌, nat_lt, nat_le, Bool, true, List, [], ◌∷◌, ◌++◌, get_or, replicate, refl, sym, ◌∙◌, ap, subst, arith}
+use Rattle.std.proofs.lemmas.Bool.{and_parts}
 use Rattle.std.specs.List.{All, Contains}
 use Rattle.std.proofs.lemmas.List.{length-replicate}
 use Rattle.std.proofs.lemmas.List.Elements.{All-nil, All-cons}
@@ -11,7 +12,7 @@ use Rattle.clause_core.specs.Clauses.{rises, fits_in}
 use Rattle.clause_core.specs.Steps.{assume_false, VariablesBelow}
 use Rattle.clause_core.specs.Propagation.{Below, Extends, IsClosed}
 use Rattle.clause_core.specs.Freshness.{ShowsFresh}
-use Rattle.clause_core.proofs.Ranges.{and_both, VariablesBelow-fits}
+use Rattle.clause_core.proofs.Ranges.{VariablesBelow-fits}
 use Rattle.clause_core.proofs.Extensions.{Below-value, Unforced-closed}
 use Rattle.clause_core.proofs.Assumed.{fits-parts, assume_false-keeps, value-assume_false, length-assume_false, False-extends, Extends-assume_false}
 
@@ -31,8 +32,8 @@ all-above variables low x (l ∷ ls) f le =
 
 cons-fits : (a b c d : Bool) → (a && (b && c)) ≡ true → d ≡ true → (a && (b && d)) ≡ true
 cons-fits a b c d h e =
-    let p = and_both a (b && c) h in
-    let q = and_both b c p.1 in
+    let p = and_parts a (b && c) h in
+    let q = and_parts b c p.1 in
     ap (λ z. z && (b && d)) p.0 ∙ ap (λ z. z && d) q.0 ∙ e
 
 pub round : (variables low : ℕ) (front : List Lit) (p : Lit) (back : List Lit) → fits_in variables low (front ++ p ∷ back) ≡ true → Round variables low front p back

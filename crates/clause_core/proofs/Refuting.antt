@@ -1,6 +1,6 @@
 -- A formula that a log refutes has no solution.
-use Rattle.std.proofs.Common.{◌≡◌, ℕ, Bool, true, false, List, [], ◌∷◌, ◌++◌, refl, sym, ◌∙◌, ap, subst}
-use Rattle.std.proofs.lemmas.Bool.{false≢true}
+use Rattle.std.proofs.Common.{◌≡◌, ℕ, Bool, true, false, List, [], ◌∷◌, ◌++◌, sym, ◌∙◌, ap, subst}
+use Rattle.std.proofs.lemmas.Bool.{false≢true, false_from_ne_true}
 use Rattle.clause_core.specs.declared.literal.Lit.{Lit}
 use Rattle.clause_core.specs.declared.step.Step.{Step}
 use Rattle.clause_core.specs.declared.log.Entry.{Entry}
@@ -17,10 +17,6 @@ never variables v held (Derived s ∷ es) last a e f =
     never variables v (held ++ s.clause ∷ []) es last a.1 e
     (list_all-push (clause_true v) held s.clause f (clause_true-accepted variables held s.clause s.hints a.0 v f))
 
-is_false : (b : Bool) → (b ≡ true → ⊥) → b ≡ false
-is_false true h = absurd (h refl)
-is_false false h = refl
-
 pub no_solution : (variables : ℕ) (formula : List (List Lit)) (log : List Entry) → Refutes variables formula log → (v : ℕ → Bool) → formula_true v formula ≡ false
 no_solution variables formula log r v =
-    is_false (formula_true v formula) (λ f. never variables v formula r.empty.0 r.empty.1 (subst (AcceptsLog variables formula) r.empty.2 r.accepted) r.empty.3 f)
+    false_from_ne_true (formula_true v formula) (λ f. never variables v formula r.empty.0 r.empty.1 (subst (AcceptsLog variables formula) r.empty.2 r.accepted) r.empty.3 f)

@@ -1,14 +1,11 @@
 -- The set of some literals stands in order, and holds those literals and no others.
-use Rattle.std.proofs.Common.{◌≡◌, ◌≢◌, ℕ, zero, suc, ◌<◌, ◌≤◌, ◌+◌, ◌*◌, Bool, true, false, ◌&&◌, ◌||◌, ◌⊎◌, inl, inr, List, [], ◌∷◌, length, get_or, refl, sym, ◌∙◌, ap, subst, arith, cond, nat_lt, nat_le}
+use Rattle.std.proofs.Common.{◌≡◌, ◌≢◌, ℕ, zero, suc, ◌<◌, ◌≤◌, ◌+◌, ◌*◌, Bool, true, false, ◌||◌, inl, inr, List, [], ◌∷◌, length, get_or, refl, sym, ◌∙◌, ap, subst, arith, cond, nat_lt, nat_le}
+use Rattle.std.proofs.Math.Bool.{or-false, or_assoc, or_self_left}
+use Rattle.std.proofs.lemmas.Bool.{and_parts, cases_Bool, and_from}
 use Rattle.std.specs.List.{list_all, list_any, insert}
 use Rattle.std.proofs.lemmas.Bool.Decides.{nat_tests}
 use Rattle.clause_core.specs.declared.literal.Lit.{Lit}
 use Rattle.clause_core.specs.Clauses.{rank, ascends, is_set, inserted, with_all, set_of, place_in}
-use Rattle.clause_core.proofs.Ranges.{and_both}
-
-bool_cases : (b : Bool) → (b ≡ true) ⊎ (b ≡ false)
-bool_cases true = inl refl
-bool_cases false = inr refl
 
 lower : (a b : ℕ) → nat_lt a b ≡ true → a < b
 lower a b h = grind (arith, nat_tests)
@@ -25,27 +22,11 @@ not_below a = grind (arith, nat_tests)
 above : (a b : ℕ) → nat_lt a b ≡ true → nat_le (a + 1) b ≡ true
 above a b h = grind (arith, nat_tests)
 
-and_intro : (a b : Bool) → a ≡ true → b ≡ true → (a && b) ≡ true
-and_intro a b h k = ap (λ z. z && b) h ∙ k
-
-or_swap : (a b c : Bool) → (a || (b || c)) ≡ (b || (a || c))
-or_swap true true c = refl
-or_swap true false c = refl
-or_swap false b c = refl
-
 or_swap_in : (a b c : Bool) → (a || (b || c)) ≡ ((b || a) || c)
 or_swap_in true true c = refl
 or_swap_in true false c = refl
 or_swap_in false true c = refl
 or_swap_in false false c = refl
-
-or_nothing : (a : Bool) → (a || false) ≡ a
-or_nothing true = refl
-or_nothing false = refl
-
-or_twice : (a b : Bool) → (a || b) ≡ (a || (a || b))
-or_twice true b = refl
-or_twice false b = refl
 
 same_literal : (v w : ℕ) (n m : Bool) → 2 * v + cond n 1 0 ≡ 2 * w + cond m 1 0 → (v ≡ w) × (n ≡ m)
 same_literal v w true true h = (omega arith, refl)
@@ -82,7 +63,7 @@ place-here l m ms h = ap (λ a. cond a (suc (place_in l ms)) zero) h
 
 pub inserted-present : (l : Lit) (c : List Lit) (d : Lit) → place_in l c < length c → get_or c (place_in l c) d ≡ l → inserted l c ≡ c
 inserted-present l [] d lt e = absurd (omega arith)
-inserted-present l (m ∷ ms) d lt e = elim (bool_cases (nat_lt (rank m) (rank l))) [
+inserted-present l (m ∷ ms) d lt e = elim (cases_Bool (nat_lt (rank m) (rank l))) [
   | inl h ↦
       let p = place-further l m ms h in
       (cases l m ms).further h ∙ ap (λ z. m ∷ z) (inserted-present l ms d (omega arith) (sym (ap (λ i. get_or (m ∷ ms) i d) p) ∙ e))
@@ -94,7 +75,7 @@ inserted-present l (m ∷ ms) d lt e = elim (bool_cases (nat_lt (rank m) (rank l
 
 pub inserted-absent : (l : Lit) (c : List Lit) (d : Lit) → (place_in l c < length c → get_or c (place_in l c) d ≢ l) → inserted l c ≡ insert c (place_in l c) l
 inserted-absent l [] d ne = refl
-inserted-absent l (m ∷ ms) d ne = elim (bool_cases (nat_lt (rank m) (rank l))) [
+inserted-absent l (m ∷ ms) d ne = elim (cases_Bool (nat_lt (rank m) (rank l))) [
   | inl h ↦
       let p = place-further l m ms h in
       (cases l m ms).further h
@@ -102,7 +83,7 @@ inserted-absent l (m ∷ ms) d ne = elim (bool_cases (nat_lt (rank m) (rank l)))
       ∙ ap (λ i. insert (m ∷ ms) i l) (sym p)
   | inr h ↦
       let p = place-here l m ms h in
-      elim (bool_cases (nat_lt (rank l) (rank m))) [
+      elim (cases_Bool (nat_lt (rank l) (rank m))) [
         | inl k ↦ (cases l m ms).here h k ∙ ap (λ i. insert (m ∷ ms) i l) (sym p)
         | inr k ↦
             let a = not_lower (rank m) (rank l) h in
@@ -126,14 +107,14 @@ inserted-other l m c i d e g ne =
     inserted-absent l c d (λ _ is. ne (ap rank (g ∙ ap (λ k. get_or c k d) e ∙ is))) ∙ ap (λ k. insert c k l) (sym e)
 
 list_all-inserted : (p : Lit → Bool) (l : Lit) (c : List Lit) → p l ≡ true → list_all p c ≡ true → list_all p (inserted l c) ≡ true
-list_all-inserted p l [] pl h = and_intro (p l) true pl refl
+list_all-inserted p l [] pl h = and_from (p l) true pl refl
 list_all-inserted p l (m ∷ ms) pl h =
-    let q = and_both (p m) (list_all p ms) h in
+    let q = and_parts (p m) (list_all p ms) h in
     let same : List Lit → Type 0 = λ z. list_all p z ≡ true in
-    elim (bool_cases (nat_lt (rank m) (rank l))) [
-      | inl a ↦ subst same (sym ((cases l m ms).further a)) (and_intro (p m) (list_all p (inserted l ms)) q.0 (list_all-inserted p l ms pl q.1))
-      | inr a ↦ elim (bool_cases (nat_lt (rank l) (rank m))) [
-        | inl b ↦ subst same (sym ((cases l m ms).here a b)) (and_intro (p l) (list_all p (m ∷ ms)) pl h)
+    elim (cases_Bool (nat_lt (rank m) (rank l))) [
+      | inl a ↦ subst same (sym ((cases l m ms).further a)) (and_from (p m) (list_all p (inserted l ms)) q.0 (list_all-inserted p l ms pl q.1))
+      | inr a ↦ elim (cases_Bool (nat_lt (rank l) (rank m))) [
+        | inl b ↦ subst same (sym ((cases l m ms).here a b)) (and_from (p l) (list_all p (m ∷ ms)) pl h)
         | inr b ↦ subst same (sym ((cases l m ms).there a b)) h
       ]
     ]
@@ -141,18 +122,18 @@ list_all-inserted p l (m ∷ ms) pl h =
 pub list_all-with_all : (p : Lit → Bool) (c ls : List Lit) → list_all p c ≡ true → list_all p ls ≡ true → list_all p (with_all c ls) ≡ true
 list_all-with_all p c [] h k = h
 list_all-with_all p c (l ∷ ls) h k =
-    let q = and_both (p l) (list_all p ls) k in
+    let q = and_parts (p l) (list_all p ls) k in
     list_all-with_all p (inserted l c) ls (list_all-inserted p l c q.0 h) q.1
 
 ascends-inserted : (low : ℕ) (l : Lit) (c : List Lit) → nat_le low (rank l) ≡ true → ascends low c ≡ true → ascends low (inserted l c) ≡ true
-ascends-inserted low l [] pl h = and_intro (nat_le low (rank l)) true pl refl
+ascends-inserted low l [] pl h = and_from (nat_le low (rank l)) true pl refl
 ascends-inserted low l (m ∷ ms) pl h =
-    let q = and_both (nat_le low (rank m)) (ascends (rank m + 1) ms) h in
+    let q = and_parts (nat_le low (rank m)) (ascends (rank m + 1) ms) h in
     let same : List Lit → Type 0 = λ z. ascends low z ≡ true in
-    elim (bool_cases (nat_lt (rank m) (rank l))) [
-      | inl a ↦ subst same (sym ((cases l m ms).further a)) (and_intro (nat_le low (rank m)) (ascends (rank m + 1) (inserted l ms)) q.0 (ascends-inserted (rank m + 1) l ms (above (rank m) (rank l) a) q.1))
-      | inr a ↦ elim (bool_cases (nat_lt (rank l) (rank m))) [
-        | inl b ↦ subst same (sym ((cases l m ms).here a b)) (and_intro (nat_le low (rank l)) (ascends (rank l + 1) (m ∷ ms)) pl (and_intro (nat_le (rank l + 1) (rank m)) (ascends (rank m + 1) ms) (above (rank l) (rank m) b) q.1))
+    elim (cases_Bool (nat_lt (rank m) (rank l))) [
+      | inl a ↦ subst same (sym ((cases l m ms).further a)) (and_from (nat_le low (rank m)) (ascends (rank m + 1) (inserted l ms)) q.0 (ascends-inserted (rank m + 1) l ms (above (rank m) (rank l) a) q.1))
+      | inr a ↦ elim (cases_Bool (nat_lt (rank l) (rank m))) [
+        | inl b ↦ subst same (sym ((cases l m ms).here a b)) (and_from (nat_le low (rank l)) (ascends (rank l + 1) (m ∷ ms)) pl (and_from (nat_le (rank l + 1) (rank m)) (ascends (rank m + 1) ms) (above (rank l) (rank m) b) q.1))
         | inr b ↦ subst same (sym ((cases l m ms).there a b)) h
       ]
     ]
@@ -163,15 +144,15 @@ is_set-with_all c (l ∷ ls) h = is_set-with_all (inserted l c) ls (ascends-inse
 
 list_any-inserted : (p : Lit → Bool) (l : Lit) (c : List Lit) → list_any p (inserted l c) ≡ (p l || list_any p c)
 list_any-inserted p l [] = refl
-list_any-inserted p l (m ∷ ms) = elim (bool_cases (nat_lt (rank m) (rank l))) [
-  | inl a ↦ ap (list_any p) ((cases l m ms).further a) ∙ ap (λ z. p m || z) (list_any-inserted p l ms) ∙ or_swap (p m) (p l) (list_any p ms)
-  | inr a ↦ elim (bool_cases (nat_lt (rank l) (rank m))) [
+list_any-inserted p l (m ∷ ms) = elim (cases_Bool (nat_lt (rank m) (rank l))) [
+  | inl a ↦ ap (list_any p) ((cases l m ms).further a) ∙ ap (λ z. p m || z) (list_any-inserted p l ms) ∙ or_swap_in (p m) (p l) (list_any p ms) ∙ or_assoc (p l) (p m) (list_any p ms)
+  | inr a ↦ elim (cases_Bool (nat_lt (rank l) (rank m))) [
     | inl b ↦ ap (list_any p) ((cases l m ms).here a b)
     | inr b ↦
         let e = not_lower (rank m) (rank l) a in
         let f = not_lower (rank l) (rank m) b in
         let is : l ≡ m = rank-same l m (omega arith) in
-        ap (list_any p) ((cases l m ms).there a b) ∙ or_twice (p m) (list_any p ms) ∙ ap (λ (z : Lit). p z || (p m || list_any p ms)) (sym is)
+        ap (list_any p) ((cases l m ms).there a b) ∙ sym (or_self_left (p m) (list_any p ms)) ∙ ap (λ (z : Lit). p z || (p m || list_any p ms)) (sym is)
   ]
 ]
 
@@ -181,4 +162,4 @@ list_any-with_all p c (l ∷ ls) =
     list_any-with_all p (inserted l c) ls ∙ ap (λ z. list_any p ls || z) (list_any-inserted p l c) ∙ or_swap_in (list_any p ls) (p l) (list_any p c)
 
 pub list_any-set_of : (p : Lit → Bool) (ls : List Lit) → list_any p (set_of ls) ≡ list_any p ls
-list_any-set_of p ls = list_any-with_all p [] ls ∙ or_nothing (list_any p ls)
+list_any-set_of p ls = list_any-with_all p [] ls ∙ or-false (list_any p ls)

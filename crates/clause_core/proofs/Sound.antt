@@ -1,7 +1,8 @@
 -- An accepted step's clause is true wherever the held clauses are.
-use Rattle.std.proofs.Common.{◌≡◌, ℕ, zero, suc, ◌+◌, Bool, true, false, not, ◌&&◌, ◌||◌, List, [], ◌∷◌, get_or, set, replicate, Option, Some, None, refl, sym, ◌∙◌, ap, subst, cond}
+use Rattle.std.proofs.Common.{◌≡◌, ℕ, zero, suc, ◌+◌, Bool, true, false, not, ◌||◌, List, [], ◌∷◌, get_or, set, replicate, Option, Some, None, refl, sym, ◌∙◌, ap, subst, cond}
+use Rattle.std.proofs.Math.Bool.{or-false}
 use Rattle.std.specs.List.{list_any, slice_get}
-use Rattle.std.proofs.lemmas.Bool.{false≢true}
+use Rattle.std.proofs.lemmas.Bool.{false≢true, and_parts, or_parts, true_from_ne_false}
 use Rattle.clause_core.specs.declared.literal.Lit.{Lit}
 use Rattle.clause_core.specs.declared.truth.Truth.{Truth}
 use Rattle.clause_core.specs.declared.truth.Truth.TheVariants.{Open, True, False}
@@ -37,7 +38,7 @@ any-skip Open b r rest h e = ap (λ z. b || z) e
 any-skip True b r rest h e = ap (λ z. b || z) e
 any-skip False b r rest h e = ap (λ z. z || r) h ∙ e
 
-any_cond : {X : Type 0} (p : X → Bool) (c : Bool) (x : X) (xs : List X) → list_any p (cond c (x ∷ xs) xs) ≡ cond c (p x || list_any p xs) (list_any p xs)
+pub any_cond : {X : Type 0} (p : X → Bool) (c : Bool) (x : X) (xs : List X) → list_any p (cond c (x ∷ xs) xs) ≡ cond c (p x || list_any p xs) (list_any p xs)
 any_cond p true x xs = refl
 any_cond p false x xs = refl
 
@@ -46,10 +47,6 @@ clause_true-left v vs [] h = refl
 clause_true-left v vs (l ∷ ls) h =
     any-skip (value vs l) (literal_true v l) (clause_true v ls) (list_any (literal_true v) (left_of vs ls)) (Fits-value v vs l h) (clause_true-left v vs ls h)
     ∙ sym (any_cond (literal_true v) (not_false vs l) l (left_of vs ls))
-
-or_false : (b : Bool) → (b || false) ≡ b
-or_false true = refl
-or_false false = refl
 
 -- what a status says under an assignment that makes the clause true
 abbrev Says : (ℕ → Bool) → Status → Type 0
@@ -64,7 +61,7 @@ says-one v False l h = tt
 
 says-left : (v : ℕ → Bool) (vs : List Truth) (ls : List Lit) → list_any (literal_true v) ls ≡ true → Says v (status_of_left vs ls)
 says-left v vs [] h = absurd (false≢true h)
-says-left v vs (l ∷ []) h = says-one v (value vs l) l (sym (or_false (literal_true v l)) ∙ h)
+says-left v vs (l ∷ []) h = says-one v (value vs l) l (sym (or-false (literal_true v l)) ∙ h)
 says-left v vs (l ∷ (m ∷ ms)) h = tt
 
 pub says-clause_status : (v : ℕ → Bool) (vs : List Truth) (c : List Lit) → Agrees v vs → clause_true v c ≡ true → Says v (clause_status vs c)
@@ -97,14 +94,6 @@ pub Agrees-put_false : (v : ℕ → Bool) (vs : List Truth) (l : Lit) → Agrees
 Agrees-put_false v vs l a h x =
     get_or-set_cases vs l.variable x (signed_truth l.negative False) (λ t. Fits t (v x))
     (λ e. subst (λ y. Fits (signed_truth l.negative False) (v y)) (sym e) (Fits-put_false l.negative (v l.variable) h)) (a x)
-
-or_parts : (a b : Bool) → (a || b) ≡ false → (a ≡ false) × (b ≡ false)
-or_parts true b h = absurd (false≢true (sym h))
-or_parts false b h = (refl, h)
-
-and_parts : (a b : Bool) → (a && b) ≡ true → (a ≡ true) × (b ≡ true)
-and_parts false b h = absurd (false≢true h)
-and_parts true b h = (refl, h)
 
 pub Agrees-assume_false : (v : ℕ → Bool) (c : List Lit) (vs : List Truth) → Agrees v vs → clause_true v c ≡ false → Agrees v (assume_false vs c)
 Agrees-assume_false v [] vs a h = a
@@ -152,11 +141,7 @@ Fits-unassigned (suc n) (suc x) b = Fits-unassigned n x b
 Agrees-unassigned : (v : ℕ → Bool) (n : ℕ) → Agrees v (replicate n Open)
 Agrees-unassigned v n x = Fits-unassigned n x (v x)
 
-by_bool : (b : Bool) → (b ≡ false → ⊥) → b ≡ true
-by_bool true h = refl
-by_bool false h = absurd (h refl)
-
 -- an accepted step
 pub clause_true-accepted : (variables : ℕ) (held : List (List Lit)) (c : List Lit) (hs : List ℕ) → outcome variables held c hs ≡ Accepted → (v : ℕ → Bool) → formula_true v held ≡ true → clause_true v c ≡ true
 clause_true-accepted variables held c hs e v f =
-    by_bool (clause_true v c) (λ no. follow_hints-refuses v held f hs (assume_false (replicate (variables + 1) Open) c) (Agrees-assume_false v c (replicate (variables + 1) Open) (Agrees-unassigned v (variables + 1)) no) e)
+    true_from_ne_false (clause_true v c) (λ no. follow_hints-refuses v held f hs (assume_false (replicate (variables + 1) Open) c) (Agrees-assume_false v c (replicate (variables + 1) Open) (Agrees-unassigned v (variables + 1)) no) e)

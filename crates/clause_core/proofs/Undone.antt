@@ -1,7 +1,7 @@
 -- Opening what a step mentions undoes what its check assigned.
-use Rattle.std.proofs.Common.{◌≡◌, ◌≢◌, ℕ, zero, suc, ◌<◌, ◌==◌, Bool, true, false, ◌||◌, List, [], ◌∷◌, length, get_or, set, replicate, Option, Some, None, ◌⊎◌, inl, inr, refl, sym, ◌∙◌, ap, subst, arith}
+use Rattle.std.proofs.Common.{◌≡◌, ◌≢◌, ℕ, zero, suc, ◌<◌, ◌==◌, Bool, true, false, ◌||◌, List, [], ◌∷◌, length, get_or, set, replicate, Option, Some, None, inl, inr, refl, sym, ◌∙◌, ap, subst, arith}
 use Rattle.std.specs.List.{list_any}
-use Rattle.std.proofs.lemmas.Bool.{false≢true}
+use Rattle.std.proofs.lemmas.Bool.{false≢true, cases_Bool, or_parts, or_left, or_right}
 use Rattle.std.proofs.lemmas.Bool.Decides.{nat_tests}
 use Rattle.clause_core.specs.declared.literal.Lit.{Lit}
 use Rattle.clause_core.specs.declared.truth.Truth.{Truth}
@@ -21,14 +21,6 @@ IsOpenAt vs x = get_or vs x Open ≡ Open
 abbrev pub occurs : ℕ → List Lit → Bool
 occurs x c = list_any (λ l. l.variable == x) c
 
-neither : (a b : Bool) → (a || b) ≡ false → (a ≡ false) × (b ≡ false)
-neither true b h = absurd (false≢true (sym h))
-neither false b h = (refl, h)
-
-bool_cases : (b : Bool) → (b ≡ true) ⊎ (b ≡ false)
-bool_cases true = inl refl
-bool_cases false = inr refl
-
 apart : (a b : ℕ) → (a == b) ≡ false → a ≢ b
 apart a b h e = absurd (grind (arith, nat_tests))
 
@@ -37,13 +29,6 @@ same a b h = grind (arith, nat_tests)
 
 equal : (a b : ℕ) → a ≡ b → (a == b) ≡ true
 equal a b h = grind (arith, nat_tests)
-
-or_left : (a b : Bool) → a ≡ true → (a || b) ≡ true
-or_left a b h = ap (λ z. z || b) h
-
-or_right : (a b : Bool) → b ≡ true → (a || b) ≡ true
-or_right true b h = refl
-or_right false b h = h
 
 occurs-at : (c : List Lit) (i : ℕ) (p : Lit) → i < length c → get_or c i p ≡ p → occurs p.variable c ≡ true
 occurs-at [] i p lt e = absurd (omega arith)
@@ -61,7 +46,7 @@ set-other vs y x t ne = get_or-set_cases vs y x t (λ u. u ≡ get_or vs x Open)
 assume_false-other : (x : ℕ) (c : List Lit) (vs : List Truth) → occurs x c ≡ false → get_or (assume_false vs c) x Open ≡ get_or vs x Open
 assume_false-other x [] vs out = refl
 assume_false-other x (l ∷ ls) vs out =
-    let parts = neither (l.variable == x) (occurs x ls) out in
+    let parts = or_parts (l.variable == x) (occurs x ls) out in
     assume_false-other x ls (put_false vs l) parts.1 ∙ set-other vs l.variable x (signed_truth l.negative False) (apart l.variable x parts.0)
 
 -- what is open stays open, and what stands in the clause becomes open
@@ -78,7 +63,7 @@ set-open (u ∷ vs) (suc x) (suc y) e = set-open vs x y (omega arith)
 
 reopened-occurs : (x : ℕ) (c : List Lit) (vs : List Truth) → occurs x c ≡ true → IsOpenAt (reopened vs c) x
 reopened-occurs x [] vs h = absurd (false≢true h)
-reopened-occurs x (l ∷ ls) vs h = elim (bool_cases (l.variable == x)) [
+reopened-occurs x (l ∷ ls) vs h = elim (cases_Bool (l.variable == x)) [
   | inl e ↦ reopened-open x ls (set vs l.variable Open) (set-open vs x l.variable (same l.variable x e))
   | inr e ↦ reopened-occurs x ls (set vs l.variable Open) (sym (ap (λ z. z || occurs x ls) e) ∙ h)
 ]
@@ -105,7 +90,7 @@ after_hint-other x (Some c) vs go out rest =
 after_hints-other : (x : ℕ) (held : List (List Lit)) (hs : List ℕ) (vs : List Truth) → mentions x held hs ≡ false → get_or (after_hints held vs hs) x Open ≡ get_or vs x Open
 after_hints-other x held [] vs out = refl
 after_hints-other x held (h ∷ hs) vs out =
-    let parts = neither (occurs_in x (clause_at held h)) (mentions x held hs) out in
+    let parts = or_parts (occurs_in x (clause_at held h)) (mentions x held hs) out in
     after_hint-other x (clause_at held h) vs (λ next. after_hints held next hs) parts.0 (λ next. after_hints-other x held hs next parts.1)
 
 reopened_clause-open : (x : ℕ) (o : Option (List Lit)) (vs : List Truth) → IsOpenAt vs x → IsOpenAt (reopened_clause vs o) x
@@ -122,7 +107,7 @@ reopened_at-open x held (n ∷ hs) vs h = reopened_at-open x held hs (reopened_c
 
 reopened_at-mentions : (x : ℕ) (held : List (List Lit)) (hs : List ℕ) (vs : List Truth) → mentions x held hs ≡ true → IsOpenAt (reopened_at held vs hs) x
 reopened_at-mentions x held [] vs h = absurd (false≢true h)
-reopened_at-mentions x held (n ∷ hs) vs h = elim (bool_cases (occurs_in x (clause_at held n))) [
+reopened_at-mentions x held (n ∷ hs) vs h = elim (cases_Bool (occurs_in x (clause_at held n))) [
   | inl e ↦ reopened_at-open x held hs (reopened_clause vs (clause_at held n)) (reopened_clause-occurs x (clause_at held n) vs e)
   | inr e ↦ reopened_at-mentions x held hs (reopened_clause vs (clause_at held n)) (sym (ap (λ z. z || mentions x held hs) e) ∙ h)
 ]
@@ -141,9 +126,9 @@ replicate-open (suc n) (suc x) = replicate-open n x
 undone-at : (x : ℕ) (held : List (List Lit)) (vs : List Truth) (c : List Lit) (hs : List ℕ) → IsOpenAt vs x → IsOpenAt (reopened (reopened_at held (after_hints held (assume_false vs c) hs) hs) c) x
 undone-at x held vs c hs o =
     let walked = after_hints held (assume_false vs c) hs in
-    elim (bool_cases (occurs x c)) [
+    elim (cases_Bool (occurs x c)) [
       | inl e ↦ reopened-occurs x c (reopened_at held walked hs) e
-      | inr e ↦ elim (bool_cases (mentions x held hs)) [
+      | inr e ↦ elim (cases_Bool (mentions x held hs)) [
         | inl m ↦ reopened-open x c (reopened_at held walked hs) (reopened_at-mentions x held hs walked m)
         | inr m ↦ reopened-open x c (reopened_at held walked hs) (reopened_at-open x held hs walked (after_hints-other x held hs (assume_false vs c) m ∙ assume_false-other x c vs e ∙ o))
       ]

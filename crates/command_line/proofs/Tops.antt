@@ -1,6 +1,7 @@
 -- What clap's walk makes of the words after the program's name.
 use Rattle.std.proofs.lemmas.Bool.{cases_Bool}
 use Rattle.std.proofs.Common.{true≢false, ◌≡◌, ◌∙◌, ◌&&◌, ◌⊎◌, inl, inr, suc, Bool, true, false, refl, sym, ap, arith, append_assoc, List, [], ◌∷◌, ◌++◌, length, Option, Some, None, is_some, codes, drop}
+use Rattle.std.proofs.Math.Bool.{and-true, and-false}
 use Rattle.std.proofs.lemmas.List.{append-nil}
 use Rattle.std.specs.List.{fold, list_all, slice_index_or}
 use Rattle.clap.specs.declared.error.ErrorKind.{ErrorKind}
@@ -104,14 +105,6 @@ takes_is body = refl
 fault_is : (body : List Text) → built_fault (built grammar) nothing_held body ≡ fault_by (walk_fault top names (walk_from nothing_held) body) (walk top.rules names nothing_held body)
 fault_is body = refl
 
-and_true : (b : Bool) → (b && true) ≡ b
-and_true true = refl
-and_true false = refl
-
-and_false : (b : Bool) → (b && false) ≡ false
-and_false true = refl
-and_false false = refl
-
 or_first : (a b : Kinds) → or_else a b ≡ [] → a ≡ []
 or_first [] b e = refl
 or_first (k ∷ ks) b e = e
@@ -140,7 +133,7 @@ asked_first w rest e asks = record {
   parts = refl;
   is_replay = e;
   asks = asks;
-  taken = (λ i. takes_by (walk_passes_is w e rest i) (walk_is w e rest i)) ∙ and_true (level_passes leaf [] nothing_held rest false) ∙ asks.passes;
+  taken = (λ i. takes_by (walk_passes_is w e rest i) (walk_is w e rest i)) ∙ and-true (level_passes leaf [] nothing_held rest false) ∙ asks.passes;
   met = ap (λ v. entered (built grammar) v.stopped) (walk_is w e rest) ∙ ap (λ rows. Some (codes "replay", rows)) asks.rows;
 }
 
@@ -149,7 +142,7 @@ refused_first w rest e refuses = record {
   other = λ name after old new relation trace parts is h.
       let same : rest ≡ after = ap (drop 1) parts in
       refuses.other old new relation trace (ap placed same ∙ h);
-  taken = (λ i. takes_by (walk_passes_is w e rest i) (walk_is w e rest i)) ∙ and_true (level_passes leaf [] nothing_held rest false) ∙ refuses.refused;
+  taken = (λ i. takes_by (walk_passes_is w e rest i) (walk_is w e rest i)) ∙ and-true (level_passes leaf [] nothing_held rest false) ∙ refuses.refused;
   faulty = λ h. refuses.faulty (or_first _ _ (sym (λ i. fault_by (walk_clean_is w e rest i) (walk_is w e rest i)) ∙ h));
 }
 
@@ -168,7 +161,7 @@ walk_refused : (w : Text) (rest : List Text) → bytes_eq (codes "replay") w ≡
     → (walk_fault top names (walk_from nothing_held) (w ∷ rest) ≡ [] → ⊥) → RefusesAll (w ∷ rest)
 walk_refused w rest e refused faulty =
     let v = walk top.rules names nothing_held (w ∷ rest) in
-    not_first w rest e (ap (λ b. takes_by b v) refused ∙ and_false (entered_passes (built grammar) v.stopped)) (λ h. faulty (or_first _ _ h))
+    not_first w rest e (ap (λ b. takes_by b v) refused ∙ and-false (entered_passes (built grammar) v.stopped)) (λ h. faulty (or_first _ _ h))
 
 no_kinds : (k : ErrorKind) (ks : Kinds) → k ∷ ks ≡ [] → ⊥
 no_kinds k ks e = let bad : suc (length ks) ≡ 0 = ap length e in omega (arith, bad)

@@ -1,7 +1,7 @@
 -- What stays true of a checker when an accepted step's clause is held too.
 use Rattle.std.proofs.Common.{◌≡◌, ℕ, zero, suc, ◌<◌, ◌≤◌, ◌+◌, Bool, true, false, ◌||◌, List, [], ◌∷◌, ◌++◌, length, take, drop, get_or, replicate, refl, sym, ◌∙◌, ap, subst, arith, length-append}
 use Rattle.std.specs.List.{list_any, list_all, Contains}
-use Rattle.std.proofs.lemmas.Bool.{false≢true}
+use Rattle.std.proofs.lemmas.Bool.{false≢true, and_parts, false_from_ne_true}
 use Rattle.std.proofs.lemmas.List.{take-append-le, drop-append-le, length-replicate}
 use Rattle.clause_core.specs.declared.literal.Lit.{Lit}
 use Rattle.clause_core.specs.declared.truth.Truth.{Truth}
@@ -11,7 +11,7 @@ use Rattle.clause_core.specs.declared.check.Outcome.TheVariants.{Accepted}
 use Rattle.clause_core.specs.Satisfaction.{formula_true, clause_true}
 use Rattle.clause_core.specs.Clauses.{rises, is_within}
 use Rattle.clause_core.specs.Steps.{follow_hints, assume_false, outcome}
-use Rattle.clause_core.proofs.Ranges.{is_within-rises, list_all-push, list_any-push, and_both}
+use Rattle.clause_core.proofs.Ranges.{is_within-rises, list_all-push, list_any-push}
 use Rattle.clause_core.proofs.Sound.{clause_true-accepted}
 use Rattle.derivation_check.specs.Inside.{is_empty}
 
@@ -41,20 +41,16 @@ Pushed-accepted variables given held held' was now c hs p e rc acc n =
 none_empty : (v : ℕ → Bool) (f : List (List Lit)) → formula_true v f ≡ true → list_any is_empty f ≡ true → ⊥
 none_empty v [] t h = false≢true h
 none_empty v ([] ∷ cs) t h = false≢true t
-none_empty v ((l ∷ ls) ∷ cs) t h = none_empty v cs (and_both (clause_true v (l ∷ ls)) (formula_true v cs) t).1 h
+none_empty v ((l ∷ ls) ∷ cs) t h = none_empty v cs (and_parts (clause_true v (l ∷ ls)) (formula_true v cs) t).1 h
 
 formula_true-drop : (v : ℕ → Bool) (n : ℕ) (f : List (List Lit)) → formula_true v f ≡ true → formula_true v (drop n f) ≡ true
 formula_true-drop v zero f t = t
 formula_true-drop v (suc n) [] t = t
-formula_true-drop v (suc n) (c ∷ cs) t = formula_true-drop v n cs (and_both (clause_true v c) (formula_true v cs) t).1
-
-by_bool : (b : Bool) → (b ≡ true → ⊥) → b ≡ false
-by_bool false h = refl
-by_bool true h = absurd (h refl)
+formula_true-drop v (suc n) (c ∷ cs) t = formula_true-drop v n cs (and_parts (clause_true v c) (formula_true v cs) t).1
 
 pub no_solution : (given : ℕ) (held : List (List Lit)) → ((v : ℕ → Bool) → formula_true v (take given held) ≡ true → formula_true v held ≡ true) → list_any is_empty (drop given held) ≡ true → (v : ℕ → Bool) → formula_true v (take given held) ≡ false
 no_solution given held i h v =
-    by_bool (formula_true v (take given held)) (λ t. none_empty v (drop given held) (formula_true-drop v given held (i v t)) h)
+    false_from_ne_true (formula_true v (take given held)) (λ t. none_empty v (drop given held) (formula_true-drop v given held (i v t)) h)
 
 -- an empty clause is among them
 pub contains-empty : (f : List (List Lit)) → list_any is_empty f ≡ true → Contains f []

@@ -1,5 +1,5 @@
 -- What the POUs do, weigh and need that may be called.
-use Rattle.std.proofs.Common.{◌≡◌, ℕ, zero, suc, ◌+◌, ◌-◌, ◌*◌, ◌<◌, ◌≤◌, List, [], ◌∷◌, length, get_or, slice_index_or, refl, sym, ap, ◌∙◌, arith, rules, tests, Bool, true, false, ℤ, ◌+ℤ◌, pos}
+use Rattle.std.proofs.Common.{◌≡◌, ℕ, zero, suc, ◌+◌, ◌-◌, ◌*◌, ◌<◌, ◌≤◌, List, [], ◌∷◌, length, get_or, slice_index_or, refl, sym, ap, ◌∙◌, arith, rules, tests, Bool, false, ℤ, ◌+ℤ◌, pos}
 use Rattle.std.specs.Prelude.{◌==◌, ◌||◌, slice_set, if◌then◌else◌}
 use Rattle.std.proofs.lemmas.Bool.Decides.{nat_tests}
 use Rattle.st_tree.specs.declared.typed.Range.{Range}
@@ -12,6 +12,7 @@ use Rattle.effects.specs.Values.{State}
 use Rattle.effects.specs.Effects.{range_at, effect_of_turns, effect_of_all}
 use Rattle.effects.specs.Calls.{given, run_of, ends_of, nothing, callees_of}
 use Rattle.effects.specs.Room.{room_of, room_for}
+use Rattle.effects.proofs.Cases.{by_test}
 use Rattle.effects.proofs.Sizes.{called_nodes, weight}
 
 -- the data of a POU, by its number
@@ -19,10 +20,6 @@ pub at-number : (ps : List Called) (i : ℕ) (p : Called) (known : CalledData) �
 at-number [] i p known h is = absurd (omega (arith, h))
 at-number (x ∷ ps) zero p known h is = is
 at-number (x ∷ ps) (suc i) p known h is = at-number ps i p known (omega (arith, h)) is
-
-by_test : {P : Type 0} (b : Bool) → (b ≡ true → P) → (b ≡ false → P) → P
-by_test true p q = p refl
-by_test false p q = q refl
 
 -- a POU that may be called does what its data say
 runs-known : (ps : List CalledData) (i n : ℕ) (rs : List Range) (base : ℕ) (s : State) → i < n → (callees_of ps n).runs i rs base s ≡ run_of (callees_of ps i) (slice_index_or ps i nothing) rs base s

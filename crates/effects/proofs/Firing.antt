@@ -3,6 +3,7 @@ use Rattle.std.proofs.Common.{◌≡◌, ℕ, zero, suc, ◌+◌, ◌<◌, ◌�
 use Rattle.std.specs.Prelude.{◌==◌, ◌&&◌, ◌||◌, not, filter, slice_set, nat_lt}
 use Rattle.std.specs.List.{list_any, list_all}
 use Rattle.std.proofs.lemmas.Bool.Decides.{nat_tests}
+use Rattle.std.proofs.Math.Bool.{or-false, or_assoc}
 use Rattle.st_tree.specs.declared.typed.Range.{Range}
 use Rattle.st_tree.specs.declared.typed.StepCells.{StepCells}
 use Rattle.st_tree.specs.declared.typed.TypedAction.{TypedAction}
@@ -13,25 +14,8 @@ use Rattle.effects.specs.Values.{State, Callees}
 use Rattle.effects.specs.Charts.{Marking, is_on, marking_now, marking_before, is_among, is_left, is_entered, may_fire, evaluated, fired, holds_in, faults_in, is_next}
 use Rattle.effects.specs.Effects.{with_fault, all_latched, marked, effect_of_transitions, effect_of_actions, effect_of}
 use Rattle.effects.specs.Flags.{no_steps, with_steps, may_leave, left_after, come_after, fault_after, is_next_from}
+use Rattle.effects.proofs.Cases.{by_test, or-swap}
 use Rattle.effects.proofs.Loops.{length-set}
-
-by_test : {P : Type 0} (b : Bool) → (b ≡ true → P) → (b ≡ false → P) → P
-by_test true p q = p refl
-by_test false p q = q refl
-
-or-false : (a : Bool) → a ≡ (a || false)
-or-false true = refl
-or-false false = refl
-
-or-swap : (a b c : Bool) → (a || (b || c)) ≡ ((b || a) || c)
-or-swap true true c = refl
-or-swap true false c = refl
-or-swap false true c = refl
-or-swap false false c = refl
-
-or-assoc : (a b c : Bool) → ((a || b) || c) ≡ (a || (b || c))
-or-assoc true b c = refl
-or-assoc false b c = refl
 
 -- ---- markings
 
@@ -95,17 +79,17 @@ Same-with left acc t same i h =
 
 module _ (x : List ℤ) (holds bad : TransitionData → Bool) where
   pub fault-same : (ts acc : List TransitionData) (left : List ℤ) (f : Bool) → length x ≡ length left → Same left acc → fault_after x holds bad ts left f ≡ (f || list_any bad (evaluated x holds acc ts))
-  fault-same [] acc left f len same = or-false f
+  fault-same [] acc left f len same = sym (or-false f)
   fault-same (t ∷ ts) acc left f len same =
       let m = may-same x left acc len same t.from in
       by_test (may_fire x acc t)
       (λ e. by_test (holds t)
-      (λ h. rw (m, e, h) (fault-same ts (t ∷ acc) (with_steps t.from left) (f || bad t) (len ∙ sym (length-with t.from left)) (Same-with left acc t same) ∙ or-assoc f (bad t) _))
-      (λ h. rw (m, e, h) (fault-same ts acc left (f || bad t) len same ∙ or-assoc f (bad t) _)))
-      (λ e. rw (m, e, ← or-false f) (fault-same ts acc left f len same))
+      (λ h. rw (m, e, h) (fault-same ts (t ∷ acc) (with_steps t.from left) (f || bad t) (len ∙ sym (length-with t.from left)) (Same-with left acc t same) ∙ or_assoc f (bad t) _))
+      (λ h. rw (m, e, h) (fault-same ts acc left (f || bad t) len same ∙ or_assoc f (bad t) _)))
+      (λ e. rw (m, e, or-false f) (fault-same ts acc left f len same))
 
   pub left-same : (ts acc : List TransitionData) (left : List ℤ) → length x ≡ length left → Same left acc → (i : ℕ) → i < length left → is_on (left_after x holds ts left) i ≡ (is_left acc i || is_left (filter holds (evaluated x holds acc ts)) i)
-  left-same [] acc left len same i b = same i b ∙ or-false (is_left acc i)
+  left-same [] acc left len same i b = same i b ∙ sym (or-false (is_left acc i))
   left-same (t ∷ ts) acc left len same i b =
       let m = may-same x left acc len same t.from in
       let l = length-with t.from left in
@@ -116,7 +100,7 @@ module _ (x : List ℤ) (holds bad : TransitionData → Bool) where
       (λ e. rw (m, e) (left-same ts acc left len same i b))
 
   pub come-same : (ts acc : List TransitionData) (left come : List ℤ) → length x ≡ length left → Same left acc → (i : ℕ) → i < length come → is_on (come_after x holds ts left come) i ≡ (is_on come i || is_entered (filter holds (evaluated x holds acc ts)) i)
-  come-same [] acc left come len same i b = or-false (is_on come i)
+  come-same [] acc left come len same i b = sym (or-false (is_on come i))
   come-same (t ∷ ts) acc left come len same i b =
       let m = may-same x left acc len same t.from in
       let l = length-with t.from left in

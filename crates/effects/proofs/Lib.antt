@@ -1,5 +1,6 @@
 pub mod Calls
 pub mod Sizes
+pub mod Cases
 pub mod Loops
 pub mod Given
 pub mod Callees

@@ -19,14 +19,10 @@ use Rattle.flat_form.specs.FlatLists.{scratch_of_all, flat_of_all}
 use Rattle.flat_form.specs.Pous.{block_body, bodies_of}
 use Rattle.flat_form.specs.Idle.{idle_in, AreIdle, AreIdleBelow}
 use Rattle.flat_form.proofs.IdleLemmas.{idle-list, idle-scratch}
-use Rattle.flat_form.proofs.IdleTables.{told-idle, idle-whole}
+use Rattle.flat_form.proofs.IdleTables.{by_test, told-idle, idle-whole}
 
 abbrev pub weight_here : FlatScope → ℕ
 weight_here scope = weight (all_called_view scope.called.now) scope.below
-
-pub by_test : {P : Type 0} (b : Bool) → (b ≡ true → P) → (b ≡ false → P) → P
-by_test true p q = p refl
-by_test false p q = q refl
 
 module _ (ps : List CalledData) where
   pub frames-here : (n : ℕ) → (bodies_of ps n).frame ≡ frames_of ps

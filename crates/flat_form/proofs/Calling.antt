@@ -1,5 +1,6 @@
 -- What a call of a FUNCTION does before its body runs: the scratch cells of its cells get the values of the state that its body begins with.
 use Rattle.std.proofs.Common.{◌≡◌, ◌≢◌, ℕ, zero, suc, ◌+◌, ◌-◌, ◌<◌, ◌≤◌, Bool, true, false, not, ◌||◌, List, [], ◌∷◌, ◌++◌, length, ℤ, pos, refl, sym, ap, subst, ◌∙◌, arith, rules, tests, length-append}
+use Rattle.std.proofs.Math.Bool.{or-true, or-false, or_assoc}
 use Rattle.std.specs.Prelude.{slice_set, slice_index_or, if◌then◌else◌, nat_lt}
 use Rattle.std.proofs.lemmas.Int.{ints}
 use Rattle.std.proofs.lemmas.List.{length-set, get_or-set_same, get_or-set_other}
@@ -96,24 +97,12 @@ stored-other rs c p v u some other = by_test (in_range v (range_at rs c))
     by_test true = get_or-set_other u c p v (pos 0) other
     by_test false = get_or-set_other u 0 p (pos 1) (pos 0) (omega arith)
 
-or_true : (b : Bool) → (b || true) ≡ true
-or_true true = refl
-or_true false = refl
-
-pub or_false : (b : Bool) → (b || false) ≡ b
-or_false true = refl
-or_false false = refl
-
-or_or : (a b c : Bool) → ((a || b) || c) ≡ (a || (b || c))
-or_or true b c = refl
-or_or false b c = refl
-
 stored-fault : (rs : List Range) (c : ℕ) (v : ℤ) (u : State) → 0 < c → 0 < length u → fault_in (stored rs c v u) ≡ (fault_in u || not (in_range v (range_at rs c)))
 stored-fault rs c v u some room = by_test (in_range v (range_at rs c))
   where
     by_test : (b : Bool) → fault_in (if b then slice_set u c v else slice_set u 0 (pos 1)) ≡ (fault_in u || not b)
-    by_test true = let same : held (slice_set u c v) 0 ≡ held u 0 = get_or-set_other u c 0 v (pos 0) (omega arith) in rw same (sym (or_false (fault_in u)))
-    by_test false = let now : held (slice_set u 0 (pos 1)) 0 ≡ pos 1 = get_or-set_same u 0 (pos 1) (pos 0) room in rw now (sym (or_true (fault_in u)))
+    by_test true = let same : held (slice_set u c v) 0 ≡ held u 0 = get_or-set_other u c 0 v (pos 0) (omega arith) in rw same (sym (or-false (fault_in u)))
+    by_test false = let now : held (slice_set u 0 (pos 1)) 0 ≡ pos 1 = get_or-set_same u 0 (pos 1) (pos 0) room in rw now (sym (or-true (fault_in u)))
 
 -- some value does not fit its cell
 abbrev pub unfit : List Range → ℕ → List ℤ → Bool
@@ -133,12 +122,12 @@ given-behind rs place p [] u some h = refl
 given-behind rs place p (v ∷ vs) u some h = given-behind rs (place + 1) p vs (stored rs place v u) some (omega (arith, h)) ∙ stored-other rs place p v u some (omega (arith, h))
 
 pub given-fault : (rs : List Range) (place : ℕ) (vs : List ℤ) (u : State) → 0 < place → 0 < length u → fault_in (given rs place vs u) ≡ (fault_in u || unfit rs place vs)
-given-fault rs place [] u some room = sym (or_false (fault_in u))
+given-fault rs place [] u some room = sym (or-false (fault_in u))
 given-fault rs place (v ∷ vs) u some room =
     let long = length-stored rs place v u in
     given-fault rs (place + 1) vs (stored rs place v u) (omega arith) (omega arith)
     ∙ ap (λ b. b || unfit rs (place + 1) vs) (stored-fault rs place v u some room)
-    ∙ or_or (fault_in u) (not (in_range v (range_at rs place))) (unfit rs (place + 1) vs)
+    ∙ or_assoc (fault_in u) (not (in_range v (range_at rs place))) (unfit rs (place + 1) vs)
 
 -- ---- scratch cells that stand for cells of a frame, from a place on
 
@@ -219,7 +208,7 @@ module _ (rs : List Range) (cs : List Scratch) (frame : FrameData) where
         → placed rs cs k (initial_at frame place) x ≡ slice_set x k (initial_at frame place)
     started place k x le less fits =
         placed_scratch rs cs k (initial_at frame place) x le
-        ∙ ap (λ (b : Bool). if b then slice_set x k (initial_at frame place) else slice_set x 0 (pos 1)) (fits (initial_at frame place) ∙ ap (λ b. not (type_at frame.types place).limited || b) (begins place less) ∙ or_true (not (type_at frame.types place).limited))
+        ∙ ap (λ (b : Bool). if b then slice_set x k (initial_at frame place) else slice_set x 0 (pos 1)) (fits (initial_at frame place) ∙ ap (λ b. not (type_at frame.types place).limited || b) (begins place less) ∙ or-true (not (type_at frame.types place).limited))
 
     pub record Begun (place n k : ℕ) (x y : State) : Type 0 where
       pub reached : Reached k false x y
@@ -279,7 +268,7 @@ module _ (rs : List Range) (cs : List Scratch) (frame : FrameData) where
         by_tests l true h is =
             let first = Reached-with_fault j faulted x (omega arith) in
             let long = first.long in
-            let taken : (not l || true) ≡ true = or_true (not l) in
+            let taken : (not l || true) ≡ true = or-true (not l) in
             rw taken (Reached-both j j faulted false x _ _ (omega arith) first (Reached-scratch j j v (with_fault faulted x) (omega arith) (omega arith)), get_or-set_same (with_fault faulted x) j v (pos 0) (omega arith))
         by_tests true false h is =
             let first = Reached-with_fault j faulted x (omega arith) in

@@ -1,5 +1,6 @@
 -- The last two parts of a chart's run: the transitions, and the next marking.
 use Rattle.std.proofs.Common.{◌≡◌, ◌≢◌, ℕ, zero, suc, ◌+◌, ◌-◌, ◌*◌, ◌<◌, ◌≤◌, Bool, true, false, not, ◌&&◌, ◌||◌, List, [], ◌∷◌, ◌++◌, length, map, ℤ, pos, refl, sym, ap, subst, ◌∙◌, arith, rules, tests, zero-add, length-append}
+use Rattle.std.proofs.lemmas.Bool.{or_right}
 use Rattle.std.specs.Prelude.{◌==◌, slice_set, slice_index_or, nat_lt, if◌then◌else◌}
 use Rattle.std.specs.List.{list_any}
 use Rattle.std.proofs.lemmas.List.{length-set, get_or-set_same, get_or-set_other}
@@ -25,7 +26,8 @@ use Rattle.flat_form.specs.FlatCharts.{no_step, flags_of, left_flag, come_flag, 
 use Rattle.flat_form.specs.WellTyped.{IsTypedValue, AreTypedOperands, AreTypedValues, AreTypedInputs, AreSteps, AreFlags, AreRisingFrom, chart_places, AreTypedTransitions}
 use Rattle.flat_form.proofs.Shown.{held, Owns, Owns-later, Shows, Shows-scratch, Shows-kept, Ran-scratch, Ran-both, Ran-kept, Done, Done-stored, SameUpTo, Evaluated, Stands}
 use Rattle.scan_model.proofs.Keeping.{HoldsFault, fault_added}
-use Rattle.flat_form.proofs.ChartStores.{Done-both, with_fault-both, held-with_fault, stored-other, Done-evaluated, is_truth-number_of, fits_bit, held_bit}
+use Rattle.flat_form.proofs.ChartStores.{Done-both, with_fault-both, held-with_fault, stored-other, Done-evaluated, fits_bit, held_bit}
+use Rattle.flat_form.proofs.LabelLemmas.{is_truth-number_of}
 use Rattle.flat_form.proofs.Sequences.{run-append, Stands-front, Stands-back}
 use Rattle.flat_form.proofs.ChartTests.{IsTest, IsTest-cell, IsTest-not, IsTest-and, IsTest-or, IsTest-ready}
 
@@ -313,10 +315,6 @@ module _ (rs : List Range) (cs : List Scratch) (bodies : Bodies) (MayCall MayRun
 
 -- ---- the next marking
 
-or-true : (a b : Bool) → b ≡ true → (a || b) ≡ true
-or-true true b h = refl
-or-true false b h = h
-
 -- an assignment to an owner's cell changes no other place but FAULT's
 pub placed-other : (rs : List Range) (cs : List Scratch) (own : List Range) (tested : ℕ → Bool) (place_at : ℕ → ℕ) (k : ℕ) → Owns rs cs own tested place_at k → (c : ℕ) (v : ℤ) (y : State) → 0 < c → c < length own
     → (q : ℕ) → 0 < q → q ≢ place_at c → held (placed rs cs (place_at c) v y) q ≡ held y q
@@ -374,7 +372,7 @@ module _ (rs : List Range) (cs : List Scratch) (own : List Range) (tested : ℕ 
       let y2 = placed rs cs (owner.place_at a) w y1 in
       let value : value_of no_callees 0 (cell (owner.place_at a)) y ≡ v = ap (λ (c : ℕ). held y c) (zero-add (owner.place_at a)) ∙ done.shown.cells a fl.0.0 fl.0.1 ∙ holding.0 ∙ sym (bits i here) in
       let one : run_of rs cs (mark_before owner base p) y ≡ y1 = ap (λ (u : ℤ). placed rs cs (owner.place_at b) u y) value in
-      let fits_one : (tested b || in_range v (range_at own b)) ≡ true = or-true (tested b) _ (ap (λ (u : ℤ). in_range u (range_at own b)) (bits i here) ∙ fits_bit (is_on xm i) (range_at own b) fl.3.1 fl.3.2) in
+      let fits_one : (tested b || in_range v (range_at own b)) ≡ true = or_right (tested b) _ (ap (λ (u : ℤ). in_range u (range_at own b)) (bits i here) ∙ fits_bit (is_on xm i) (range_at own b) fl.3.1 fl.3.2) in
       let done_one : Done n k owner.place_at f s1 y y1 = Done-stored rs cs own tested owner.place_at k f b v s y o fl.3.0.0 fl.3.0.1 room fits_one done.shown in
       let flags_one = Flags-placed b v y fl.3.0.0 fl.3.0.1 flags in
       let long_one = done_one.ran.long in
@@ -386,7 +384,7 @@ module _ (rs : List Range) (cs : List Scratch) (own : List Range) (tested : ℕ 
       (IsTest-and y1 (cell (owner.place_at a)) _ (is_on xm i) (not (is_on left i)) (IsTest-cell y1 (owner.place_at a) (is_on xm i) now) (IsTest-not y1 (cell q) (is_on left i) (IsTest-cell y1 q (is_on left i) left_here)))
       (IsTest-cell y1 (q + 1) (is_on come i) come_here) in
       let two : run_of rs cs (mark_active owner base p q) y1 ≡ y2 = run_test rs cs (owner.place_at a) _ y1 _ test ∙ ap (λ (u : Bool). placed rs cs (owner.place_at a) (number_of u) y1) (same_next i here) in
-      let fits_two : (tested a || in_range w (range_at own a)) ≡ true = or-true (tested a) _ (fits_bit (next_on i) (range_at own a) fl.1 fl.2) in
+      let fits_two : (tested a || in_range w (range_at own a)) ≡ true = or_right (tested a) _ (fits_bit (next_on i) (range_at own a) fl.1 fl.2) in
       let done_two : Done n k owner.place_at f s2 y1 y2 = Done-stored rs cs own tested owner.place_at k f a w s1 y1 o fl.0.0 fl.0.1 (omega arith) fits_two done_one.shown in
       let flags_two = Flags-placed a w y1 fl.0.0 fl.0.1 flags_one in
       let long_two = done_two.ran.long in

@@ -12,10 +12,6 @@ use Rattle.effects.specs.Effects.{range_at, with_fault, stored}
 use Rattle.scan_model.specs.InRange.{IsInRange}
 use Rattle.flat_form.proofs.Shown.{held, Shows, Ran, Done, SameUpTo, Evaluated, Ran-none, Ran-both, Ran-with_fault, Shows-with_fault, Shows-kept}
 
-pub by_cases : {P : Type 0} (b : Bool) → (b ≡ true → P) → (b ≡ false → P) → P
-by_cases true p q = p refl
-by_cases false p q = q refl
-
 -- ---- runs, one behind the other
 
 module _ (n k : ℕ) (place_at : ℕ → ℕ) where
@@ -89,10 +85,6 @@ module _ (callees : Callees) (base : ℕ) (e left : Expression) (n k j l : ℕ) 
 -- a number is 0 or 1
 abbrev pub IsBit : ℤ → Type 0
 IsBit v = v ≡ number_of (is_truth v)
-
-pub is_truth-number_of : (b : Bool) → is_truth (number_of b) ≡ b
-is_truth-number_of true = refl
-is_truth-number_of false = refl
 
 pub is_bit : (v : ℤ) (r : Range) → r.low ≡ pos 0 → r.high ≡ pos 1 → r.low ≤ℤ v → v ≤ℤ r.high → IsBit v
 is_bit v r low high a b = search (rules, tests, ints)

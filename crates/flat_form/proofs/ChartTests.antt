@@ -1,5 +1,6 @@
 -- The tests of charts: their values are those of the definition, and they meet no fault.
 use Rattle.std.proofs.Common.{◌≡◌, ℕ, ◌+◌, ◌<◌, Bool, true, false, not, ◌&&◌, ◌||◌, List, [], ◌∷◌, ◌++◌, length, map, refl, sym, ap, ◌∙◌, zero-add}
+use Rattle.std.proofs.Math.Bool.{and-true, or-false, and_assoc, or_assoc}
 use Rattle.std.specs.Prelude.{if◌then◌else◌, Option, Some}
 use Rattle.std.specs.List.{list_any, list_all}
 use Rattle.st_tree.specs.declared.elementary.Elementary.TheVariants.{Bool as Bit}
@@ -17,44 +18,13 @@ use Rattle.flat_form.specs.Owners.{OwnerData}
 use Rattle.flat_form.specs.WellTyped.{AreSteps, NameSteps}
 use Rattle.flat_form.specs.FlatCharts.{negated, both, operands_by, joined_by, active_at, before_at, steps_that, unless_reset, latch_test, asking, terms, latch_start, runs_test, left_flag, ready_term, ready_test}
 use Rattle.flat_form.proofs.Shown.{held}
+use Rattle.flat_form.proofs.LabelLemmas.{and_bits, or_bits}
 
 -- ---- truth values
 
 not_bit : (a : Bool) → unary_applied Not Bit (number_of a) ≡ number_of (not a)
 not_bit true = refl
 not_bit false = refl
-
-and_bits : (a b : Bool) → applied And Bit (number_of a) (number_of b) ≡ number_of (a && b)
-and_bits false false = refl
-and_bits false true = refl
-and_bits true false = refl
-and_bits true true = refl
-
-or_bits : (a b : Bool) → applied Or Bit (number_of a) (number_of b) ≡ number_of (a || b)
-or_bits false false = refl
-or_bits false true = refl
-or_bits true false = refl
-or_bits true true = refl
-
-or-assoc : (a b c : Bool) → ((a || b) || c) ≡ (a || (b || c))
-or-assoc true b c = refl
-or-assoc false b c = refl
-
-and-assoc : (a b c : Bool) → ((a && b) && c) ≡ (a && (b && c))
-and-assoc true b c = refl
-and-assoc false b c = refl
-
-or-none : (a : Bool) → (a || false) ≡ a
-or-none true = refl
-or-none false = refl
-
-and-all : (a : Bool) → (a && true) ≡ a
-and-all true = refl
-and-all false = refl
-
-and-not-none : (a : Bool) → a ≡ (a && not false)
-and-not-none true = refl
-and-not-none false = refl
 
 abbrev any_of : List Bool → Bool
 any_of bs = list_any (λ b. b) bs
@@ -89,12 +59,12 @@ module _ (x : State) where
   IsTest-or e f a b s t = record { value = rw (s.value, t.value) (or_bits a b); fault = rw (s.fault, t.fault) refl }
 
   or_value : (a : Bool) (es : List Expression) (bs : List Bool) → AreTests x es bs → value_on no_callees 0 (number_of a) (operands_by Or es) x ≡ number_of (a || any_of bs)
-  or_value a [] [] t = ap number_of (sym (or-none a))
+  or_value a [] [] t = ap number_of (sym (or-false a))
   or_value a [] (b ∷ bs) t = absurd t
   or_value a (e ∷ es) [] t = absurd t
   or_value a (e ∷ es) (b ∷ bs) t =
       ap (λ v. value_on no_callees 0 (applied Or Bit (number_of a) v) (operands_by Or es) x) t.0.value
-      ∙ ap (λ v. value_on no_callees 0 v (operands_by Or es) x) (or_bits a b) ∙ or_value (a || b) es bs t.1 ∙ ap number_of (or-assoc a b (any_of bs))
+      ∙ ap (λ v. value_on no_callees 0 v (operands_by Or es) x) (or_bits a b) ∙ or_value (a || b) es bs t.1 ∙ ap number_of (or_assoc a b (any_of bs))
 
   or_fault : (es : List Expression) (bs : List Bool) → AreTests x es bs → any_faults no_callees 0 (operands_by Or es) x ≡ false
   or_fault [] [] t = refl
@@ -103,12 +73,12 @@ module _ (x : State) where
   or_fault (e ∷ es) (b ∷ bs) t = rw (t.0.fault) (or_fault es bs t.1)
 
   and_value : (a : Bool) (es : List Expression) (bs : List Bool) → AreTests x es bs → value_on no_callees 0 (number_of a) (operands_by And es) x ≡ number_of (a && all_of bs)
-  and_value a [] [] t = ap number_of (sym (and-all a))
+  and_value a [] [] t = ap number_of (sym (and-true a))
   and_value a [] (b ∷ bs) t = absurd t
   and_value a (e ∷ es) [] t = absurd t
   and_value a (e ∷ es) (b ∷ bs) t =
       ap (λ v. value_on no_callees 0 (applied And Bit (number_of a) v) (operands_by And es) x) t.0.value
-      ∙ ap (λ v. value_on no_callees 0 v (operands_by And es) x) (and_bits a b) ∙ and_value (a && b) es bs t.1 ∙ ap number_of (and-assoc a b (all_of bs))
+      ∙ ap (λ v. value_on no_callees 0 v (operands_by And es) x) (and_bits a b) ∙ and_value (a && b) es bs t.1 ∙ ap number_of (and_assoc a b (all_of bs))
 
   and_fault : (es : List Expression) (bs : List Bool) → AreTests x es bs → any_faults no_callees 0 (operands_by And es) x ≡ false
   and_fault [] [] t = refl
@@ -117,7 +87,7 @@ module _ (x : State) where
   and_fault (e ∷ es) (b ∷ bs) t = rw (t.0.fault) (and_fault es bs t.1)
 
   pub IsTest-any : (e : Expression) (a : Bool) (es : List Expression) (bs : List Bool) → IsTest x e a → AreTests x es bs → IsTest x (joined_by Or e es) (a || any_of bs)
-  IsTest-any e a [] [] s t = record { value = s.value ∙ ap number_of (sym (or-none a)); fault = s.fault }
+  IsTest-any e a [] [] s t = record { value = s.value ∙ ap number_of (sym (or-false a)); fault = s.fault }
   IsTest-any e a [] (b ∷ bs) s t = absurd t
   IsTest-any e a (f ∷ fs) bs s t = record {
     value = ap (λ v. value_on no_callees 0 v (operands_by Or (f ∷ fs)) x) s.value ∙ or_value a (f ∷ fs) bs t;
@@ -125,7 +95,7 @@ module _ (x : State) where
   }
 
   pub IsTest-all : (e : Expression) (a : Bool) (es : List Expression) (bs : List Bool) → IsTest x e a → AreTests x es bs → IsTest x (joined_by And e es) (a && all_of bs)
-  IsTest-all e a [] [] s t = record { value = s.value ∙ ap number_of (sym (and-all a)); fault = s.fault }
+  IsTest-all e a [] [] s t = record { value = s.value ∙ ap number_of (sym (and-true a)); fault = s.fault }
   IsTest-all e a [] (b ∷ bs) s t = absurd t
   IsTest-all e a (f ∷ fs) bs s t = record {
     value = ap (λ v. value_on no_callees 0 v (operands_by And (f ∷ fs)) x) s.value ∙ and_value a (f ∷ fs) bs t;
@@ -133,7 +103,7 @@ module _ (x : State) where
   }
 
   IsTest-unless : (e : Expression) (a : Bool) (rs : List Expression) (bs : List Bool) → IsTest x e a → AreTests x rs bs → IsTest x (unless_reset e rs) (a && not (any_of bs))
-  IsTest-unless e a [] [] s t = record { value = s.value ∙ ap number_of (and-not-none a); fault = s.fault }
+  IsTest-unless e a [] [] s t = record { value = s.value ∙ ap number_of (sym (and-true a)); fault = s.fault }
   IsTest-unless e a [] (b ∷ bs) s t = absurd t
   IsTest-unless e a (r ∷ rs) [] s t = absurd t
   IsTest-unless e a (r ∷ rs) (b ∷ bs) s t = IsTest-and e (negated (joined_by Or r rs)) a (not (b || any_of bs)) s (IsTest-not (joined_by Or r rs) (b || any_of bs) (IsTest-any r b rs bs t.0 t.1))

@@ -1,6 +1,7 @@
 -- Expressions and calls of FUNCTIONs: what the types say holds of values, and the statements that calls become leave an expression of the
 -- same value.
 use Rattle.std.proofs.Common.{◌≡◌, ℕ, suc, ◌+◌, ◌-◌, ◌^◌, ◌<◌, ◌≤◌, Bool, true, false, not, ◌&&◌, ◌||◌, List, [], ◌∷◌, ◌++◌, length, ℤ, pos, ◌+ℤ◌, ◌*ℤ◌, refl, sym, ap, subst, ◌∙◌, arith, rules, tests, length-append, zero-add}
+use Rattle.std.proofs.Math.Bool.{or-false}
 use Rattle.std.specs.Prelude.{if◌then◌else◌, ◌≤ℤ◌}
 use Rattle.std.proofs.lemmas.Int.{ints}
 use Rattle.num_core.proofs.Wrapped.{wraps_defined, wrap_is}
@@ -27,8 +28,9 @@ use Rattle.flat_form.specs.Calls.{arity, rest_scratch, rest_list, scratch_in, op
 use Rattle.flat_form.specs.WellTyped.{FrameFits, covers, last_stays, chosen_stay, stays_in, each_stays, IsTypedValue, AreTypedOperands, AreTypedValues, AreTypedInputs}
 use Rattle.scan_model.proofs.Keeping.{IsInRange-length, IsInRange-set, either}
 use Rattle.flat_form.proofs.Shown.{held, Owns, Shows, Done, SameUpTo, Evaluated, Stands, CallRuns, Owns-later}
-use Rattle.flat_form.proofs.Calling.{either_fault, or_false, Reached, Reached-none, Reached-both, Reached-same, in_range-at, unfit, given-long, given-before, given-behind, given-fault, Seated, Seated-order, Filled, input_set, CallBegun, begins, call_begun, length-stored, stored-same, stored-other, length-other}
+use Rattle.flat_form.proofs.Calling.{either_fault, Reached, Reached-none, Reached-both, Reached-same, in_range-at, unfit, given-long, given-before, given-behind, given-fault, Seated, Seated-order, Filled, input_set, CallBegun, begins, call_begun, length-stored, stored-same, stored-other, length-other}
 use Rattle.flat_form.proofs.Sequences.{run-append, Stands-front, Stands-back}
+use Rattle.flat_form.proofs.TurnValues.{tested_fits}
 
 -- ---- ranges of types
 
@@ -334,16 +336,12 @@ module _ (rs : List Range) (cs : List Scratch) (cells : 0 < length rs) (bodies :
         faulted = met || fault_in (callees.ends f vs);
         fault = either_fault met (fault_in (callees.ends f vs)) (held x 0) g (held w 0) refl (done.shown.fault ∙ ap (λ (u : State). if fault_in u then pos 1 else g) (sym ends));
         value = λ z h. ap (λ n. held z n) (zero-add (k1 + o)) ∙ h (k1 + o) (omega arith) (omega arith) ∙ done.shown.cells 1 (omega arith) (omega arith) ∙ ap answer_in (sym ends);
-        faults = λ z h. or_false (met || fault_in (callees.ends f vs));
+        faults = λ z h. or-false (met || fault_in (callees.ends f vs));
       } in
       subst (λ l. Evaluated callees base (answer f es) (cell (k1 + o)) s k (k + length (input_scratch bodies frame 2 es ++ rest_scratch bodies frame f (arity es))) x l)
       (sym (run-append rs cs (other_starts frame (2 + arity es) o k1) (set (k1 + o) (number (initial_at frame 1)) ∷ bodies.call_list f (k1 + o) ps (k1 + o + 1)) x1)) all
 
 -- ---- expressions
-
-may_be : (l stays now : Bool) → (l || stays) ≡ true → (stays ≡ true → now ≡ true) → (l || now) ≡ true
-may_be true stays now h p = refl
-may_be false stays now h p = p h
 
 module _ (rs : List Range) (cs : List Scratch) (cells : 0 < length rs) (bodies : Bodies) (callees : Callees) (MayCall : ℕ → ℕ → Type 0) (each_call : (f inputs : ℕ) → MayCall f inputs → CallRuns rs cs bodies callees f inputs) where
   -- what a FUNCTION answers lies in its range
@@ -466,7 +464,7 @@ module _ (rs : List Range) (cs : List Scratch) (cells : 0 < length rs) (bodies :
           let fits : (w : ℤ) → takes cs (j - length rs) w ≡ (not (type_at frame.types place).limited || in_range w (range_at frame.ranges place))
           = λ w. let same : j - length rs ≡ j + 0 - length rs = omega arith in ap (λ i. takes cs i w) same ∙ behind 0 w (omega arith) in
           let may : ((type_at frame.types place).limited || in_range v (range_at frame.ranges place)) ≡ true
-          = may_be (type_at frame.types place).limited (stays_in bodies.frame own base e (range_at frame.ranges place)) (in_range v (range_at frame.ranges place)) b.1
+          = tested_fits (type_at frame.types place).limited (stays_in bodies.frame own base e (range_at frame.ranges place)) (in_range v (range_at frame.ranges place)) b.1
           (λ h. stays bodies.frame callees MayCall own base s range answers-in e (range_at frame.ranges place) h b.0) in
           let put = input_set rs cs frame cells begin place j left v ev.faulted (faults callees base e s) x1 (omega arith) (omega arith) (omega arith) fits may ev.value ev.faults in
           let w = run_of rs cs (set j left) (run_of_all rs cs (flats_of (input_start frame place j)) x1) in

@@ -1,5 +1,6 @@
 -- What an idle block becomes: no scratch cells and no statements; and its run changes nothing.
-use Rattle.std.proofs.Common.{◌≡◌, ℕ, zero, suc, ◌+◌, ◌&&◌, Bool, true, false, List, [], ◌++◌, length, refl, ap, ◌∙◌}
+use Rattle.std.proofs.Common.{◌≡◌, ℕ, zero, suc, ◌+◌, Bool, true, false, List, [], ◌++◌, length, refl, ap, ◌∙◌}
+use Rattle.std.proofs.lemmas.Bool.{and_parts}
 use Rattle.std.specs.Prelude.{◌==◌, slice_index_or, if◌then◌else◌}
 use Rattle.st_tree.specs.declared.data_type.DataType.{DataType}
 use Rattle.st_tree.specs.declared.typed.Range.{Range}
@@ -14,10 +15,6 @@ use Rattle.flat_form.specs.Bodies.{Bodies}
 use Rattle.flat_form.specs.FlatLists.{scratch_of, scratch_of_all, flat_of, flat_of_all}
 use Rattle.flat_form.specs.Pous.{block_body, bodies_of}
 use Rattle.flat_form.specs.Idle.{is_idle, is_idle_all, idle_of}
-
-both_hold : (a b : Bool) → (a && b) ≡ true → (a ≡ true) × (b ≡ true)
-both_hold true b h = (refl, h)
-both_hold false b h = cc
 
 -- ---- statements, where each block that is told idle becomes and does nothing
 
@@ -34,7 +31,7 @@ module _ (idle : ℕ → Bool) where
     all-scratch : (base : ℕ) (ts : Statements) → is_idle_all idle ts ≡ true → scratch_of_all bodies kinds base ts ≡ []
     all-scratch base no_statements h = refl
     all-scratch base (statement t ts) h =
-        let each_holds = both_hold (is_idle idle t) (is_idle_all idle ts) h in
+        let each_holds = and_parts (is_idle idle t) (is_idle_all idle ts) h in
         ap (λ (l : List Scratch). l ++ scratch_of_all bodies kinds base ts) (one-scratch base t each_holds.0) ∙ all-scratch base ts each_holds.1
 
   module _ (bodies : Bodies) (owner : OwnerData) (each : (b base k : ℕ) → idle b ≡ true → bodies.run_list owner b base k ≡ []) where
@@ -49,7 +46,7 @@ module _ (idle : ℕ → Bool) where
     all-list : (base : ℕ) (ts : Statements) (k : ℕ) → is_idle_all idle ts ≡ true → flat_of_all bodies owner base ts k ≡ []
     all-list base no_statements k h = refl
     all-list base (statement t ts) k h =
-        let each_holds = both_hold (is_idle idle t) (is_idle_all idle ts) h in
+        let each_holds = and_parts (is_idle idle t) (is_idle_all idle ts) h in
         ap (λ (l : List FlatStatement). l ++ flat_of_all bodies owner base ts (k + length (scratch_of bodies owner.kinds base t))) (one-list base t k each_holds.0)
         ∙ all-list base ts (k + length (scratch_of bodies owner.kinds base t)) each_holds.1
 
@@ -65,7 +62,7 @@ module _ (idle : ℕ → Bool) where
     all-effect : (base : ℕ) (ts : Statements) (s : State) → is_idle_all idle ts ≡ true → effect_of_all callees rs base ts s ≡ s
     all-effect base no_statements s h = refl
     all-effect base (statement t ts) s h =
-        let each_holds = both_hold (is_idle idle t) (is_idle_all idle ts) h in
+        let each_holds = and_parts (is_idle idle t) (is_idle_all idle ts) h in
         ap (λ (u : State). effect_of_all callees rs base ts u) (one-effect base t s each_holds.0) ∙ all-effect base ts s each_holds.1
 
     run-effect : (q : CalledData) (base : ℕ) (s : State) → is_idle_all idle (block_body q) ≡ true → effect_of_run callees q rs base s ≡ s

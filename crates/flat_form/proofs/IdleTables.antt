@@ -11,7 +11,7 @@ use Rattle.effects.specs.Calls.{nothing}
 use Rattle.flat_form.specs.Pous.{block_body}
 use Rattle.flat_form.specs.Idle.{is_idle_all, idle_of, idle_in, AreIdle, AreIdleBelow}
 
-by_test : {P : Type 0} (b : Bool) → (b ≡ true → P) → (b ≡ false → P) → P
+pub by_test : {P : Type 0} (b : Bool) → (b ≡ true → P) → (b ≡ false → P) → P
 by_test true p q = p refl
 by_test false p q = q refl
 

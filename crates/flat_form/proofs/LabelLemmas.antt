@@ -1,5 +1,6 @@
 -- The tests of labels: TRUE where the selector's value is among those of the labels, and never a fault.
 use Rattle.std.proofs.Common.{◌≡◌, ℕ, Bool, true, false, ◌&&◌, ◌||◌, List, [], ◌∷◌, map, ℤ, pos, refl, zero-add}
+use Rattle.std.proofs.Math.Bool.{or_assoc}
 use Rattle.std.specs.Prelude.{slice_index_or, int_le}
 use Rattle.std.specs.Ordering.{int_eq}
 use Rattle.st_tree.specs.declared.elementary.Elementary.{Elementary}
@@ -23,21 +24,17 @@ wrapped : (b : Bool) → wrap_to Bit (number_of b) ≡ number_of b
 wrapped true = refl
 wrapped false = refl
 
-both : (a b : Bool) → applied And Bit (number_of a) (number_of b) ≡ number_of (a && b)
-both false false = refl
-both false true = refl
-both true false = refl
-both true true = refl
+pub and_bits : (a b : Bool) → applied And Bit (number_of a) (number_of b) ≡ number_of (a && b)
+and_bits false false = refl
+and_bits false true = refl
+and_bits true false = refl
+and_bits true true = refl
 
-one_of : (a b : Bool) → applied Or Bit (number_of a) (number_of b) ≡ number_of (a || b)
-one_of false false = refl
-one_of false true = refl
-one_of true false = refl
-one_of true true = refl
-
-regroup : (a b c : Bool) → ((a || b) || c) ≡ (a || (b || c))
-regroup true b c = refl
-regroup false b c = refl
+pub or_bits : (a b : Bool) → applied Or Bit (number_of a) (number_of b) ≡ number_of (a || b)
+or_bits false false = refl
+or_bits false true = refl
+or_bits true false = refl
+or_bits true true = refl
 
 -- ---- the tests
 
@@ -58,12 +55,12 @@ module _ (kind : Elementary) (t : ℕ) (x : State) where
   module _ (v : ℤ) (held : slice_index_or x t (pos 0) ≡ v) where
     label_test-value : (l : TypedLabel) → value_of no_callees 0 (label_test kind t l) x ≡ number_of (is_named v l)
     label_test-value (Single k) = rw (zero-add t, held, wrapped (int_eq v k))
-    label_test-value (Span r) = rw (zero-add t, held, wrapped (int_le r.low v), wrapped (int_le v r.high)) (both (int_le r.low v) (int_le v r.high))
+    label_test-value (Span r) = rw (zero-add t, held, wrapped (int_le r.low v), wrapped (int_le v r.high)) (and_bits (int_le r.low v) (int_le v r.high))
 
     value_on-or_tests : (b : Bool) (rs : List TypedLabel) → value_on no_callees 0 (number_of b) (operands_of (map (or_test kind t) rs)) x ≡ number_of (b || is_labelled v rs)
     value_on-or_tests true [] = refl
     value_on-or_tests false [] = refl
-    value_on-or_tests b (r ∷ rs) = rw (label_test-value r, one_of b (is_named v r)) (rw (value_on-or_tests (b || is_named v r) rs, regroup b (is_named v r) (is_labelled v rs)))
+    value_on-or_tests b (r ∷ rs) = rw (label_test-value r, or_bits b (is_named v r)) (rw (value_on-or_tests (b || is_named v r) rs, or_assoc b (is_named v r) (is_labelled v rs)))
 
     pub labels_test-value : (rs : List TypedLabel) → value_of no_callees 0 (labels_test kind t rs) x ≡ number_of (is_labelled v rs)
     labels_test-value [] = refl

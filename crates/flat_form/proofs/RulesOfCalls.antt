@@ -1,6 +1,7 @@
 -- The statements that an expression's calls of FUNCTIONs become keep the rules of flat programs, and what is left of the expression reads
 -- what they set.
 use Rattle.std.proofs.Common.{◌≡◌, ℕ, zero, suc, ◌+◌, ◌-◌, ◌<◌, ◌≤◌, Bool, true, false, not, ◌||◌, List, [], ◌∷◌, ◌++◌, length, ℤ, pos, refl, ap, subst, ◌∙◌, inl, inr, arith, rules, tests}
+use Rattle.std.proofs.Math.Bool.{or-true}
 use Rattle.std.specs.Prelude.{slice_index_or, if◌then◌else◌}
 use Rattle.std.proofs.lemmas.Int.{ints}
 use Rattle.st_tree.specs.declared.typed.Range.{Range}
@@ -35,10 +36,6 @@ starts_within [] s p is h = absurd (omega arith)
 starts_within (r ∷ rs) [] p is h = absurd is
 starts_within (r ∷ rs) (v ∷ s) zero is h = let low = is.0 in let high = is.1 in search (rules, tests, ints)
 starts_within (r ∷ rs) (v ∷ s) (suc p) is h = starts_within rs s p is.2 (omega arith)
-
-taken : (b : Bool) → (not b || true) ≡ true
-taken true = refl
-taken false = refl
 
 -- ---- one list after another
 
@@ -129,7 +126,7 @@ module _ (n : ℕ) (cs : List Scratch) where
   starts_keep frame place (suc m) k done begins h is =
       let c = is.0 in
       let fits = begins place (omega arith) in
-      ((c.room, tt, inr (inr (c.takes (initial_at frame place) ∙ rw fits (taken (type_at frame.types place).limited)))), starts_keep frame (place + 1) m (k + 1) (k ∷ done) begins (omega arith) is.1)
+      ((c.room, tt, inr (inr (c.takes (initial_at frame place) ∙ rw fits (or-true (not (type_at frame.types place).limited))))), starts_keep frame (place + 1) m (k + 1) (k ∷ done) begins (omega arith) is.1)
 
   starts_set : (frame : FrameData) (place m k : ℕ) (done d : List ℕ) → StandAt k (other_scratch frame place m) → Within (behind (other_starts frame place m k) done) d → AllUsable d (counted_from k m)
   starts_set frame place zero k done d is w = tt
@@ -166,7 +163,7 @@ module _ (n : ℕ) (cs : List Scratch) where
         let later = λ (p : ℕ) (h : IsOneOf done p). behind-within starts done p h in
         Keeps-both starts _ done
         (starts_keep frame (2 + inputs) others k done (begins_of f inputs may) (omega arith) front) (
-          (c.room, tt, inr (inr (c.takes (initial_at frame 1) ∙ rw in_its (taken (type_at frame.types 1).limited)))),
+          (c.room, tt, inr (inr (c.takes (initial_at frame 1) ∙ rw in_its (or-true (not (type_at frame.types 1).limited))))),
           each_call f inputs may (k + others) (places_of places k others) (k + others + 1) d (inr (inl refl), c.room)
               (usable_append d places (counted_from k others) (usable_later done d (λ p h. inr (later p h)) places us) (starts_set frame (2 + inputs) others k done d front (λ p h. inr h)))
               back.1,
@@ -245,7 +242,7 @@ module _ (n : ℕ) (cs : List Scratch) where
         where
           by_test : (test : Bool) → (type_at frame.types place).limited ≡ test → Keeps done ((if test then set t (number (initial_at frame place)) ∷ [] else []) ++ set t e ∷ rest)
           by_test true same = (
-            (c.room, tt, inr (inr (c.takes (initial_at frame place) ∙ rw fits (taken (type_at frame.types place).limited)))),
+            (c.room, tt, inr (inr (c.takes (initial_at frame place) ∙ rw fits (or-true (not (type_at frame.types place).limited))))),
             ((c.room, reads (t ∷ done) (λ p h. inr h), inl (inr (inl refl))), more (t ∷ t ∷ done) (λ p h. inr (inr h))),
           )
           by_test false same = ((c.room, reads done (λ p h. h), inr (inl (c.limited ∙ same))), more (t ∷ done) (λ p h. inr h))

@@ -23,7 +23,7 @@ use Rattle.flat_form.proofs.Shown.{held, Owns, Shows, Ran, Done, SameUpTo, Evalu
 use Rattle.flat_form.proofs.Sequences.{run-append, Stands-front, Stands-back}
 use Rattle.scan_model.proofs.Keeping.{HoldsFault, fault_added, kept_by_store, kept_by_statement, kept_by_all}
 use Rattle.flat_form.proofs.LabelLemmas.{is_truth-number_of, labels_test-fault, labels_test-value}
-use Rattle.flat_form.proofs.TurnValues.{stay_from, first-fits, later-fit}
+use Rattle.flat_form.proofs.TurnValues.{stay_from, tested_fits, first-fits, later-fit}
 use Rattle.flat_form.proofs.ActionRuns.{EachActionRuns}
 use Rattle.flat_form.proofs.Owed.{with_turns}
 use Rattle.flat_form.proofs.Claims.{ExpressionsRun, ExpressionsStay, ChartsRun, RunsKeep}
@@ -94,10 +94,6 @@ behind_is c n h = search (rules, tests)
 
 placed-behind : (rs : List Range) (cs : List Scratch) (c : ℕ) (v : ℤ) (x : State) → length rs ≤ c → takes cs (c - length rs) v ≡ true → placed rs cs c v x ≡ slice_set x c v
 placed-behind rs cs c v x h free = rw (behind_is c (length rs) h, free) refl
-
-tested_fits : (t a b : Bool) → (t || a) ≡ true → (a ≡ true → b ≡ true) → (t || b) ≡ true
-tested_fits true a b h keeps = refl
-tested_fits false a b h keeps = keeps h
 
 -- ---- statements
 

@@ -1,5 +1,6 @@
 -- The flat list of a chart shows what the chart does.
-use Rattle.std.proofs.Common.{◌≡◌, ℕ, zero, suc, ◌+◌, ◌<◌, ◌≤◌, Bool, true, false, ◌||◌, List, [], ◌∷◌, ◌++◌, length, ℤ, refl, sym, subst, ◌∙◌, arith, length-append}
+use Rattle.std.proofs.Common.{◌≡◌, ℕ, zero, suc, ◌+◌, ◌<◌, ◌≤◌, Bool, true, false, List, [], ◌∷◌, ◌++◌, length, ℤ, refl, sym, subst, ◌∙◌, arith, length-append}
+use Rattle.std.proofs.lemmas.Bool.{or_right}
 use Rattle.std.specs.Prelude.{slice_index_or, if◌then◌else◌, Option, None, Some}
 use Rattle.st_tree.specs.declared.typed.Range.{Range}
 use Rattle.st_tree.specs.declared.typed.StepCells.{StepCells}
@@ -94,10 +95,6 @@ record Known (base : ℕ) (steps : List StepCells) (xm lm : Marking) (s : State)
 
 -- ---- the latches
 
-or-true : (a b : Bool) → b ≡ true → (a || b) ≡ true
-or-true true b h = refl
-or-true false b h = h
-
 module _ (rs : List Range) (cs : List Scratch) (own : List Range) (tested : ℕ → Bool) (owner : OwnerData) (base : ℕ) (first : HoldsFault own) (steps : List StepCells) (xm lm : Marking)
     (flag_now : (i : ℕ) → i < length steps → IsFlag own (base + (slice_index_or steps i no_step).active)) (flag_was : (i : ℕ) → i < length steps → IsFlag own (base + (slice_index_or steps i no_step).before)) where
   now_tests : (f : ℤ) (s y : State) → Shows (length own) owner.place_at f s y → Known base steps xm lm s → (i : ℕ) → i < length steps → IsTest y (active_at owner base steps i) (is_on xm i)
@@ -127,7 +124,7 @@ module _ (rs : List Range) (cs : List Scratch) (own : List Range) (tested : ℕ 
         let one = run_test rs cs (owner.place_at c) (latch_test owner base steps place links) y b test in
         let y1 = placed rs cs (owner.place_at c) (number_of b) y in
         let s1 = stored own c (number_of b) s in
-        let step : Done n k owner.place_at f s1 y y1 = Done-stored rs cs own tested owner.place_at k f c (number_of b) s y o fl.0.0 fl.0.1 room (or-true (tested c) _ (fits_bit b (range_at own c) fl.1 fl.2)) done.shown in
+        let step : Done n k owner.place_at f s1 y y1 = Done-stored rs cs own tested owner.place_at k f c (number_of b) s y o fl.0.0 fl.0.1 room (or_right (tested c) _ (fits_bit b (range_at own c) fl.1 fl.2)) done.shown in
         let long = step.ran.long in
         let known_one : Known base steps xm lm s1 = record {
           now = λ i h. let flag = flag_now i h in let less = now_below i h in stored-other own c (number_of b) s (base + (slice_index_or steps i no_step).active) flag.above (omega arith) ∙ known.now i h;

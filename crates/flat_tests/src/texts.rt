@@ -1,6 +1,7 @@
 // Texts with their flat lists, as another implementation prints them.
 use crate::printing::print;
-use front_end::{AcceptFault, accept_flat};
+use flat_end::accept_flat;
+use front_end::AcceptFault;
 use std::alloc::Global;
 use std::test::Fail;
 

@@ -10,7 +10,7 @@ use Rattle.st_tree.specs.View.{called_view, all_called_view}
 use Rattle.effects.specs.Calls.{nothing}
 use Rattle.flat_form.specs.Pous.{block_body}
 use Rattle.flat_form.specs.WellTyped.{extent_of_all, extents_of}
-use Rattle.flat_typing.proofs.Lists.{by_test}
+use Rattle.flat_form.proofs.IdleTables.{by_test}
 use Rattle.flat_typing.specs.Extents.{extent_in, AreExtents}
 
 none-there : (ns : List ℕ) (b : ℕ) → length ns ≤ b → extent_in ns b ≡ 0

@@ -1,5 +1,6 @@
 -- A text states one program, or breaks one rule first.
-use Rattle.std.proofs.Common.{◌≡◌, Bool, true, false, ℕ, List, [], ◌∷◌, Some, sym, ap, ◌∙◌, subst, inl}
+use Rattle.std.proofs.Common.{◌≡◌, ℕ, List, [], ◌∷◌, Some, sym, ap, ◌∙◌, subst, inl}
+use Rattle.std.proofs.lemmas.Bool.{both_ways}
 use Rattle.st_tree.specs.declared.rule.Refusal.{Refusal}
 use Rattle.st_tree.specs.Rules.{IsAmong, IsFirst, IsSame}
 use Rattle.st_tree.specs.Syntax.{PouData, FileData}
@@ -19,9 +20,6 @@ FirstIn broken r = IsFirst (λ x. IsAmong x broken) r
 -- nothing is the first of none
 none_first : (broken : List Refusal) (r : Refusal) → broken ≡ [] → FirstIn broken r → ⊥
 none_first broken r e h = subst (IsAmong r) e h.is_broken
-
-not_both : (b : Bool) → b ≡ true → b ≡ false → ⊥
-not_both b h k = let e : true ≡ false = sym h ∙ k in cc
 
 -- a text has one file
 one_file : (text : List ℕ) (f g : FileData) → HasFile text f → HasFile text g → f ≡ g
@@ -74,7 +72,7 @@ no_program_too text p r h (by_tree none) = no_file_too text h.file r h.states no
 no_program_too text p r h (by_names f k first) = names_sound text f h.file r k h.states h.names first
 no_program_too text p r h (by_types f k names first) = types_sound text f h.file r k h.states h.typing first
 no_program_too text p r h (by_room f n k names one typing room e) =
-    not_both (has_room f n) (room_of text f h.file n h.number k h.states one h.one.is ∙ h.room) room
+    both_ways (has_room f n) room (room_of text f h.file n h.number k h.states one h.one.is ∙ h.room)
 
 first_names : (text : List ℕ) (f g : FileData) (r s : Refusal) → HasFile text f → HasFile text g → IsFirst (IsBroken f) r → IsFirst (IsBroken g) s → IsSame r s
 first_names text f g r s h k first other =

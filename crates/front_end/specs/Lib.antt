@@ -1,4 +1,3 @@
 pub mod StandardBlocks
 pub mod Texts
-pub mod FlatTexts
 pub mod Faults

@@ -1,13 +1,11 @@
-// From the bytes of a program's text to the typed program that it states, and to its flat form, or to the first rule that it breaks.
+// From the bytes of a program's text to the typed program that it states, or to the first rule that it breaks.
 #![tactic(auto)]
 
 mod accept;
 mod fault;
-mod flat;
 mod laws;
 mod prelude;
 
 pub use accept::{accept_text, tokens_of};
 pub use fault::AcceptFault;
-pub use flat::{Accepted, accept_flat};
 pub use laws::one_acceptance;

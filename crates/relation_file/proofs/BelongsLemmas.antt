@@ -4,6 +4,7 @@ use Rattle.std.specs.Str.{bytes_eq}
 use Rattle.std.specs.Ordering.{int_eq}
 use Rattle.std.proofs.lemmas.Bool.Decides.{Decides-int_eq}
 use Rattle.std.proofs.lemmas.List.Elements.{All-nil, All-cons}
+use Rattle.std.proofs.lemmas.Bool.{and_parts}
 use Rattle.st_tree.specs.declared.rule.Rule.{Rule}
 use Rattle.st_tree.specs.declared.rule.Rule.TheVariants.{InputsDiffer}
 use Rattle.st_tree.specs.declared.rule.Refusal.{Refusal}
@@ -76,13 +77,9 @@ holds : (b : Bool) (rule : Rule) (at : ℕ) → unless b rule at ≡ [] → b �
 holds true rule at h = refl
 holds false rule at h = absurd (let e : ⊥ = cc in e)
 
-both_true : (a b : Bool) → (a && b) ≡ true → (a ≡ true) × (b ≡ true)
-both_true true b h = (refl, h)
-both_true false b h = absurd (let e : ⊥ = cc in e)
-
 same_range : (r s : Range) → is_same_range r s ≡ true → r ≡ s
 same_range r s h =
-    let e = both_true (int_eq r.low s.low) (int_eq r.high s.high) h in
+    let e = and_parts (int_eq r.low s.low) (int_eq r.high s.high) h in
     let low = (Decides-int_eq r.low s.low).0 e.0 in
     let high = (Decides-int_eq r.high s.high).0 e.1 in
     λ i. record { low = low i; high = high i }
@@ -97,7 +94,7 @@ module _ (old new : ProgramData) where
   both_belong a b None q f g h = tt
   both_belong a b (Some p) None f g h = tt
   both_belong a b (Some p) (Some q) f g h =
-      let e = both_true (is_same_type p.kind (paired_type old.types new.types q.kind) && is_same_flag p.limited q.limited) (is_same_range p.range q.range) h in
+      let e = and_parts (is_same_type p.kind (paired_type old.types new.types q.kind) && is_same_flag p.limited q.limited) (is_same_range p.range q.range) h in
       (is_cell old a.text p f, subst (IsCellOf new q.place) (sym (same_range p.range q.range e.1)) (is_cell new b.text q g))
 
   single_old : (a : Named) (p : Option Placed) → cell_named a.text 0 old.cells ≡ p → IfLine (single_line sides.Old p)

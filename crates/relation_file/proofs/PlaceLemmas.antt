@@ -1,5 +1,5 @@
 -- Cells by their paths, and names.
-use Rattle.std.proofs.Common.{◌≡◌, ℕ, ◌+◌, ◌-◌, ◌<◌, ◌≤◌, cond, Bool, true, false, ◌||◌, String, refl, List, ◌∷◌, length, get_or, drop, Some, sym, ap, ◌∙◌, arith, suc, drop-cons, Bor}
+use Rattle.std.proofs.Common.{◌≡◌, ℕ, ◌+◌, ◌-◌, ◌<◌, ◌≤◌, cond, true, String, List, ◌∷◌, length, get_or, drop, Some, sym, ap, ◌∙◌, arith, suc, drop-cons, Bor}
 use Rattle.std.specs.Str.{bytes_eq}
 use Rattle.std.proofs.lemmas.Map.Text.{hash_map_updates_str}
 use Rattle.indexmap.specs.IndexMap.{IndexMap, get_by, Updates}
@@ -11,6 +11,7 @@ use Rattle.st_tree.specs.View.{cell_view, cells_view, text_view, texts_view}
 use Rattle.relation_file.specs.declared.places.Placed.{Placed}
 use Rattle.relation_file.specs.Inputs.{placed, cell_named, is_among}
 use Rattle.relation_file.specs.Places.{Finds, HasNames}
+use Rattle.relation_file.proofs.SeenLemmas.{or_is}
 
 last_one : {A : Type 0} (cs : List A) (place : ℕ) (d : A) → 0 < place → place ≤ length cs → drop (place - 1) cs ≡ get_or cs (place - 1) d ∷ drop place cs
 last_one cs place d some within =
@@ -35,10 +36,6 @@ finds_one_more cs place path cell p old new some within same named known updates
     ∙ ap (cell_named text (place - 1)) (sym listed)
 
 -- one more name, before those that are known
-or_is : (b x : Bool) → cond b true x ≡ (b || x)
-or_is true x = refl
-or_is false x = refl
-
 pub has_one_more : {S : Type 0} (names : List (String Global)) (place : ℕ) (key : Bor (List ℕ)) (name : String Global) (old new : IndexSet (Bor (List ℕ)) S)
     → 0 < place → place ≤ length names → name ≡ get_or names (place - 1) name → key.now ≡ text_view name
     → SetUpdates (λ x y. bytes_eq x.now y.now) old new key true → HasNames old (texts_view (drop place names)) → HasNames new (texts_view (drop (place - 1) names))

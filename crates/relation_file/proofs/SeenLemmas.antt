@@ -7,7 +7,7 @@ use Rattle.indexmap.specs.IndexSet.{IndexSet, contains_text, Updates}
 use Rattle.relation_file.specs.Inputs.{is_among}
 use Rattle.relation_file.specs.Seen.{Lists}
 
-or_is : (b x : Bool) → cond b true x ≡ (b || x)
+pub or_is : (b x : Bool) → cond b true x ≡ (b || x)
 or_is true x = refl
 or_is false x = refl
 

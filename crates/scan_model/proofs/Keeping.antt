@@ -1,7 +1,8 @@
 -- Loading and scans keep every value in its cell's range.
-use Rattle.std.proofs.Common.{◌≡◌, ℕ, zero, suc, Bool, true, false, ◌&&◌, List, [], ◌∷◌, ℤ, pos, ◌+ℤ◌, ◌≤ℤ◌, refl, ap, subst, sym, length, rules, arith, tests}
+use Rattle.std.proofs.Common.{◌≡◌, ℕ, zero, suc, Bool, true, false, List, [], ◌∷◌, ℤ, pos, ◌+ℤ◌, ◌≤ℤ◌, refl, ap, subst, sym, length, rules, arith, tests}
 use Rattle.std.specs.Prelude.{◌+◌, ◌==◌, Option, None, Some, slice_set, slice_index_or, if◌then◌else◌, All}
 use Rattle.std.proofs.lemmas.Int.{ints}
+use Rattle.std.proofs.lemmas.Bool.{and_parts}
 use Rattle.st_tree.specs.declared.typed.Range.{Range}
 use Rattle.st_tree.specs.declared.typed.StepCells.{StepCells}
 use Rattle.st_tree.specs.declared.typed.Association.{Association}
@@ -20,10 +21,6 @@ use Rattle.scan_model.specs.Pairs.{RelationData, BelongsTo, is_allowed, after_ro
 -- a test that holds, as two orders
 pub within : (v : ℤ) (r : Range) → in_range v r ≡ true → (r.low ≤ℤ v) × (v ≤ℤ r.high)
 within v r h = search (rules, tests, ints)
-
-pub both : (a b : Bool) → (a && b) ≡ true → (a ≡ true) × (b ≡ true)
-both true b h = (refl, h)
-both false b h = cc
 
 pub IsInRange-length : (rs : List Range) (s : State) → IsInRange rs s → length rs ≡ length s
 IsInRange-length [] [] f = refl
@@ -143,7 +140,7 @@ IsInRange-put_at rs [] [] s h f = f
 IsInRange-put_at rs [] (v ∷ vs) s h f = f
 IsInRange-put_at rs (p ∷ ps) [] s h f = f
 IsInRange-put_at rs (p ∷ ps) (v ∷ vs) s h f =
-    let fits = both (in_range v (range_at rs p)) (fits_places rs ps vs) h in
+    let fits = and_parts (in_range v (range_at rs p)) (fits_places rs ps vs) h in
     IsInRange-put_at rs ps vs _ fits.1 (IsInRange-set rs s p v f fits.0)
 
 put_in_cell : (p : ProgramData) (place : ℕ) (r : Range) (v : ℤ) (s : State) → IsCellOf p place r → in_range v r ≡ true → IsInRange (ranges_of p.cells) s → IsInRange (ranges_of p.cells) (slice_set s place v)
@@ -160,12 +157,12 @@ pub IsPairInRange-loaded : (old new : ProgramData) (ls : List InputLine) (vs : R
 IsPairInRange-loaded old new [] vs pair names h f = f
 IsPairInRange-loaded old new (l ∷ ls) [] pair names h f = f
 IsPairInRange-loaded old new (l ∷ ls) (v ∷ vs) pair names h f =
-    let fits = both (in_range v (range_of_line l)) (fits_lines ls vs) h in
+    let fits = and_parts (in_range v (range_of_line l)) (fits_lines ls vs) h in
     IsPairInRange-loaded old new ls vs _ (λ k d below. names (suc k) d (omega arith)) fits.1 (kept_by_line old new l v pair (names 0 l (omega arith)) fits.0 f)
 
 -- so an allowed row leads from a pair in range to a pair in range
 pub IsPairInRange-after_row : (old new : ProgramData) (rel : RelationData) → IsProgram old → IsProgram new → BelongsTo old new rel → (row : Row) (pair : Pair) → is_allowed rel row pair ≡ true → IsPairInRange old new pair → IsPairInRange old new (after_row old new rel row pair)
 IsPairInRange-after_row old new rel is_old is_new belongs row pair h f =
-    let fits = both (fits_lines rel.inputs row) _ h in
+    let fits = and_parts (fits_lines rel.inputs row) _ h in
     let kept = IsPairInRange-loaded old new rel.inputs row pair belongs fits.0 f in
     (IsInRange-scanned old is_old _ kept.0, IsInRange-scanned new is_new _ kept.1)

@@ -1,16 +1,12 @@
 -- The numbers of a verdict are determined.
-use Rattle.std.proofs.Common.{◌≡◌, ℕ, suc, zero, ◌<◌, Bool, true, false, refl, sym, ◌∙◌, ap, arith, inl, inr}
+use Rattle.std.proofs.Common.{◌≡◌, ℕ, suc, zero, ◌<◌, refl, sym, ◌∙◌, ap, arith, inl, inr}
 use Rattle.std.proofs.lemmas.Bool.{cases_lt}
+use Rattle.std.proofs.lemmas.Bool.Decides.{same_from_decides}
 use Rattle.st_tree.specs.Tree.{ProgramData}
 use Rattle.scan_model.specs.Pairs.{RelationData}
 use Rattle.scan_model.specs.declared.verdict.Verdict.TheVariants.{Vacuous, Related, Different, Open}
 use Rattle.scan_model.specs.Verdicts.{CandidateSet, size_below, IsGreatest, IsSizeOfGreatest, HasBreak, NoBreakBelow, count_of}
 use Rattle.scan_model.specs.VerdictLaws.{OneVerdict}
-
-same_test : (a b : Bool) → (a ≡ true → b ≡ true) → (b ≡ true → a ≡ true) → a ≡ b
-same_test true b f g = sym (f refl)
-same_test false true f g = g refl
-same_test false false f g = refl
 
 same_size : (c : ℕ) (a b : CandidateSet) → ((n : ℕ) → n < c → a n ≡ b n) → size_below c a ≡ size_below c b
 same_size zero a b h = refl
@@ -21,7 +17,7 @@ same_size (suc n) a b h =
 
 module _ (old new : ProgramData) (rel : RelationData) where
   same_greatest : (a b : CandidateSet) → IsGreatest old new rel a → IsGreatest old new rel b → (n : ℕ) → n < count_of old new rel → a n ≡ b n
-  same_greatest a b ga gb n lt = same_test (a n) (b n) (λ e. (gb n lt).1 ((ga n lt).0 e)) (λ e. (ga n lt).1 ((gb n lt).0 e))
+  same_greatest a b ga gb n lt = same_from_decides (a n) (b n) (ga n lt) (gb n lt)
 
   one_size : (k l : ℕ) → IsSizeOfGreatest old new rel k → IsSizeOfGreatest old new rel l → k ≡ l
   one_size k l a b = a.2 ∙ same_size (count_of old new rel) a.0 b.0 (same_greatest a.0 b.0 a.1 b.1) ∙ sym b.2

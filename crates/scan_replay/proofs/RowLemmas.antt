@@ -1,7 +1,8 @@
 -- Rows that are too long or too short.
-use Rattle.std.proofs.Common.{◌≡◌, ◌≢◌, ◌≤◌, ℕ, suc, Bool, true, false, ◌&&◌, List, [], ◌∷◌, ◌++◌, take, drop, length, refl, sym, ap, ◌∙◌, arith, subst}
+use Rattle.std.proofs.Common.{◌≡◌, ◌≢◌, ◌≤◌, ℕ, suc, false, List, [], ◌∷◌, ◌++◌, take, drop, length, refl, sym, ap, ◌∙◌, arith, subst}
 use Rattle.std.proofs.lemmas.List.{length-map}
 use Rattle.std.proofs.lemmas.Grind.{common_steps}
+use Rattle.std.proofs.lemmas.Bool.{and_right}
 use Rattle.st_tree.specs.declared.typed.Range.{Range}
 use Rattle.st_tree.specs.declared.typed.Cell.{Cell}
 use Rattle.st_tree.specs.Types.{in_range}
@@ -13,17 +14,13 @@ use Rattle.effects.specs.Effects.{range_at}
 use Rattle.scan_model.specs.Scans.{ranges_of}
 use Rattle.scan_model.specs.InRange.{Row, IsInRange, fits_places, put_at}
 
-and_false : (a b : Bool) → b ≡ false → (a && b) ≡ false
-and_false true b e = e
-and_false false b e = refl
-
 -- no row fits places of another number
 pub unequal_lengths : (rs : List Range) (ps : List ℕ) (vs : Row) → length ps ≢ length vs → fits_places rs ps vs ≡ false
 unequal_lengths rs [] [] other = absurd (other refl)
 unequal_lengths rs [] (v ∷ vs) other = refl
 unequal_lengths rs (p ∷ ps) [] other = refl
 unequal_lengths rs (p ∷ ps) (v ∷ vs) other =
-    and_false (in_range v (range_at rs p)) _ (unequal_lengths rs ps vs (λ e. other (ap suc e)))
+    and_right (in_range v (range_at rs p)) _ (unequal_lengths rs ps vs (λ e. other (ap suc e)))
 
 nothing_left : (i : ℕ) (vs : Row) → length vs ≤ i → drop i vs ≡ []
 nothing_left i vs over = grind (arith, common_steps)
@@ -62,7 +59,7 @@ pub unequal_lines : (ls : List InputLine) (vs : Row) → length ls ≢ length vs
 unequal_lines [] [] other = absurd (other refl)
 unequal_lines [] (v ∷ vs) other = refl
 unequal_lines (l ∷ ls) [] other = refl
-unequal_lines (l ∷ ls) (v ∷ vs) other = and_false (in_range v (range_of_line l)) _ (unequal_lines ls vs (λ e. other (ap suc e)))
+unequal_lines (l ∷ ls) (v ∷ vs) other = and_right (in_range v (range_of_line l)) _ (unequal_lines ls vs (λ e. other (ap suc e)))
 
 load_nothing : (ls : List InputLine) (pair : Pair) → loaded ls [] pair ≡ pair
 load_nothing [] pair = refl

@@ -14,7 +14,7 @@ use Rattle.effects.specs.Effects.{with_fault, effect_of, effect_of_all}
 use Rattle.flat_form.specs.FlatCharts.{left_flag, come_flag}
 use Rattle.flat_form.specs.WellTyped.{AreSteps}
 use Rattle.flat_form.proofs.Shown.{held}
-use Rattle.flat_form.proofs.ChartStores.{is_truth-number_of}
+use Rattle.flat_form.proofs.LabelLemmas.{is_truth-number_of}
 use Rattle.flat_form.proofs.ChartMoves.{Flags}
 use Rattle.sfc_lowering.specs.Shifts.{shifted_steps}
 use Rattle.sfc_lowering.specs.LoweredCharts.{only_where, cleared, flag_left, flag_entered, flagged}

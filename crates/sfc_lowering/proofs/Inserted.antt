@@ -104,10 +104,6 @@ length-stored rs p v s = by_test (in_range v (range_at rs p))
     by_test true = length-set s p v
     by_test false = length-set s 0 (pos 1)
 
-pub length-faulted : (b : Bool) (s : State) → length (with_fault b s) ≡ length s
-length-faulted true s = length-set s 0 (pos 1)
-length-faulted false s = refl
-
 -- as many ranges are put in as values
 pub stored-inserted : (c : ℕ) (zr rs : List Range) (z s : State) (p q : ℕ) (v : ℤ) → 0 < c → c ≤ length s → length zr ≡ length z → c ≤ p → q ≡ p + length z
     → stored (with_more c zr rs) q v (with_more c z s) ≡ with_more c z (stored rs p v s)

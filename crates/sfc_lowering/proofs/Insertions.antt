@@ -9,10 +9,11 @@ use Rattle.st_tree.specs.Tree.{Expression, number, cell, unary, chain, call, ans
 use Rattle.effects.specs.Values.{State, Callees, unary_applied, applied, called, answer_in, fault_in, divides_by_zero, is_truth, value_of, value_on, values_of, faults, any_faults, one_faults}
 use Rattle.effects.specs.Effects.{with_fault, stored, is_labelled, effect_of_turns, effect_of, effect_of_all, effect_of_choices, effect_of_entries}
 use Rattle.effects.specs.Calls.{nothing}
+use Rattle.flat_form.proofs.ChartStores.{length-with_fault}
 use Rattle.sfc_lowering.specs.LoweredLists.{IsWithoutChart, AreWithoutChart, ChoicesAreWithoutChart, EntriesAreWithoutChart}
 use Rattle.sfc_lowering.specs.LoweredPrograms.{CalledIsWithoutChart, CalledAreWithoutChart}
 use Rattle.sfc_lowering.specs.LoweredScans.{with_more, without, over_scratch, over_scratch_at, lowered_run_of, lowered_callees_of}
-use Rattle.sfc_lowering.proofs.Inserted.{length-with_more, read-behind, without-behind, with_more-behind, with_fault-inserted, length-stored, length-faulted, stored-inserted}
+use Rattle.sfc_lowering.proofs.Inserted.{length-with_more, read-behind, without-behind, with_more-behind, with_fault-inserted, length-stored, stored-inserted}
 use Rattle.sfc_lowering.proofs.Chartless.{at-chartless}
 
 -- the second state is the first, which has so many values, with more from a place on
@@ -82,7 +83,7 @@ module _ (callees : Callees) (each : Inserts callees) (c m : ℕ) (zr rs : List 
   -- ---- statements
 
   Matches-faulted : (b : Bool) (s t : State) → Matches c m z s t → Matches c m z (with_fault b s) (with_fault b t)
-  Matches-faulted b s t h = let g = h.long in record { long = length-faulted b s ∙ h.long; same = ap (with_fault b) h.same ∙ with_fault-inserted c z s b first (omega arith) }
+  Matches-faulted b s t h = let g = h.long in record { long = length-with_fault b s ∙ h.long; same = ap (with_fault b) h.same ∙ with_fault-inserted c z s b first (omega arith) }
 
   Matches-stored : (p r : ℕ) (v : ℤ) (s t : State) → c ≤ p → r ≡ p + length z → Matches c m z s t → Matches c m z (stored rs p v s) (stored (with_more c zr rs) r v t)
   Matches-stored p r v s t above is h =

@@ -1,5 +1,6 @@
 -- What POUs become does what they do, and a program without charts leaves the cells that the program leaves.
-use Rattle.std.proofs.Common.{◌≡◌, ℕ, zero, suc, ◌+◌, ◌<◌, ◌≤◌, Bool, true, false, ◌&&◌, List, [], ◌∷◌, length, map, min, ℤ, pos, refl, sym, ap, ◌∙◌, arith}
+use Rattle.std.proofs.Common.{◌≡◌, ℕ, zero, suc, ◌+◌, ◌<◌, ◌≤◌, Bool, true, false, List, [], ◌∷◌, length, map, min, ℤ, pos, refl, sym, ap, ◌∙◌, arith}
+use Rattle.std.proofs.lemmas.Bool.{and_parts}
 use Rattle.std.specs.Prelude.{◌==◌, slice_set, slice_index_or, if◌then◌else◌, replicate}
 use Rattle.std.proofs.lemmas.List.{length-map, length-replicate}
 use Rattle.st_tree.specs.declared.elementary.Elementary.TheVariants.{Bool as truth}
@@ -42,10 +43,6 @@ count-at [] n = refl
 count-at (p ∷ ps) zero = refl
 count-at (p ∷ ps) (suc n) = count-at ps n
 
-both_hold : (a b : Bool) → (a && b) ≡ true → (a ≡ true) × (b ≡ true)
-both_hold true b h = (refl, h)
-both_hold false b h = cc
-
 -- ---- idle blocks do nothing, with scratch variables or without
 
 module _ (idle : ℕ → Bool) (callees : Callees) (each : (b base : ℕ) (rs : List Range) (s : State) → idle b ≡ true → callees.runs b rs base s ≡ s) where
@@ -53,7 +50,7 @@ module _ (idle : ℕ → Bool) (callees : Callees) (each : (b base : ℕ) (rs : 
   idle_all-lowered flags more base no_statements rs s h = refl
   idle_all-lowered flags more base (statement (assign target e) ts) rs s h = cc
   idle_all-lowered flags more base (statement (run b offset) ts) rs s h =
-      let holds = both_hold (idle b) (is_idle_all idle ts) h in
+      let holds = and_parts (idle b) (is_idle_all idle ts) h in
       ap (effect_of_all callees rs base (lowered_body flags more ts)) (each b (base + (offset + more)) rs s holds.0) ∙ idle_all-lowered flags more base ts rs s holds.1
   idle_all-lowered flags more base (statement (choice arms other) ts) rs s h = cc
   idle_all-lowered flags more base (statement (cases e es other) ts) rs s h = cc

@@ -33,20 +33,9 @@ use Rattle.sfc_lowering.proofs.Insertions.{Matches, Inserts}
 use Rattle.sfc_lowering.proofs.PlainTests.{Tells}
 use Rattle.sfc_lowering.proofs.ChartCells.{ranges_with, LatchIsFlag, latches_of, runs-told}
 use Rattle.sfc_lowering.proofs.LatchRuns.{parted, all_latch_flags, now-same, was-same, latches_run}
+use Rattle.sfc_lowering.proofs.Flagging.{effect-append, where-told}
 use Rattle.sfc_lowering.proofs.MoveRuns.{AreCarried, moves_run}
 use Rattle.sfc_lowering.proofs.Expressions.{EndAlike, HasCells, value-shifted, fault-shifted}
-
--- ---- lists one behind the other, and an IF without ELSE
-
-pub all-append : (callees : Callees) (rs : List Range) (base : ℕ) (a b : List Statement) (s : State)
-    → effect_of_all callees rs base (statements_of (a ++ b)) s ≡ effect_of_all callees rs base (statements_of b) (effect_of_all callees rs base (statements_of a) s)
-all-append callees rs base [] b s = refl
-all-append callees rs base (t ∷ a) b s = all-append callees rs base a b (effect_of callees rs base t s)
-
-only-told : (callees : Callees) (rs : List Range) (base : ℕ) (e : Expression) (ss : List Statement) (t : State) (b : Bool) → Tells callees base t e b
-    → effect_of_all callees rs base (statements_of (only_where e ss ∷ [])) t ≡ (if b then effect_of_all callees rs base (statements_of ss) t else t)
-only-told callees rs base e ss t true h = rw (h.value, h.fault) refl
-only-told callees rs base e ss t false h = rw (h.value, h.fault) refl
 
 -- ---- the latches leave what stands before them
 
@@ -191,7 +180,7 @@ module _ (frames : ℕ → FrameData) (MayCall MayRun : ℕ → ℕ → Type 0) 
       let told : Tells new_callees base t test b = subst (λ (x : State). Tells new_callees base x test b) (sym ext.same)
       (runs-told rs base c k first own ext.flags s ext.count ext.within new_callees steps now before latch links h.is_now h.was m.flag_now m.flag_was names is_flag) in
       let new = λ (x : State). effect_of_all new_callees (ranges_with c k rs) base (statements_of (lowered_all flags k ss)) x in
-      subst (λ (x : State). Acted steps now before (if b then effect_of_all callees rs base ss s else s) x) (sym (only-told new_callees (ranges_with c k rs) base test (lowered_all flags k ss) t b told))
+      subst (λ (x : State). Acted steps now before (if b then effect_of_all callees rs base ss s else s) x) (sym (where-told new_callees (ranges_with c k rs) base test (lowered_all flags k ss) t b told))
       (Acted-if steps now before b (effect_of_all callees rs base ss s) (new t) s t (body_acted steps now before ss new m each s t h) h)
 
   -- ---- a chart, but for its actions
@@ -246,7 +235,7 @@ module _ (frames : ℕ → FrameData) (MayCall MayRun : ℕ → ℕ → Type 0) 
       let cells = shifted_steps k steps in
       let rest = lowered_actions flags k cells acts ++ moves k cells flags ts in
       let behind_latches = effect_of_all new_callees (ranges_with c k rs) base (statements_of (latches cells k acts)) t in
-      rw (all-append new_callees (ranges_with c k rs) base (latches cells k acts) rest t, all-append new_callees (ranges_with c k rs) base (lowered_actions flags k cells acts) (moves k cells flags ts) behind_latches) h
+      rw (effect-append new_callees (ranges_with c k rs) base (latches cells k acts) rest t, effect-append new_callees (ranges_with c k rs) base (lowered_actions flags k cells acts) (moves k cells flags ts) behind_latches) h
 
   mutual
     pub statement_extends : (a : Statement) → IsTyped frames MayCall MayRun extents rs tested base a → flags_in a ≤ k → (s t : State) → Extends c k rs s t
@@ -281,7 +270,7 @@ module _ (frames : ℕ → FrameData) (MayCall MayRun : ℕ → ℕ → Type 0) 
     all_extend (statement a rest) typed few s t h =
         let p = le-max_left (flags_in a) (flags_in_all rest) in
         let q = le-max_right (flags_in a) (flags_in_all rest) in
-        subst (λ (x : State). Extends c k rs (effect_of_all callees rs base rest (effect_of callees rs base a s)) x) (sym (all-append new_callees (ranges_with c k rs) base (lowered flags k a) (lowered_all flags k rest) t))
+        subst (λ (x : State). Extends c k rs (effect_of_all callees rs base rest (effect_of callees rs base a s)) x) (sym (effect-append new_callees (ranges_with c k rs) base (lowered flags k a) (lowered_all flags k rest) t))
         (all_extend rest typed.1 (omega arith) _ _ (statement_extends a typed.0 (omega arith) s t h))
 
     choices_extend : (arms : Choices) → AreTypedChoices frames MayCall MayRun extents rs tested base arms → flags_in_choices arms ≤ k → (f g : State → State) → ((s t : State) → Extends c k rs s t → Extends c k rs (f s) (g t))
@@ -322,4 +311,4 @@ module _ (frames : ℕ → FrameData) (MayCall MayRun : ℕ → ℕ → Type 0) 
         let one = action_acted steps now before latch links ss (lower steps now before _ (extent_of_all extents ss) u m) both.0 typed.1 (λ x y g. all_extend ss typed.2 (omega arith) x y g) s t h in
         let two = actions_extend rest steps now before typed.3 (omega arith) both.1 (lower steps now before _ (extent_of_bodies extents rest) v m) _ _ one in
         subst (λ (x : State). Acted steps now before (effect_of_actions callees rs base now before (action latch links ss rest) s) x)
-        (sym (all-append new_callees (ranges_with c k rs) base (only_where test (lowered_all flags k ss) ∷ []) (lowered_actions flags k (shifted_steps k steps) rest) t)) two
+        (sym (effect-append new_callees (ranges_with c k rs) base (only_where test (lowered_all flags k ss) ∷ []) (lowered_actions flags k (shifted_steps k steps) rest) t)) two

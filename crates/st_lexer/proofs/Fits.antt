@@ -1,23 +1,16 @@
 -- Longest fronts: how far bytes of one class go on, and where a comment closes.
-use Rattle.std.proofs.Common.{◌≡◌, ℕ, zero, suc, ◌+◌, ◌<◌, ◌≤◌, List, [], ◌∷◌, ◌++◌, length, take, Bool, true, false, ◌&&◌, ◌||◌, ◌==◌, ◌⊎◌, inl, inr, Option, Some, None, option_map, cond, refl, ap, subst, arith, add-one, add_comm}
+use Rattle.std.proofs.Common.{◌≡◌, ℕ, zero, suc, ◌+◌, ◌<◌, ◌≤◌, List, [], ◌∷◌, ◌++◌, length, take, Bool, true, false, ◌==◌, Option, Some, None, option_map, cond, refl, ap, subst, arith, add-one, add_comm}
 use Rattle.std.specs.List.{list_all, prefix_len}
 use Rattle.std.proofs.lemmas.Bool.Decides.{nat_tests}
+use Rattle.std.proofs.lemmas.Bool.{and_parts}
 use Rattle.st_tree.specs.Tokens.{is_closing, ends_closed}
 use Rattle.st_lexer.specs.Fronts.{closed_len}
-
-pub both_true : (a b : Bool) → a && b ≡ true → (a ≡ true) × (b ≡ true)
-both_true true b h = (refl, h)
-both_true false b h = absurd cc
-
-pub one_true : (a b : Bool) → a || b ≡ true → (a ≡ true) ⊎ (b ≡ true)
-one_true true b h = inl refl
-one_true false b h = inr h
 
 -- bytes of a class go on at least as far as a front that has no other bytes
 pub prefix_fits : (p : ℕ → Bool) (s rest : List ℕ) → list_all p s ≡ true → length s ≤ prefix_len p (s ++ rest)
 prefix_fits p [] rest h = omega arith
 prefix_fits p (b ∷ bs) rest h =
-    let k = both_true (p b) (list_all p bs) h in
+    let k = and_parts (p b) (list_all p bs) h in
     let more : length bs ≤ prefix_len p (bs ++ rest) = prefix_fits p bs rest k.1 in
     rw k.0 (omega arith)
 

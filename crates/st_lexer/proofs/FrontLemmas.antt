@@ -3,13 +3,14 @@ use Rattle.std.proofs.Common.{◌≡◌, ℕ, suc, ◌+◌, ◌≤◌, List, [],
 use Rattle.std.specs.Prelude.{slice_index, IfSome}
 use Rattle.std.specs.List.{list_all, prefix_len}
 use Rattle.std.proofs.lemmas.Bool.Decides.{nat_tests}
+use Rattle.std.proofs.lemmas.Bool.{and_parts, or_cases, false_from_ne_true, false≢true}
 use Rattle.st_tree.specs.declared.token.Kind.TheVariants.{Word, Number, Sign}
 use Rattle.st_tree.specs.Bytes.{is_word_byte, is_number_byte, is_letter, is_digit, is_sign, is_sign_pair, is_blank}
 use Rattle.st_tree.specs.Tokens.{Piece, gap, token, slice_of, is_formed, is_gap_piece, is_gap, is_sign_text, opens_comment, is_block_opening, is_line_opening, ends_closed, is_in_line}
 use Rattle.st_lexer.specs.declared.front.Front.{Front}
 use Rattle.st_lexer.specs.declared.front.Front.TheVariants.{Gap, Token}
 use Rattle.st_lexer.specs.Fronts.{closed_len, front_of, plain_front}
-use Rattle.st_lexer.proofs.Fits.{both_true, one_true, prefix_fits, prefix_all, closed_here, closed_is}
+use Rattle.st_lexer.proofs.Fits.{prefix_fits, prefix_all, closed_here, closed_is}
 
 -- a front of the sort of a piece, with a size
 abbrev pub front_like : Piece → ℕ → Front
@@ -24,12 +25,12 @@ pub record Covers (text : List ℕ) (piece : Piece) : Type 0 where
 
 covers_block : (b c : ℕ) (bs rest : List ℕ) → is_block_opening b c && ends_closed bs ≡ true → Covers (b ∷ c ∷ bs ++ rest) (gap (b ∷ c ∷ bs))
 covers_block b c bs rest h =
-    let k = both_true (is_block_opening b c) (ends_closed bs) h in
+    let k = and_parts (is_block_opening b c) (ends_closed bs) h in
     record { size = length bs + 2; front = rw (k.0, closed_here bs rest k.1) refl; within = omega arith }
 
 covers_line : (b c : ℕ) (bs rest : List ℕ) → is_line_opening b c && list_all is_in_line bs ≡ true → Covers (b ∷ c ∷ bs ++ rest) (gap (b ∷ c ∷ bs))
 covers_line b c bs rest h =
-    let k = both_true (is_line_opening b c) (list_all is_in_line bs) h in
+    let k = and_parts (is_line_opening b c) (list_all is_in_line bs) h in
     let line : is_line_opening b c ≡ true = k.0 in
     let block : is_block_opening b c ≡ false = grind (arith, nat_tests) in
     let in_line : is_in_line c ≡ true = grind (arith, nat_tests) in
@@ -46,12 +47,12 @@ covers_gap (b ∷ c ∷ bs) rest h =
     ⊎_elim
     (λ (x : is_block_opening b c && ends_closed bs ≡ true). covers_block b c bs rest x)
     (λ (x : is_line_opening b c && list_all is_in_line bs ≡ true). covers_line b c bs rest x)
-    (one_true (is_block_opening b c && ends_closed bs) (is_line_opening b c && list_all is_in_line bs) h)
+    (or_cases (is_block_opening b c && ends_closed bs) (is_line_opening b c && list_all is_in_line bs) h)
 
 pub covers_word : (s rest : List ℕ) → is_formed (token Word s) ≡ true → Covers (s ++ rest) (token Word s)
 covers_word [] rest h = absurd cc
 covers_word (b ∷ bs) rest h =
-    let k = both_true (is_letter b) (list_all is_word_byte bs) h in
+    let k = and_parts (is_letter b) (list_all is_word_byte bs) h in
     let letter : is_letter b ≡ true = k.0 in
     let block : is_block_opening b (slice_index (bs ++ rest) 0) ≡ false = grind (arith, nat_tests) in
     let line : is_line_opening b (slice_index (bs ++ rest) 0) ≡ false = grind (arith, nat_tests) in
@@ -62,7 +63,7 @@ covers_word (b ∷ bs) rest h =
 pub covers_number : (s rest : List ℕ) → is_formed (token Number s) ≡ true → Covers (s ++ rest) (token Number s)
 covers_number [] rest h = absurd cc
 covers_number (b ∷ bs) rest h =
-    let k = both_true (is_digit b) (list_all is_number_byte bs) h in
+    let k = and_parts (is_digit b) (list_all is_number_byte bs) h in
     let digit : is_digit b ≡ true = k.0 in
     let block : is_block_opening b (slice_index (bs ++ rest) 0) ≡ false = grind (arith, nat_tests) in
     let line : is_line_opening b (slice_index (bs ++ rest) 0) ≡ false = grind (arith, nat_tests) in
@@ -98,16 +99,12 @@ covers_sign (b ∷ []) rest h plain = one_sign b rest h plain
 covers_sign (b ∷ c ∷ []) rest h plain = two_sign b c rest h
 covers_sign (b ∷ c ∷ d ∷ bs) rest h plain = absurd cc
 
-plain : (o : Bool) → (o ≡ true → false ≡ true) → o ≡ false
-plain true f = absurd (let e : false ≡ true = f refl in cc)
-plain false f = refl
-
 -- a piece that a text may begin with is covered
 pub covers : (p : Piece) (rest : List ℕ) → is_formed p ≡ true → (opens_comment (slice_of p ++ rest) ≡ true → is_gap_piece p ≡ true) → Covers (slice_of p ++ rest) p
 covers (gap s) rest h comment = covers_gap s rest h
 covers (token Word s) rest h comment = covers_word s rest h
 covers (token Number s) rest h comment = covers_number s rest h
-covers (token Sign s) rest h comment = covers_sign s rest h (plain (opens_comment (s ++ rest)) comment)
+covers (token Sign s) rest h comment = covers_sign s rest h (false_from_ne_true (opens_comment (s ++ rest)) (λ e. false≢true (comment e)))
 
 -- the piece of a front
 abbrev pub piece_at : Front → List ℕ → Piece

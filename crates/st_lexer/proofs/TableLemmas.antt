@@ -4,11 +4,11 @@ use Rattle.std.specs.Prelude.{bytes_eq, nat_le}
 use Rattle.std.specs.List.{list_all}
 use Rattle.std.proofs.lemmas.Bool.Decides.{nat_tests}
 use Rattle.std.proofs.lemmas.Slice.Eq.{bytes_eq-Decides}
+use Rattle.std.proofs.lemmas.Bool.{and_parts}
 use Rattle.st_tree.specs.declared.token.Terminal.{Terminal}
 use Rattle.st_tree.specs.declared.token.Terminal.TheVariants.{LeftOut}
 use Rattle.st_tree.specs.Terminals.{Entry, entry_or, signs}
 use Rattle.st_lexer.specs.Tables.{of_length}
-use Rattle.st_lexer.proofs.Fits.{both_true}
 
 unlike : (s t : List ℕ) → (length t == length s) ≡ false → bytes_eq s t ≡ false
 unlike s t h =
@@ -34,7 +34,7 @@ no_sign (b ∷ bs) h = absurd (omega arith)
 past_all : (n : ℕ) (other : Terminal) (es : List Entry) (text : List ℕ) → list_all (λ e. nat_le (length e.0) n) es ≡ true → n < length text → entry_or other es text ≡ other
 past_all n other [] text short h = refl
 past_all n other (e ∷ es) text short h =
-    let k = both_true (nat_le (length e.0) n) (list_all (λ e. nat_le (length e.0) n) es) short in
+    let k = and_parts (nat_le (length e.0) n) (list_all (λ e. nat_le (length e.0) n) es) short in
     let apart : (length e.0 == length text) ≡ false = grind (arith, nat_tests) in
     rw (unlike text e.0 apart) (past_all n other es text k.1 h)
 

@@ -1,7 +1,7 @@
 -- What is judged of charts, by what the code sees of them.
-use Rattle.std.proofs.Common.{◌≡◌, ℕ, List, [], ◌∷◌, ◌++◌, map, Bool, true, false, true≢false, ◌&&◌, not, ◌==◌, count_by, refl, sym, ap, ◌∙◌, if◌then◌else◌, arith}
-use Rattle.std.proofs.lemmas.Bool.Decides.{nat_tests}
+use Rattle.std.proofs.Common.{◌≡◌, ℕ, List, [], ◌∷◌, ◌++◌, map, Bool, true, false, true≢false, ◌&&◌, not, ◌==◌, count_by, refl, sym, ap, ◌∙◌, if◌then◌else◌}
 use Rattle.std.proofs.lemmas.List.{map-append}
+use Rattle.std.proofs.lemmas.Bool.{eq-eqb, ne_eqb}
 use Rattle.st_tree.specs.declared.rule.Rule.TheVariants.{NotOneInitialStep, StepTwice}
 use Rattle.st_tree.specs.Syntax.{Named, PartData, FileData}
 use Rattle.st_names.specs.declared.outcome.Outcome.{Outcome}
@@ -41,16 +41,6 @@ module _ (j : Judgement) (o : Outcome) (is : o ≡ outcome_of j) where
 
 -- ---- the initial step of a chart
 
-one_test : (k : ℕ) → k ≡ 1 → (k == 1) ≡ true
-one_test k h = grind (arith, nat_tests)
-
-other_test : (k : ℕ) → (k ≡ 1 → ⊥) → (k == 1) ≡ false
-other_test k h = by (k == 1) refl
-  where
-    by : (b : Bool) → (k == 1) ≡ b → b ≡ false
-    by true e = absurd (h (grind (arith, nat_tests)))
-    by false e = refl
-
 module _ (f : FileData) (p : PouScope) (qs : List PartData) (o : Outcome) (is : o ≡ outcome_of (in_chart_parts f p qs)) where
   abbrev one_initial : Bool → Bool → Outcome
   one_initial whole one = outcome_of (if whole && not one then breaks NotOneInitialStep (place_of_chart qs) else in_chart_parts f p qs)
@@ -59,11 +49,11 @@ module _ (f : FileData) (p : PouScope) (qs : List PartData) (o : Outcome) (is : 
   parts_whole b h = sym (outcome_whole (in_chart_parts f p qs) o is) ∙ h
 
   pub chart_wrong : o.whole ≡ true → (count_by is_initial_part qs ≡ 1 → ⊥) → outcome_of (breaks NotOneInitialStep (place_of_chart qs)) ≡ outcome_of (in_chart f p qs)
-  chart_wrong whole wrong = ap (one_initial true) (sym (other_test (count_by is_initial_part qs) wrong)) ∙ ap (λ w. one_initial w (count_by is_initial_part qs == 1)) (sym (parts_whole true whole))
+  chart_wrong whole wrong = ap (one_initial true) (sym (ne_eqb (count_by is_initial_part qs) 1 wrong)) ∙ ap (λ w. one_initial w (count_by is_initial_part qs == 1)) (sym (parts_whole true whole))
 
   pub chart_right : o.whole ≡ true → count_by is_initial_part qs ≡ 1 → o ≡ outcome_of (in_chart f p qs)
   chart_right whole one =
-      is ∙ ap (one_initial true) (sym (one_test (count_by is_initial_part qs) one)) ∙ ap (λ w. one_initial w (count_by is_initial_part qs == 1)) (sym (parts_whole true whole))
+      is ∙ ap (one_initial true) (sym (eq-eqb (count_by is_initial_part qs) 1 one)) ∙ ap (λ w. one_initial w (count_by is_initial_part qs == 1)) (sym (parts_whole true whole))
 
   pub chart_broken : o.whole ≡ false → o ≡ outcome_of (in_chart f p qs)
   chart_broken broken = is ∙ ap (λ w. one_initial w (count_by is_initial_part qs == 1)) (sym (parts_whole false broken))

@@ -5,6 +5,8 @@ use Rattle.std.specs.Option.{option_and_then, unwrap_or}
 use Rattle.std.specs.Str.{bytes_eq}
 use Rattle.std.proofs.lemmas.Bool.Decides.{nat_tests}
 use Rattle.std.proofs.lemmas.List.{append-nil}
+use Rattle.std.proofs.lemmas.Bool.{or_parts, and_parts, not-false}
+use Rattle.std.proofs.Math.Bool.{or-true}
 use Rattle.st_tree.specs.declared.rule.Refusal.{Refusal}
 use Rattle.st_tree.specs.declared.syntax.Section.{Section}
 use Rattle.st_tree.specs.declared.syntax.Section.TheVariants as sections
@@ -31,22 +33,6 @@ nil_left (x ∷ xs) ys h = absurd (let e : ⊥ = cc in e)
 nil_right : (xs ys : List Refusal) → xs ++ ys ≡ [] → ys ≡ []
 nil_right [] ys h = h
 nil_right (x ∷ xs) ys h = absurd (let e : ⊥ = cc in e)
-
-or_left : (a b : Bool) → (a || b) ≡ false → a ≡ false
-or_left true b h = h
-or_left false b h = refl
-
-or_right : (a b : Bool) → (a || b) ≡ false → b ≡ false
-or_right true b h = absurd (true≢false h)
-or_right false b h = h
-
-and_left : (a b : Bool) → (a && b) ≡ true → a ≡ true
-and_left true b h = refl
-and_left false b h = absurd (true≢false (sym h))
-
-and_right : (a b : Bool) → (a && b) ≡ true → b ≡ true
-and_right true b h = h
-and_right false b h = absurd (true≢false (sym h))
 
 -- ---- the parts of what a file breaks
 
@@ -107,7 +93,8 @@ once_all before [] once h = subst IsOnce (sym (append-nil before)) once
 once_all before (d ∷ ds) once h =
     let test = is_library d.0.text || list_any (is_declared_as d.0.text) before in
     let none : test ≡ false = not_own d test (nil_left (own_refusal d test) (names_twice (before ++ d ∷ []) ds) h) in
-    let more = once_push before d once (or_left (is_library d.0.text) (list_any (is_declared_as d.0.text) before) none) (or_right (is_library d.0.text) (list_any (is_declared_as d.0.text) before) none) in
+    let new = or_parts (is_library d.0.text) (list_any (is_declared_as d.0.text) before) none in
+    let more = once_push before d once new.0 new.1 in
     subst IsOnce (append_assoc before (d ∷ []) ds) (once_all (before ++ d ∷ []) ds more (nil_right (own_refusal d test) (names_twice (before ++ d ∷ []) ds) h))
 
 no_doubles : (f : FileData) → names_twice [] (names_of f) ≡ [] → (q : List ℕ) → is_doubled_in_file f q ≡ false
@@ -210,10 +197,6 @@ end_below f t below = steps_below (length (types_of f)) doublings (step_from f) 
 same_test : (n : ℕ) → (n == n) ≡ true
 same_test n = grind (arith, nat_tests)
 
-or_true : (b : Bool) → (b || true) ≡ true
-or_true true = refl
-or_true false = refl
-
 ends_have : (f : FileData) (number i : ℕ) (ds : List TypeDeclarationData) → i < length ds → list_any (λ e. e == end_of f (number + i)) (ends_from f number ds) ≡ true
 ends_have f number i [] below = absurd (omega arith)
 ends_have f number zero (d ∷ ds) below = rw (add-zero, same_test (end_of f number)) refl
@@ -221,7 +204,7 @@ ends_have f number (suc i) (d ∷ ds) below =
     let same : number + suc i ≡ number + 1 + i = omega arith in
     ap (λ k. (end_of f number == end_of f k) || list_any (λ e. e == end_of f k) (ends_from f (number + 1) ds)) same
     ∙ ap (λ b. (end_of f number == end_of f (number + 1 + i)) || b) (ends_have f (number + 1) i ds (omega arith))
-    ∙ or_true (end_of f number == end_of f (number + 1 + i))
+    ∙ or-true (end_of f number == end_of f (number + 1 + i))
 
 specified : (f : FileData) (t : ℕ) → t < length (types_of f) → (s : SpecificationData) × (specification_at f t ≡ Some s)
 specified f t below = by (slice_get (types_of f) t) refl
@@ -417,7 +400,7 @@ module _ (f : FileData) (once : (q : List ℕ) → is_doubled_in_file f q ≡ fa
     whole_type k = unwrap_or (option_map (is_whole_type f) k) true
 
     whole_or : (b : Bool) (k : Option TypeData) → whole_type k ≡ true → (b || whole_type k) ≡ true
-    whole_or b k h = ap (λ w. b || w) h ∙ or_true b
+    whole_or b k h = ap (λ w. b || w) h ∙ or-true b
 
     -- a variable whose type is one by name
     named_kind : (v : Variable) (n : Named) → v.kind ≡ Some (of_name n) → (not (is_result v.role) || is_typed f v) ≡ true → (in_named_type f v n).broken ≡ [] → is_typed f v ≡ true
@@ -456,8 +439,9 @@ module _ (f : FileData) (once : (q : List ℕ) → is_doubled_in_file f q ≡ fa
         let value = (in_initial f p before v.initial).broken in
         let more = (in_declarations f p (before ++ v ∷ []) rest).broken in
         let front = nil_left (type ++ value) more h in
-        let first : is_typed f v ≡ true = whole_if_any p before v v.kind refl (and_left (not (is_result v.role) || is_typed f v) (list_all (λ w. not (is_result w.role) || is_typed f w) rest) own) (nil_left type value front) in
-        rw first (kinds p (before ++ v ∷ []) rest (and_right (not (is_result v.role) || is_typed f v) (list_all (λ w. not (is_result w.role) || is_typed f w) rest) own) (nil_right (type ++ value) more h))
+        let owns = and_parts (not (is_result v.role) || is_typed f v) (list_all (λ w. not (is_result w.role) || is_typed f w) rest) own in
+        let first : is_typed f v ≡ true = whole_if_any p before v v.kind refl owns.0 (nil_left type value front) in
+        rw first (kinds p (before ++ v ∷ []) rest owns.1 (nil_right (type ++ value) more h))
 
 all_at : {A : Type 0} (p : A → Bool) (xs : List A) → ((i : ℕ) (x : A) → slice_get xs i ≡ Some x → p x ≡ true) → list_all p xs ≡ true
 all_at p [] h = refl
@@ -476,7 +460,7 @@ whole_types f h =
 
 all_append : {A : Type 0} (p : A → Bool) (xs ys : List A) → list_all p xs ≡ true → list_all p ys ≡ true → list_all p (xs ++ ys) ≡ true
 all_append p [] ys h k = k
-all_append p (x ∷ xs) ys h k = rw (and_left (p x) (list_all p xs) h) (all_append p xs ys (and_right (p x) (list_all p xs) h) k)
+all_append p (x ∷ xs) ys h k = let two = and_parts (p x) (list_all p xs) h in rw two.0 (all_append p xs ys two.1 k)
 
 no_result : (s : Section) → is_result (role_of s) ≡ false
 no_result sections.Input = refl
@@ -534,11 +518,7 @@ module _ (f : FileData) where
   body_typed (chart qs) = parts_typed (is_stored qs) qs
 
 whole_at : (f : FileData) (i : ℕ) (p : PouData) → pou_at f i ≡ Some p → is_broken_function f i ≡ false → is_whole_result f p.kind ≡ true
-whole_at f i p at h = by (is_whole_result f p.kind) refl (rw at at h)
-  where
-    by : (b : Bool) → is_whole_result f p.kind ≡ b → not b ≡ false → b ≡ true
-    by true e k = refl
-    by false e k = absurd (true≢false k)
+whole_at f i p at h = not-false (is_whole_result f p.kind) (rw at at h)
 
 clean_pou : (f : FileData) (ps : List PouData) (i : ℕ) (p : PouData) → in_pous f ps ≡ [] → slice_get ps i ≡ Some p → (in_pou f p).broken ≡ []
 clean_pou f [] i p h at = absurd (let e : ⊥ = cc in e)

@@ -3,6 +3,7 @@ use Rattle.std.proofs.Common.{◌≡◌, ℕ, suc, ◌+◌, List, [], ◌∷◌,
 use Rattle.std.specs.List.{list_any}
 use Rattle.std.specs.Cmp.Lexicographic.{bytes_decides}
 use Rattle.std.proofs.lemmas.Bool.Decides.{nat_tests}
+use Rattle.std.proofs.lemmas.Bool.{or_right}
 use Rattle.st_names.specs.Scopes.{Variable, is_of_name, is_fault, is_doubled_among}
 use Rattle.st_names.specs.Slots.{found, slot_of, slot_among, entered}
 use Rattle.st_names.proofs.CountLemmas.{count-cons, count-push}
@@ -50,10 +51,6 @@ found-any q n (x ∷ xs) = by (is_of_name q x) (found-any q (n + 1) xs)
 other_name : (fault : Bool) (q : List ℕ) (xs : List Variable) (v : Variable) → is_of_name q v ≡ false → is_doubled_among fault (xs ++ v ∷ []) q ≡ is_doubled_among fault xs q
 other_name fault q xs v h = ap (λ n. is_fault fault q || nat_lt 1 n) (count-push (is_of_name q) xs v ∙ ap (λ b. count_by (is_of_name q) xs + (if b then 1 else 0)) h ∙ add-zero (count_by (is_of_name q) xs))
 
-or_true : (b c : Bool) → c ≡ true → (b || c) ≡ true
-or_true true c h = refl
-or_true false c h = h
-
 pub or_false : (b c : Bool) → c ≡ false → (b || c) ≡ b
 or_false true c h = refl
 or_false false c h = h
@@ -62,7 +59,7 @@ known_name : (fault : Bool) (q : List ℕ) (xs : List Variable) (v : Variable) �
 known_name fault q xs v h some =
     let n : count_by (is_of_name q) (xs ++ v ∷ []) ≡ count_by (is_of_name q) xs + 1 = count-push (is_of_name q) xs v ∙ ap (λ b. count_by (is_of_name q) xs + (if b then 1 else 0)) h in
     let counted : nat_lt 0 (count_by (is_of_name q) xs) ≡ true = sym (found-count q 1 xs) ∙ some in
-    or_true (is_fault fault q) (nat_lt 1 (count_by (is_of_name q) (xs ++ v ∷ []))) (rw n (grind (arith, nat_tests)))
+    or_right (is_fault fault q) (nat_lt 1 (count_by (is_of_name q) (xs ++ v ∷ []))) (rw n (grind (arith, nat_tests)))
 
 new_name : (fault : Bool) (q : List ℕ) (xs : List Variable) (v : Variable) → is_of_name q v ≡ true → is_some (found q 1 xs) ≡ false → is_doubled_among fault (xs ++ v ∷ []) q ≡ is_fault fault v.name.text
 new_name fault q xs v h none =

@@ -1,6 +1,7 @@
 -- One more element of a list that is seen by its view, one more list of refusals, and one more judgement.
-use Rattle.std.proofs.Common.{◌≡◌, ◌<◌, ℕ, ◌+◌, List, [], ◌∷◌, ◌++◌, length, take, drop, get_or, map, Bool, true, false, ◌&&◌, Option, Some, None, refl, sym, ap, ◌∙◌, arith}
+use Rattle.std.proofs.Common.{◌≡◌, ◌<◌, ℕ, ◌+◌, List, [], ◌∷◌, ◌++◌, length, take, drop, get_or, map, ◌&&◌, Option, Some, None, refl, sym, ap, ◌∙◌, arith}
 use Rattle.std.proofs.lemmas.Grind.{common_steps}
+use Rattle.std.proofs.Math.Bool.{and_assoc, and-true}
 use Rattle.st_tree.specs.declared.rule.Refusal.{Refusal}
 use Rattle.st_tree.specs.Rules.{earlier, first_in}
 use Rattle.st_tree.proofs.Refusals.{earlier-assoc, first_in-append}
@@ -32,14 +33,6 @@ pub outcome_also : (j k : Judgement) → both (outcome_of j) (outcome_of k) ≡ 
 unfolding outcome_of both
 outcome_also j k = ap (λ o. record { whole = j.whole && k.whole; first = o }) (sym (first_in-append j.broken k.broken))
 
-and_assoc : (a b c : Bool) → (a && b && c) ≡ (a && (b && c))
-and_assoc true b c = refl
-and_assoc false b c = refl
-
-and_true : (a : Bool) → (a && true) ≡ a
-and_true true = refl
-and_true false = refl
-
 earlier_none : (o : Option Refusal) → earlier o None ≡ o
 earlier_none None = refl
 earlier_none (Some r) = refl
@@ -52,7 +45,7 @@ both_on o j k = rw (and_assoc o.whole j.whole k.whole, earlier_on o.first j.brok
 -- what was judged so far, and a part that breaks nothing
 pub both_sound : (o : Outcome) → both o (outcome_of sound) ≡ o
 unfolding outcome_of both
-both_sound o = rw (and_true o.whole, earlier_none o.first) refl
+both_sound o = rw (and-true o.whole, earlier_none o.first) refl
 
 -- what was judged so far, then one part, then another
 pub then_on : (a b d : Outcome) (j k : Judgement) → b ≡ both a (outcome_of j) → d ≡ both b (outcome_of k) → d ≡ both a (outcome_of (also j k))

@@ -5,15 +5,8 @@ use Rattle.std.specs.List.{list_any}
 use Rattle.std.specs.Str.{bytes_eq}
 use Rattle.std.specs.String.{string_bytes, string_eq}
 use Rattle.std.proofs.lemmas.Map.Text.{hash_map_updates_text}
+use Rattle.std.proofs.Math.Bool.{or-false, or_assoc}
 use Rattle.st_names.specs.TextSets.{has, Adds}
-
-or_none : (b : Bool) → (b || false) ≡ b
-or_none true = refl
-or_none false = refl
-
-or_assoc : (a b c : Bool) → ((a || b) || c) ≡ (a || (b || c))
-or_assoc true b c = refl
-or_assoc false b c = refl
 
 now_in : {X : Type 0} (x : X) (b : Bool) (o : Option X) → is_some (if b then Some x else o) ≡ (is_some o || b)
 now_in x true None = refl
@@ -22,7 +15,7 @@ now_in x false None = refl
 now_in x false (Some y) = refl
 
 any_push : {A : Type 0} (p : A → Bool) (xs : List A) (x : A) → list_any p (xs ++ x ∷ []) ≡ (list_any p xs || p x)
-any_push p [] x = or_none (p x)
+any_push p [] x = or-false (p x)
 any_push p (y ∷ ys) x = ap (λ b. p y || b) (any_push p ys x) ∙ sym (or_assoc (p y) (list_any p ys) (p x))
 
 module _ {Y X S : Type 0} (m n : HashMap (String Y) X S) where

@@ -4,6 +4,7 @@ use Rattle.std.specs.List.{list_any, slice_get}
 use Rattle.std.specs.Str.{bytes_eq}
 use Rattle.std.specs.Cmp.Lexicographic.{bytes_decides}
 use Rattle.std.proofs.lemmas.Bool.Decides.{nat_tests}
+use Rattle.std.proofs.Math.Bool.{or-true}
 use Rattle.st_tree.specs.Syntax.{Named, of_elementary, of_subrange, of_name, SpecificationData, of_type, of_values, TypeDeclarationData, FileData}
 use Rattle.st_names.specs.declared.standing.Standing.{Standing}
 use Rattle.st_names.specs.declared.standing.Standing.TheVariants as standings
@@ -27,11 +28,7 @@ names_value text (Some (of_values at first others)) = list_any (is_text text) (f
 in_values : (d : DeclaredName) (t number : ℕ) (ns : List Named) → IsIn d (names_of_values t number ns) → (k : ℕ) × (d.1 ≡ standings.Value t k) × (list_any (is_text d.0.text) ns ≡ true)
 in_values d t number [] h = absurd h
 in_values d t number (n ∷ ns) (inl e) = (number, ap (λ x. x.1) e, ap (λ b. b || list_any (is_text d.0.text) ns) ((bytes_decides n.text d.0.text).1 (ap (λ x. x.0.text) (sym e))))
-in_values d t number (n ∷ ns) (inr k) = let r = in_values d t (number + 1) ns k in (r.0, r.1, rw r.2 (or_true (is_text d.0.text n)))
-  where
-    or_true : (b : Bool) → (b || true) ≡ true
-    or_true true = refl
-    or_true false = refl
+in_values d t number (n ∷ ns) (inr k) = let r = in_values d t (number + 1) ns k in (r.0, r.1, rw r.2 (or-true (is_text d.0.text n)))
 
 in_specification : (d : DeclaredName) (t : ℕ) (s : SpecificationData) → IsIn d (names_in_specification t s) → (k : ℕ) × (d.1 ≡ standings.Value t k) × (names_value d.0.text (Some s) ≡ true)
 in_specification d t (of_type k) h = absurd h

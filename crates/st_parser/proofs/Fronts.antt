@@ -1,7 +1,6 @@
 -- What stands in front of symbols that do not go on with an expression.
-use Rattle.std.proofs.Common.{◌≡◌, ◌≢◌, ℕ, ◌<◌, ◌≤◌, Bool, true, false, cond, ◌||◌, eqb, leb, List, ◌∷◌, Some, None, refl, ap, arith, eq-eqb, inl, inr}
-use Rattle.std.proofs.lemmas.Bool.{leb-false, le-leb, lt-leb}
-use Rattle.std.proofs.lemmas.Bool.Decides.{eqb_tells}
+use Rattle.std.proofs.Common.{◌≡◌, ℕ, ◌<◌, ◌≤◌, Bool, true, false, cond, eqb, leb, List, ◌∷◌, Some, None, refl, ap, arith, eq-eqb}
+use Rattle.std.proofs.lemmas.Bool.{leb-false, le-leb, lt-leb, ne_eqb, or_parts}
 use Rattle.st_tree.specs.declared.token.Operator.{Operator}
 use Rattle.st_tree.specs.declared.token.Operator.TheVariants as operators
 use Rattle.st_tree.specs.declared.token.Mark.{Mark}
@@ -11,14 +10,6 @@ use Rattle.st_tree.specs.Levels.{level_of, level}
 use Rattle.st_parser.specs.Marks.{same_mark}
 use Rattle.st_parser.specs.Reading.{after, opened, operator_of}
 use Rattle.st_parser.specs.Ends.{goes_on}
-
-pub neither_first : (a b : Bool) → (a || b) ≡ false → a ≡ false
-neither_first true b h = absurd cc
-neither_first false b h = refl
-
-pub neither_second : (a b : Bool) → (a || b) ≡ false → b ≡ false
-neither_second true b h = absurd cc
-neither_second false b h = h
 
 -- a mark is no other
 pub after_other : (m k : Mark) (ts : List Symbol) → same_mark k m ≡ false → after m (mark k ∷ ts) ≡ None
@@ -31,12 +22,12 @@ after_same m ts h = ap (λ (b : Bool). cond b (Some ts) None) h
 
 pub no_point : (k : ℕ) (ts : List Symbol) → goes_on k ts ≡ false → after Point ts ≡ None
 unfolding after
-no_point k (mark m ∷ ts) h = after_other Point m ts (neither_first (same_mark m Point) (same_mark m Hash) h)
+no_point k (mark m ∷ ts) h = after_other Point m ts (or_parts (same_mark m Point) (same_mark m Hash) h).0
 no_point k ts h = refl
 
 pub no_hash : (k : ℕ) (ts : List Symbol) → goes_on k ts ≡ false → after Hash ts ≡ None
 unfolding after
-no_hash k (mark m ∷ ts) h = after_other Hash m ts (neither_second (same_mark m Point) (same_mark m Hash) h)
+no_hash k (mark m ∷ ts) h = after_other Hash m ts (or_parts (same_mark m Point) (same_mark m Hash) h).1
 no_hash k ts h = refl
 
 pub not_opened : (k : ℕ) (ts : List Symbol) → goes_on k ts ≡ false → opened ts ≡ None
@@ -44,14 +35,11 @@ unfolding opened
 not_opened k (opening at ∷ ts) h = absurd cc
 not_opened k ts h = refl
 
-ne-eqb : (a b : ℕ) → a ≢ b → eqb a b ≡ false
-ne-eqb a b ne = elim (eqb_tells a b) [ inl p ↦ absurd (ne p.1) | inr p ↦ p.0 ]
-
 pub no_operator : (k j : ℕ) (ts : List Symbol) → j ≤ k → goes_on k ts ≡ false → operator_of j ts ≡ None
 unfolding operator_of
 no_operator k j (operator o at ∷ ts) le h =
     let above : k < level_of o = leb-false (level_of o) k h in
-    let other : eqb (level_of o) j ≡ false = ne-eqb _ _ (λ e. absurd (omega arith)) in
+    let other : eqb (level_of o) j ≡ false = ne_eqb _ _ (λ e. absurd (omega arith)) in
     ap (λ (b : Bool). cond b (Some ((o, at), ts)) None) other
 no_operator k j ts le h = refl
 

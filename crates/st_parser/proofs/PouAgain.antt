@@ -1,5 +1,6 @@
 -- What POUs print is read as those POUs.
-use Rattle.std.proofs.Common.{◌≡◌, ℕ, ◌≤◌, Bool, true, false, ◌&&◌, not, List, [], ◌∷◌, ◌++◌, length, Some, None, refl, ap, ◌∙◌, arith, length-append}
+use Rattle.std.proofs.Common.{◌≡◌, ℕ, ◌≤◌, false, not, List, [], ◌∷◌, ◌++◌, length, Some, None, refl, ap, ◌∙◌, arith, length-append}
+use Rattle.std.proofs.Math.Bool.{and-false}
 use Rattle.st_tree.specs.declared.token.Mark.TheVariants as marks
 use Rattle.st_tree.specs.Syntax.{Symbol, mark, Named, empty, assign, invoke, branch, cases, iterate, Stmts, no_stmts, stmt, no_arms, arm, no_else, else_stmts, TypeData, of_elementary, of_subrange, of_name, VariablesData, step_part, transition_part, action_part, PartData, BodyData, statements as statement_body, chart as chart_body, PouKindData, function, function_block, program, PouData}
 use Rattle.st_tree.specs.Prints.{name_symbol, print_stmts, print_type, print_variables, print_parts, print_body, beginning_of, end_of, print_result, print_pou}
@@ -78,10 +79,6 @@ chart_is_allowed (function t) ps may = absurd may
 chart_is_allowed function_block ps may = refl
 chart_is_allowed program ps may = refl
 
-and_false : (b : Bool) → (b && false) ≡ false
-and_false true = refl
-and_false false = refl
-
 -- ---- kinds
 
 sections_where : (k : PouKindData) (vs : List VariablesData) → HasSections k vs → AreSectionsWhere (is_function k) vs
@@ -107,7 +104,7 @@ module _ (turns depth : ℕ) where
       → body turns depth (is_function k) (print_stmts ss ++ mark (end_of k) ∷ rest) ≡ Some (statement_body ss, mark (end_of k) ∷ rest)
   unfolding body
   statement_body_again ss k rest fits len =
-      rw (no_part ss k rest, and_false (not (is_function k)), statements_again turns ss depth false (mark (end_of k) ∷ rest) fits (no_begin k rest) len) refl
+      rw (no_part ss k rest, and-false (not (is_function k)), statements_again turns ss depth false (mark (end_of k) ∷ rest) fits (no_begin k rest) len) refl
 
   chart_body_again : (ps : List PartData) (k : PouKindData) (rest : List Symbol) → MayDo k (chart_body ps) → ChartFits ps depth → length (print_parts ps ++ mark (end_of k) ∷ rest) ≤ turns
       → body turns depth (is_function k) (print_parts ps ++ mark (end_of k) ∷ rest) ≡ Some (chart_body ps, mark (end_of k) ∷ rest)

@@ -1,5 +1,7 @@
 -- What fitting statements print is read as those statements, where no statement begins behind them.
-use Rattle.std.proofs.Common.{◌≡◌, ℕ, zero, suc, ◌≤◌, Bool, true, false, ◌||◌, ◌&&◌, not, List, [], ◌∷◌, ◌++◌, length, Option, Some, None, refl, sym, ap, subst, ◌∙◌, append_assoc, arith, length-append}
+use Rattle.std.proofs.Common.{◌≡◌, ℕ, zero, suc, ◌≤◌, Bool, true, false, ◌||◌, ◌&&◌, List, [], ◌∷◌, ◌++◌, length, Option, Some, None, refl, sym, ap, subst, ◌∙◌, append_assoc, arith, length-append}
+use Rattle.std.proofs.lemmas.Bool.{not-false, or_parts}
+use Rattle.std.proofs.Math.Bool.{and-false}
 use Rattle.st_tree.specs.declared.token.Mark.{Mark}
 use Rattle.st_tree.specs.declared.token.Mark.TheVariants.{Close, Semicolon, Colon, Assign, If, Then, Elsif, Else, EndIf, Case, Of, EndCase, EndFor, Do, To, Point}
 use Rattle.st_tree.specs.Syntax.{Symbol, name, opening, iteration, mark, Named, PathData, Tree, ConnectionData, LabelData, IterationData, Stmt, empty, assign, invoke, branch, cases, iterate, Stmts, no_stmts, stmt, Arms, no_arms, arm, Entries, no_entries, entry, Otherwise, no_else, else_stmts}
@@ -12,7 +14,6 @@ use Rattle.st_parser.specs.declared.statement.Opener.{Opener}
 use Rattle.st_parser.specs.Reading.{Read, after, opened as parenthesis}
 use Rattle.st_parser.specs.Expressions.{expression}
 use Rattle.st_parser.specs.Statements.{add_stmt, add_arm, add_entry, assigned, simple, begun, statements_from, arms_from, otherwise, branched, repeated, entries_from, selected, opened, nested, statements}
-use Rattle.st_parser.proofs.Fronts.{neither_first, neither_second}
 use Rattle.st_parser.proofs.Again.{path_again, expression_again}
 use Rattle.st_parser.proofs.Selections.{labels_again, labels_begin, labels_end}
 use Rattle.st_parser.proofs.Iterations.{iteration_shape, iteration_again}
@@ -154,15 +155,9 @@ count_entries-le (entry ls ss es) = omega (arith, count_entries-le es, length-ap
 no_mark_begun : (labelled : Bool) (simple_of : Named → Read Stmt) (other : Opener → Read Stmt) (m : Mark) (ts : List Symbol) → (same_mark m Semicolon || same_mark m If || same_mark m Case) ≡ false → begun labelled simple_of other (mark m ∷ ts) ≡ None
 unfolding begun
 no_mark_begun labelled simple_of other m ts h =
-    let first : (same_mark m Semicolon || same_mark m If) ≡ false = neither_first (same_mark m Semicolon || same_mark m If) (same_mark m Case) h in
-    let ends : same_mark m Semicolon ≡ false = neither_first (same_mark m Semicolon) (same_mark m If) first in
-    let opens : same_mark m If ≡ false = neither_second (same_mark m Semicolon) (same_mark m If) first in
-    let selects : same_mark m Case ≡ false = neither_second (same_mark m Semicolon || same_mark m If) (same_mark m Case) h in
-    rw (ends, opens, selects) refl
-
-not_false : (b : Bool) → not b ≡ false → b ≡ true
-not_false true h = refl
-not_false false h = absurd cc
+    let all = or_parts (same_mark m Semicolon || same_mark m If) (same_mark m Case) h in
+    let first = or_parts (same_mark m Semicolon) (same_mark m If) all.0 in
+    rw (first.0, first.1, all.1) refl
 
 no_name_begun : (labelled : Bool) (simple_of : Named → Read Stmt) (other : Opener → Read Stmt) (n : Named) (ts : List Symbol) → (labelled && is_label ts) ≡ true → begun labelled simple_of other (name_symbol n ∷ ts) ≡ None
 unfolding begun
@@ -170,16 +165,12 @@ no_name_begun labelled simple_of other n ts h = rw h refl
 
 pub none_begun : (labelled : Bool) (simple_of : Named → Read Stmt) (other : Opener → Read Stmt) (ts : List Symbol) → begins_where labelled ts ≡ false → begun labelled simple_of other ts ≡ None
 unfolding begun
-none_begun labelled simple_of other (name t at ∷ ts) h = no_name_begun labelled simple_of other (record { text = t; at = at }) ts (not_false (labelled && is_label ts) h)
+none_begun labelled simple_of other (name t at ∷ ts) h = no_name_begun labelled simple_of other (record { text = t; at = at }) ts (not-false (labelled && is_label ts) h)
 none_begun labelled simple_of other (iteration at ∷ ts) h = absurd cc
 none_begun labelled simple_of other (mark m ∷ ts) h = no_mark_begun labelled simple_of other m ts h
 none_begun labelled simple_of other ts h = refl
 
 -- behind the first name of a target no label's sign stands
-never : (b : Bool) → (b && false) ≡ false
-never true = refl
-never false = refl
-
 target_is_none : (ns : List Named) (rest : List Symbol) → is_label (print_members ns ++ mark Assign ∷ rest) ≡ false
 unfolding same_mark
 target_is_none [] rest = refl
@@ -187,7 +178,7 @@ target_is_none (n ∷ ns) rest = refl
 
 name_begun : (labelled : Bool) (simple_of : Named → Read Stmt) (other : Opener → Read Stmt) (n : Named) (ts : List Symbol) → is_label ts ≡ false → begun labelled simple_of other (name_symbol n ∷ ts) ≡ Some (simple_of n ts)
 unfolding begun
-name_begun labelled simple_of other n ts h = rw (h, never labelled) refl
+name_begun labelled simple_of other n ts h = rw (h, and-false labelled) refl
 
 -- ---- the round trip
 

@@ -1,5 +1,5 @@
 -- Of ranges that are apart the one with the greatest low that is not above a high decides what meets them.
-use Rattle.std.proofs.Common.{◌≡◌, Bool, true, false, ◌&&◌, ◌||◌, cond, if◌then◌else◌, ◌⊎◌, inl, inr, List, [], ◌∷◌, ◌++◌, Option, Some, None, refl, sym, ap, ◌∙◌, arith, subst}
+use Rattle.std.proofs.Common.{◌≡◌, Bool, true, false, cond, if◌then◌else◌, ◌⊎◌, inl, inr, List, [], ◌∷◌, ◌++◌, Option, Some, None, refl, sym, ap, ◌∙◌, arith, subst}
 use Rattle.std.proofs.Math.IntN.{ℤ}
 use Rattle.std.proofs.lemmas.Int.{ints}
 use Rattle.std.proofs.lemmas.Cmp.{int_ranked}
@@ -11,6 +11,7 @@ use Rattle.std.specs.declared.cmp.Ordering.TheVariants.{Less, Equal, Greater}
 use Rattle.std.specs.declared.ops.Bound.TheVariants.{Included, Unbounded}
 use Rattle.std.specs.BTreeMap.{BTreeMap, Updates}
 use Rattle.std.specs.BTreeMap.Range.{IsRangeOf}
+use Rattle.std.proofs.lemmas.Bool.{and_parts, and_from, or_left, or_right, or_from, false_from_ne_true}
 use Rattle.st_tree.specs.declared.typed.Range.{Range}
 use Rattle.st_types.specs.Labels.{meets, overlaps}
 use Rattle.st_types.specs.Seen.{high_at, AreApart, Keeps}
@@ -50,13 +51,6 @@ le_false x y h = grind (arith, ints)
 true_le : (x y : ℤ) → x ≤ℤ y → int_le x y ≡ true
 true_le x y h = grind (arith, ints)
 
-both_true : (a b : Bool) → (a && b) ≡ true → (a ≡ true) × (b ≡ true)
-both_true true b h = (refl, h)
-both_true false b h = absurd (let e : ⊥ = cc in e)
-
-and_true : (a b : Bool) → a ≡ true → b ≡ true → (a && b) ≡ true
-and_true a b h k = rw (h, k) refl
-
 -- ---- ranges of a list
 
 span : ℤ → ℤ → Range
@@ -72,12 +66,12 @@ Meet r s = (r.low ≤ℤ s.high) × (s.low ≤ℤ r.high)
 meets_Meet : (r s : Range) → meets r s ≡ true → Meet r s
 unfolding Meet
 meets_Meet r s h =
-    let two = both_true (int_le r.low s.high) (int_le s.low r.high) h in
+    let two = and_parts (int_le r.low s.high) (int_le s.low r.high) h in
     (le_true r.low s.high two.0, le_true s.low r.high two.1)
 
 Meet_meets : (r s : Range) → Meet r s → meets r s ≡ true
 unfolding Meet
-Meet_meets r s h = and_true (int_le r.low s.high) (int_le s.low r.high) (true_le r.low s.high h.0) (true_le s.low r.high h.1)
+Meet_meets r s h = and_from (int_le r.low s.high) (int_le s.low r.high) (true_le r.low s.high h.0) (true_le s.low r.high h.1)
 
 here_or_found : (b : Bool) (k v : ℤ) (r : Range) (rs : List Range) (rest : Option ℤ) → int_eq r.low k ≡ b → (rest ≡ Some v → IsIn (span k v) rs) → (if b then Some r.high else rest) ≡ Some v → IsIn (span k v) (r ∷ rs)
 unfolding IsIn span
@@ -106,31 +100,17 @@ known s (r ∷ rs) (inl e) =
     (λ other. absurd (let same : int_eq r.low s.low ≡ true = (Decides-int_eq r.low s.low).1 (ap (λ (x : Range). x.low) (sym e)) in let z : ⊥ = cc in z))
 known s (r ∷ rs) (inr i) = here_or_some (int_eq r.low s.low) r.high (high_at s.low rs) (λ other. known s rs i)
 
-or_left : (a b : Bool) → a ≡ true → (a || b) ≡ true
-or_left a b h = rw h refl
-
-or_right : (a b : Bool) → b ≡ true → (a || b) ≡ true
-or_right true b h = refl
-or_right false b h = h
-
-neither : (a b : Bool) → a ≡ false → b ≡ false → (a || b) ≡ false
-neither a b h k = rw (h, k) refl
-
 meets_one : (r s : Range) (rs : List Range) → IsIn s rs → Meet r s → overlaps rs r ≡ true
 unfolding IsIn
 meets_one r s [] none h = absurd none
 meets_one r s (x ∷ rs) (inl e) h = or_left (meets r x) (overlaps rs r) (Meet_meets r x (subst (Meet r) e h))
 meets_one r s (x ∷ rs) (inr i) h = or_right (meets r x) (overlaps rs r) (meets_one r s rs i h)
 
-not_met : (b : Bool) → (b ≡ true → ⊥) → b ≡ false
-not_met true h = absurd (h refl)
-not_met false h = refl
-
 meets_none : (r : Range) (rs : List Range) → ((s : Range) → IsIn s rs → Meet r s → ⊥) → overlaps rs r ≡ false
 unfolding IsIn
 meets_none r [] none = refl
 meets_none r (x ∷ rs) none =
-    neither (meets r x) (overlaps rs r) (not_met (meets r x) (λ h. none x (inl refl) (meets_Meet r x h))) (meets_none r rs (λ s i. none s (inr i)))
+    or_from (meets r x) (overlaps rs r) (false_from_ne_true (meets r x) (λ h. none x (inl refl) (meets_Meet r x h))) (meets_none r rs (λ s i. none s (inr i)))
 
 Meet_back : (r s : Range) → Meet r s → Meet s r
 unfolding Meet

@@ -12,6 +12,7 @@ use Rattle.st_tree.specs.declared.syntax.Literal.{Literal}
 use Rattle.st_tree.specs.declared.syntax.UnaryOperator.{UnaryOperator}
 use Rattle.st_tree.specs.Syntax.{Named, PathData, Tree, unary, chain, Links, no_links, link, Arguments, no_arguments, argument, ConnectionData, Stmt, empty, assign, invoke, branch, cases, iterate, Stmts, no_stmts, stmt, Arms, no_arms, arm, Entries, no_entries, entry, Otherwise, no_else, else_stmts, LabelData, IterationData}
 use Rattle.std.proofs.lemmas.List.{length-map}
+use Rattle.std.proofs.Math.Bool.{and_assoc, and-true, and_comm}
 use Rattle.st_tree.specs.declared.syntax.Argument.{Argument}
 use Rattle.st_tree.specs.SyntaxView.{ArgumentData, argument_view, arguments_view, arguments_of}
 use Rattle.st_tree.proofs.Refusals.{earlier-none, earlier-assoc, earlier-swap, first_in-append}
@@ -46,21 +47,13 @@ outcome_of-links scope t left (link o at e ls) =
     ∙ ap (λ (x : Outcome). links_outcome scope (next_type o t) x ls) (outcome_of-tested (also left right) holds OperandType at ∙ ap (λ (x : Outcome). tried x holds OperandType at) (outcome_of-also left right))
 
 -- parts one after the other
-both_assoc : (a b c : Bool) → (a && b) && c ≡ a && (b && c)
-both_assoc true b c = refl
-both_assoc false b c = refl
-
 pub both-assoc : (o p q : Outcome) → both (both o p) q ≡ both o (both p q)
 unfolding both
-both-assoc o p q = λ i. record { whole = both_assoc o.whole p.whole q.whole i; first = earlier-assoc o.first p.first q.first i }
-
-and_true : (a : Bool) → a && true ≡ a
-and_true true = refl
-and_true false = refl
+both-assoc o p q = λ i. record { whole = and_assoc o.whole p.whole q.whole i; first = earlier-assoc o.first p.first q.first i }
 
 pub both-sound : (o : Outcome) → both o (outcome_of sound) ≡ o
 unfolding outcome_of both
-both-sound o = λ i. record { whole = and_true o.whole i; first = earlier-none o.first i }
+both-sound o = λ i. record { whole = and-true o.whole i; first = earlier-none o.first i }
 
 pub sound-both : (o : Outcome) → both (outcome_of sound) o ≡ o
 unfolding outcome_of both
@@ -137,15 +130,9 @@ alone_outcome-is scope o (argument n e args) =
     let rest = judged_alone scope args in
     alone_outcome-is scope (both o (outcome_of own)) args ∙ both-assoc o (outcome_of own) (outcome_of rest) ∙ ap (both o) (sym (outcome_of-also own rest))
 
-and_swap : (a b : Bool) → a && b ≡ b && a
-and_swap true true = refl
-and_swap true false = refl
-and_swap false true = refl
-and_swap false false = refl
-
 both-swap : (o p : Outcome) → both o p ≡ both p o
 unfolding both
-both-swap o p = λ i. record { whole = and_swap o.whole p.whole i; first = earlier-swap o.first p.first i }
+both-swap o p = λ i. record { whole = and_comm o.whole p.whole i; first = earlier-swap o.first p.first i }
 
 -- ---- labels, and the statements behind them
 

@@ -4,6 +4,7 @@ use Rattle.std.proofs.Math.IntN.{ℤ}
 use Rattle.std.specs.Prelude.{int_le}
 use Rattle.std.specs.Ordering.{int_cmp}
 use Rattle.std.specs.BTreeMap.{BTreeMap, Updates}
+use Rattle.std.proofs.lemmas.Bool.{not-true}
 use Rattle.st_tree.specs.declared.data_type.DataType.{DataType}
 use Rattle.st_tree.specs.declared.rule.Rule.{Rule}
 use Rattle.st_tree.specs.declared.rule.Rule.TheVariants.{OperandType, OutsideType, Overlap}
@@ -50,17 +51,13 @@ whole_tested j true true rule at e whole = (e, refl)
 whole_tested j true false rule at e whole = absurd (let k : false ≡ true = rw e at whole in let z : ⊥ = cc in z)
 whole_tested j false h rule at e whole = absurd (let k : false ≡ true = rw e at whole in let z : ⊥ = cc in z)
 
-not_false : (b : Bool) → not b ≡ true → b ≡ false
-not_false true h = absurd (let e : ⊥ = cc in e)
-not_false false h = refl
-
 whole_label : (scope : Scope) (t : DataType) (seen : List Range) (l : LabelData) → (judged_label scope t seen l).whole ≡ true
     → (int_le (label_range scope t l).low (label_range scope t l).high ≡ true) × (overlaps seen (label_range scope t l) ≡ false)
 unfolding parts formed ordered
 whole_label scope t seen l whole =
     let last = whole_tested (ordered scope t l) (ordered scope t l).whole (not (overlaps seen (label_range scope t l))) Overlap (place_of l.low) refl whole in
     let middle = whole_tested (formed scope t l) (formed scope t l).whole (int_le (label_range scope t l).low (label_range scope t l).high) OutsideType (place_of l.low) refl last.0 in
-    (middle.1, not_false (overlaps seen (label_range scope t l)) last.1)
+    (middle.1, not-true (overlaps seen (label_range scope t l)) last.1)
 
 -- a label that breaks no rule is seen from then on
 pub label_seen : (scope : Scope) (t : DataType) (seen : List Range) (l : LabelData) (r : Range) (low high : ℤ) (o : Outcome) (old new : BTreeMap ℤ ℤ) → r ≡ label_range scope t l → low ≡ r.low → high ≡ r.high → o ≡ outcome_of (judged_label scope t seen l) → o.whole ≡ true

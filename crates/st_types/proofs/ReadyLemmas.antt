@@ -4,6 +4,8 @@ use Rattle.std.proofs.Math.IntN.{ℤ, pos}
 use Rattle.std.specs.Prelude.{IfOk, codes, int_le}
 use Rattle.std.specs.List.{AllByRecursion}
 use Rattle.std.proofs.lemmas.Int.{ints}
+use Rattle.std.proofs.lemmas.Bool.{and_parts}
+use Rattle.std.proofs.Math.Bool.{and-false}
 use Rattle.num_core.specs.Ranges.{Fits}
 use Rattle.st_tree.specs.declared.elementary.Elementary.{Elementary as ElementaryType}
 use Rattle.st_tree.specs.declared.elementary.Elementary.TheVariants as types
@@ -50,16 +52,8 @@ by_parts true true j k parts none e = refl
 by_parts true false j k parts none e = absurd (let n : ⊥ = cc in n)
 by_parts false b j k parts none e = absurd (let n : ⊥ = cc in n)
 
-and_false : (w : Bool) → (w && false) ≡ false
-and_false true = refl
-and_false false = refl
-
 test_of : (j : Judgement) (b : Bool) (rule : Rule) (at : ℕ) → (tested j b rule at).whole ≡ true → b ≡ true
-test_of j b rule at e = by_parts j.whole b j (also j (breaks rule at)) refl (and_false j.whole) e
-
-both_true : (a b : Bool) → (a && b) ≡ true → (a ≡ true) × (b ≡ true)
-both_true true b h = (refl, h)
-both_true false b h = absurd (let e : ⊥ = cc in e)
+test_of j b rule at e = by_parts j.whole b j (also j (breaks rule at)) refl (and-false j.whole) e
 
 -- ---- what a variable of a domain begins with
 
@@ -115,7 +109,7 @@ domain_if-fits f (Some t) = domain-fits f t
 -- ---- what a variable begins with
 
 in_range-fits : (v low high : ℤ) → (int_le low v && int_le v high) ≡ true → Fits low high v
-in_range-fits v low high e = let h = both_true (int_le low v) (int_le v high) e in (le_true low v h.0, le_true v high h.1)
+in_range-fits v low high e = let h = and_parts (int_le low v) (int_le v high) e in (le_true low v h.0, le_true v high h.1)
 
 -- an initial value that breaks no rule is in range
 given-fits : (f : FileData) (d : Domain) (at : ℕ) (initial : Option Tree) → StartFits d → (judged_initial f d at initial).whole ≡ true → Fits d.range.low d.range.high (given_value f d initial)

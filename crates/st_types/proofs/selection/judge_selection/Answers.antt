@@ -1,19 +1,16 @@
-use Rattle.std.proofs.Common.{◌≡◌, [], Bool, true, false, not, ap, ◌∙◌}
+use Rattle.std.proofs.Common.{[], ap, ◌∙◌}
+use Rattle.std.proofs.lemmas.Bool.{not-true, not-false}
 use Rattle.st_tree.specs.SyntaxView.{tree_view, entries_view}
 use Rattle.st_types.specs.Labels.{judged_labels}
 use Rattle.st_types.specs.Outcomes.{outcome_of, all_labels}
 use Rattle.st_types.proofs.Judging.{outcome_of-selection, outcome_of-unselected}
 use Rattle.st_types.proofs.selection.judge_selection.Goals as goal
 
-turned : (b c : Bool) → not b ≡ c → b ≡ not c
-turned true c h = ap not h
-turned false c h = ap not h
-
 pub returns-then-not-judged : goal.returns-then-not-judged
 returns-then-not-judged g c =
-    outcome_of-unselected (g.S.Scope.means c.args.scope.now) (tree_view c.args.selector.now) (entries_view c.args.entries.now) c.in_ok-judged.judged c.in_ok-judged.ensures (turned c.in_ok-judged.judged.whole true c.if-not-judged.true)
+    outcome_of-unselected (g.S.Scope.means c.args.scope.now) (tree_view c.args.selector.now) (entries_view c.args.entries.now) c.in_ok-judged.judged c.in_ok-judged.ensures (not-true c.in_ok-judged.judged.whole c.if-not-judged.true)
 
 pub returns : goal.returns
 returns g c =
-    outcome_of-selection (g.S.Scope.means c.args.scope.now) (tree_view c.args.selector.now) (entries_view c.args.entries.now) c.in_ok-judged.judged c.in_ok-labels.labels c.also.result c.in_ok-judged.ensures (turned c.in_ok-judged.judged.whole false c.if-not-judged.false)
+    outcome_of-selection (g.S.Scope.means c.args.scope.now) (tree_view c.args.selector.now) (entries_view c.args.entries.now) c.in_ok-judged.judged c.in_ok-labels.labels c.also.result c.in_ok-judged.ensures (not-false c.in_ok-judged.judged.whole c.if-not-judged.false)
     (c.in_ok-labels.ensures ∙ ap (λ t. outcome_of (judged_labels (g.S.Scope.means c.args.scope.now) t [] (all_labels (entries_view c.args.entries.now)))) c.type_of.ensures) c.also.ensures

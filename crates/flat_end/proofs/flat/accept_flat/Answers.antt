@@ -1,6 +1,6 @@
 use Rattle.st_tree.specs.View.{program_view}
-use Rattle.front_end.specs.FlatTexts.HasNoFlatForm.{by_program, by_size}
-use Rattle.front_end.proofs.flat.accept_flat.Goals as goal
+use Rattle.flat_end.specs.FlatTexts.HasNoFlatForm.{by_program, by_size}
+use Rattle.flat_end.proofs.flat.accept_flat.Goals as goal
 
 pub returns-in-Err-Refused-clause-refused : goal.returns-in-Err-Refused-clause-refused
 returns-in-Err-Refused-clause-refused c = let no = rw c.in-Err-Refused.field-0-is at c.in-Err-Refused.ensures.refused in rw c.in-Err-Refused.refusal-is (by_program no)

@@ -7,12 +7,11 @@ ghost use Rattle.flat_form.specs.FlatPrograms.{flat_program};
 ghost use Rattle.flat_form.specs.FlatLaws.{LeavesTheSame};
 ghost use Rattle.front_end.specs.Texts.{IsProgram};
 ghost use Rattle.front_end.specs.Faults.{IfRefused};
-ghost use Rattle.front_end.specs.FlatTexts.{HasNoFlatForm};
+ghost use Rattle.flat_end.specs.FlatTexts.{HasNoFlatForm};
 
-use crate::accept::accept_text;
-use crate::fault::AcceptFault;
 use fb_inline::{FlatFault, flatten};
 use flat_core::Flat;
+use front_end::{AcceptFault, accept_text};
 use st_tree::Program;
 use std::alloc::Global;
 
