@@ -4,8 +4,8 @@
 
 samples.py watch FILE [PID..]   samples these runs until they end, or without a PID each run that there is until it is
                                 stopped, and keeps what it saw in FILE, which it writes anew every ten seconds
-samples.py table FILE..         prints the table of what stands in such files; of two runs that did the same part of a
-                                crate it counts the later one
+samples.py table FILE..         prints the table of what stands in such files, of the crates that crates.txt lists; of two runs
+                                that did the same part of a crate it counts the later one, unless that was cut off in it
 """
 import json
 import os
@@ -137,19 +137,33 @@ def since_boot():
     return time.clock_gettime(time.CLOCK_BOOTTIME)
 
 
+def listed():
+    """Returns the names of the repository's crates."""
+    top = os.path.dirname(os.path.dirname(os.path.dirname(os.path.realpath(__file__))))
+    with open(f"{top}/crates.txt", encoding="utf-8") as lines:
+        return {it.split()[0].rstrip(":") for it in lines if it.strip() and not it.startswith("#")}
+
+
+def is_complete(part, runs):
+    """Whether the run was seen to go on after this process had ended, so that the process was not cut off with it."""
+    run = runs[part["run"]]
+    ended = int(part["run"].partition("-")[2]) / TICK + run["elapsed"]
+    return ended - part["begun"] - part["elapsed"] > 3 * PAUSE
+
+
 def read(files):
-    """Returns the runs, and the parts of the last run that did them, by crate and kind."""
-    runs, parts = {}, {}
+    """Returns the runs, and the parts by crate and kind: of each those of the last run that was not cut off in them."""
+    runs, found, crates = {}, {}, listed()
     for file in files:
         with open(file, encoding="utf-8") as text:
-            found = json.load(text)
-        runs.update(found["runs"])
-        for it in sorted(found["parts"], key=lambda it: it["begun"]):
-            key = it["crate"], it["kind"]
-            if key in parts and parts[key][-1]["run"] != it["run"]:
-                parts[key] = []
-            parts.setdefault(key, []).append(it)
-    return runs, parts
+            seen = json.load(text)
+        runs.update(seen["runs"])
+        for it in seen["parts"]:
+            if it["crate"] in crates:
+                it["below"] = [name for name in it["below"] if name in crates]
+                found.setdefault((it["crate"], it["kind"]), {}).setdefault(it["run"], []).append(it)
+    rank = lambda of_run: (all(is_complete(it, runs) for it in of_run), of_run[-1]["begun"])
+    return runs, {key: max(by_run.values(), key=rank) for key, by_run in found.items()}
 
 
 def chains(parts):
@@ -179,7 +193,7 @@ def longest(parts, crate, kind):
 def table(files):
     runs, parts = read(files)
     for it in runs.values():
-        print(f"run: {it['words']} in {it['folder']}, {it['elapsed']:,.0f} s, processor {it['processor']:,.0f} s")
+        print(f"run: {it['words']} in {it['folder']}, {it['elapsed']:,.0f} s, {it['processor']:,.0f} processor seconds in all")
     made = chains(parts)
     print("\n| Crate | Proof | Tests | Edits | Number of edits | Whole | Chain up to its proof |\n|---|---:|---:|---:|---:|---:|---:|")
     sums = dict.fromkeys(("proof", "tests", "edits"), 0.0)
