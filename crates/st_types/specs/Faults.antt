@@ -1,5 +1,5 @@
--- Which fault a file, and which a clause leads to.
-use Rattle.std.specs.Prelude.{◌≡◌, ◌⊎◌, ℕ, List, [], false}
+-- Which fault a file leads to.
+use Rattle.std.specs.Prelude.{◌≡◌, ◌⊎◌, ℕ, [], false}
 use Rattle.st_tree.specs.declared.rule.Rule.TheVariants.{TooManyCells}
 use Rattle.st_tree.specs.declared.rule.Refusal.{Refusal}
 use Rattle.st_tree.specs.Rules.{IsAmong, IsFirst}
@@ -15,8 +15,3 @@ IsFaultOf f number (Refused r) =
     IsFirst (λ x. IsAmong x (broken_types f)) r
     ⊎ ((broken_types f ≡ []) × (has_room f number ≡ false) × (r ≡ record { rule = TooManyCells; at = 0 }))
 IsFaultOf f number Memory = Unit {0}
-
--- a clause is refused by the first of the rules on types that it breaks
-abbrev pub IsClauseFault : List Refusal → TypeFault → Type 0
-IsClauseFault broken (Refused r) = IsFirst (λ x. IsAmong x broken) r
-IsClauseFault broken Memory = Unit {0}

@@ -54,7 +54,7 @@ mod typed_expressions;
 mod typed_statements;
 mod variables;
 
-pub use clauses::{check_clause, judge_clause, typed_clause};
+pub use clauses::{judge_clause, typed_clause};
 pub use domain::Domain;
 pub use fault::TypeFault;
 pub use laws::turns_are_counted;

@@ -5,9 +5,7 @@ use st_parser::{parse_expr, parse_file};
 use st_tree::{
     DataType, Elementary, Expr, Operator, Program, Range, Refusal, Rule, TypedExpr, TypedStmt,
 };
-use st_types::{
-    PairScope, PairedTypes, TypeFault, check, check_clause, judge_clause, typed_clause,
-};
+use st_types::{PairScope, PairedTypes, TypeFault, check, judge_clause, typed_clause};
 use std::alloc::Global;
 use std::test::Fail;
 
@@ -178,22 +176,6 @@ const CLAUSES: [(&str, Option<(Rule, usize)>); 9] = [
     ("1", Some((Rule::NotBool, 0))),
 ];
 
-// What a clause over two programs breaks first.
-fn broken_in(
-    alloc: Global,
-    clause: &Expr,
-    old: &Program,
-    new: &Program,
-) -> Result<Option<Refusal>, Fail> {
-    match check_clause(alloc, clause, old, new) {
-        Err(TypeFault::Refused(refusal)) => Ok(Some(refusal)),
-        other => {
-            other?;
-            Ok(None)
-        }
-    }
-}
-
 #[test]
 fn clauses_over_a_pair(rt: HostRuntime) -> Result<(), Fail> {
     let alloc = rt.alloc();
@@ -204,7 +186,6 @@ fn clauses_over_a_pair(rt: HostRuntime) -> Result<(), Fail> {
         let clause = clause(alloc, text)?;
         let want = want.map(|(rule, at)| Refusal { rule, at });
         assert_eq!(rt; judge_clause(alloc, &scope, &clause)?, want, "{text}");
-        assert_eq!(rt; broken_in(alloc, &clause, &old, &new)?, want, "{text}");
     }
     Ok(())
 }
