@@ -1,19 +1,19 @@
 #!/bin/bash
 # Decides generated formulas by the plain decider, and by minisat and cadical where they are installed.
-# For each formula: the answer, derived clauses and milliseconds of the plain decider, check of its
-# answer included; then milliseconds and conflicts of the others. `bench/decide.sh [SECONDS]`, the
+# For each formula: the answer, derived clauses and milliseconds of the plain decider, and how many proposals of its search
+# were refused; then milliseconds and conflicts of the others. `bench/decide.sh [SECONDS]`, the
 # most that one run may take (60).
 set -u
 cd "$(dirname "$0")/.."
 seconds=${1:-60}
-(cd crates/decider_run && rt run >/dev/null 2>&1) || exit 1
-program=$PWD/crates/decider_run/out/decider_run
+(cd crates/bench_run && rt run >/dev/null 2>&1) || exit 1
+program=$PWD/crates/bench_run/out/bench_run
 formulas=$(mktemp -d)
 trap 'rm -rf "$formulas"' EXIT
 python3 bench/decide/make_formulas.py "$formulas"
 
 plain() {
-    timeout "$seconds" "$program" "$1" time | awk '
+    timeout "$seconds" "$program" decide "$1" time | awk '
         /^s /{answer = $2} /^c steps/{steps = $3} /^c refused/{refused = $4} / ms$/{ms = $2}
         END{if (answer == "") print "-"; else print answer, steps + 0, "steps", ms, "ms, refused", refused}'
 }

@@ -1,3 +1,5 @@
+// Formulas as DIMACS writes them, and derivations over them. What is no number is read as 0, and a clause that has other
+// variables than its formula's is left out.
 ghost use Rattle.std.specs.Prelude.{◌<◌, ◌-◌, ◌^◌};
 
 use clause_core::{Clause, Cnf, Hints, Lit, Step, is_within};
@@ -5,15 +7,27 @@ use std::alloc::{AllocError, Global};
 
 /// A formula, and the steps of a derivation over it.
 #[derive(Drop)]
-pub struct Input {
+pub struct Derivation {
     pub cnf: Cnf,
     pub steps: Vec<Step>,
 }
 
-/// Reads the line 'p cnf VARIABLES CLAUSES' of DIMACS, a line of literals and 0 for each clause, and
-/// a line of literals, 0, hints and 0 for each step. What is no number is read as 0, and a clause
-/// that is not one of the formula's variables is left out.
-pub fn read(alloc: Global, text: &str) -> Result<Input, AllocError> {
+/// Reads a formula: a line 'p cnf VARIABLES CLAUSES', and a line of literals and 0 for each clause. A line that begins with c is
+/// a comment.
+pub fn read_formula(alloc: Global, text: &str) -> Result<Cnf, AllocError> {
+    let mut cnf = Cnf::new(alloc, 0);
+    for line in text.lines() {
+        if line.starts_with('p') {
+            cnf = Cnf::new(alloc, variables(line));
+        } else if !line.starts_with('c') && !line.is_empty() {
+            add(alloc, &mut cnf, line)?;
+        }
+    }
+    Ok(cnf)
+}
+
+/// Reads a formula without comments, and behind it a line of literals, 0, hints and 0 for each step of a derivation.
+pub fn read_derivation(alloc: Global, text: &str) -> Result<Derivation, AllocError> {
     let mut cnf = Cnf::new(alloc, 0);
     let mut steps = Vec::new(alloc);
     let mut clauses = 0;
@@ -27,7 +41,7 @@ pub fn read(alloc: Global, text: &str) -> Result<Input, AllocError> {
             steps.push(step(alloc, line)?)?;
         }
     }
-    Ok(Input { cnf, steps })
+    Ok(Derivation { cnf, steps })
 }
 
 /// The number that stands at that place of the line, from 0.
@@ -53,6 +67,7 @@ fn add(alloc: Global, cnf: &mut Cnf, line: &str) -> Result<(), AllocError> {
     Ok(())
 }
 
+/// A literal as DIMACS writes it: a variable's number, negative for its negative.
 fn literal(number: i32) -> Lit {
     Lit {
         variable: number.unsigned_abs(),

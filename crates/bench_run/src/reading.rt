@@ -1,4 +1,4 @@
-// The stages of reading a program.
+// Reads a program's text, and tells how far its readers come.
 use crate::stages::Stages;
 use fb_inline::{FlatFault, flatten};
 use front_end::{AcceptFault, tokens_of};
@@ -7,13 +7,13 @@ use st_parser::parse_file;
 use st_tree::{Program, Refusal, SourceFile, Tok};
 use st_types::check;
 use std::alloc::Global;
-use std::io;
 use std::io::Print;
 use std::time::Clock;
+use std::{fs, io};
 
 /// Why reading stopped.
 #[derive(Debug, Drop)]
-pub enum Stop {
+enum Stop {
     Refused(Refusal),
     Untyped,
     Memory,
@@ -57,8 +57,27 @@ fn checked(alloc: Global, names: Resolved) -> Result<Program, AcceptFault> {
     Ok(check(alloc, names)?)
 }
 
+/// Reads the program of the file, and prints how many tokens and cells it has or why it was not read, and the time of each
+/// stage where that is asked.
+pub fn run(rt: &HostRuntime, path: &str, is_timed: bool) -> io::Result<()> {
+    let text = fs::read(rt, path)?;
+    let mut stages = Stages::start(rt, is_timed)?;
+    match read(rt, rt.alloc(), &text, &mut stages) {
+        Ok((tokens, cells)) => println!(rt; "{tokens} tokens, {cells} cells"),
+        Err(Stop::Refused(refusal)) => print_refusal(rt, refusal),
+        Err(Stop::Untyped) => println!(rt; "the program is not well typed"),
+        Err(Stop::Memory) => println!(rt; "memory was wanting"),
+        Err(Stop::Output(error)) => Err(error),
+    }
+}
+
+fn print_refusal(rt: &impl Print, refusal: Refusal) -> io::Result<()> {
+    let (rule, at) = (refusal.rule.name(), refusal.at);
+    println!(rt; "refused: {rule} at {at}")
+}
+
 /// Reads a text, and answers how many tokens and cells it has.
-pub fn read<R: Clock + Print>(
+fn read<R: Clock + Print>(
     rt: &R,
     alloc: Global,
     text: &[u8],
