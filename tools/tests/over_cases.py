@@ -25,6 +25,7 @@ COMMENTED = re.compile(r"\(\* ((?:ENV|RELATE) [^;]*;) \*\)")
 
 
 def tool():
+    sys.dont_write_bytecode = True
     loader = importlib.machinery.SourceFileLoader("start_relation", TOOL)
     module = importlib.util.module_from_spec(importlib.util.spec_from_loader("start_relation", loader))
     loader.exec_module(module)
