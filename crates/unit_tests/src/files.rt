@@ -93,10 +93,3 @@ fn shelf_and_sink_that_are_sure(rt: HostRuntime) -> Result<(), Fail> {
     assert_eq!(rt; sink.bytes(), b"abc".as_slice());
     Ok(())
 }
-
-#[test]
-fn texts_of_errors(rt: HostRuntime) -> Result<(), Fail> {
-    let text = format!(in rt.alloc(); "{}; {}", OutErr::Fault, OutErr::Memory)?;
-    assert_eq!(rt; text.as_str(), "a file or the output failed; out of memory");
-    Ok(())
-}

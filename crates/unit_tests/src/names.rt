@@ -1,10 +1,8 @@
 // What the names of a text stand for, and the words of the language that are looked up.
 use st_lexer::lex;
-use st_names::{
-    Bound, Resolved, Role, Standing, is_library, qualifier, resolve, standard_function,
-};
+use st_names::{Bound, Resolved, Role, Standing, is_library, resolve};
 use st_parser::parse_file;
-use st_tree::{Elementary, Qualifier, Shift, SourceFile, StandardFunction};
+use st_tree::SourceFile;
 use std::alloc::Global;
 use std::process::Abort;
 use std::test::Fail;
@@ -144,42 +142,5 @@ fn names_of_the_library(rt: HostRuntime) {
     ];
     for (text, want) in rows {
         assert_eq!(rt; is_library(text), want, "{text}");
-    }
-}
-
-#[test]
-fn standard_functions(rt: HostRuntime) {
-    let udint_to_byte = StandardFunction::Conversion {
-        from: Elementary::Udint,
-        to: Elementary::Byte,
-    };
-    let rotation = StandardFunction::Shift(Shift::RotateRight);
-    let rows = [
-        ("LIMIT", Some(StandardFunction::Limit)),
-        ("ROR", Some(rotation)),
-        ("UDINT_TO_BYTE", Some(udint_to_byte)),
-        ("BYTE_TO_BYTE", None),
-        ("CTU", None),
-    ];
-    for (text, want) in rows {
-        assert_eq!(rt; standard_function(text), want, "{text}");
-    }
-}
-
-#[test]
-fn qualifiers(rt: HostRuntime) {
-    let rows = [
-        ("N", Some(Qualifier::NonStored)),
-        ("S", Some(Qualifier::Set)),
-        ("R", Some(Qualifier::Reset)),
-        ("P", Some(Qualifier::Pulse)),
-        ("P1", Some(Qualifier::Pulse)),
-        ("P0", Some(Qualifier::FallingPulse)),
-        ("DS", None),
-        ("n", None),
-        ("", None),
-    ];
-    for (word, want) in rows {
-        assert_eq!(rt; qualifier(word), want, "{word}");
     }
 }

@@ -1,6 +1,6 @@
-// Tokens of texts, and the values of numbers.
+// Tokens of texts.
 use front_end::tokens_of;
-use st_lexer::{lex, number_value, one_cut, one_spelling};
+use st_lexer::{lex, one_cut, one_spelling};
 use st_tree::{Elementary, Kind, Mark, Operator, PartWord, Terminal};
 use std::test::Fail;
 
@@ -78,21 +78,4 @@ fn words_are_told_apart_in_any_case(rt: HostRuntime) -> Result<(), Fail> {
         assert_eq!(rt; token.terminal, terminal, "{}", token.slice);
     }
     Ok(())
-}
-
-#[test]
-fn values_of_numbers(rt: HostRuntime) {
-    let rows = [
-        ("0007", Some(7)),
-        ("16#fF", Some(255)),
-        ("2#1_0", Some(2)),
-        ("8#17", Some(15)),
-        ("18446744073709551615", Some(u64::MAX)),
-        ("18446744073709551616", None),
-        ("16#_F", None),
-        ("1_", None),
-    ];
-    for (slice, value) in rows {
-        assert_eq!(rt; number_value(slice), value, "{slice}");
-    }
 }

@@ -5,8 +5,8 @@ use flat_end::accept_flat;
 use flat_typing::{TypingFault, check_program};
 use front_end::{AcceptFault, accept_text};
 use st_tree::{
-    Elementary, Operand, Operator, Program, Range, Refusal, Rule, Turns, TypedEntry, TypedExpr,
-    TypedLabel, TypedStmt,
+    Called, CellType, DataType, Elementary, Frame, Operand, Operator, Program, Range, Refusal,
+    Rule, Turns, TypedEntry, TypedExpr, TypedLabel, TypedStmt,
 };
 use std::alloc::{AllocError, Global};
 use std::test::Fail;
@@ -181,6 +181,55 @@ fn a_for_ends_in_range(rt: HostRuntime) -> Result<(), Fail> {
         let body = vec![in alloc; TypedStmt::For(turns, Vec::new(alloc))]?;
         let program = program(alloc, body)?;
         assert_eq!(rt; answers(alloc, &program)?, (typed, typed), "{first}");
+    }
+    Ok(())
+}
+
+// A block of one cell lies behind FAULT and inside the program's cells.
+#[test]
+fn an_instance_lies_in_the_cells_of_the_program(rt: HostRuntime) -> Result<(), Fail> {
+    let alloc = rt.alloc();
+    for (offset, typed) in [(0, false), (1, true), (3, true), (4, false)] {
+        let body = vec![in alloc; TypedStmt::Run { block: 0, offset }]?;
+        let mut program = program(alloc, body)?;
+        let sets = vec![in alloc; TypedStmt::Assign(0, TypedExpr::Number(1))]?;
+        program.called = vec![in alloc; Called::Block(sets)]?;
+        assert_eq!(rt; answers(alloc, &program)?, (typed, typed), "{offset}");
+    }
+    Ok(())
+}
+
+// A FUNCTION with the cells FAULT, its result and one more.
+fn function(alloc: Global) -> Result<Called, AllocError> {
+    let bit = cell_type(Elementary::Bool);
+    let int = cell_type(Elementary::Int);
+    let frame = Frame {
+        types: vec![in alloc; bit, int, int]?,
+        ranges: vec![in alloc; Range { low: 0, high: 1 }, INT, INT]?,
+        start: vec![in alloc; 0, 0, 0]?,
+    };
+    Ok(Called::Function(frame, Vec::new(alloc)))
+}
+
+fn cell_type(kind: Elementary) -> CellType {
+    CellType {
+        kind: DataType::Elementary(kind),
+        limited: false,
+    }
+}
+
+#[test]
+fn a_call_has_no_more_inputs_than_its_function(rt: HostRuntime) -> Result<(), Fail> {
+    let alloc = rt.alloc();
+    for (inputs, typed) in [(1, true), (2, false)] {
+        let mut values = Vec::new(alloc);
+        for _ in 0..inputs {
+            values.push(TypedExpr::Number(1))?;
+        }
+        let call = TypedExpr::Answer(0, values);
+        let mut program = program(alloc, vec![in alloc; TypedStmt::Assign(R, call)]?)?;
+        program.called = vec![in alloc; function(alloc)?]?;
+        assert_eq!(rt; answers(alloc, &program)?, (typed, typed), "{inputs}");
     }
     Ok(())
 }
