@@ -6,12 +6,12 @@ use flat_typing::{TypingFault, check_program};
 use front_end::{AcceptFault, accept_text};
 use st_tree::{
     Called, CellType, DataType, Elementary, Frame, Operand, Operator, Program, Range, Refusal,
-    Rule, Turns, TypedEntry, TypedExpr, TypedLabel, TypedStmt,
+    Rule, StepCells, Turns, TypedEntry, TypedExpr, TypedLabel, TypedStmt,
 };
 use std::alloc::{AllocError, Global};
 use std::test::Fail;
 
-// The places of the cells of each program: FAULT, an input and two outputs.
+// The places of an input and two outputs of each program; FAULT is 0, and two flags are 4 and 5.
 const A: usize = 1;
 
 const Q: usize = 2;
@@ -19,7 +19,7 @@ const Q: usize = 2;
 const R: usize = 3;
 
 const EMPTY: &str =
-    "PROGRAM M VAR_INPUT a : INT; END_VAR VAR_OUTPUT q, r : INT; END_VAR END_PROGRAM";
+    "PROGRAM M VAR_INPUT a : INT; END_VAR VAR_OUTPUT q, r : INT; END_VAR VAR s, t : BOOL; END_VAR END_PROGRAM";
 
 const INT: Range = Range {
     low: -32768,
@@ -155,11 +155,11 @@ fn a_program_begins_with_fault(rt: HostRuntime) -> Result<(), Fail> {
     Ok(())
 }
 
-// FAULT is 0, and the last cell 3.
+// FAULT is 0, and the last cell 5.
 #[test]
 fn statements_set_cells_of_the_program_alone(rt: HostRuntime) -> Result<(), Fail> {
     let alloc = rt.alloc();
-    for (place, typed) in [(0, false), (1, true), (3, true), (4, false)] {
+    for (place, typed) in [(0, false), (1, true), (5, true), (6, false)] {
         let body = vec![in alloc; TypedStmt::Assign(place, TypedExpr::Number(1))]?;
         let program = program(alloc, body)?;
         assert_eq!(rt; answers(alloc, &program)?, (typed, typed), "{place}");
@@ -189,12 +189,24 @@ fn a_for_ends_in_range(rt: HostRuntime) -> Result<(), Fail> {
 #[test]
 fn an_instance_lies_in_the_cells_of_the_program(rt: HostRuntime) -> Result<(), Fail> {
     let alloc = rt.alloc();
-    for (offset, typed) in [(0, false), (1, true), (3, true), (4, false)] {
+    for (offset, typed) in [(0, false), (1, true), (5, true), (6, false)] {
         let body = vec![in alloc; TypedStmt::Run { block: 0, offset }]?;
         let mut program = program(alloc, body)?;
         let sets = vec![in alloc; TypedStmt::Assign(0, TypedExpr::Number(1))]?;
         program.called = vec![in alloc; Called::Block(sets)]?;
         assert_eq!(rt; answers(alloc, &program)?, (typed, typed), "{offset}");
+    }
+    Ok(())
+}
+
+#[test]
+fn the_cells_of_a_chart_are_flags_that_rise(rt: HostRuntime) -> Result<(), Fail> {
+    let alloc = rt.alloc();
+    for (active, before, typed) in [(4, 5, true), (5, 4, false), (4, 4, false), (3, 4, false)] {
+        let steps = vec![in alloc; StepCells { active, before }]?;
+        let chart = TypedStmt::Chart(steps, Vec::new(alloc), Vec::new(alloc));
+        let program = program(alloc, vec![in alloc; chart]?)?;
+        assert_eq!(rt; answers(alloc, &program)?, (typed, typed), "{active}");
     }
     Ok(())
 }
@@ -232,6 +244,12 @@ fn a_call_has_no_more_inputs_than_its_function(rt: HostRuntime) -> Result<(), Fa
         assert_eq!(rt; answers(alloc, &program)?, (typed, typed), "{inputs}");
     }
     Ok(())
+}
+
+#[test]
+fn want_of_memory_is_told_as_such(rt: HostRuntime) {
+    let fault = FlatFault::from(TypingFault::Memory);
+    assert!(rt; matches!(fault, FlatFault::Memory));
 }
 
 // A text that breaks a rule is refused by it, before its statements are counted.
