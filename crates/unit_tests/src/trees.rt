@@ -167,24 +167,6 @@ fn statements_set_cells_of_the_program_alone(rt: HostRuntime) -> Result<(), Fail
     Ok(())
 }
 
-// `FOR Q := first TO .. BY 1`: the value behind the last turn is one of INT too.
-#[test]
-fn a_for_ends_in_range(rt: HostRuntime) -> Result<(), Fail> {
-    let alloc = rt.alloc();
-    for (first, count, typed) in [(32766, 1, true), (32767, 1, false), (32766, 2, false)] {
-        let turns = Turns {
-            count,
-            control: Q,
-            first,
-            step: 1,
-        };
-        let body = vec![in alloc; TypedStmt::For(turns, Vec::new(alloc))]?;
-        let program = program(alloc, body)?;
-        assert_eq!(rt; answers(alloc, &program)?, (typed, typed), "{first}");
-    }
-    Ok(())
-}
-
 // A block of one cell lies behind FAULT and inside the program's cells.
 #[test]
 fn an_instance_lies_in_the_cells_of_the_program(rt: HostRuntime) -> Result<(), Fail> {
@@ -212,7 +194,7 @@ fn the_cells_of_a_chart_are_flags_that_rise(rt: HostRuntime) -> Result<(), Fail>
 }
 
 // A FUNCTION with the cells FAULT, its result and one more.
-fn function(alloc: Global) -> Result<Called, AllocError> {
+fn function(alloc: Global, body: Vec<TypedStmt>) -> Result<Called, AllocError> {
     let bit = cell_type(Elementary::Bool);
     let int = cell_type(Elementary::Int);
     let frame = Frame {
@@ -220,7 +202,7 @@ fn function(alloc: Global) -> Result<Called, AllocError> {
         ranges: vec![in alloc; Range { low: 0, high: 1 }, INT, INT]?,
         start: vec![in alloc; 0, 0, 0]?,
     };
-    Ok(Called::Function(frame, Vec::new(alloc)))
+    Ok(Called::Function(frame, body))
 }
 
 fn cell_type(kind: Elementary) -> CellType {
@@ -230,17 +212,41 @@ fn cell_type(kind: Elementary) -> CellType {
     }
 }
 
+// `R := function(1, ..);` with so many inputs, where the FUNCTION has these statements.
+fn calls(alloc: Global, inputs: usize, body: Vec<TypedStmt>) -> Result<Program, Fail> {
+    let mut values = Vec::new(alloc);
+    for _ in 0..inputs {
+        values.push(TypedExpr::Number(1))?;
+    }
+    let call = TypedExpr::Answer(0, values);
+    let mut program = program(alloc, vec![in alloc; TypedStmt::Assign(R, call)]?)?;
+    program.called = vec![in alloc; function(alloc, body)?]?;
+    Ok(program)
+}
+
+// The value behind the last turn of a FOR is one of its control variable too, which is not tested in a FUNCTION.
+#[test]
+fn a_for_of_a_function_ends_in_range(rt: HostRuntime) -> Result<(), Fail> {
+    let alloc = rt.alloc();
+    for (first, count, typed) in [(32766, 1, true), (32767, 1, false), (32766, 2, false)] {
+        let turns = Turns {
+            count,
+            control: 2,
+            first,
+            step: 1,
+        };
+        let body = vec![in alloc; TypedStmt::For(turns, Vec::new(alloc))]?;
+        let program = calls(alloc, 1, body)?;
+        assert_eq!(rt; answers(alloc, &program)?, (typed, typed), "{first}");
+    }
+    Ok(())
+}
+
 #[test]
 fn a_call_has_no_more_inputs_than_its_function(rt: HostRuntime) -> Result<(), Fail> {
     let alloc = rt.alloc();
     for (inputs, typed) in [(1, true), (2, false)] {
-        let mut values = Vec::new(alloc);
-        for _ in 0..inputs {
-            values.push(TypedExpr::Number(1))?;
-        }
-        let call = TypedExpr::Answer(0, values);
-        let mut program = program(alloc, vec![in alloc; TypedStmt::Assign(R, call)]?)?;
-        program.called = vec![in alloc; function(alloc)?]?;
+        let program = calls(alloc, inputs, Vec::new(alloc))?;
         assert_eq!(rt; answers(alloc, &program)?, (typed, typed), "{inputs}");
     }
     Ok(())
