@@ -1,4 +1,8 @@
 // The door `accept`: a text is accepted, or refused by the rule and at the place that its mark names.
+ghost use Rattle.std.specs.Prelude.{IfOk};
+ghost use Rattle.st_tree.specs.View.{program_view};
+ghost use Rattle.st_types.specs.Ready.{IsReady};
+
 use crate::case_file::Case;
 use crate::marks::Marked;
 use crate::report::{CaseFault, Mismatch, compare, malformed};
@@ -57,7 +61,9 @@ pub fn refused_at(alloc: Global, rule: &str, at: usize, text: &[u8]) -> Result<S
 }
 
 /// The program of a text that has to be accepted.
-pub fn accepted(alloc: Global, text: &[u8]) -> Result<Program, CaseFault> {
+pub fn accepted(alloc: Global, text: &[u8]) -> Result<Program, CaseFault>
+    ensures ready { IfOk result (λ p. IsReady (program_view p)) }
+{
     match accept_text(alloc, text) {
         Ok(program) => Ok(program),
         Err(AcceptFault::Refused(refusal)) => {

@@ -1,4 +1,6 @@
 // Case files: titled cases, each of which has sections.
+ghost use Rattle.std.specs.Prelude.{◌≡◌, IfSome};
+
 use crate::section::Word;
 use std::alloc::{AllocError, Global};
 
@@ -27,7 +29,9 @@ pub struct Case {
 
 impl Case {
     /// The first section with this word.
-    pub fn section(&self, word: Word) -> Option<&Section> {
+    pub fn section(&self, word: Word) -> Option<&Section>
+        ensures { IfSome result (λ section. section.now.word ≡ word) }
+    {
         for section in &self.sections {
             if section.word == word {
                 return Some(section);

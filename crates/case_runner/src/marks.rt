@@ -1,4 +1,6 @@
 // Texts with marks, which stand between « and »: the place of a refusal, a byte by its number, or a piece that is repeated.
+ghost use Rattle.std.specs.Prelude.{◌≤◌, IfOk};
+
 use crate::report::{CaseFault, malformed};
 use std::alloc::Global;
 
@@ -77,7 +79,9 @@ fn byte_of(alloc: Global, digits: &str) -> Result<u8, CaseFault> {
     }
 }
 
-fn count_of(alloc: Global, digits: &str) -> Result<usize, CaseFault> {
+fn count_of(alloc: Global, digits: &str) -> Result<usize, CaseFault>
+    ensures { IfOk result (λ count. count ≤ MOST) }
+{
     match digits.parse::<usize>() {
         Ok(count) if count <= MOST => Ok(count),
         _ => Err(malformed(alloc, "this is no number up to 100000: ", digits)),

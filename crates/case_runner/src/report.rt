@@ -1,5 +1,5 @@
 // What a case finds: where something else came than was expected, or why it cannot be run.
-ghost use Rattle.std.specs.Prelude.{◌≡◌};
+ghost use Rattle.std.specs.Prelude.{◌≡◌, ◌≢◌, ◌+◌, length, OnOk};
 ghost use Rattle.case_runner.specs.declared.report.CaseFault.TheVariants.{Memory};
 
 use std::alloc::{AllocError, AllocFailed, Global};
@@ -52,7 +52,10 @@ pub fn compare(
     expected: &str,
     got: &str,
     found: &mut Vec<Mismatch>,
-) -> Result<(), AllocError> {
+) -> Result<(), AllocError>
+    ensures same { OnOk result (expected.now ≡ got.now → found.new.items ≡ found.old.items) }
+    ensures differs { OnOk result (expected.now ≢ got.now → length found.new.items ≡ length found.old.items + 1) }
+{
     if expected != got {
         found.push(Mismatch {
             what: String::from_str(alloc, what)?,
@@ -70,7 +73,10 @@ pub fn compare_bytes(
     expected: &[u8],
     got: &[u8],
     found: &mut Vec<Mismatch>,
-) -> Result<(), AllocError> {
+) -> Result<(), AllocError>
+    ensures same { OnOk result (expected.now ≡ got.now → found.new.items ≡ found.old.items) }
+    ensures differs { OnOk result (expected.now ≢ got.now → length found.new.items ≡ length found.old.items + 1) }
+{
     if expected != got {
         found.push(Mismatch {
             what: String::from_str(alloc, what)?,
