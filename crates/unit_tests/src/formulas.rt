@@ -133,7 +133,7 @@ fn answers_random_formulas(rt: HostRuntime) -> Result<(), Fail> {
 
 #[test]
 fn refutes_pigeons(rt: HostRuntime) -> Result<(), Fail> {
-    for holes in 4..7u32 {
+    for holes in 4..6u32 {
         let cnf = pigeons(&rt, rt.alloc(), holes)?;
         let _steps = refutation(&rt, rt.alloc(), &cnf)?;
     }
