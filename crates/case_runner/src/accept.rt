@@ -3,11 +3,7 @@ ghost use Rattle.std.specs.Prelude.{IfOk};
 ghost use Rattle.st_tree.specs.View.{program_view};
 ghost use Rattle.st_types.specs.Ready.{IsReady};
 
-use crate::case_file::Case;
-use crate::marks::Marked;
-use crate::report::{CaseFault, Mismatch, compare, malformed};
-use crate::section::Word;
-use crate::texts::program_of;
+use case_files::{Case, CaseFault, Marked, Mismatch, Word, compare, malformed, program_of};
 use front_end::{AcceptFault, accept_text};
 use st_tree::Program;
 use std::alloc::{AllocError, Global};

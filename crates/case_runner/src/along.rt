@@ -1,11 +1,11 @@
 // Which candidates hold along a run of a pair of programs.
 ghost use Rattle.scan_replay.specs.Duos.{AreComparable};
 
-use crate::case_file::Section;
 use crate::relation::Comparison;
-use crate::relation_printing::add_name;
-use crate::report::{CaseFault, Mismatch, compare_words, malformed};
-use crate::texts::{expected_text_of, numbers_of};
+use case_files::{
+    CaseFault, Mismatch, Section, compare_words, expected_text_of, malformed, numbers_of,
+};
+use program_printing::add_name;
 use scan_model::Candidate;
 use scan_replay::Duo;
 use std::alloc::{AllocError, Global};

@@ -16,14 +16,12 @@ ghost use Rattle.scan_replay.specs.Duos.{AreComparable};
 
 use crate::accept::{accepted, refused_at};
 use crate::along::compare_run;
-use crate::case_file::{Case, Section};
-use crate::relation_printing::{
-    cell_names, print_candidates, print_clauses, print_lines, print_parts,
+use case_files::{
+    Case, CaseFault, Mismatch, Section, Word, compare, compare_words, expected_text_of,
+    in_one_line, malformed, new_program_of, program_of, text_of, without_places,
 };
-use crate::report::{CaseFault, Mismatch, compare, compare_words, in_one_line, malformed};
-use crate::section::Word;
-use crate::texts::{expected_text_of, new_program_of, program_of, text_of, without_places};
 use front_end::{AcceptFault, tokens_of};
+use program_printing::{cell_names, print_candidates, print_clauses, print_lines, print_parts};
 use relation_file::{RelFault, read_relation};
 use relation_lines::parse_lines;
 use scan_model::Relation;

@@ -1,9 +1,8 @@
 // The door `replay`: what the command replay puts for OLD, NEW, a relation and a trace, and the status that it ends with.
-use crate::case_file::Case;
-use crate::marks::Marked;
-use crate::report::{CaseFault, Mismatch, compare_bytes, malformed};
-use crate::section::Word;
-use crate::texts::{expected_of, new_program_of, program_of, section_of, text_of};
+use case_files::{
+    Case, CaseFault, Marked, Mismatch, Word, compare_bytes, expected_of, malformed, new_program_of,
+    program_of, section_of, text_of,
+};
 use outside::{MemShelf, MemSink};
 use regver_top::regver;
 use std::alloc::{AllocError, Global};

@@ -1,11 +1,11 @@
 // The door `scan`: the state behind a scan, by the interpreter, by the flat form, and by the program without its charts.
 use crate::accept::refused_at;
-use crate::case_file::{Case, Section};
 use crate::flat_run::{run_all, size_of};
 use crate::lowered_run::lowered_scan;
-use crate::report::{CaseFault, Mismatch, compare, malformed};
-use crate::section::Word;
-use crate::texts::{expected_text_of, find_section, numbers_of, program_of, without_places};
+use case_files::{
+    Case, CaseFault, Mismatch, Section, Word, compare, expected_text_of, find_section, malformed,
+    numbers_of, program_of, without_places,
+};
 use flat_core::Flat;
 use flat_end::{Accepted, accept_flat};
 use flat_typing::check_program;

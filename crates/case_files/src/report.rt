@@ -1,6 +1,6 @@
 // What a case finds: where something else came than was expected, or why it cannot be run.
 ghost use Rattle.std.specs.Prelude.{◌≡◌, ◌≢◌, ◌+◌, length, OnOk};
-ghost use Rattle.case_runner.specs.declared.report.CaseFault.TheVariants.{Memory};
+ghost use Rattle.case_files.specs.declared.report.CaseFault.TheVariants.{Memory};
 
 use std::alloc::{AllocError, AllocFailed, Global};
 
