@@ -1,9 +1,9 @@
 // The door `accept`: a text is accepted, or refused by the rule and at the place that its mark names.
-use crate::case_file::Case;
-use crate::marks::Marked;
-use crate::report::{CaseFault, Mismatch, compare, malformed};
-use crate::section::Word;
-use crate::texts::program_of;
+ghost use Rattle.std.specs.Prelude.{IfOk};
+ghost use Rattle.st_tree.specs.View.{program_view};
+ghost use Rattle.st_types.specs.Ready.{IsReady};
+
+use case_files::{Case, CaseFault, Marked, Mismatch, Word, compare, malformed, program_of};
 use front_end::{AcceptFault, accept_text};
 use st_tree::Program;
 use std::alloc::{AllocError, Global};
@@ -57,7 +57,9 @@ pub fn refused_at(alloc: Global, rule: &str, at: usize, text: &[u8]) -> Result<S
 }
 
 /// The program of a text that has to be accepted.
-pub fn accepted(alloc: Global, text: &[u8]) -> Result<Program, CaseFault> {
+pub fn accepted(alloc: Global, text: &[u8]) -> Result<Program, CaseFault>
+    ensures ready { IfOk result (λ p. IsReady (program_view p)) }
+{
     match accept_text(alloc, text) {
         Ok(program) => Ok(program),
         Err(AcceptFault::Refused(refusal)) => {

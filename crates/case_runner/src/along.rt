@@ -1,11 +1,11 @@
 // Which candidates hold along a run of a pair of programs.
 ghost use Rattle.scan_replay.specs.Duos.{AreComparable};
 
-use crate::case_file::Section;
 use crate::relation::Comparison;
-use crate::relation_printing::add_name;
-use crate::report::{CaseFault, Mismatch, compare_words, malformed};
-use crate::texts::{expected_text_of, numbers_of};
+use case_files::{
+    CaseFault, Mismatch, Section, compare_words, expected_text_of, malformed, numbers_of,
+};
+use program_printing::add_name;
 use scan_model::Candidate;
 use scan_replay::Duo;
 use std::alloc::{AllocError, Global};
@@ -83,6 +83,7 @@ fn run_of(alloc: Global, all: &Comparison, rows: &[Row]) -> Result<Run, AllocErr
     }
     let mut duo = Duo::new(alloc, &all.old, &all.new, &all.relation)?;
     add_failing(candidates, &duo, &mut run)?;
+    run.held = still_held(alloc, &run.held, &duo)?;
     for row in rows {
         add_row(alloc, row, &mut run)?;
         if !duo.allowed(&row.numbers) {
@@ -91,6 +92,7 @@ fn run_of(alloc: Global, all: &Comparison, rows: &[Row]) -> Result<Run, AllocErr
         }
         duo.step(&row.numbers);
         add_failing(candidates, &duo, &mut run)?;
+        run.held = still_held(alloc, &run.held, &duo)?;
     }
     Ok(run)
 }
@@ -106,15 +108,23 @@ fn add_row(alloc: Global, row: &Row, run: &mut Run) -> Result<(), AllocError> {
 // Adds the names of the candidates that do not hold on a pair of states.
 fn add_failing(candidates: &[Candidate], duo: &Duo<'_>, run: &mut Run) -> Result<(), AllocError> {
     let mut first = true;
-    for (number, (candidate, held)) in candidates.iter().zip(&mut run.held).enumerate() {
+    for (number, candidate) in candidates.iter().enumerate() {
         if !duo.holds(number) {
-            *held = false;
             run.lines.push_str(if first { " " } else { ", " })?;
             run.lines.push_str(candidate.name.as_str())?;
             first = false;
         }
     }
     Ok(())
+}
+
+// Which of the candidates that have held so far hold on a pair of states too.
+fn still_held(alloc: Global, held: &[bool], duo: &Duo<'_>) -> Result<Vec<bool>, AllocError> {
+    let mut now = Vec::new(alloc);
+    for (number, held) in held.iter().enumerate() {
+        now.push(*held && duo.holds(number))?;
+    }
+    Ok(now)
 }
 
 fn names_held(

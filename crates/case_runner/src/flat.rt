@@ -1,13 +1,13 @@
 // The door `flat`: the printed flat list of a text, or its refusal for the number of its statements, and the statements that come in
 // place of its charts.
 use crate::accept::{accepted, refused_at};
-use crate::case_file::{Case, Section};
-use crate::flat_printing::print_flat;
-use crate::report::{CaseFault, Mismatch, compare, compare_words, malformed};
-use crate::section::Word;
-use crate::texts::{expected_text_of, program_of, without_places};
-use crate::typed_printing::print_body;
-use front_end::{AcceptFault, accept_flat};
+use case_files::{
+    Case, CaseFault, Mismatch, Section, Word, compare, compare_words, expected_text_of, malformed,
+    program_of, without_places,
+};
+use flat_end::accept_flat;
+use front_end::AcceptFault;
+use program_printing::{print_body, print_flat};
 use sfc_lowering::{Lowered, lower};
 use st_tree::{Called, Cell, Program, TypedStmt};
 use std::alloc::{AllocError, Global};

@@ -4,27 +4,15 @@
 
 mod accept;
 mod along;
-mod case_file;
-mod counts;
-mod expr_printing;
 mod flat;
-mod flat_printing;
 mod flat_run;
 mod lowered_run;
-mod marks;
 mod relation;
-mod relation_printing;
 mod replay;
-mod report;
 mod run;
 mod scan;
-mod section;
-mod texts;
-mod typed_printing;
 
-use case_file::{Case, CaseFile, read_case_file};
-use counts::Counts;
-use report::{CaseFault, Mismatch};
+use case_files::{Case, CaseFault, CaseFile, Counts, Mismatch, read_case_file};
 use run::{door_of, run_case};
 use std::alloc::{AllocError, Global};
 use std::io::Print;

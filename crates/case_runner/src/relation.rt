@@ -10,18 +10,18 @@
 //   along               `start:` and a line for each row, `0 1:`, each with the names of the candidates that do not hold there
 //   held                the names of the candidates that hold at the start and after each of these rows
 ghost use Rattle.std.specs.Prelude.{IfOk};
+ghost use Rattle.st_tree.specs.View.{program_view};
+ghost use Rattle.scan_model.specs.Pairs.{relation_view, BelongsTo};
 ghost use Rattle.scan_replay.specs.Duos.{AreComparable};
 
 use crate::accept::{accepted, refused_at};
 use crate::along::compare_run;
-use crate::case_file::{Case, Section};
-use crate::relation_printing::{
-    cell_names, print_candidates, print_clauses, print_lines, print_parts,
+use case_files::{
+    Case, CaseFault, Mismatch, Section, Word, compare, compare_words, expected_text_of,
+    in_one_line, malformed, new_program_of, program_of, text_of, without_places,
 };
-use crate::report::{CaseFault, Mismatch, compare, compare_words, in_one_line, malformed};
-use crate::section::Word;
-use crate::texts::{expected_text_of, new_program_of, program_of, text_of, without_places};
 use front_end::{AcceptFault, tokens_of};
+use program_printing::{cell_names, print_candidates, print_clauses, print_lines, print_parts};
 use relation_file::{RelFault, read_relation};
 use relation_lines::parse_lines;
 use scan_model::Relation;
@@ -75,7 +75,9 @@ pub fn run_relation(
 }
 
 // What a text of a relation leads to between two programs.
-fn stated(alloc: Global, text: &[u8], old: &Program, new: &Program) -> Result<Relation, RelFault> {
+fn stated(alloc: Global, text: &[u8], old: &Program, new: &Program) -> Result<Relation, RelFault>
+    ensures belongs { IfOk result (λ r. BelongsTo (program_view old.now) (program_view new.now) (relation_view r)) }
+{
     match tokens_of(alloc, text) {
         Ok(tokens) => read_relation(alloc, &tokens, text.len(), old, new),
         Err(AcceptFault::Refused(refusal)) => Err(RelFault::Refused(refusal)),
@@ -90,15 +92,25 @@ fn refused_relation(alloc: Global, refusal: Refusal, text: &[u8]) -> CaseFault {
     }
 }
 
-// Two programs, and the relation that a text states between them.
-fn compared(alloc: Global, texts: &Texts) -> Result<Comparison, CaseFault> {
-    let old = accepted(alloc, &texts.old)?;
-    let new = accepted(alloc, &texts.new)?;
-    match stated(alloc, &texts.relation, &old, &new) {
-        Ok(relation) => Ok(Comparison { old, new, relation }),
-        Err(RelFault::Refused(refusal)) => Err(refused_relation(alloc, refusal, &texts.relation)),
+// The relation that a text states between two programs.
+fn related(alloc: Global, text: &[u8], old: &Program, new: &Program) -> Result<Relation, CaseFault>
+    ensures belongs { IfOk result (λ r. BelongsTo (program_view old.now) (program_view new.now) (relation_view r)) }
+{
+    match stated(alloc, text, old, new) {
+        Ok(relation) => Ok(relation),
+        Err(RelFault::Refused(refusal)) => Err(refused_relation(alloc, refusal, text)),
         Err(RelFault::Memory) => Err(CaseFault::Memory),
     }
+}
+
+// Two programs, and the relation that a text states between them.
+fn compared(alloc: Global, texts: &Texts) -> Result<Comparison, CaseFault>
+    ensures comparable { IfOk result (λ c. AreComparable c.old c.new c.relation) }
+{
+    let old = accepted(alloc, &texts.old)?;
+    let new = accepted(alloc, &texts.new)?;
+    let relation = related(alloc, &texts.relation, &old, &new)?;
+    Ok(Comparison { old, new, relation })
 }
 
 fn compare_refusal(

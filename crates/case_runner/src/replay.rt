@@ -1,9 +1,8 @@
 // The door `replay`: what the command replay puts for OLD, NEW, a relation and a trace, and the status that it ends with.
-use crate::case_file::Case;
-use crate::marks::Marked;
-use crate::report::{CaseFault, Mismatch, compare_bytes, malformed};
-use crate::section::Word;
-use crate::texts::{expected_of, new_program_of, program_of, section_of, text_of};
+use case_files::{
+    Case, CaseFault, Marked, Mismatch, Word, compare_bytes, expected_of, malformed, new_program_of,
+    program_of, section_of, text_of,
+};
 use outside::{MemShelf, MemSink};
 use regver_top::regver;
 use std::alloc::{AllocError, Global};
@@ -30,17 +29,28 @@ pub fn run_replay(
         relation: text_of(alloc, head, case, Word::Relation)?,
         trace: text_of(alloc, head, case, Word::Trace)?,
     };
-    let expected = match expected_refusal(alloc, &files)? {
-        Some(refusal) if case.section(Word::Answer).is_none() => refusal,
-        Some(_) => return Err(malformed(
-            alloc,
-            "there is an answer beside the place of a refusal",
-            "",
-        )),
-        None => expected_answer(alloc, head, case)?,
-    };
+    let expected = expected_of_case(alloc, head, case, &files)?;
     compare_replay(alloc, &files, &expected, found)?;
     Ok(())
+}
+
+// The answer that a case expects: that of a refusal where a file has the place of one, and else the one that it states.
+fn expected_of_case(
+    alloc: Global,
+    head: &Case,
+    case: &Case,
+    files: &Files,
+) -> Result<Vec<u8>, CaseFault> {
+    match expected_refusal(alloc, files)? {
+        None => expected_answer(alloc, head, case),
+        Some(refusal) => {
+            if case.section(Word::Answer).is_some() {
+                let reason = "there is an answer beside the place of a refusal";
+                return Err(malformed(alloc, reason, ""));
+            }
+            Ok(refusal)
+        }
+    }
 }
 
 // Replays the files, and compares.

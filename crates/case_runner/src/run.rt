@@ -1,12 +1,10 @@
 // A case through its door.
 use crate::accept::run_accept;
-use crate::case_file::Case;
 use crate::flat::run_flat;
 use crate::relation::run_relation;
 use crate::replay::run_replay;
-use crate::report::{CaseFault, Mismatch, malformed};
 use crate::scan::run_scan;
-use crate::section::Door;
+use case_files::{Case, CaseFault, Door, Mismatch, malformed};
 use std::alloc::{AllocError, Global};
 
 /// The door of a case: the one that its sections name, or that of replays where they are among those that several doors have.

@@ -1,14 +1,15 @@
 // The door `scan`: the state behind a scan, by the interpreter, by the flat form, and by the program without its charts.
 use crate::accept::refused_at;
-use crate::case_file::{Case, Section};
 use crate::flat_run::{run_all, size_of};
 use crate::lowered_run::lowered_scan;
-use crate::report::{CaseFault, Mismatch, compare, malformed};
-use crate::section::Word;
-use crate::texts::{expected_text_of, find_section, numbers_of, program_of, without_places};
+use case_files::{
+    Case, CaseFault, Mismatch, Section, Word, compare, expected_text_of, find_section, malformed,
+    numbers_of, program_of, without_places,
+};
 use flat_core::Flat;
+use flat_end::{Accepted, accept_flat};
 use flat_typing::check_program;
-use front_end::{AcceptFault, Accepted, accept_flat};
+use front_end::AcceptFault;
 use scan_replay::Machine;
 use sfc_lowering::{Lowered, lower};
 use st_tree::Program;
@@ -98,45 +99,50 @@ fn run_pair(
     after: &Section,
     found: &mut Vec<Mismatch>,
 ) -> Result<(), CaseFault> {
-    let before = expected_text_of(alloc, before)?;
-    let before = numbers_of(alloc, before.as_str())?;
-    let after = expected_text_of(alloc, after)?;
-    let after = numbers_of(alloc, after.as_str())?;
-    let after = state_text(alloc, &after)?;
+    let before = state_of(alloc, before)?;
+    let after = state_of(alloc, after)?;
     let program = &accepted.program;
     let Some(state) = interpreted_scan(alloc, program, &before)? else {
-        return Err(malformed(alloc, "a state before a scan is none of the program's", ""));
+        let reason = "a state before a scan is none of the program's";
+        return Err(malformed(alloc, reason, ""));
     };
-    let got = state_text(alloc, &state)?;
-    compare(
-        alloc,
-        "state behind a scan",
-        after.as_str(),
-        got.as_str(),
-        found,
-    )?;
+    compare_states(alloc, "state behind a scan", &after, &state, found)?;
     let store = flat_scan(alloc, &accepted.flat, &before)?;
-    let got = match store.get(..program.cells.len()) {
-        Some(cells) => state_text(alloc, cells)?,
-        None => state_text(alloc, &store)?,
-    };
-    compare(
+    let cells = store.get(..program.cells.len()).unwrap_or(&store);
+    compare_states(
         alloc,
         "state behind a scan of the flat form",
-        after.as_str(),
-        got.as_str(),
+        &after,
+        cells,
         found,
     )?;
     let state = lowered_scan(alloc, program, lowered, &before)?;
-    let got = state_text(alloc, &state)?;
-    compare(
+    compare_states(
         alloc,
         "state behind a scan without charts",
-        after.as_str(),
-        got.as_str(),
+        &after,
+        &state,
         found,
     )?;
     Ok(())
+}
+
+// The state of a section.
+fn state_of(alloc: Global, section: &Section) -> Result<Vec<i64>, CaseFault> {
+    let text = expected_text_of(alloc, section)?;
+    numbers_of(alloc, text.as_str())
+}
+
+fn compare_states(
+    alloc: Global,
+    what: &str,
+    expected: &[i64],
+    got: &[i64],
+    found: &mut Vec<Mismatch>,
+) -> Result<(), AllocError> {
+    let expected = state_text(alloc, expected)?;
+    let got = state_text(alloc, got)?;
+    compare(alloc, what, expected.as_str(), got.as_str(), found)
 }
 
 fn state_text(alloc: Global, state: &[i64]) -> Result<String, AllocError> {

@@ -1,0 +1,13 @@
+// Programs, flat programs and relations as texts that case files can hold.
+#![tactic(auto)]
+
+mod expr_printing;
+mod flat_printing;
+mod relation_printing;
+mod typed_printing;
+
+pub use flat_printing::print_flat;
+pub use relation_printing::{
+    add_name, cell_names, print_candidates, print_clauses, print_lines, print_parts,
+};
+pub use typed_printing::print_body;
