@@ -75,7 +75,7 @@ fn words_are_told_apart_in_any_case(rt: HostRuntime) -> Result<(), Fail> {
     let tokens = lex(rt.alloc(), WORDS.as_bytes())?;
     assert_eq!(rt; tokens.len(), TERMINALS.len());
     for (token, terminal) in tokens.iter().zip(TERMINALS) {
-        assert_eq!(rt; token.terminal, terminal, "{}", token.slice);
+        assert_eq!(rt; token.terminal, terminal);
     }
     Ok(())
 }

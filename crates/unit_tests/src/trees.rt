@@ -150,7 +150,9 @@ fn a_program_begins_in_range(rt: HostRuntime) -> Result<(), Fail> {
 fn a_program_begins_with_fault(rt: HostRuntime) -> Result<(), Fail> {
     let alloc = rt.alloc();
     let mut program = sets_r(alloc)?;
-    program.cells.remove(0);
+    if !program.cells.is_empty() {
+        program.cells.remove(0);
+    }
     assert_eq!(rt; answers(alloc, &program)?, (false, false));
     Ok(())
 }

@@ -50,10 +50,10 @@ fn cells_have_parts_types_and_ranges(rt: HostRuntime) -> Result<(), Fail> {
     assert_eq!(rt; program.cells.len(), CELLS.len());
     for (cell, (path, part, kind, low, high, initial)) in program.cells.iter().zip(CELLS) {
         assert_eq!(rt; cell.path.as_str(), path);
-        assert_eq!(rt; cell.part, part, "{path}");
-        assert_eq!(rt; cell.kind, DataType::Elementary(kind), "{path}");
-        assert_eq!(rt; cell.range, Range { low, high }, "{path}");
-        assert_eq!(rt; cell.initial, initial, "{path}");
+        assert_eq!(rt; cell.part, part);
+        assert_eq!(rt; cell.kind, DataType::Elementary(kind));
+        assert_eq!(rt; cell.range, Range { low, high });
+        assert_eq!(rt; cell.initial, initial);
     }
     Ok(())
 }
