@@ -7,11 +7,11 @@ ghost use Rattle.clause_core.specs.Satisfaction.{formula_true};
 ghost use Rattle.clause_core.specs.Freshness.{IsFresh};
 ghost use Rattle.clause_core.specs.Logs.{IsGoodStep};
 ghost use Rattle.clause_core.specs.declared.truth.Truth.TheVariants.{Open};
+ghost use Rattle.clause_pairs.specs.Pairs.{IsPaired};
 ghost use Rattle.cdcl_core.specs.Next.{assignment};
 
-use clause_core::{
-    Clause, Outcome, Step, Truth, all_closed, check_step, clear, is_rising, shows_fresh,
-};
+use clause_core::{Clause, Outcome, Step, Truth, all_closed, check_step, clear, is_rising};
+use clause_pairs::{Pair, shows_fresh_by};
 
 /// Whether no variable is open.
 fn none_open(variables: u32, values: &[Truth]) -> bool
@@ -81,19 +81,28 @@ fn derives(variables: u32, held: &[Clause], values: &mut [Truth], step: &Step) -
 }
 
 /// Whether the values show that the clause is fresh.
-fn shows(variables: u32, held: &[Clause], values: &[Truth], step: &Step) -> bool
+fn shows(
+    variables: u32,
+    held: &[Clause],
+    pairs: &mut Vec<Pair>,
+    values: &[Truth],
+    step: &Step,
+) -> bool
     requires held { IsTrue (list_all (is_within variables) held.now) }
     requires clause { IsTrue (rises variables step.now.clause) }
     requires size { length values.now ≡ variables + 1 }
-    ensures { IsTrue result → IsFresh held.now step.now.clause }
+    requires paired { IsPaired held.now pairs.old.items }
+    ensures fresh { IsTrue result → IsFresh held.now step.now.clause }
+    ensures paired { IsPaired held.now pairs.new.items }
 {
-    shows_fresh(held, values, step.clause.literals())
+    shows_fresh_by(held, pairs.as_mut_slice(), values, step.clause.literals())
 }
 
 /// Whether a step that was proposed may be taken: it is derived, and fresh unless it is empty.
 pub(crate) fn may_take(
     variables: u32,
     held: &[Clause],
+    pairs: &mut Vec<Pair>,
     values: &mut [Truth],
     shown: &[Truth],
     step: &Step,
@@ -101,8 +110,10 @@ pub(crate) fn may_take(
     requires held { IsTrue (list_all (is_within variables) held.now) }
     requires size { length values.old ≡ variables + 1 }
     requires small { variables < 2 ^ 32 - 1 }
+    requires paired { IsPaired held.now pairs.old.items }
     ensures good { IsTrue result → IsGoodStep variables held.now step.now }
     ensures fresh { IsTrue result → step.now.clause ≢ [] → IsFresh held.now step.now.clause }
+    ensures paired { IsPaired held.now pairs.new.items }
 {
     if shown.len() != variables as usize + 1 {
         return false;
@@ -113,5 +124,5 @@ pub(crate) fn may_take(
     if step.clause.literals().is_empty() {
         return true;
     }
-    shows(variables, held, shown, step)
+    shows(variables, held, pairs, shown, step)
 }

@@ -4,12 +4,14 @@ ghost use Rattle.std.specs.Prelude.{◌≡◌, ◌<◌, ◌≤◌, ◌+◌, ◌-
 ghost use Rattle.std.specs.List.{list_all};
 ghost use Rattle.clause_core.specs.Clauses.{is_within};
 ghost use Rattle.clause_core.specs.Decisions.{IsDecided};
+ghost use Rattle.clause_pairs.specs.Pairs.{IsPaired};
 ghost use Rattle.cdcl_core.specs.Next.{IsNext};
 
 use crate::acceptance::{is_solution, may_take};
 use crate::next::{Next, next_step};
 use crate::search::{Proposal, Search};
 use clause_core::{Assignment, Clause, Cnf, Decided, Log, Truth, copy_clauses, unassigned};
+use clause_pairs::{Pair, add_pair, no_pairs};
 use std::alloc::{AllocError, Global};
 
 /// The next step: the one proposed where it passes the tests, else the one that is always there.
@@ -17,6 +19,7 @@ fn next_tested<S: Search>(
     alloc: Global,
     variables: u32,
     held: &[Clause],
+    pairs: &mut Vec<Pair>,
     values: &mut [Truth],
     search: &mut S,
     refused: &mut u64,
@@ -25,7 +28,9 @@ fn next_tested<S: Search>(
     requires size { length values.old ≡ variables + 1 }
     requires few { length held.now < 2 ^ 32 - 1 }
     requires small { variables < 2 ^ 32 - 1 }
-    ensures { IfOk result (IsNext variables held.now values.new) }
+    requires paired { IsPaired held.now pairs.old.items }
+    ensures next { IfOk result (IsNext variables held.now values.new) }
+    ensures paired { IsPaired held.now pairs.new.items }
 {
     match search.propose(held)? {
         Proposal::Solution => {
@@ -34,7 +39,7 @@ fn next_tested<S: Search>(
             }
         }
         Proposal::Derivation(step) => {
-            if may_take(variables, held, values, search.values(), &step) {
+            if may_take(variables, held, pairs, values, search.values(), &step) {
                 search.learn()?;
                 return Ok(Next::Derived(step));
             }
@@ -60,6 +65,7 @@ pub fn decide_by<S: Search>(
 {
     let variables = cnf.variables();
     let mut held = copy_clauses(alloc, cnf.clauses())?;
+    let mut pairs = no_pairs(alloc, held.len())?;
     let mut values = unassigned(alloc, variables)?;
     let mut log = Log::new(alloc);
     for _turn in 0..limit {
@@ -67,6 +73,7 @@ pub fn decide_by<S: Search>(
             alloc,
             variables,
             held.as_slice(),
+            &mut pairs,
             values.as_mut_slice(),
             search,
             refused,
@@ -82,6 +89,7 @@ pub fn decide_by<S: Search>(
                     return Ok(Decided::Refuted(log));
                 }
                 held.push(clause)?;
+                add_pair(&mut pairs)?;
             }
         }
     }

@@ -6,6 +6,7 @@ ghost use Rattle.clause_core.specs.Freshness.{IsFresh};
 ghost use Rattle.derivation_check.specs.Checks.{held_of, Holds, FaultFits};
 
 use crate::fault::StepFault;
+use crate::fresh_test::FreshTest;
 use clause_core::{
     Clause, Cnf, Outcome, Step, Truth, check_step, clear, copy_clauses, is_fresh, unassigned,
 };
@@ -24,6 +25,7 @@ pub struct Checker {
     given: usize,
     held: Vec<Clause>,
     values: Vec<Truth>,
+    test: FreshTest,
     is_refuted: bool,
 }
 
@@ -46,12 +48,14 @@ impl Checker {
     {
         let held = copy_clauses(alloc, cnf.clauses())?;
         let values = unassigned(alloc, cnf.variables())?;
+        let test = FreshTest::new(alloc, cnf.variables(), held.as_slice())?;
         Ok(Checker {
             alloc,
             variables: cnf.variables(),
             given: held.len(),
             held,
             values,
+            test,
             is_refuted: false,
         })
     }
@@ -92,6 +96,8 @@ impl Checker {
                     return Err(StepFault::Memory);
                 };
                 self.is_refuted = self.is_refuted | step.clause.literals().is_empty();
+                // Where memory is wanting here, `fresh` is as right as ever, and takes longer.
+                let _ = self.test.add(step.clause.literals());
                 Ok(Ack)
             }
             Outcome::UnknownHint(number) => Err(StepFault::UnknownHint(number)),
@@ -100,14 +106,21 @@ impl Checker {
         }
     }
 
-    /// Whether the step's clause is fresh over what is held. Takes no memory, and for each literal that
-    /// it tries as many passes over the held clauses as unit propagation needs.
+    /// Whether the step's clause is fresh over what is held. Takes no memory. One that is fresh takes
+    /// little more than a pass over a pair of literals for each held clause; to one that is not, each of
+    /// its literals takes as many passes over the held clauses as unit propagation needs.
     pub fn fresh(&mut self, step: &Step) -> bool
         requires { IsTrue (rises self.old.formula.variables step.now.clause) }
         ensures exact { IsTrue result ↔ IsFresh (held_of self.old) step.now.clause }
         ensures unchanged { self.new ≡ self.old }
     {
         let held = self.held.as_slice();
+        if self
+            .test
+            .shows(self.variables, held, step.clause.literals())
+        {
+            return true;
+        }
         let values = self.values.as_mut_slice();
         let answer = is_fresh(self.variables, held, values, step.clause.literals());
         clear(self.values.as_mut_slice());

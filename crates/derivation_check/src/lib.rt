@@ -3,6 +3,8 @@
 
 mod checker;
 mod fault;
+mod fresh_test;
+mod links;
 
 pub use checker::{Ack, Checker};
 pub use fault::StepFault;

@@ -1,4 +1,5 @@
 use Rattle.std.proofs.Common.{◌≡◌, ◌+◌, length}
+use Rattle.clause_pairs.specs.Pairs.{IsPaired}
 use Rattle.cdcl_core.proofs.Grown.{Grown}
 use Rattle.cdcl_core.proofs.decide.decide_by.Given as goal
 
@@ -6,5 +7,6 @@ abbrev pub invariant-loop-turn : goal.invariant-loop-turn
 invariant-loop-turn g l = record {
   grown : Grown l.cnf.variables l.cnf.clauses l.held.items l.log;
   turns : length l.log ≡ l._turn;
+  paired : IsPaired l.held.items l.pairs.items;
   size : length l.values.items ≡ l.variables + 1;
 }

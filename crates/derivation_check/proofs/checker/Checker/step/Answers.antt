@@ -7,6 +7,8 @@ use Rattle.clause_core.specs.Clauses.{rises}
 use Rattle.clause_core.specs.Steps.{VariablesBelow, outcome}
 use Rattle.clause_core.proofs.Ranges.{VariablesBelow-fits}
 use Rattle.clause_core.proofs.Sound.{clause_true-accepted}
+use Rattle.clause_pairs.specs.Pairs.{IsPaired}
+use Rattle.clause_pairs.proofs.Paired.{IsPaired-held}
 use Rattle.derivation_check.specs.Checks.{Derivation, held_of}
 use Rattle.derivation_check.specs.Inside.{is_empty}
 use Rattle.derivation_check.proofs.Pushed.{Pushed, open-length, Pushed-accepted, outcome-parts}
@@ -36,7 +38,8 @@ invariant_of-self-in-Accepted c =
     let was : c.is_empty.result ≡ is_empty s.clause = c.is_empty.ensures ∙ ap (λ (z : List Lit). length z == 0) c.literals-in-Accepted-2.ensures ∙ is_empty-length s.clause in
     let before : Pushed i.variables i.given i.held.items i.is_refuted = record { few = c.self.invariant.given; within = c.self.invariant.within; implied = c.self.invariant.implied; refuted = c.self.invariant.refuted } in
     let p = Pushed-accepted i.variables i.given i.held.items c.push.new.self.items i.is_refuted (i.is_refuted || c.is_empty.result) s.clause s.hints before pushed rises_here accepted (ap (λ z. i.is_refuted || z) was) in
-    record { given = p.few; within = p.within; unassigned = grind (arith, common_steps); implied = p.implied; refuted = p.refuted }
+    let paired = c.add.ensures c.push.new.self.items (subst (λ h. IsPaired h i.test) (sym pushed) (IsPaired-held i.held.items i.test s.clause c.self.invariant.paired)) in
+    record { given = p.few; within = p.within; unassigned = grind (arith, common_steps); paired = paired; implied = p.implied; refuted = p.refuted }
 
 pub returns-in-Ok-push-clause-follows : goal.returns-in-Ok-push-clause-follows
 returns-in-Ok-push-clause-follows c = λ v f.

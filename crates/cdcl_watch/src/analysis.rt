@@ -1,0 +1,150 @@
+// What a conflict teaches: the clause of its first unique implication point, made smaller.
+
+use crate::arena::{Arena, ClauseRef};
+use crate::code::Code;
+use crate::marks::Marks;
+use crate::order::Order;
+use crate::redundancy::{Redundancy, level_bit};
+use crate::table::{low, read, write};
+use crate::trail::Trail;
+use std::alloc::{AllocError, Global};
+
+#[derive(Drop)]
+pub(crate) struct Analysis {
+    marks: Marks,
+    redundancy: Redundancy,
+    /// The literals of the learned clause: first the one that it will make true, then one of the highest
+    /// level below.
+    learned: Vec<Code>,
+    back: u32,
+}
+
+impl Analysis {
+    pub fn new(alloc: Global, variables: u32) -> Result<Analysis, AllocError> {
+        Ok(Analysis {
+            marks: Marks::new(alloc, variables)?,
+            redundancy: Redundancy::new(alloc),
+            learned: Vec::new(alloc),
+            back: 0,
+        })
+    }
+
+    pub fn learned(&self) -> &[Code] {
+        self.learned.as_slice()
+    }
+
+    /// The level at which the learned clause is unit.
+    pub fn back(&self) -> u32 {
+        self.back
+    }
+
+    /// Learns from a false clause. Where no decision stands nothing is left of it.
+    pub fn analyze(
+        &mut self,
+        arena: &Arena,
+        trail: &Trail,
+        order: &mut Order,
+        conflict: ClauseRef,
+    ) -> Result<(), AllocError> {
+        self.learned.clear();
+        self.back = 0;
+        if trail.level() == 0 {
+            return Ok(());
+        }
+        self.learned.push(Code::NONE)?;
+        let point = self.find_point(arena, trail, order, conflict)?;
+        write(self.learned.as_mut_slice(), 0, point.negated());
+        self.minimize(arena, trail)?;
+        self.marks.keep(0);
+        self.find_back(trail);
+        Ok(())
+    }
+
+    /// Resolves along the trail, to the first unique implication point.
+    fn find_point(
+        &mut self,
+        arena: &Arena,
+        trail: &Trail,
+        order: &mut Order,
+        conflict: ClauseRef,
+    ) -> Result<Code, AllocError> {
+        let mut point = Code::NONE;
+        let mut open = self.meet(arena, trail, order, conflict)?;
+        for place in (0..trail.len()).rev() {
+            let code = trail.literal_at(place);
+            if !self.marks.has(code) {
+                continue;
+            }
+            point = code;
+            open = open.wrapping_sub(1);
+            if open == 0 {
+                break;
+            }
+            open = open.wrapping_add(self.meet(arena, trail, order, trail.cause(code).reason)?);
+        }
+        Ok(point)
+    }
+
+    /// Marks the variables of a clause that depend on a decision, and puts those below the last level into
+    /// the learned clause. Answers how many are of the last level.
+    fn meet(
+        &mut self,
+        arena: &Arena,
+        trail: &Trail,
+        order: &mut Order,
+        clause: ClauseRef,
+    ) -> Result<u32, AllocError> {
+        let mut count = 0u32;
+        for number in arena.codes(clause) {
+            let code = Code { number: *number };
+            let level = trail.cause(code).level;
+            if level == 0 || self.marks.has(code) {
+                continue;
+            }
+            self.marks.mark(code)?;
+            order.raise(low(code.variable()));
+            if level == trail.level() {
+                count = count.wrapping_add(1);
+            } else {
+                self.learned.push(code)?;
+            }
+        }
+        Ok(count)
+    }
+
+    /// Leaves out the literals that follow from the others.
+    fn minimize(&mut self, arena: &Arena, trail: &Trail) -> Result<(), AllocError> {
+        let mut levels = 0u32;
+        for code in self.learned.iter() {
+            levels |= level_bit(trail.cause(*code).level);
+        }
+        let mut kept = 1usize;
+        for place in 1..self.learned.len() {
+            let code = read(self.learned.as_slice(), place, Code::NONE);
+            let marks = &mut self.marks;
+            if !self
+                .redundancy
+                .is_redundant(arena, trail, marks, levels, code)?
+            {
+                write(self.learned.as_mut_slice(), kept, code);
+                kept = kept.wrapping_add(1);
+            }
+        }
+        self.learned.truncate(kept);
+        Ok(())
+    }
+
+    /// Puts a literal of the highest level below the last behind the first.
+    fn find_back(&mut self, trail: &Trail) {
+        for place in 1..self.learned.len() {
+            let code = read(self.learned.as_slice(), place, Code::NONE);
+            let level = trail.cause(code).level;
+            if level > self.back {
+                self.back = level;
+                let second = read(self.learned.as_slice(), 1, Code::NONE);
+                write(self.learned.as_mut_slice(), 1, code);
+                write(self.learned.as_mut_slice(), place, second);
+            }
+        }
+    }
+}

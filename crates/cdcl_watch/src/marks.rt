@@ -1,0 +1,54 @@
+// Marks on variables.
+
+use crate::code::Code;
+use crate::table::{read, write};
+use std::alloc::{AllocError, Global};
+
+/// Variables that are marked, and the literals that marked them, in order.
+#[derive(Drop)]
+pub(crate) struct Marks {
+    flags: Vec<bool>,
+    codes: Vec<Code>,
+}
+
+impl Marks {
+    pub fn new(alloc: Global, variables: u32) -> Result<Marks, AllocError> {
+        Ok(Marks {
+            flags: vec![in alloc; false; variables as usize + 1]?,
+            codes: Vec::new(alloc),
+        })
+    }
+
+    /// Whether the literal's variable is marked.
+    #[inline(always)]
+    pub fn has(&self, code: Code) -> bool {
+        read(self.flags.as_slice(), code.variable(), true)
+    }
+
+    /// Marks the literal's variable.
+    #[inline(always)]
+    pub fn mark(&mut self, code: Code) -> Result<(), AllocError> {
+        write(self.flags.as_mut_slice(), code.variable(), true);
+        self.codes.push(code)?;
+        Ok(())
+    }
+
+    /// How many marks there are.
+    pub fn len(&self) -> usize {
+        self.codes.len()
+    }
+
+    /// The literal of a mark, in the order in which they were made.
+    pub fn get(&self, place: usize) -> Option<Code> {
+        self.codes.get(place).copied()
+    }
+
+    /// Takes back all marks but the first ones.
+    pub fn keep(&mut self, count: usize) {
+        for place in count..self.codes.len() {
+            let code = read(self.codes.as_slice(), place, Code::NONE);
+            write(self.flags.as_mut_slice(), code.variable(), false);
+        }
+        self.codes.truncate(count);
+    }
+}

@@ -1,0 +1,61 @@
+// The fast decider.
+
+ghost use Rattle.std.specs.Prelude.{◌≡◌, ◌≤◌, ◌<◌, ◌+◌, ◌^◌, length, IfOk};
+ghost use Rattle.clause_core.specs.Decisions.{IsDecided};
+
+use crate::order::Order;
+use crate::watch_search::WatchSearch;
+use cdcl_core::decide_by;
+use clause_core::{Cnf, Decided, Decider};
+use std::alloc::{AllocError, Global};
+use std::marker::Model;
+
+/// A decider that is fast. It keeps activities and phases of variables from one decision to the next, for
+/// formulas that are alike. Contracts see how many proposals of its search the last decision refused; no
+/// clause bounds them, and a search without a fault has none.
+#[derive(Drop)]
+pub struct Watched {
+    refused: u64,
+    order: Option<Order>,
+}
+
+impl Model for Watched {
+    ghost use Rattle.std.specs.Prelude.{ℕ};
+
+    ghost Value = { ℕ };
+
+    ghost view = { λ w. w.refused };
+}
+
+impl Watched {
+    /// A decider that has decided nothing yet.
+    pub fn new() -> Self
+        ensures { result ≡ 0 }
+    {
+        Watched {
+            refused: 0,
+            order: None,
+        }
+    }
+
+    /// How many proposals the last decision refused.
+    pub fn refused_proposals(&self) -> u64
+        ensures { result ≡ self.now }
+    {
+        self.refused
+    }
+}
+
+impl Decider for Watched {
+    fn decide(&mut self, alloc: Global, cnf: &Cnf, limit: u32) -> Result<Decided, AllocError> {
+        let order = match self.order.take() {
+            Some(order) => order,
+            None => Order::new(alloc),
+        };
+        let mut search = WatchSearch::new(alloc, cnf.variables(), order)?;
+        self.refused = 0;
+        let decided = decide_by(alloc, &mut search, cnf, limit, &mut self.refused)?;
+        self.order = Some(search.take_order());
+        Ok(decided)
+    }
+}

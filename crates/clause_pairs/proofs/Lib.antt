@@ -1,0 +1,2 @@
+pub mod Heavy
+pub mod Paired

@@ -1,0 +1,5 @@
+pub mod AheadLemmas
+pub mod AnswerLemmas
+pub mod WindowLemmas
+pub mod PieceLemmas
+pub mod ReaderLemmas

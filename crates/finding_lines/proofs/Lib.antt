@@ -1,0 +1,6 @@
+pub mod FeedLemmas
+pub mod LineLemmas
+pub mod ReadLemmas
+pub mod RowLemmas
+pub mod SpellingLemmas
+pub mod ShowLemmas

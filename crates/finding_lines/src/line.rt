@@ -1,0 +1,53 @@
+// The forms of a line.
+use crate::numbers::Numbers;
+
+/// Which query a line speaks of.
+#[derive(Clone, Copy, Debug, PartialEq, Eq)]
+pub enum Asked {
+    /// For a first row that is allowed.
+    First,
+    /// For a step out of the set.
+    Step,
+    /// For a step out of the relation.
+    Goal,
+    /// For a break after that many scans.
+    Deep(i64),
+}
+
+/// The verdict at a finding's end, with its numbers as they are written.
+#[derive(Clone, Copy, Debug, PartialEq, Eq)]
+pub enum Conclusion {
+    /// No first row is allowed.
+    Vacuous,
+    /// Related for ever: how many candidates are kept, and of how many.
+    Related(i64, i64),
+    /// The least number of scans after which the pair is not related.
+    Different(i64),
+    /// How many candidates are kept, of how many, and how many scans were searched.
+    Open(i64, i64, i64),
+    /// A query took as many derivations as it may.
+    Spent(Asked, i64),
+}
+
+/// A line of a finding.
+#[derive(Drop)]
+pub enum Line {
+    /// The first line.
+    Header,
+    /// The inputs of a row that is allowed at the start.
+    Seen(Numbers),
+    /// The cells of OLD, those of NEW and the inputs of a scan that drops candidates.
+    Dropping(Numbers),
+    /// The same of a scan out of the relation.
+    Pair(Numbers),
+    /// The inputs of a scan from the start.
+    Scan(Numbers),
+    /// A log that refutes a query begins.
+    Log(Asked),
+    /// A log that spends a query begins.
+    Query(Asked),
+    /// A derived clause: its literals, a negative number for a negative one, and its hints.
+    Derived(Numbers, Numbers),
+    /// The verdict.
+    End(Conclusion),
+}

@@ -1,0 +1,12 @@
+-- What a circuit holds, and what stays true of it.
+use Rattle.std.specs.Prelude.{ℕ, ◌+◌, ◌^◌, ◌<◌, ◌≤◌, length}
+use Rattle.gates.specs.declared.circuit.Circuit.TheInside.{Inside}
+use Rattle.gates.specs.Netlists.{Netlist}
+
+abbrev pub netlist_of : Inside → Netlist
+netlist_of c = record { first = c.first; limit = c.limit; gates = c.gates.keys }
+
+pub record IsWithin (c : Inside) : Type 0 where
+  pub few : length c.gates.keys ≤ c.limit
+  pub one : 1 < c.first
+  pub small : c.first + c.limit < 2 ^ 31 + 1

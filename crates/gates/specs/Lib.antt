@@ -1,0 +1,9 @@
+pub mod Literals
+pub mod Plans
+pub mod Meaning
+pub mod Netlists
+pub mod Rules
+pub mod Order
+pub mod Models
+pub mod Clauses
+pub mod Inside
