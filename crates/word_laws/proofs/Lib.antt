@@ -1,0 +1,12 @@
+pub mod Multiples
+pub mod Numbers
+pub mod Additions
+pub mod Orders
+pub mod Products
+pub mod Values
+pub mod LongDivision
+pub mod SignedDivisions
+pub mod SumLaws
+pub mod BitLaws
+pub mod ChoiceLaws
+pub mod ShiftLaws
