@@ -1,0 +1,6 @@
+pub mod Literals
+pub mod Rules
+pub mod Choices
+pub mod Sums
+pub mod Comparisons
+pub mod Divisions
