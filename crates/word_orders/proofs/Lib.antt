@@ -4,3 +4,4 @@ pub mod Choices
 pub mod Sums
 pub mod Comparisons
 pub mod Divisions
+pub mod Calls

@@ -62,6 +62,9 @@ IsWordOf-tail n l w h = record { literals = All-tail (IsLiteralOf n) l w h.liter
 pub IsWordOf-append : (n : Netlist) (a b : List Lit) → IsWordOf n a → IsWordOf n b → IsWordOf n (a ++ b)
 IsWordOf-append n a b h k = record { literals = All-append (IsLiteralOf n) a b h.literals k.literals }
 
+pub IsWordOf-push : (n : Netlist) (a : List Lit) (l : Lit) → IsWordOf n a → IsLiteralOf n l → IsWordOf n (a ++ l ∷ [])
+IsWordOf-push n a l h k = IsWordOf-append n a (l ∷ []) h (IsWordOf-cons n l [] k (IsWordOf-nil n))
+
 pub IsWordOf-take : (n : Netlist) (k : ℕ) (a : List Lit) → IsWordOf n a → IsWordOf n (take k a)
 IsWordOf-take n k a h = record { literals = All-take (IsLiteralOf n) k a h.literals }
 
