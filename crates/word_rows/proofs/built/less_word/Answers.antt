@@ -1,9 +1,9 @@
-use Rattle.std.proofs.Common.{◌≡◌, [], ◌∷◌, ◌++◌, List, subst, sym, ap, ◌∙◌}
+use Rattle.std.proofs.Common.{[], ◌∷◌, ◌++◌, List, subst, sym, ap, ◌∙◌}
 use Rattle.clause_core.specs.declared.literal.Lit.{Lit}
 use Rattle.gates.specs.Netlists.{Netlist}
 use Rattle.gates.specs.Order.{IsOrdered, IsLiteralOf}
 use Rattle.word_circuits.specs.Comparisons.{lt_of}
-use Rattle.word_orders.specs.Orders.{IsWordOf, MakesLiteral}
+use Rattle.word_orders.specs.Orders.{IsWordOf}
 use Rattle.word_orders.proofs.Literals.{IsWordOf-nil, IsWordOf-push}
 use Rattle.word_orders.proofs.Comparisons.{makes_less}
 use Rattle.word_rows.proofs.built.less_word.Goals as goal

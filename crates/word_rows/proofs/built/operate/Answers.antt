@@ -1,4 +1,3 @@
-use Rattle.std.proofs.Common.{◌≡◌}
 use Rattle.word_circuits.specs.declared.divide.Part.TheVariants.{Quotient, Remainder}
 use Rattle.word_circuits.specs.Divisions.{division_of}
 use Rattle.word_circuits.specs.Products.{mul_of}

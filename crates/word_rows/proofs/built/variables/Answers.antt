@@ -1,6 +1,5 @@
-use Rattle.std.proofs.Common.{◌≡◌, ◌+◌, ◌<◌, [], ◌∷◌, ◌++◌, List, length, subst, sym, ap, ◌∙◌, arith, false, length-append}
+use Rattle.std.proofs.Common.{◌+◌, [], ◌∷◌, List, length, subst, sym, ap, arith, false, length-append}
 use Rattle.clause_core.specs.declared.literal.Lit.{Lit}
-use Rattle.gates.specs.Order.{end_of}
 use Rattle.word_orders.specs.Orders.{IsWordOf}
 use Rattle.word_orders.proofs.Literals.{IsLiteralOf-variable, IsWordOf-nil, IsWordOf-push}
 use Rattle.word_rows.proofs.built.variables.Goals as goal
