@@ -1,10 +1,12 @@
 // Reads a program's text, and tells how far its readers come.
 use crate::stages::Stages;
 use fb_inline::{FlatFault, flatten};
-use front_end::{AcceptFault, tokens_of};
+use front_end::tokens_of;
+use program_tree::Program;
+use rules::{Fault, Refusal};
+use source_tree::{SourceFile, Tok};
 use st_names::{Resolved, resolve};
 use st_parser::parse_file;
-use st_tree::{Program, Refusal, SourceFile, Tok};
 use st_types::check;
 use std::alloc::Global;
 use std::io::Print;
@@ -20,11 +22,11 @@ enum Stop {
     Output(io::Error),
 }
 
-impl From<AcceptFault> for Stop {
-    fn from(fault: AcceptFault) -> Self {
+impl From<Fault> for Stop {
+    fn from(fault: Fault) -> Self {
         match fault {
-            AcceptFault::Refused(refusal) => Stop::Refused(refusal),
-            AcceptFault::Memory => Stop::Memory,
+            Fault::Refused(refusal) => Stop::Refused(refusal),
+            Fault::Memory => Stop::Memory,
         }
     }
 }
@@ -45,15 +47,15 @@ impl From<io::Error> for Stop {
     }
 }
 
-fn tree_of(alloc: Global, toks: &[Tok<'_>], end: usize) -> Result<SourceFile, AcceptFault> {
+fn tree_of(alloc: Global, toks: &[Tok<'_>], end: usize) -> Result<SourceFile, Fault> {
     Ok(parse_file(alloc, toks, end)?)
 }
 
-fn resolved(alloc: Global, file: SourceFile) -> Result<Resolved, AcceptFault> {
+fn resolved(alloc: Global, file: SourceFile) -> Result<Resolved, Fault> {
     Ok(resolve(alloc, file)?)
 }
 
-fn checked(alloc: Global, names: Resolved) -> Result<Program, AcceptFault> {
+fn checked(alloc: Global, names: Resolved) -> Result<Program, Fault> {
     Ok(check(alloc, names)?)
 }
 

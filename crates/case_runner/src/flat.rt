@@ -6,10 +6,10 @@ use case_files::{
     program_of, without_places,
 };
 use flat_end::accept_flat;
-use front_end::AcceptFault;
 use program_printing::{print_body, print_flat};
+use program_tree::{Called, Cell, Program, TypedStmt};
+use rules::Fault;
 use sfc_lowering::{Lowered, lower};
-use st_tree::{Called, Cell, Program, TypedStmt};
 use std::alloc::{AllocError, Global};
 
 /// Runs a case of this door.
@@ -42,10 +42,10 @@ fn compare_list(
 ) -> Result<(), CaseFault> {
     let got = match accept_flat(alloc, text) {
         Ok(accepted) => print_flat(alloc, &accepted.flat)?,
-        Err(AcceptFault::Refused(refusal)) => {
+        Err(Fault::Refused(refusal)) => {
             refused_at(alloc, refusal.rule.name(), refusal.at, text)?
         }
-        Err(AcceptFault::Memory) => return Err(CaseFault::Memory),
+        Err(Fault::Memory) => return Err(CaseFault::Memory),
     };
     let expected = match section.argument.as_str().strip_prefix("refused ") {
         Some(rule) => refused_at(alloc, rule.trim(), 0, text)?,

@@ -9,10 +9,10 @@ use case_files::{
 use flat_core::Flat;
 use flat_end::{Accepted, accept_flat};
 use flat_typing::check_program;
-use front_end::AcceptFault;
+use program_tree::Program;
+use rules::Fault;
 use scan_replay::Machine;
 use sfc_lowering::{Lowered, lower};
-use st_tree::Program;
 use std::alloc::{AllocError, Global};
 
 /// Runs a case of this door.
@@ -49,11 +49,11 @@ pub fn run_scan(
 fn flat_of(alloc: Global, text: &[u8]) -> Result<Accepted, CaseFault> {
     match accept_flat(alloc, text) {
         Ok(accepted) => Ok(accepted),
-        Err(AcceptFault::Refused(refusal)) => {
+        Err(Fault::Refused(refusal)) => {
             let refusal = refused_at(alloc, refusal.rule.name(), refusal.at, text)?;
             Err(malformed(alloc, "the program is refused: ", refusal.as_str()))
         }
-        Err(AcceptFault::Memory) => Err(CaseFault::Memory),
+        Err(Fault::Memory) => Err(CaseFault::Memory),
     }
 }
 

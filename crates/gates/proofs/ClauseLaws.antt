@@ -1,8 +1,7 @@
 -- A circuit's formula is satisfied exactly by its models.
-use Rattle.std.proofs.Common.{◌≡◌, ℕ, ◌+◌, Bool, true, false, not, ◌&&◌, ◌||◌, refl, sym, ◌∙◌, ap, List, [], ◌∷◌, ◌++◌, map}
+use Rattle.std.proofs.Common.{◌≡◌, ℕ, ◌+◌, Bool, true, false, not, ◌&&◌, ◌||◌, refl, sym, ◌∙◌, ap, List, [], ◌∷◌, map}
 use Rattle.std.specs.Prelude.{if◌then◌else◌}
 use Rattle.std.specs.Bool.{beq}
-use Rattle.std.specs.List.{list_any, list_all}
 use Rattle.std.proofs.lemmas.Bool.{and_parts, and_from}
 use Rattle.std.proofs.lemmas.List.Folds.{list_all-append}
 use Rattle.clause_core.specs.declared.literal.Lit.{Lit}
@@ -11,7 +10,7 @@ use Rattle.clause_core.specs.declared.gate.Gate.TheVariants.{And, Xor, Mux}
 use Rattle.clause_core.specs.Clauses.{set_of}
 use Rattle.clause_core.specs.Satisfaction.{literal_true, clause_true, formula_true, Satisfies}
 use Rattle.clause_core.proofs.Sets.{list_any-set_of}
-use Rattle.gates.specs.Literals.{plain, true_lit}
+use Rattle.gates.specs.Literals.{plain}
 use Rattle.gates.specs.Meaning.{gate_true, exactly_one}
 use Rattle.gates.specs.Netlists.{Netlist}
 use Rattle.gates.specs.Models.{IsModel, GatesHold}

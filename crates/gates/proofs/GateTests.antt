@@ -1,7 +1,5 @@
 -- The derived test of gates is the definition's.
-use Rattle.std.proofs.Common.{◌≡◌, ℕ, ◌+◌, Bool, true, false, not, ◌&&◌, nat_eq, refl, sym, ◌∙◌, ap, List, ◌++◌, []}
-use Rattle.std.specs.List.{list_any, position_or_len}
-use Rattle.clause_core.specs.declared.literal.Lit.{Lit}
+use Rattle.std.proofs.Common.{◌≡◌, refl}
 use Rattle.clause_core.specs.declared.gate.Gate.{Gate}
 use Rattle.clause_core.specs.declared.gate.Gate.TheVariants.{And, Xor, Mux}
 use Rattle.gates.specs.Netlists.{same_gate}

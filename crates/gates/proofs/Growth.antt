@@ -1,15 +1,13 @@
 -- Circuits only grow: gates are added behind those that are there.
-use Rattle.std.proofs.Common.{◌≡◌, ℕ, ◌+◌, ◌≤◌, ◌<◌, Bool, true, false, refl, sym, ◌∙◌, ap, subst, List, [], ◌∷◌, ◌++◌, length, arith, length-append, append_assoc, Result}
-use Rattle.std.specs.Prelude.{if◌then◌else◌, IfErr, Err}
+use Rattle.std.proofs.Common.{◌≡◌, ℕ, ◌+◌, Bool, true, false, refl, sym, ◌∙◌, ap, subst, List, [], ◌∷◌, ◌++◌, length, arith, length-append, append_assoc}
+use Rattle.std.specs.Prelude.{if◌then◌else◌}
 use Rattle.std.specs.List.{list_any}
 use Rattle.std.proofs.lemmas.List.{append-nil}
 use Rattle.clause_core.specs.declared.literal.Lit.{Lit}
 use Rattle.clause_core.specs.declared.gate.Gate.{Gate}
-use Rattle.gates.specs.declared.circuit.GateFault.{GateFault}
-use Rattle.gates.specs.declared.circuit.GateFault.TheVariants.{TooMany}
 use Rattle.gates.specs.declared.plan.Plan.{Plan}
 use Rattle.gates.specs.declared.plan.Plan.TheVariants.{Ready, Ask}
-use Rattle.gates.specs.Netlists.{Netlist, Made, same_gate, with_gate, make, IsExtensionOf, IsOverfull}
+use Rattle.gates.specs.Netlists.{Netlist, same_gate, make, IsExtensionOf, IsOverfull}
 use Rattle.gates.specs.Models.{GatesHold, IsModel}
 use Rattle.gates.specs.Rules.{and_of, or_of, xor_of, mux_of}
 

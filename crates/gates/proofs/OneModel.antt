@@ -1,14 +1,14 @@
 -- Every setting of the free bits extends to exactly one model of an ordered circuit.
-use Rattle.std.proofs.Common.{◌≡◌, ◌≢◌, ℕ, ◌+◌, ◌≤◌, ◌<◌, Bool, true, false, not, ◌&&◌, refl, sym, ◌∙◌, ap, subst, List, [], ◌∷◌, length, arith, ◌⊎◌, inl, inr}
-use Rattle.std.specs.Prelude.{nat_eq, nat_lt, IsTrue, if◌then◌else◌}
-use Rattle.std.proofs.lemmas.Bool.{and_parts, eqb-true, ltb-true, eq-eqb, ne_eqb, cond-true, cond-false, cases_eq}
+use Rattle.std.proofs.Common.{◌≡◌, ◌≢◌, ℕ, ◌+◌, Bool, true, ◌&&◌, refl, sym, ◌∙◌, ap, List, [], ◌∷◌, length, arith, inl, inr}
+use Rattle.std.specs.Prelude.{nat_eq, nat_lt, if◌then◌else◌}
+use Rattle.std.proofs.lemmas.Bool.{and_parts, ltb-true, eq-eqb, ne_eqb, cond-true, cond-false, cases_eq}
 use Rattle.clause_core.specs.declared.literal.Lit.{Lit}
 use Rattle.clause_core.specs.declared.gate.Gate.{Gate}
 use Rattle.clause_core.specs.declared.gate.Gate.TheVariants.{And, Xor, Mux}
 use Rattle.clause_core.specs.Satisfaction.{literal_true, signed}
 use Rattle.gates.specs.Meaning.{gate_true, exactly_one}
 use Rattle.gates.specs.Netlists.{Netlist}
-use Rattle.gates.specs.Models.{IsModel, GatesHold, put, extended, Agrees, ExtendsOnce}
+use Rattle.gates.specs.Models.{GatesHold, put, extended, Agrees, ExtendsOnce}
 use Rattle.gates.specs.Order.{lit_below, gate_below, is_ordered, IsOrdered}
 
 put-other : (rho : ℕ → Bool) (x y : ℕ) (b : Bool) → y ≢ x → put rho x b y ≡ rho y

@@ -1,5 +1,5 @@
 -- Each gate stands after its operands, and each literal that was made is one of the circuit's.
-use Rattle.std.proofs.Common.{◌≡◌, ℕ, zero, suc, take, drop, ◌+◌, ◌≤◌, ◌<◌, Bool, true, false, not, ◌&&◌, ◌||◌, refl, sym, ◌∙◌, ap, subst, List, [], ◌∷◌, ◌++◌, length, arith, cond, length-append}
+use Rattle.std.proofs.Common.{◌≡◌, ℕ, zero, suc, take, drop, ◌+◌, ◌≤◌, ◌<◌, Bool, true, false, not, ◌&&◌, ◌||◌, refl, sym, subst, List, [], ◌∷◌, ◌++◌, length, arith, cond, length-append}
 use Rattle.std.specs.Prelude.{nat_lt, min, max, if◌then◌else◌}
 use Rattle.std.specs.List.{list_any, position_or_len}
 use Rattle.std.proofs.lemmas.Bool.{false≢true, and_parts, and_from, ltb-true, lt-ltb}
@@ -9,9 +9,9 @@ use Rattle.clause_core.specs.declared.gate.Gate.TheVariants.{And, Xor, Mux}
 use Rattle.clause_core.specs.Values.{negation}
 use Rattle.gates.specs.declared.plan.Plan.{Plan}
 use Rattle.gates.specs.declared.plan.Plan.TheVariants.{Ready, Ask}
-use Rattle.gates.specs.Literals.{plain, true_lit, false_lit, is_true, is_false, same_lit, opposite_lits}
+use Rattle.gates.specs.Literals.{plain, false_lit, is_true, is_false, same_lit, opposite_lits}
 use Rattle.gates.specs.Plans.{and_plan, or_plan, xor_plan, xor_of_variables, mux_plan, not_plan}
-use Rattle.gates.specs.Netlists.{Netlist, Made, same_gate, with_gate, variable_of, make}
+use Rattle.gates.specs.Netlists.{Netlist, same_gate, variable_of, make}
 use Rattle.gates.specs.Rules.{and_of, or_of, xor_of, mux_of}
 use Rattle.gates.specs.Order.{lit_below, gate_below, is_ordered, end_of, IsOrdered, IsLiteralOf, IsOrderedAfter}
 

@@ -1,5 +1,5 @@
 -- What a circuit holds, and what stays true of it.
-use Rattle.std.specs.Prelude.{ℕ, ◌+◌, ◌^◌, ◌<◌, ◌≤◌, length}
+use Rattle.std.specs.Prelude.{◌+◌, ◌^◌, ◌<◌, ◌≤◌, length}
 use Rattle.gates.specs.declared.circuit.Circuit.TheInside.{Inside}
 use Rattle.gates.specs.Netlists.{Netlist}
 

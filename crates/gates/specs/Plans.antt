@@ -1,12 +1,12 @@
 -- The rules of AND, OR, XOR and MUX, tried in order: a literal that is there already, or a gate to ask for.
-use Rattle.std.specs.Prelude.{ℕ, Bool, true, false, not, ◌&&◌, ◌||◌, nat_eq, nat_lt, min, max, if◌then◌else◌}
+use Rattle.std.specs.Prelude.{ℕ, Bool, false, not, ◌||◌, nat_eq, nat_lt, min, max, if◌then◌else◌}
 use Rattle.std.specs.Bool.{beq}
 use Rattle.clause_core.specs.declared.literal.Lit.{Lit}
 use Rattle.clause_core.specs.declared.gate.Gate.TheVariants.{And, Xor, Mux}
 use Rattle.clause_core.specs.Values.{negation}
 use Rattle.gates.specs.declared.plan.Plan.{Plan}
 use Rattle.gates.specs.declared.plan.Plan.TheVariants.{Ready, Ask}
-use Rattle.gates.specs.Literals.{plain, true_lit, false_lit, is_true, is_false, same_lit, opposite_lits}
+use Rattle.gates.specs.Literals.{plain, false_lit, is_true, is_false, same_lit, opposite_lits}
 
 -- the plan of the negative
 abbrev pub not_plan : Plan → Plan

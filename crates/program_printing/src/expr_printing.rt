@@ -1,5 +1,6 @@
 // Expressions as texts: a cell by its name, or by its place where it has none, and an operator with the type of its operands.
-use st_tree::{Elementary, Function, Operand, Operator, Shift, TypedExpr, UnaryOperator};
+use plc_types::{Elementary, Function, Operator, Shift, UnaryOperator};
+use program_tree::{Operand, TypedExpr};
 use std::alloc::{AllocError, Global};
 
 /// Adds an expression to a text. The names are those of the first cells.
@@ -97,7 +98,7 @@ fn print_function(
     text: &mut String,
 ) -> Result<(), AllocError> {
     match function {
-        Function::Convert => text.push_str("CONVERT:")?,
+        Function::Convert(_) => text.push_str("CONVERT:")?,
         Function::Absolute => text.push_str("ABS:")?,
         Function::Minimum => text.push_str("MIN:")?,
         Function::Maximum => text.push_str("MAX:")?,

@@ -2,13 +2,13 @@
 use Rattle.std.proofs.Common.{Bool, ◌≡◌, ◌<◌, ℕ, suc, ◌+◌, ℤ, List, [], ◌∷◌, ◌++◌, length, take, drop, get_or, drop-cons, add-one, Vec, true, false, if◌then◌else◌, Option, Some, None, Result, Ok, Err, OnErr, refl, sym, ap, ◌∙◌, subst, append_assoc, append-nil}
 use Rattle.std.proofs.lemmas.List.{take-append-drop}
 use Rattle.std.specs.declared.alloc.Global.{Global}
-use Rattle.st_tree.specs.declared.typed.Program.{Program}
-use Rattle.st_tree.specs.View.{program_view}
+use Rattle.program_tree.specs.declared.typed.Program.{Program}
+use Rattle.program_tree.specs.View.{program_view}
 use Rattle.scan_model.specs.declared.relation.Relation.{Relation}
 use Rattle.scan_replay.specs.Duos.{Compared, with_pair, allows, pair_after, is_pair_related}
 use Rattle.outside.specs.declared.OutErr.{OutErr}
 use Rattle.outside.specs.Contents.{extended, Adds}
-use Rattle.st_tree.specs.Tree.{ProgramData}
+use Rattle.program_tree.specs.Tree.{ProgramData}
 use Rattle.scan_model.specs.declared.relation.Ending.{Ending}
 use Rattle.scan_model.specs.declared.relation.Ending.TheVariants.{Unrelated}
 use Rattle.scan_model.specs.InRange.{Row}

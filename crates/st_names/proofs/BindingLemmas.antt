@@ -5,18 +5,18 @@ use Rattle.std.specs.List.{slice_get, position_from}
 use Rattle.std.specs.Option.{option_and_then}
 use Rattle.std.proofs.lemmas.List.{length-map}
 use Rattle.std.proofs.lemmas.Option.{slice_get-map, slice_get_read, slice_get_within, slice_get-get_or}
-use Rattle.st_tree.specs.declared.syntax.Item.{Item}
-use Rattle.st_tree.specs.SyntaxView.{item_view, items_view}
-use Rattle.st_tree.specs.Syntax.{PouData, ItemData, types, pou, FileData}
-use Rattle.st_names.specs.declared.names_of_pou.NamesOfPou.{NamesOfPou}
-use Rattle.st_names.specs.declared.slots.Slot.{Slot}
+use Rattle.source_tree.specs.declared.syntax.Item.{Item}
+use Rattle.source_tree.specs.SyntaxView.{item_view, items_view}
+use Rattle.source_tree.specs.Syntax.{PouData, ItemData, types, pou, FileData}
+use Rattle.pou_scope.specs.declared.pou_names.NamesOfPou.{NamesOfPou}
+use Rattle.naming.specs.declared.slot.Slot.{Slot}
 use Rattle.st_names.specs.Bound.{bound_of, bound_named, places_from}
 use Rattle.st_names.specs.BoundBy.{bound_by}
-use Rattle.st_names.specs.FileScope.{pous_of, pou_at, is_program}
-use Rattle.st_names.specs.NamesView.{scope_named, scopes_named}
-use Rattle.st_names.specs.Scopes.{Variable, PouScope, scope_of, variables_in_pou, is_doubled_among}
-use Rattle.st_names.specs.Slots.{found, slot_of, slot_named}
-use Rattle.st_names.proofs.CountLemmas.{count-cons}
+use Rattle.naming.specs.FileScope.{pous_of, pou_at, is_program}
+use Rattle.pou_scope.specs.NamesView.{scope_named, scopes_named}
+use Rattle.naming.specs.Scopes.{Variable, PouScope, scope_of, variables_in_pou, is_doubled_among}
+use Rattle.naming.specs.Slots.{found, slot_of, slot_named}
+use Rattle.naming.proofs.CountLemmas.{count-cons}
 
 abbrev pub pou_item : PouData → ItemData
 pou_item p = pou p

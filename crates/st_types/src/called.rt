@@ -1,17 +1,19 @@
 // The POUs that may be called, typed.
 ghost use Rattle.std.specs.Prelude.{◌≡◌, map, IfOk};
-ghost use Rattle.st_tree.specs.SyntaxView.{pou_view};
-ghost use Rattle.st_tree.specs.View.{cells_view, called_view, all_called_view};
-ghost use Rattle.st_names.specs.FileScope.{pou_at};
-ghost use Rattle.st_types.specs.Bodies.{file_in};
-ghost use Rattle.st_types.specs.TypedPrograms.{frame_cells, type_of_cell, called_of, called_if, called_by};
+ghost use Rattle.source_tree.specs.SyntaxView.{pou_view};
+ghost use Rattle.program_tree.specs.View.{cells_view, called_view, all_called_view};
+ghost use Rattle.naming.specs.FileScope.{pou_at};
+ghost use Rattle.decl_types.specs.Bodies.{file_in};
+ghost use Rattle.typing.specs.TypedPrograms.{frame_cells, type_of_cell, called_of, called_if, called_by};
 
-use crate::blocks::pou_at;
 use crate::bodies::pou_body;
 use crate::cells::cells_behind_fault;
-use crate::pous::Pous;
-use st_names::declared_variables;
-use st_tree::{Called, Cell, CellType, Frame, Pou, PouKind, Range};
+use decl_types::pou_at;
+use plc_types::Range;
+use pou_cells::Pous;
+use pou_scope::declared_variables;
+use program_tree::{Called, Cell, CellType, Frame};
+use source_tree::{Pou, PouKind};
 use std::alloc::{AllocError, Global};
 
 // The cells of a FUNCTION's call.
@@ -84,7 +86,7 @@ fn called_if(alloc: Global, pous: &Pous<'_>, number: usize) -> Result<Called, Al
 }
 
 /// The POUs that may be called, each of which calls only those before it.
-pub(crate) fn called_by(alloc: Global, pous: &Pous<'_>) -> Result<Vec<Called>, AllocError>
+pub fn called_by(alloc: Global, pous: &Pous<'_>) -> Result<Vec<Called>, AllocError>
     ensures { IfOk result (λ list. all_called_view list.items ≡ called_by (file_in pous.now.domains)) }
 {
     let mut list = Vec::new(alloc);

@@ -1,24 +1,25 @@
 // The cells of POUs, those of instances in their places.
 ghost use Rattle.std.specs.Prelude.{◌≡◌, ◌∷◌, ◌++◌, option_map, IfOk, OnOk};
 ghost use Rattle.std.specs.String.{string_bytes};
-ghost use Rattle.st_tree.specs.SyntaxView.{name_view, file_view};
-ghost use Rattle.st_tree.specs.View.{cell_view, cells_view, texts_view};
-ghost use Rattle.st_names.specs.Scopes.{block_of};
-ghost use Rattle.st_names.specs.ScopeView.{variable_view, variables_view};
-ghost use Rattle.st_types.specs.Bodies.{file_in};
-ghost use Rattle.st_types.specs.TypedPrograms.{path_of, path_behind, cell_for, flag_cell, cells_for, fault_cell, cells_of_variable, cells_of, block_cells, cells_in, is_without_cell, names_without_cell};
+ghost use Rattle.source_tree.specs.SyntaxView.{name_view, file_view};
+ghost use Rattle.program_tree.specs.View.{cell_view, cells_view, texts_view};
+ghost use Rattle.naming.specs.Scopes.{block_of};
+ghost use Rattle.naming.specs.ScopeView.{variable_view, variables_view};
+ghost use Rattle.decl_types.specs.Bodies.{file_in};
+ghost use Rattle.typing.specs.TypedPrograms.{path_of, path_behind, cell_for, flag_cell, cells_for, fault_cell, cells_of_variable, cells_of, block_cells, cells_in, is_without_cell, names_without_cell};
 
-use crate::blocks::{block_of, pou_at};
-use crate::domains::Domains;
-use crate::kinds::bool_type;
-use crate::numbers::range;
-use crate::order::in_order;
-use crate::places::size_among;
-use crate::pous::Pous;
-use crate::roles::{active_first, has_cell, is_constant, is_step, is_stored_action, part_in};
-use crate::variables::{domain_of, initial_of};
-use st_names::{Declared, Resolved, declared_variables};
-use st_tree::{Cell, Elementary, Name, Part};
+use decl_types::{Domains, block_of, domain_of, initial_of, pou_at};
+use expr_types::{bool_type, range};
+use naming::Declared;
+use plc_types::Elementary;
+use pou_cells::{
+    Pous, active_first, has_cell, in_order, is_constant, is_step, is_stored_action, part_in,
+    size_among,
+};
+use pou_scope::declared_variables;
+use program_tree::{Cell, Part};
+use source_tree::Name;
+use st_names::Resolved;
 use std::alloc::{AllocError, Global};
 
 // The path of a cell behind what stands before it, where paths are wanted.
@@ -126,7 +127,7 @@ fn write_cells_for(
 }
 
 /// The cell of FAULT.
-pub(crate) fn fault_cell(alloc: Global) -> Result<Cell, AllocError>
+pub fn fault_cell(alloc: Global) -> Result<Cell, AllocError>
     ensures { IfOk result (λ cell. cell_view cell ≡ fault_cell) }
 {
     Ok(Cell {
@@ -237,7 +238,7 @@ fn is_without_cell(names: &Resolved, variable: &Declared<'_>) -> bool
 }
 
 /// The names of the constants and instances of a program.
-pub(crate) fn names_without_cell(
+pub fn names_without_cell(
     alloc: Global,
     names: &Resolved,
     variables: &[Declared<'_>],

@@ -1,17 +1,15 @@
 // Where the charts of a POU and of its instances stand among its cells.
 ghost use Rattle.std.specs.Prelude.{◌≡◌, ◌++◌, IfOk, OnOk};
-ghost use Rattle.st_names.specs.Scopes.{block_of};
-ghost use Rattle.st_names.specs.ScopeView.{variable_view, variables_view};
-ghost use Rattle.st_types.specs.Bodies.{file_in};
-ghost use Rattle.st_types.specs.ChartPlaces.{steps_among, charts_of_variable, charts_of, block_charts, charts_in};
+ghost use Rattle.naming.specs.Scopes.{block_of};
+ghost use Rattle.naming.specs.ScopeView.{variable_view, variables_view};
+ghost use Rattle.decl_types.specs.Bodies.{file_in};
+ghost use Rattle.typing.specs.ChartPlaces.{steps_among, charts_of_variable, charts_of, block_charts, charts_in};
 
-use crate::blocks::{block_of, pou_at};
-use crate::order::in_order;
-use crate::places::{cells_taken, size_among, sum};
-use crate::pous::Pous;
-use crate::roles::is_step;
-use st_names::{Declared, declared_variables};
-use st_tree::ChartCells;
+use decl_types::{block_of, pou_at};
+use naming::Declared;
+use pou_cells::{Pous, cells_taken, in_order, is_step, size_among, sum};
+use pou_scope::declared_variables;
+use program_tree::ChartCells;
 use std::alloc::{AllocError, Global};
 
 // How many of some names are steps.
@@ -103,7 +101,7 @@ fn write_variable(
 }
 
 /// The charts of a PROGRAM and of its instances, in the order of their cells.
-pub(crate) fn charts_in(
+pub fn charts_in(
     alloc: Global,
     pous: &Pous<'_>,
     variables: &[Declared<'_>],

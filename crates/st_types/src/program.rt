@@ -1,28 +1,28 @@
 // From a file whose names are bound to a typed program.
 ghost use Rattle.std.specs.Prelude.{◌≡◌, ℕ, [], true, Some, IfOk, IfErr, OnOk};
-ghost use Rattle.st_tree.specs.Rules.{first_in};
-ghost use Rattle.st_tree.specs.Syntax.{PouData};
-ghost use Rattle.st_tree.specs.SyntaxView.{pou_view, file_view};
-ghost use Rattle.st_tree.specs.View.{program_view};
+ghost use Rattle.rules.specs.Rules.{first_in};
+ghost use Rattle.source_tree.specs.Syntax.{PouData};
+ghost use Rattle.source_tree.specs.SyntaxView.{pou_view, file_view};
+ghost use Rattle.program_tree.specs.View.{program_view};
 ghost use Rattle.st_names.specs.Bound.{program_number};
-ghost use Rattle.st_names.specs.FileScope.{pou_at};
-ghost use Rattle.st_types.specs.Bodies.{file_in};
-ghost use Rattle.st_types.specs.Pous.{broken_types, has_room};
-ghost use Rattle.st_types.specs.TypedPrograms.{typed_program};
-ghost use Rattle.st_types.specs.Faults.{IsFaultOf};
-ghost use Rattle.st_types.specs.Ready.{IsReady};
+ghost use Rattle.naming.specs.FileScope.{pou_at};
+ghost use Rattle.decl_types.specs.Bodies.{file_in};
+ghost use Rattle.typing.specs.Pous.{broken_types, has_room};
+ghost use Rattle.typing.specs.TypedPrograms.{typed_program};
+ghost use Rattle.typing.specs.Faults.{IsFaultOf};
+ghost use Rattle.typing.specs.Ready.{IsReady};
 
 use crate::bodies::{judge_pous, pou_body};
 use crate::called::called_by;
 use crate::cells::{cells_behind_fault, names_without_cell};
 use crate::chart_places::charts_in;
-use crate::fault::TypeFault;
-use crate::judged_types::judge_types;
-use crate::places::count_of_cells;
-use crate::pous::Pous;
-use crate::type_texts::type_texts;
-use st_names::{Resolved, declared_variables};
-use st_tree::{Pou, Program, Refusal, Rule};
+use decl_types::{judge_types, type_texts};
+use pou_cells::{Pous, count_of_cells};
+use pou_scope::declared_variables;
+use program_tree::Program;
+use rules::{Fault, Refusal, Rule};
+use source_tree::Pou;
+use st_names::Resolved;
 use std::alloc::{AllocError, Global};
 
 /// How many cells a program has at most.
@@ -79,7 +79,7 @@ fn check_pous(
     pous: &Pous<'_>,
     number: usize,
     program: &Pou,
-) -> Result<Program, TypeFault>
+) -> Result<Program, Fault>
     requires { pou_at (file_in pous.now.domains) number ≡ Some (pou_view program.now) }
     ensures refused { IfErr result (IsFaultOf (file_in pous.now.domains) number) }
     ensures kept { OnOk result (broken_types (file_in pous.now.domains) ≡ []) }
@@ -87,11 +87,11 @@ fn check_pous(
     ensures typed { IfOk result (λ p. program_view p ≡ typed_program (file_in pous.now.domains) number (pou_view program.now)) }
 {
     if let Some(refusal) = judge_file(alloc, pous)? {
-        return Err(TypeFault::Refused(refusal));
+        return Err(Fault::Refused(refusal));
     }
     let room = has_room(alloc, pous, number, program)?;
     if !room {
-        return Err(TypeFault::Refused(Refusal {
+        return Err(Fault::Refused(Refusal {
             rule: Rule::TooManyCells,
             at: 0,
         }));
@@ -106,7 +106,7 @@ fn check_program(
     names: &Resolved,
     number: usize,
     program: &Pou,
-) -> Result<Program, TypeFault>
+) -> Result<Program, Fault>
     requires { pou_at (file_view names.now.file) number ≡ Some (pou_view program.now) }
     ensures refused { IfErr result (IsFaultOf (file_view names.now.file) number) }
     ensures kept { OnOk result (broken_types (file_view names.now.file) ≡ []) }
@@ -119,7 +119,7 @@ fn check_program(
 
 /// The typed program of a file's one PROGRAM, whose names are bound (IEC 61131-3, 3.3), or the first rule on types that
 /// the file breaks, and where it breaks none but the PROGRAM has too many cells, M2. Fails too where memory runs out.
-pub fn check(alloc: Global, names: Resolved) -> Result<Program, TypeFault>
+pub fn check(alloc: Global, names: Resolved) -> Result<Program, Fault>
     ensures refused { IfErr result (λ e. (number : ℕ) → program_number (file_view names.file) ≡ Some number → IsFaultOf (file_view names.file) number e) }
     ensures kept { OnOk result (broken_types (file_view names.file) ≡ []) }
     ensures room { OnOk result ((number : ℕ) → program_number (file_view names.file) ≡ Some number → has_room (file_view names.file) number ≡ true) }

@@ -1,5 +1,5 @@
 -- Addition and subtraction as whole numbers.
-use Rattle.std.proofs.Common.{◌≡◌, ℕ, zero, suc, ◌+◌, ◌*◌, ◌^◌, ◌≤◌, ◌<◌, Bool, true, false, not, refl, sym, ◌∙◌, ap, subst, List, [], ◌∷◌, length, map, arith}
+use Rattle.std.proofs.Common.{◌≡◌, ℕ, suc, ◌+◌, ◌*◌, ◌^◌, Bool, true, false, refl, sym, ◌∙◌, ap, subst, List, [], ◌∷◌, length, arith}
 use Rattle.std.specs.Prelude.{if◌then◌else◌}
 use Rattle.std.proofs.lemmas.List.{length-map, length-replicate}
 use Rattle.clause_core.specs.declared.literal.Lit.{Lit}
@@ -8,10 +8,9 @@ use Rattle.clause_core.specs.Satisfaction.{literal_true}
 use Rattle.gates.specs.Literals.{true_lit, false_lit}
 use Rattle.gates.specs.Meaning.{exactly_one}
 use Rattle.gates.specs.Models.{IsModel}
-use Rattle.gates.specs.Netlists.{Netlist, Made}
-use Rattle.gates.specs.Rules.{and_of, or_of, xor_of, mux_of}
-use Rattle.gates.proofs.Booleans.{literal_true-not}
-use Rattle.gates.proofs.NetLaws.{Means, Means-and, Means-or, Means-xor, Means-mux}
+use Rattle.gates.specs.Netlists.{Netlist}
+use Rattle.gates.specs.Rules.{xor_of}
+use Rattle.gates.proofs.NetLaws.{Means-xor, Means-mux}
 use Rattle.word_circuits.specs.Words.{zeros, not_word}
 use Rattle.word_circuits.specs.Sums.{MadeSum, MadeBit, full_adder_of, add_of, sub_of, neg_of}
 use Rattle.word_laws.specs.Numbers.{bit, number}

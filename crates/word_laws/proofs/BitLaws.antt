@@ -1,12 +1,12 @@
 -- Constants, operations on each bit, conversions, shifts and rotations.
-use Rattle.std.proofs.Common.{◌≡◌, ℕ, zero, suc, ◌+◌, ◌-◌, ◌*◌, ◌/◌, ◌%◌, ◌^◌, ◌<◌, ◌≤◌, Bool, true, false, not, ◌&&◌, ◌||◌, refl, sym, ◌∙◌, ap, subst, List, [], ◌∷◌, ◌++◌, length, take, drop, replicate, arith, length-append, ℤ, pos, ◌+ℤ◌, ◌-ℤ◌, ◌*ℤ◌, cond}
-use Rattle.std.specs.Prelude.{nat_eq, neg_ℤ, unsigned_abs, bit_and, bit_or, bit_xor, if◌then◌else◌}
-use Rattle.std.specs.Int.{int_div_euclid, int_rem_euclid}
+use Rattle.std.proofs.Common.{◌≡◌, ℕ, zero, suc, ◌+◌, ◌-◌, ◌*◌, ◌/◌, ◌%◌, ◌^◌, ◌<◌, Bool, true, false, not, ◌&&◌, ◌||◌, refl, sym, ◌∙◌, ap, subst, List, [], ◌∷◌, length, arith, ℤ, pos, ◌+ℤ◌, ◌-ℤ◌, ◌*ℤ◌}
+use Rattle.std.specs.Prelude.{nat_eq, neg_ℤ, bit_and, bit_or, bit_xor, if◌then◌else◌}
+use Rattle.std.specs.Int.{int_div_euclid}
 use Rattle.std.proofs.Math.IntN.{negsuc, *ℤ_comm}
 use Rattle.std.proofs.Math.Nat.{pow-succ'}
 use Rattle.std.proofs.lemmas.Int.{ints}
 use Rattle.std.proofs.lemmas.Nat.{and_block, or_block, xor_block}
-use Rattle.std.proofs.lemmas.List.{length-replicate, length-map}
+use Rattle.std.proofs.lemmas.List.{length-map}
 use Rattle.std.proofs.lemmas.Bool.{eqb-true, eqb-false}
 use Rattle.num_core.proofs.Products.{add-mul}
 use Rattle.num_core.specs.Wrapping.{wrap, DiffersByMultiple}
@@ -16,7 +16,7 @@ use Rattle.gates.specs.Literals.{true_lit, false_lit}
 use Rattle.gates.specs.Meaning.{exactly_one}
 use Rattle.gates.specs.Models.{IsModel}
 use Rattle.gates.specs.Netlists.{Netlist, Made}
-use Rattle.gates.proofs.NetLaws.{Means, Means-and, Means-or, Means-xor}
+use Rattle.gates.proofs.NetLaws.{Means-and, Means-or, Means-xor}
 use Rattle.word_circuits.specs.declared.bits.BitOperator.{BitOperator}
 use Rattle.word_circuits.specs.declared.bits.BitOperator.TheVariants.{And, Or, Xor}
 use Rattle.word_circuits.specs.Words.{MadeWord, is_odd, low_bit, constant_of, not_word, bit_of, bitwise_of}

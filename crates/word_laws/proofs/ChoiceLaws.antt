@@ -1,27 +1,25 @@
 -- Comparisons and choices of words are those of their values.
-use Rattle.std.proofs.Common.{◌≡◌, ℕ, ◌+◌, ◌*◌, ◌^◌, ◌<◌, Bool, true, false, not, ◌||◌, refl, sym, ◌∙◌, ap, subst, List, length, arith, ℤ, pos}
-use Rattle.std.specs.Prelude.{nat_lt, nat_eq, int_lt, int_le, unsigned_abs, if◌then◌else◌}
+use Rattle.std.proofs.Common.{◌≡◌, ℕ, ◌^◌, ◌<◌, Bool, true, false, not, ◌||◌, sym, ◌∙◌, ap, subst, List, length, arith, ℤ, pos}
+use Rattle.std.specs.Prelude.{int_lt, unsigned_abs, if◌then◌else◌}
 use Rattle.std.specs.Ordering.{int_eq}
-use Rattle.std.proofs.lemmas.Int.{ints}
 use Rattle.num_core.specs.Wrapping.{wrap, DiffersByMultiple}
 use Rattle.clause_core.specs.declared.literal.Lit.{Lit}
-use Rattle.clause_core.specs.Values.{negation}
 use Rattle.clause_core.specs.Satisfaction.{literal_true}
 use Rattle.gates.specs.Models.{IsModel}
-use Rattle.gates.specs.Netlists.{Netlist, Made}
+use Rattle.gates.specs.Netlists.{Netlist}
 use Rattle.gates.proofs.Booleans.{literal_true-not}
 use Rattle.gates.proofs.NetLaws.{Means-or}
 use Rattle.word_circuits.specs.declared.comparisons.Comparison.{Comparison}
 use Rattle.word_circuits.specs.declared.comparisons.Comparison.TheVariants.{Equal, NotEqual, Less, Greater, LessOrEqual, GreaterOrEqual}
-use Rattle.word_circuits.specs.Words.{constant_of, top_of}
-use Rattle.word_circuits.specs.Comparisons.{eq_of, lt_of, biased, comparison_of, outside_of}
+use Rattle.word_circuits.specs.Words.{constant_of}
+use Rattle.word_circuits.specs.Comparisons.{eq_of, lt_of, comparison_of, outside_of}
 use Rattle.word_circuits.specs.Choices.{choose_of, min_of, max_of, abs_of}
 use Rattle.word_laws.specs.Numbers.{number, value}
 use Rattle.word_laws.specs.Results.{compared, lesser, greater}
 use Rattle.word_laws.proofs.Multiples.{differs_same}
-use Rattle.word_laws.proofs.Orders.{Compares, Compares-lt, Compares-eq, Gives-choose, pick, length-choose}
-use Rattle.word_laws.proofs.SignedDivisions.{Magnitude-abs, with_sign, abs_sign, sign_of, length-abs}
-use Rattle.word_laws.proofs.Values.{less_value, equal_value, le_by_lt, length-biased, value_same, value_wraps, value_wraps_at}
+use Rattle.word_laws.proofs.Orders.{Compares, Compares-lt, Compares-eq, Gives-choose, pick}
+use Rattle.word_laws.proofs.SignedDivisions.{Magnitude-abs, abs_sign, sign_of}
+use Rattle.word_laws.proofs.Values.{less_value, equal_value, le_by_lt, length-biased, value_same, value_wraps_at}
 use Rattle.word_laws.proofs.BitLaws.{value-constant, length-constant}
 
 pub Compares-less : (rho : ℕ → Bool) (s : Bool) (a b : List Lit) (n : Netlist) → 0 < length a → length a ≡ length b → IsModel rho (lt_of s a b n).net → Compares rho n (lt_of s a b n) (int_lt (value s rho a) (value s rho b))

@@ -1,27 +1,22 @@
 -- Division of words as unsigned numbers, one quotient bit at a time.
-use Rattle.std.proofs.Common.{◌≡◌, ℕ, zero, suc, ◌+◌, ◌*◌, ◌-◌, ◌^◌, ◌≤◌, ◌<◌, Bool, true, false, not, refl, sym, ◌∙◌, ap, subst, List, [], ◌∷◌, ◌++◌, length, take, drop, reverse, arith, length-append}
+use Rattle.std.proofs.Common.{◌≡◌, ℕ, suc, ◌+◌, ◌*◌, ◌^◌, ◌<◌, Bool, true, false, refl, sym, ◌∙◌, ap, subst, List, [], ◌∷◌, ◌++◌, length, take, reverse, arith, length-append}
 use Rattle.std.proofs.Math.Nat.{pow-succ'}
-use Rattle.std.proofs.lemmas.List.{length-replicate, length-take-le, length-reverse}
+use Rattle.std.proofs.lemmas.List.{length-replicate, length-take-le}
 use Rattle.std.proofs.lemmas.Grind.{reverse_onto}
 use Rattle.clause_core.specs.declared.literal.Lit.{Lit}
-use Rattle.clause_core.specs.Values.{negation}
 use Rattle.clause_core.specs.Satisfaction.{literal_true}
 use Rattle.gates.specs.Literals.{false_lit}
-use Rattle.gates.specs.Meaning.{exactly_one}
 use Rattle.gates.specs.Models.{IsModel}
-use Rattle.gates.specs.Netlists.{Netlist, Made}
-use Rattle.gates.specs.Rules.{and_of, or_of, xor_of, mux_of}
-use Rattle.gates.proofs.Booleans.{literal_true-not}
+use Rattle.gates.specs.Netlists.{Netlist}
 use Rattle.word_circuits.specs.Words.{zeros}
 use Rattle.word_circuits.specs.Sums.{sub_of}
-use Rattle.word_circuits.specs.Choices.{choose_of}
 use Rattle.word_circuits.specs.Divisions.{MadeStep, MadeRatio, divide_step_of, divide_from, divide_of}
 use Rattle.word_circuits.proofs.Growth.{extends_divide_from}
 use Rattle.gates.proofs.Growth.{IsModel-front}
 use Rattle.word_laws.specs.Numbers.{bit, number}
 use Rattle.word_laws.proofs.Numbers.{bit_small, number-lt, number-take, number-top, number-false}
-use Rattle.word_laws.proofs.Additions.{Subtracts, Subtracts-sub, length-sub}
-use Rattle.word_laws.proofs.Orders.{Gives, Gives-choose, pick, length-choose}
+use Rattle.word_laws.proofs.Additions.{Subtracts-sub, length-sub}
+use Rattle.word_laws.proofs.Orders.{Gives-choose, pick, length-choose}
 
 pub record DividesBit (rho : ℕ → Bool) (x : Lit) (r b : List Lit) (n : Netlist) (s : MadeStep) : Type 0 where
   pub model : IsModel rho n

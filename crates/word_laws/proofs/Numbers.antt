@@ -1,16 +1,12 @@
 -- Words as numbers: parts of words, and words behind one another.
-use Rattle.std.proofs.Common.{◌≡◌, ℕ, zero, suc, ◌+◌, ◌*◌, ◌-◌, ◌^◌, ◌%◌, ◌≤◌, ◌<◌, Bool, true, false, not, refl, sym, ◌∙◌, ap, subst, List, [], ◌∷◌, ◌++◌, length, map, take, drop, replicate, arith, length-append}
+use Rattle.std.proofs.Common.{◌≡◌, ℕ, zero, suc, ◌+◌, ◌*◌, ◌-◌, ◌^◌, ◌%◌, ◌≤◌, ◌<◌, Bool, true, false, not, refl, sym, ◌∙◌, ap, subst, List, [], ◌∷◌, ◌++◌, length, take, drop, arith}
 use Rattle.std.proofs.Math.Nat.{pow-succ', mul_assoc, add-mul-mod_self_left, mod-eq_of_lt}
 use Rattle.std.proofs.lemmas.Nat.{pow-add}
-use Rattle.std.proofs.lemmas.List.{length-replicate, length-take-le, take-append-drop}
+use Rattle.std.proofs.lemmas.List.{length-take-le, take-append-drop}
 use Rattle.clause_core.specs.declared.literal.Lit.{Lit}
 use Rattle.clause_core.specs.Values.{negation}
 use Rattle.clause_core.specs.Satisfaction.{literal_true}
-use Rattle.gates.specs.Literals.{true_lit, false_lit}
-use Rattle.gates.specs.Meaning.{exactly_one}
-use Rattle.gates.specs.Models.{IsModel}
-use Rattle.gates.specs.Netlists.{Netlist, Made}
-use Rattle.gates.specs.Rules.{and_of, or_of, xor_of, mux_of}
+use Rattle.gates.specs.Literals.{false_lit}
 use Rattle.gates.proofs.Booleans.{literal_true-not}
 use Rattle.word_circuits.specs.Words.{zeros, not_word}
 use Rattle.word_laws.specs.Numbers.{bit, number}

@@ -1,5 +1,5 @@
 -- Comparisons of words as unsigned numbers, and choices.
-use Rattle.std.proofs.Common.{◌≡◌, ℕ, suc, ◌+◌, ◌*◌, ◌^◌, ◌≤◌, ◌<◌, Bool, true, false, not, ◌&&◌, ◌||◌, refl, sym, ◌∙◌, ap, subst, List, [], ◌∷◌, length, map, arith, cond}
+use Rattle.std.proofs.Common.{◌≡◌, ℕ, suc, ◌+◌, ◌*◌, ◌^◌, ◌<◌, Bool, true, false, not, ◌&&◌, ◌||◌, refl, sym, ◌∙◌, ap, subst, List, [], ◌∷◌, length, arith}
 use Rattle.std.specs.Prelude.{nat_lt, nat_eq, if◌then◌else◌}
 use Rattle.std.proofs.lemmas.Bool.Decides.{nat_tests}
 use Rattle.std.proofs.lemmas.List.{length-replicate}
@@ -10,9 +10,9 @@ use Rattle.gates.specs.Literals.{true_lit, false_lit}
 use Rattle.gates.specs.Meaning.{exactly_one}
 use Rattle.gates.specs.Models.{IsModel}
 use Rattle.gates.specs.Netlists.{Netlist, Made}
-use Rattle.gates.specs.Rules.{and_of, or_of, xor_of, mux_of}
+use Rattle.gates.specs.Rules.{or_of, xor_of, mux_of}
 use Rattle.gates.proofs.Booleans.{literal_true-not}
-use Rattle.gates.proofs.NetLaws.{Means, Means-and, Means-or, Means-xor, Means-mux}
+use Rattle.gates.proofs.NetLaws.{Means-and, Means-or, Means-xor, Means-mux}
 use Rattle.word_circuits.specs.Words.{MadeWord, zeros}
 use Rattle.word_circuits.specs.Sums.{sub_of}
 use Rattle.word_circuits.specs.Comparisons.{same_step_of, eq_from, eq_of, is_zero_of, biased, lt_of}
@@ -20,7 +20,7 @@ use Rattle.word_circuits.specs.Choices.{choose_of}
 use Rattle.word_circuits.specs.Conversions.{any_from, any_of}
 use Rattle.word_laws.specs.Numbers.{bit, number}
 use Rattle.word_laws.proofs.Numbers.{number-lt, number-false}
-use Rattle.word_laws.proofs.Additions.{Subtracts, Subtracts-sub}
+use Rattle.word_laws.proofs.Additions.{Subtracts-sub}
 
 -- the literal's value, and the circuit before
 pub record Compares (rho : ℕ → Bool) (n : Netlist) (r : Made) (answer : Bool) : Type 0 where

@@ -1,26 +1,23 @@
 -- Multiplication as whole numbers, modulo the word's power of two; AND with one literal.
-use Rattle.std.proofs.Common.{◌≡◌, ℕ, zero, suc, ◌+◌, ◌*◌, ◌-◌, ◌^◌, ◌%◌, ◌≤◌, ◌<◌, Bool, true, false, not, ◌&&◌, refl, sym, ◌∙◌, ap, subst, List, [], ◌∷◌, ◌++◌, length, take, drop, replicate, arith, length-append}
+use Rattle.std.proofs.Common.{◌≡◌, ℕ, suc, ◌+◌, ◌*◌, ◌-◌, ◌^◌, ◌%◌, ◌≤◌, ◌<◌, Bool, true, false, not, ◌&&◌, refl, sym, ◌∙◌, ap, subst, List, [], ◌∷◌, length, take, drop, replicate, arith, length-append}
 use Rattle.std.proofs.Math.Nat.{add-mul-mod_self_left, mod-add-mod, mod-eq_of_lt}
 use Rattle.std.proofs.lemmas.Grind.{pow_more}
 use Rattle.std.proofs.lemmas.List.{length-replicate, length-take}
 use Rattle.clause_core.specs.declared.literal.Lit.{Lit}
-use Rattle.clause_core.specs.Values.{negation}
 use Rattle.clause_core.specs.Satisfaction.{literal_true}
-use Rattle.gates.specs.Literals.{true_lit, false_lit}
-use Rattle.gates.specs.Meaning.{exactly_one}
+use Rattle.gates.specs.Literals.{false_lit}
 use Rattle.gates.specs.Models.{IsModel}
-use Rattle.gates.specs.Netlists.{Netlist, Made}
-use Rattle.gates.specs.Rules.{and_of, or_of, xor_of, mux_of}
-use Rattle.gates.proofs.Booleans.{literal_true-not}
-use Rattle.gates.proofs.NetLaws.{Means, Means-and, Means-or, Means-xor, Means-mux}
+use Rattle.gates.specs.Netlists.{Netlist}
+use Rattle.gates.specs.Rules.{and_of}
+use Rattle.gates.proofs.NetLaws.{Means-and}
 use Rattle.word_circuits.specs.declared.bits.BitOperator.{BitOperator}
 use Rattle.word_circuits.specs.declared.bits.BitOperator.TheVariants.{And}
-use Rattle.word_circuits.specs.Words.{MadeWord, zeros, bitwise_of}
+use Rattle.word_circuits.specs.Words.{zeros, bitwise_of}
 use Rattle.word_circuits.specs.Sums.{add_of}
 use Rattle.word_circuits.specs.Products.{row_of, mul_from, mul_of}
 use Rattle.word_laws.specs.Numbers.{bit, number}
 use Rattle.word_laws.proofs.Numbers.{number-lt, number-append, number-false, split_number, powers}
-use Rattle.word_laws.proofs.Additions.{Adds, Adds-add, length-add}
+use Rattle.word_laws.proofs.Additions.{Adds-add, length-add}
 use Rattle.word_laws.proofs.Orders.{Gives}
 
 bit-and : (a b : Bool) → bit (a && b) ≡ bit b * bit a

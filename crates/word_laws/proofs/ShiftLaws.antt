@@ -1,6 +1,6 @@
 -- Conversions, shifts and rotations: words that are cut and put together.
-use Rattle.std.proofs.Common.{◌≡◌, ℕ, zero, suc, ◌+◌, ◌-◌, ◌*◌, ◌/◌, ◌%◌, ◌^◌, ◌<◌, ◌≤◌, Bool, true, false, not, refl, sym, ◌∙◌, ap, subst, List, [], ◌∷◌, ◌++◌, length, take, drop, replicate, min, arith, length-append, ℤ, pos, ◌+ℤ◌, ◌*ℤ◌, ◌⊎◌, inl, inr}
-use Rattle.std.proofs.Math.Nat.{pow-succ', add-mul-mod_self_left, mod-eq_of_lt, div-eq_of_lt, div-le_self, div-lt_iff_lt-mul, mul-le-mul_left, div-div-eq-div-mul}
+use Rattle.std.proofs.Common.{◌≡◌, ℕ, zero, suc, ◌+◌, ◌-◌, ◌*◌, ◌/◌, ◌%◌, ◌^◌, ◌<◌, ◌≤◌, Bool, true, false, refl, sym, ◌∙◌, ap, subst, List, [], ◌∷◌, ◌++◌, length, take, drop, replicate, min, arith, length-append, ℤ, pos, ◌+ℤ◌, ◌*ℤ◌, inl, inr}
+use Rattle.std.proofs.Math.Nat.{pow-succ', add-mul-mod_self_left, mod-eq_of_lt, div-eq_of_lt, div-lt_iff_lt-mul, mul-le-mul_left, div-div-eq-div-mul}
 use Rattle.std.proofs.Math.IntN.{negsuc}
 use Rattle.std.proofs.lemmas.Int.{ints}
 use Rattle.std.proofs.lemmas.Nat.{pow-add, pow_pos}
@@ -15,8 +15,8 @@ use Rattle.word_circuits.specs.Shifts.{moved_up, moved_down, shl_of, shr_of, rol
 use Rattle.word_circuits.specs.Conversions.{filler, kept_below, resized}
 use Rattle.word_laws.specs.Numbers.{bit, number, signed_number, value}
 use Rattle.word_laws.specs.Results.{rotated}
-use Rattle.word_laws.proofs.Multiples.{differs_then, differs_back, differs_same, differs_mod, differs_power}
-use Rattle.word_laws.proofs.Numbers.{number-lt, number-append, number-false, number-low, split_number, powers}
+use Rattle.word_laws.proofs.Multiples.{differs_then, differs_same, differs_mod, differs_power}
+use Rattle.word_laws.proofs.Numbers.{number-lt, number-append, number-false, number-low, powers}
 use Rattle.word_laws.proofs.SignedDivisions.{top_of_signed}
 use Rattle.word_laws.proofs.Values.{value_differs, value_wraps_at}
 

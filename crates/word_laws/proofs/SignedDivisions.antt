@@ -1,6 +1,6 @@
 -- Division of words of either sign: the parts of a division that truncates.
 use Rattle.std.proofs.Common.{◌≡◌, ◌≢◌, ℕ, zero, suc, ◌+◌, ◌*◌, ◌^◌, ◌<◌, ◌≤◌, Bool, true, false, not, refl, sym, ◌∙◌, ap, subst, List, [], ◌∷◌, length, reverse, replicate, arith, ℤ, pos, ◌+ℤ◌, ◌-ℤ◌, ◌*ℤ◌, inl, inr}
-use Rattle.std.specs.Prelude.{unsigned_abs, int_div, int_rem, nat_eq, ◌<ℤ◌, if◌then◌else◌}
+use Rattle.std.specs.Prelude.{unsigned_abs, int_div, int_rem, nat_eq}
 use Rattle.std.proofs.Math.IntN.{negsuc, zero-*ℤ, *ℤ_comm, pos-*ℤ-pos}
 use Rattle.std.proofs.lemmas.Int.{ints}
 use Rattle.std.proofs.lemmas.Bool.{false≢true, eqb-true, eqb-false}
@@ -14,10 +14,10 @@ use Rattle.clause_core.specs.Satisfaction.{literal_true}
 use Rattle.gates.specs.Literals.{false_lit}
 use Rattle.gates.specs.Meaning.{exactly_one}
 use Rattle.gates.specs.Models.{IsModel}
-use Rattle.gates.specs.Netlists.{Netlist, Made}
-use Rattle.gates.specs.Rules.{and_of, or_of, xor_of, mux_of}
+use Rattle.gates.specs.Netlists.{Netlist}
+use Rattle.gates.specs.Rules.{xor_of}
 use Rattle.gates.proofs.Booleans.{literal_true-not}
-use Rattle.gates.proofs.NetLaws.{Means, Means-and, Means-or, Means-xor, Means-mux}
+use Rattle.gates.proofs.NetLaws.{Means-xor}
 use Rattle.gates.proofs.Growth.{IsModel-front}
 use Rattle.word_circuits.specs.declared.bits.BitOperator.TheVariants.{And}
 use Rattle.word_circuits.specs.declared.divide.Part.{Part}
@@ -25,17 +25,17 @@ use Rattle.word_circuits.specs.declared.divide.Part.TheVariants.{Quotient, Remai
 use Rattle.word_circuits.specs.Words.{MadeWord, zeros, top_of}
 use Rattle.word_circuits.specs.Sums.{neg_of}
 use Rattle.word_circuits.specs.Comparisons.{is_zero_of}
-use Rattle.word_circuits.specs.Choices.{choose_of, negated_where, abs_of}
-use Rattle.word_circuits.specs.Divisions.{MadeRatio, divide_of, part_of, signed_part_of, ratio_of, masked_of, division_of}
-use Rattle.word_circuits.proofs.Growth.{extends_divide, extends_part}
+use Rattle.word_circuits.specs.Choices.{negated_where, abs_of}
+use Rattle.word_circuits.specs.Divisions.{divide_of, part_of, signed_part_of, ratio_of, masked_of, division_of}
+use Rattle.word_circuits.proofs.Growth.{extends_part}
 use Rattle.word_laws.specs.Numbers.{bit, number, signed_number, value}
 use Rattle.word_laws.specs.Results.{or_zero, divided}
-use Rattle.word_laws.proofs.Multiples.{sub-mul, differs_same, differs_back}
+use Rattle.word_laws.proofs.Multiples.{sub-mul, differs_same}
 use Rattle.word_laws.proofs.Numbers.{number-lt}
-use Rattle.word_laws.proofs.Additions.{Negates, Negates-neg, length-neg}
-use Rattle.word_laws.proofs.Orders.{Gives, Gives-choose, pick, pick_true, pick_false, Compares, Compares-zero, length-choose}
+use Rattle.word_laws.proofs.Additions.{Negates-neg, length-neg}
+use Rattle.word_laws.proofs.Orders.{Gives-choose, pick, pick_true, pick_false, Compares-zero, length-choose}
 use Rattle.word_laws.proofs.Products.{Gives-mask, length-bitwise}
-use Rattle.word_laws.proofs.LongDivision.{Divides, Divides-divide, length-quotient, length-rest}
+use Rattle.word_laws.proofs.LongDivision.{Divides-divide, length-quotient, length-rest}
 use Rattle.word_laws.proofs.Values.{signed_number-top, value_wraps_at}
 
 -- m, or -m where it is negative

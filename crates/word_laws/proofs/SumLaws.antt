@@ -1,5 +1,5 @@
 -- Sums and products of words are those of their values, wrapped.
-use Rattle.std.proofs.Common.{◌≡◌, ℕ, ◌+◌, ◌*◌, ◌^◌, ◌%◌, ◌<◌, Bool, true, false, not, refl, sym, ◌∙◌, ap, subst, List, length, arith, ℤ, pos, ◌+ℤ◌, ◌-ℤ◌, ◌*ℤ◌}
+use Rattle.std.proofs.Common.{◌≡◌, ℕ, ◌+◌, ◌*◌, ◌^◌, ◌<◌, Bool, true, false, not, sym, ◌∙◌, ap, subst, List, length, arith, ℤ, pos, ◌+ℤ◌, ◌-ℤ◌, ◌*ℤ◌}
 use Rattle.std.specs.Prelude.{neg_ℤ}
 use Rattle.std.proofs.Math.IntN.{negsuc, pos-*ℤ-pos}
 use Rattle.std.proofs.lemmas.Int.{ints}
@@ -12,7 +12,7 @@ use Rattle.gates.specs.Netlists.{Netlist}
 use Rattle.word_circuits.specs.Sums.{add_of, sub_of, neg_of}
 use Rattle.word_circuits.specs.Products.{mul_of}
 use Rattle.word_laws.specs.Numbers.{bit, number, value}
-use Rattle.word_laws.proofs.Multiples.{differs_then, differs_back, differs_add, differs_sub, differs_mul, differs_nat, differs_mod, differs_same}
+use Rattle.word_laws.proofs.Multiples.{differs_then, differs_add, differs_sub, differs_mul, differs_nat, differs_mod, differs_same}
 use Rattle.word_laws.proofs.Additions.{Adds-add, Subtracts-sub, Negates-neg, length-add, length-sub, length-neg}
 use Rattle.word_laws.proofs.Products.{Gives-mul}
 use Rattle.word_laws.proofs.Values.{value_differs, value_wraps_at}

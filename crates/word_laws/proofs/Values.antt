@@ -1,6 +1,6 @@
 -- Words as values of a width and sign.
-use Rattle.std.proofs.Common.{◌≡◌, ℕ, zero, suc, ◌+◌, ◌*◌, ◌-◌, ◌^◌, ◌<◌, ◌≤◌, Bool, true, false, not, refl, sym, ◌∙◌, ap, subst, List, [], ◌∷◌, length, arith, ℤ, pos, ◌+ℤ◌, ◌-ℤ◌, ◌*ℤ◌, cond}
-use Rattle.std.specs.Prelude.{nat_lt, nat_eq, int_lt, int_le, ◌<ℤ◌, ◌≤ℤ◌, if◌then◌else◌, neg_ℤ}
+use Rattle.std.proofs.Common.{◌≡◌, ℕ, suc, ◌+◌, ◌*◌, ◌-◌, ◌^◌, ◌<◌, ◌≤◌, Bool, true, false, not, refl, sym, ◌∙◌, ap, subst, List, [], ◌∷◌, length, arith, ℤ, pos, ◌+ℤ◌, ◌-ℤ◌, cond}
+use Rattle.std.specs.Prelude.{nat_lt, nat_eq, int_lt, int_le, ◌<ℤ◌, ◌≤ℤ◌, neg_ℤ}
 use Rattle.std.specs.Ordering.{int_eq}
 use Rattle.std.proofs.Math.Nat.{pow-succ'}
 use Rattle.std.proofs.lemmas.Nat.{pow_pos}
@@ -9,22 +9,17 @@ use Rattle.std.specs.declared.cmp.Ordering.TheVariants.{Less, Equal, Greater}
 use Rattle.std.proofs.lemmas.Int.{ints, by_lt_z}
 use Rattle.std.proofs.lemmas.Bool.{ltb-true, ltb-false, eqb-true, eqb-false}
 use Rattle.num_core.specs.Ranges.{lowest, highest, Fits}
-use Rattle.num_core.specs.Wrapping.{wrap, Wraps, DiffersByMultiple}
+use Rattle.num_core.specs.Wrapping.{wrap, DiffersByMultiple}
 use Rattle.num_core.proofs.Wrapped.{wrap_is}
 use Rattle.clause_core.specs.declared.literal.Lit.{Lit}
 use Rattle.clause_core.specs.Values.{negation}
 use Rattle.clause_core.specs.Satisfaction.{literal_true}
-use Rattle.gates.specs.Literals.{false_lit}
-use Rattle.gates.specs.Meaning.{exactly_one}
-use Rattle.gates.specs.Models.{IsModel}
-use Rattle.gates.specs.Netlists.{Netlist, Made}
-use Rattle.gates.specs.Rules.{and_of, or_of, xor_of, mux_of}
 use Rattle.gates.proofs.Booleans.{literal_true-not}
 use Rattle.word_circuits.specs.Words.{top_of}
 use Rattle.word_circuits.specs.Comparisons.{flip_top, biased}
 use Rattle.word_laws.specs.Numbers.{bit, number, signed_number, value}
 use Rattle.word_laws.proofs.Numbers.{number-lt, power_step}
-use Rattle.word_laws.proofs.Multiples.{differs_same, differs_then, differs_back, differs_nat}
+use Rattle.word_laws.proofs.Multiples.{differs_same, differs_then, differs_back}
 
 flip_bit : (b : Bool) → pos (bit (not b)) ≡ pos 0 -ℤ pos (bit b) +ℤ pos 1
 flip_bit true = refl

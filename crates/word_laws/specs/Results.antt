@@ -1,5 +1,5 @@
 -- What the operations give on whole numbers.
-use Rattle.std.specs.Prelude.{ℕ, ◌+◌, ◌*◌, ◌-◌, ◌^◌, ◌/◌, Bool, true, false, not, ℤ, pos, int_lt, int_le, bit_and, bit_or, bit_xor, if◌then◌else◌, Option, Some, None}
+use Rattle.std.specs.Prelude.{ℕ, ◌+◌, ◌*◌, ◌-◌, ◌^◌, ◌/◌, Bool, not, ℤ, pos, int_lt, int_le, bit_and, bit_or, bit_xor, if◌then◌else◌, Option, Some, None}
 use Rattle.std.specs.Ordering.{int_eq}
 use Rattle.num_core.specs.Division.{quot, rem}
 use Rattle.word_circuits.specs.declared.bits.BitOperator.{BitOperator}

@@ -3,14 +3,15 @@ use Rattle.std.proofs.lemmas.Bool.Decides.{nat_tests}
 use Rattle.std.proofs.lemmas.List.{length-map}
 use Rattle.call_order.specs.Uses.{order_of}
 use Rattle.call_order.proofs.Orders.{none_reaches}
-use Rattle.st_tree.specs.SyntaxView.{file_view}
-use Rattle.st_names.specs.Broken.{broken_names}
-use Rattle.st_names.specs.Circles.{uses_in, uses_of, IsBroken}
-use Rattle.st_names.specs.FileScope.{pous_of}
-use Rattle.st_names.specs.FirstOf.{IsFirstOf}
+use Rattle.source_tree.specs.SyntaxView.{file_view}
+use Rattle.naming.specs.Broken.{broken_names}
+use Rattle.naming.specs.Circles.{uses_in, uses_of, IsBroken}
+use Rattle.naming.specs.FileScope.{pous_of}
+use Rattle.naming.specs.FirstOf.{IsFirstOf}
 use Rattle.st_names.proofs.BindingLemmas.{count_places}
-use Rattle.st_names.proofs.CircleLemmas.{nothing_left}
-use Rattle.st_names.proofs.Kept.{one_program, whole_types, typed_pous}
+use Rattle.naming.proofs.CircleLemmas.{nothing_left}
+use Rattle.st_names.proofs.Clean.{one_program}
+use Rattle.st_names.proofs.Kept.{whole_types, typed_pous}
 use Rattle.st_names.proofs.resolution.resolve.Goals as goal
 
 pub returns-in-Some-clause-refused : goal.returns-in-Some-clause-refused

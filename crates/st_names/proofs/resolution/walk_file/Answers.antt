@@ -1,7 +1,7 @@
 use Rattle.std.proofs.Common.{◌≡◌, List, ap, sym, ◌∙◌}
-use Rattle.st_tree.specs.SyntaxView.{file_view}
-use Rattle.st_names.specs.FileScope.{pous_of}
-use Rattle.st_names.specs.ScopeView.{pous_view}
+use Rattle.source_tree.specs.SyntaxView.{file_view}
+use Rattle.naming.specs.FileScope.{pous_of}
+use Rattle.naming.specs.ScopeView.{pous_view}
 use Rattle.st_names.proofs.BindingLemmas.{slots_of}
 use Rattle.st_names.proofs.resolution.walk_file.Goals as goal
 

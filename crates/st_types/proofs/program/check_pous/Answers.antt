@@ -1,7 +1,7 @@
-use Rattle.std.proofs.Common.{◌≡◌, false, inl, inr, ap, sym, ◌∙◌, refl}
-use Rattle.st_types.specs.Bodies.{file_in}
-use Rattle.st_types.specs.Pous.{broken_types, has_room}
-use Rattle.st_tree.proofs.Refusals.{none_is_left, first_in-IsFirst}
+use Rattle.std.proofs.Common.{◌≡◌, false, inl, inr, sym, ◌∙◌, refl}
+use Rattle.decl_types.specs.Bodies.{file_in}
+use Rattle.typing.specs.Pous.{broken_types, has_room}
+use Rattle.rules.proofs.Refusals.{none_is_left, first_in-IsFirst}
 use Rattle.st_types.proofs.program.check_pous.Goals as goal
 
 pub returns-in-Some-clause-refused : goal.returns-in-Some-clause-refused

@@ -1,9 +1,9 @@
 use Rattle.std.proofs.Common.{◌≡◌, subst}
 use Rattle.std.specs.Prelude.{IfOk}
-use Rattle.st_tree.specs.Syntax.{FileData}
-use Rattle.st_tree.specs.SyntaxView.{pou_view}
-use Rattle.st_tree.specs.View.{program_view}
-use Rattle.st_types.specs.TypedPrograms.{typed_program}
+use Rattle.source_tree.specs.Syntax.{FileData}
+use Rattle.source_tree.specs.SyntaxView.{pou_view}
+use Rattle.program_tree.specs.View.{program_view}
+use Rattle.typing.specs.TypedPrograms.{typed_program}
 use Rattle.st_types.proofs.program.check_program.Goals as goal
 
 pub returns-clause-typed : goal.returns-clause-typed

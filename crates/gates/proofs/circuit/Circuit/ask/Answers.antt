@@ -1,4 +1,4 @@
-use Rattle.std.proofs.Common.{◌≡◌, ◌∙◌, sym, ap, subst, ◌+◌, [], ◌∷◌, ◌++◌, List, Bool}
+use Rattle.std.proofs.Common.{◌∙◌, sym, ap, subst, ◌+◌, [], ◌∷◌, ◌++◌, List, Bool}
 use Rattle.std.specs.Prelude.{if◌then◌else◌}
 use Rattle.std.specs.List.{list_any, position_or_len}
 use Rattle.clause_core.specs.declared.literal.Lit.{Lit}

@@ -1,0 +1,5 @@
+pub mod LogLemmas
+pub mod StartLemmas
+pub mod RowLemmas
+pub mod StepLemmas
+pub mod Soundness

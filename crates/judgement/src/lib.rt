@@ -1,0 +1,8 @@
+// How a finding is judged, line by line, and what a finding that is judged valid shows.
+#![tactic(auto)]
+
+mod answers;
+mod laws;
+
+pub use answers::{JudgeErr, Judged, Reason};
+pub use laws::law_sound;

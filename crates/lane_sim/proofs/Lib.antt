@@ -1,0 +1,2 @@
+pub mod LaneLaws
+pub mod RunLaws

@@ -1,0 +1,2 @@
+pub mod PouTables
+pub mod PouScopes

@@ -1,0 +1,19 @@
+// The cells of POUs: their places, and the members and ports of blocks and functions.
+#![tactic(auto)]
+
+mod block_members;
+mod order;
+mod places;
+mod pous;
+mod roles;
+mod scope_of_pou;
+
+pub use order::in_order;
+pub use places::{
+    cells_taken, count_of_cells, first_place, first_places, places_behind, size_among, sum,
+};
+pub use pous::Pous;
+pub use roles::{
+    active_first, has_cell, is_constant, is_step, is_stored_action, is_temporary, part_in,
+};
+pub use scope_of_pou::PouScope;

@@ -1,0 +1,6 @@
+pub mod Comparisons
+pub mod Ranges
+pub mod Settings
+pub mod Sets
+pub mod Questions
+pub mod Meaning

@@ -1,0 +1,17 @@
+pub mod Ranges
+pub mod Judging
+pub mod Marks
+pub mod Connecting
+pub mod Apart
+pub mod Counting
+pub mod TurnLaws
+pub mod Labelling
+pub mod TypedLemmas
+pub mod BeginningLemmas
+pub mod DeclaredLemmas
+pub mod StandingLemmas
+pub mod DomainLemmas
+pub mod NamedLemmas
+pub mod ReadyLemmas
+pub mod OnlyPou
+pub mod ChartLemmas
