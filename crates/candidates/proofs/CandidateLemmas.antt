@@ -1,9 +1,8 @@
 -- Candidates one by one.
-use Rattle.std.proofs.Common.{◌≡◌, ℕ, suc, ◌+◌, ◌<◌, ◌-◌, ◌^◌, Bool, true, false, ◌&&◌, ◌==◌, List, [], ◌∷◌, ◌++◌, length, map, drop, option_map, Option, Some, None, refl, sym, ap, ◌∙◌, arith, append_assoc}
+use Rattle.std.proofs.Common.{◌≡◌, ℕ, ◌+◌, ◌<◌, ◌^◌, Bool, true, false, List, [], ◌∷◌, ◌++◌, length, option_map, Option, Some, None, refl, sym, ap, ◌∙◌, arith, append_assoc}
 use Rattle.std.specs.Str.{bytes_eq}
 use Rattle.std.specs.Prelude.{IfSome}
 use Rattle.std.proofs.lemmas.List.{map_push, length-map}
-use Rattle.std.proofs.lemmas.Grind.{common_steps}
 use Rattle.program_tree.specs.declared.typed.Cell.{Cell}
 use Rattle.program_tree.specs.declared.typed.Program.{Program}
 use Rattle.plc_types.specs.declared.data_type.DataType.{DataType}

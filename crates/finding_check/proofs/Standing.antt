@@ -1,7 +1,8 @@
 -- Lines that were read, and what is said where one fails or none follows.
 use Rattle.std.proofs.Common.{◌≡◌, ◌≢◌, ℕ, zero, suc, ◌+◌, ◌<◌, ◌≤◌, List, [], ◌∷◌, ◌++◌, length, drop, refl, sym, ap, ◌∙◌, subst, arith, inl, inr, append_assoc, append-nil, length-append, true, false, Bool}
-use Rattle.std.specs.Prelude.{Option, Some, None, Result, Ok, Err, IfSome, codes, if◌then◌else◌, ◌==◌}
+use Rattle.std.specs.Prelude.{Option, Some, None, Result, Ok, Err, IfSome, IfOk, codes, if◌then◌else◌, ◌==◌, min, ◌^◌, ◌-◌}
 use Rattle.clause_core.specs.Formula.{Formula}
+use Rattle.outside.specs.Causes.{Rose}
 use Rattle.finding_lines.specs.declared.line.Line.{Line}
 use Rattle.finding_lines.specs.Form.{IsLine}
 use Rattle.finding_lines.specs.Spelling.{spelled, written}
@@ -163,3 +164,68 @@ stopped-fault place line read.Memory e = cc
 stopped-fault place line read.M8 e = cc
 stopped-fault place line (read.Spelling n) e = cc
 stopped-fault place line (read.Unended n) e = cc
+
+-- what is told of a file, where it is told
+module _ (s : Setting) (formula : QueryData → Formula) (limit : ℕ) (told : Option (List ℕ)) (reader : Reading) (before : ℕ) (place : Place) (result : Result (Option Line) ReadErr) where
+  abbrev pub ReadTo : Type 0
+  ReadTo = IfSome told (λ file. IsReadTo s formula limit file reader before place)
+
+  abbrev pub Answered : Type 0
+  Answered = IfSome told (λ file. IsAnswer reader (ahead (rest_of reader file)) result)
+
+  pub told_end : ReadTo → reader.limit ≡ limit → Answered → result ≡ Ok None → IfSome told (λ file. IsJudged s formula limit file (Ok (end_of_file place (before + 1))))
+  told_end r same a e =
+      IfSome-both told (λ file read answer. judged_end s formula limit file reader before place read same (subst (λ x. IsAnswer reader (ahead (rest_of reader file)) x) e answer)) r a
+
+  pub told_stopped : (error : ReadErr) → ReadTo → reader.limit ≡ limit → Answered → result ≡ Err error → IfSome told (λ file. IsJudged s formula limit file (stopped place (before + 1) error))
+  told_stopped error r same a e =
+      IfSome-both told (λ file read answer. judged_stopped s formula limit file reader before place error read same (subst (λ x. IsAnswer reader (ahead (rest_of reader file)) x) e answer)) r a
+
+  pub told_fails : (line : Line) (reason : Reason) → ReadTo → reader.limit ≡ limit → Answered → result ≡ Ok (Some line) → Moves s formula place line (fails reason)
+      → IfSome told (λ file. IsJudged s formula limit file (Ok (Bad (before + 1) reason)))
+  told_fails line reason r same a e moves =
+      IfSome-both told (λ file read answer. judged_fails s formula limit file reader before place line reason read same (subst (λ x. IsAnswer reader (ahead (rest_of reader file)) x) e answer) moves) r a
+
+  ends_within : (file : List ℕ) (line : Line) → IsAnswer reader (ahead (rest_of reader file)) (Ok (Some line)) → reader.at + length (written line) ≤ reader.limit
+  ends_within file line answer =
+      let within : reader.at + size (ended (spelled line) answer.2.0) ≤ reader.limit = subst (λ a. reader.at + size a ≤ reader.limit) answer.2.1 answer.0 in
+      omega (arith, within, length-written line)
+
+  pub told_on : (new : Reading) (after : Place) (line : Line) → ReadTo → reader.limit ≡ limit → Answered → result ≡ Ok (Some line)
+      → IfSome told (λ file. IfOk result (λ answer. IfSome answer (λ next. rest_of reader file ≡ written next ++ rest_of new file)))
+      → new.at ≡ reader.at + length (written line) → Moves s formula place line (goes after) → IfSome told (λ file. IsReadTo s formula limit file new (before + 1) after)
+  told_on new after line r same a e rest at moves = every told r a rest where
+    one : (file : List ℕ) → IsReadTo s formula limit file reader before place → IsAnswer reader (ahead (rest_of reader file)) result
+        → IfOk result (λ answer. IfSome answer (λ next. rest_of reader file ≡ written next ++ rest_of new file)) → IsReadTo s formula limit file new (before + 1) after
+    one file read found more =
+        let answer : IsAnswer reader (ahead (rest_of reader file)) (Ok (Some line)) = subst (λ x. IsAnswer reader (ahead (rest_of reader file)) x) e found in
+        let within : reader.at + length (written line) ≤ reader.limit = ends_within file line answer in
+        read_on s formula limit file reader new before place after line read answer.1 moves
+        (subst (λ x. IfOk x (λ y. IfSome y (λ next. rest_of reader file ≡ written next ++ rest_of new file))) e more) (omega (arith, within, same)) at
+
+    every : (o : Option (List ℕ)) → IfSome o (λ file. IsReadTo s formula limit file reader before place) → IfSome o (λ file. IsAnswer reader (ahead (rest_of reader file)) result)
+        → IfSome o (λ file. IfOk result (λ answer. IfSome answer (λ next. rest_of reader file ≡ written next ++ rest_of new file))) → IfSome o (λ file. IsReadTo s formula limit file new (before + 1) after)
+    every None read found more = tt
+    every (Some file) read found more = one file read found more
+
+  pub told_never : ReadTo → limit < before → (P : List ℕ → Type 0) → IfSome told P
+  told_never r many P = IfSome-both told (λ file read same. absurd (too_many s formula limit file reader before place read many)) r r
+
+pub IfSome-all : {A : Type 0} {P : A → Type 0} → (o : Option A) → ((x : A) → P x) → IfSome o P
+IfSome-all None h = tt
+IfSome-all (Some x) h = h x
+
+-- before the first line
+pub read_none : (s : Setting) (formula : QueryData → Formula) (limit : ℕ) (file : List ℕ) (reader : Reading) → reader.at ≡ 0 → IsReadTo s formula limit file reader 0 at_top
+read_none s formula limit file reader at = record {
+  lines = [];
+  stands = record { leads = nowhere; whole = ap (λ n. drop n file) (sym at); within = omega arith };
+  at = at;
+  counted = refl;
+}
+
+-- a count that rose from a later value rose from an earlier one
+pub Rose-before : (first before after : ℕ) → first ≤ before → Rose before after → Rose first after
+Rose-before first before after le rose = capped (2 ^ 64 - 1) rose where
+  capped : (most : ℕ) → min (before + 1) most ≤ after → min (first + 1) most ≤ after
+  capped most h = omega (arith, le, h)

@@ -11,7 +11,7 @@ ghost use Rattle.finding_check.specs.Endings.{reason_at, end_of_file, stopped};
 ghost use Rattle.finding_check.specs.Stages.{place_of};
 ghost use Rattle.scan_model.specs.Pairs.{Pair};
 
-use crate::places::next;
+use crate::places::judge_line;
 use crate::stage::{Moved, Stage};
 use finding_file::{FindingReader, ReadErr};
 use judgement::{JudgeErr, Judged, Reason};
@@ -96,7 +96,7 @@ pub fn judge<Q: Queries, S: Shelf>(
         let Some(line) = found else {
             return Ok(end_of_file(&stage, before + 1));
         };
-        match next(alloc, trial, queries, stage, &line)? {
+        match judge_line(alloc, trial, queries, stage, &line)? {
             Moved::Goes(then) => stage = then,
             Moved::Fails(reason) => {
                 return Ok(Judged::Bad {

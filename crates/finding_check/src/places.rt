@@ -304,7 +304,7 @@ fn in_query(
 }
 
 /// Where a line leads to, or the first test that it fails.
-pub fn next<Q: Queries>(
+pub fn judge_line<Q: Queries>(
     alloc: Global,
     trial: &mut Trial,
     queries: &Q,

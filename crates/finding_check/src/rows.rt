@@ -45,13 +45,13 @@ pub fn drop_row(
 /// A row that leads out of the relation.
 pub fn pair_row(
     trial: &mut Trial,
-    set: CandidateSet,
+    kept: CandidateSet,
     old: &[i64],
     new: &[i64],
     row: &[i64],
 ) -> Moved
-    ensures moved { moved_of result trial.new.pair ≡ pair_row (setting_in trial.old) (members set) (record { old = old.now; new = new.now }) row.now }
-    ensures kept { trial.new ≡ with_pair trial.new.pair trial.old }
+    ensures moved { moved_of result trial.new.pair ≡ pair_row (setting_in trial.old) (members kept) (record { old = old.now; new = new.now }) row.now }
+    ensures same { trial.new ≡ with_pair trial.new.pair trial.old }
 {
     if !(trial.pair_fits(old, new) && trial.row_fits(row)) {
         return Moved::Fails(Reason::B2);
@@ -60,14 +60,14 @@ pub fn pair_row(
     if !trial.allowed(row) {
         return Moved::Fails(Reason::B3);
     }
-    if !meets(trial, &set) {
+    if !meets(trial, &kept) {
         return Moved::Fails(Reason::B4);
     }
     trial.step(row);
     if trial.related() {
         return Moved::Fails(Reason::B8);
     }
-    Moved::Goes(Stage::Deep(set, 0))
+    Moved::Goes(Stage::Deep(kept, 0))
 }
 
 /// A row of a break of so many scans, of which so many are to come behind it. The pair so far is that on trial.

@@ -1,16 +1,15 @@
 // Where the cells of a POU's names stand.
-ghost use Rattle.std.specs.Prelude.{◌≡◌, ◌+◌, slice_set, IfOk};
+ghost use Rattle.std.specs.Prelude.{◌≡◌, ◌+◌, IfOk};
 ghost use Rattle.source_tree.specs.SyntaxView.{pou_kind_view, file_view};
 ghost use Rattle.naming.specs.ScopeView.{variable_view, variables_view};
-ghost use Rattle.typing.specs.Places.{size_among, cells_taken, count_of_cells, sizes_of, in_front, places_from, first_places, first_place, places_behind, variables_at};
+ghost use Rattle.typing.specs.Places.{size_among, cells_taken, count_of_cells, in_front, places_from, first_places, first_place, places_behind};
 
 use crate::roles::{has_cell, is_front, is_step};
-use decl_types::{block_of, pou_at};
+use decl_types::block_of;
 use naming::Declared;
-use pou_scope::declared_variables;
 use source_tree::PouKind;
 use st_names::Resolved;
-use std::alloc::{AllocError, Global};
+use std::alloc::AllocError;
 use typing::Next;
 
 /// A sum; one past 64 bits is want of memory.
@@ -44,61 +43,6 @@ pub fn cells_taken(names: &Resolved, sizes: &[usize], variable: &Declared<'_>) -
     } else {
         size_among(sizes, block_of(names, variable))
     }
-}
-
-/// How many cells variables take.
-pub fn count_of_cells(
-    names: &Resolved,
-    sizes: &[usize],
-    variables: &[Declared<'_>],
-) -> Result<usize, AllocError>
-    ensures { IfOk result (λ n. n ≡ count_of_cells (file_view names.now.file) sizes.now (variables_view variables.now)) }
-{
-    let mut count = 0;
-    for variable in variables.iter() {
-        count = sum(count, cells_taken(names, sizes, variable))?;
-    }
-    Ok(count)
-}
-
-// How many cells the POU of a number has.
-fn count_at(
-    alloc: Global,
-    names: &Resolved,
-    sizes: &[usize],
-    number: usize,
-) -> Result<usize, AllocError>
-    ensures { IfOk result (λ n. n ≡ count_of_cells (file_view names.now.file) sizes.now (variables_at (file_view names.now.file) number)) }
-{
-    match pou_at(names, number) {
-        None => Ok(0),
-        Some(pou) => {
-            let variables = declared_variables(alloc, pou)?;
-            count_of_cells(names, sizes, &variables)
-        }
-    }
-}
-
-// Keeps a size at a number, where there is one of that number.
-fn keep(sizes: &mut [usize], number: usize, size: usize)
-    ensures { sizes.new ≡ slice_set sizes.old number size }
-{
-    if number < sizes.len() {
-        sizes[number] = size;
-    }
-}
-
-/// The sizes of all POUs, by their numbers, made along their order.
-#[tactic(auto, unfolding(typing::specs::Places::sizes_of))]
-pub fn sizes_of(alloc: Global, names: &Resolved) -> Result<Vec<usize>, AllocError>
-    ensures { IfOk result (λ sizes. sizes.items ≡ sizes_of (file_view names.now.file)) }
-{
-    let mut sizes = vec![in alloc; 0; names.pou_count()]?;
-    for number in names.order() {
-        let size = count_at(alloc, names, &sizes, *number)?;
-        keep(&mut sizes, *number, size);
-    }
-    Ok(sizes)
 }
 
 // How many cells the variables take that stand before all others.

@@ -1,8 +1,7 @@
 -- The numbers of lines that break nothing lie in their limits.
-use Rattle.std.proofs.Common.{◌≡◌, ◌≤◌, ℕ, List, [], ◌∷◌, ◌++◌, Bool, true, false, ◌&&◌, refl}
+use Rattle.std.proofs.Common.{◌≡◌, ◌≤◌, ℕ, List, [], ◌∷◌, Bool, true, false, ◌&&◌, refl}
 use Rattle.std.specs.Prelude.{nat_le}
 use Rattle.std.proofs.lemmas.Bool.{and_parts, leb-true}
-use Rattle.rules.specs.declared.rule.Refusal.{Refusal}
 use Rattle.rules.specs.declared.rule.Rule.TheVariants.{LineOrder, NumberLimits}
 use Rattle.program_tree.specs.Tree.{ProgramData}
 use Rattle.relation_lines.specs.declared.line.Setting.{Setting}

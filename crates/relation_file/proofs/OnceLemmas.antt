@@ -1,16 +1,12 @@
 -- No input gets two numbers, and inputs that get one number are alike.
-use Rattle.std.proofs.Common.{◌≡◌, ◌≢◌, ℕ, List, [], ◌∷◌, ◌++◌, Bool, true, false, not, ◌||◌, ◌&&◌, Option, Some, None, refl, sym, ap, subst, ◌∙◌, append-nil, All}
+use Rattle.std.proofs.Common.{◌≡◌, ◌≢◌, ℕ, List, [], ◌∷◌, ◌++◌, Bool, true, false, not, ◌||◌, Option, Some, None, refl, sym, ap, subst, ◌∙◌, append-nil, All, arith}
 use Rattle.std.specs.Prelude.{slice_get, if◌then◌else◌}
-use Rattle.std.specs.List.{list_any, AllPairs}
+use Rattle.std.specs.List.{AllPairs}
 use Rattle.std.specs.Str.{bytes_eq}
-use Rattle.std.proofs.lemmas.Bool.{and_parts}
 use Rattle.std.proofs.lemmas.List.Elements.{All-nil, All-cons}
-use Rattle.std.proofs.lemmas.List.Folds.{list_any-append}
 use Rattle.std.proofs.lemmas.List.Kept.{AllPairs-cons}
 use Rattle.std.proofs.lemmas.Slice.Eq.{bytes_eq-Decides}
 use Rattle.rules.specs.declared.rule.Rule.TheVariants.{WrongKind, InputCount, InputsDiffer}
-use Rattle.rules.specs.declared.rule.Refusal.{Refusal}
-use Rattle.plc_types.specs.DataTypes.{is_same_type}
 use Rattle.plc_types.specs.Enumerations.{paired_type}
 use Rattle.source_tree.specs.Syntax.{Named}
 use Rattle.program_tree.specs.Cells.{is_input}
@@ -18,17 +14,17 @@ use Rattle.program_tree.specs.Tree.{CellData, ProgramData}
 use Rattle.scan_model.specs.declared.side.Side.{Side}
 use Rattle.scan_model.specs.declared.side.Side.TheVariants as sides
 use Rattle.scan_model.specs.declared.relation.InputLine.{InputLine}
-use Rattle.scan_model.specs.declared.relation.InputLine.TheVariants.{Both, Old, New}
+use Rattle.scan_model.specs.declared.relation.InputLine.TheVariants.{Both}
 use Rattle.relation_lines.specs.Lines.{ContentData, setting, faults, paired, single, clause, LineData}
 use Rattle.candidates.specs.declared.places.Placed.{Placed}
 use Rattle.candidates.specs.ByPath.{placed, cell_named, is_among}
 use Rattle.candidates.specs.Candidates.{before}
 use Rattle.candidates.proofs.PlacedLemmas.{HasPath, has_path}
-use Rattle.relation_file.specs.Refusals.{breaks, unless, or_own}
+use Rattle.relation_file.specs.Refusals.{breaks, unless}
 use Rattle.relation_file.specs.Inputs.{names_in, named_by, broken_at_cell, broken_input, are_alike}
 use Rattle.relation_file.specs.Broken.{program_at, broken_name, broken_pair, broken_parts, broken_line, broken_behind, broken_lines}
 use Rattle.relation_file.specs.Relations.{input_of, inputs_in, both_line, single_line}
-use Rattle.relation_file.specs.WellFormed.{cell_of, cells_of, ArePaired, IsAlike}
+use Rattle.relation_file.specs.WellFormed.{cell_of, cells_of, IsAlike}
 use Rattle.relation_file.proofs.BelongsLemmas.{or_nothing, nothing_of_both, holds}
 
 -- ---- a name of an INPUT line that breaks nothing

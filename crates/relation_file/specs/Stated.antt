@@ -1,6 +1,6 @@
 -- Which relation the tokens of a relation file state, and which rule other tokens break first. The passes come one
 -- after the other: left-out words and nesting, grammar, lines and names, types.
-use Rattle.std.specs.Prelude.{◌≡◌, ◌⊎◌, ℕ, List, [], length, nat_le, Bool, true, false}
+use Rattle.std.specs.Prelude.{◌≡◌, ◌⊎◌, ℕ, List, [], length, nat_le, Bool, false}
 use Rattle.source_tree.specs.declared.token.Tok.{Tok}
 use Rattle.rules.specs.declared.rule.Rule.TheVariants.{TooManyCandidates}
 use Rattle.rules.specs.declared.rule.Refusal.{Refusal}

@@ -1,10 +1,11 @@
 -- What is kept of a file.
-use Rattle.std.proofs.Common.{◌≡◌, ◌<◌, ◌+◌, ℕ, zero, suc, List, [], ◌∷◌, length, map, Bool, true, false, Option, Some, None, option_map, count_by, get_or, if◌then◌else◌, refl, sym, ap, ◌∙◌, arith}
+use Rattle.std.proofs.Common.{◌≡◌, ◌<◌, ◌+◌, ℕ, zero, suc, List, [], ◌∷◌, length, map, Bool, true, false, Option, Some, None, option_map, count_by, get_or, if◌then◌else◌, refl, sym, ap, ◌∙◌, arith, Vec, Global}
 use Rattle.std.specs.HashMap.{get_by_text}
 use Rattle.std.specs.List.{slice_get, position_from}
 use Rattle.std.specs.Option.{option_and_then}
 use Rattle.std.proofs.lemmas.List.{length-map}
 use Rattle.std.proofs.lemmas.Option.{slice_get-map, slice_get_read, slice_get_within, slice_get-get_or}
+use Rattle.call_order.specs.Uses.{graph_of, uses_at}
 use Rattle.source_tree.specs.declared.syntax.Item.{Item}
 use Rattle.source_tree.specs.SyntaxView.{item_view, items_view}
 use Rattle.source_tree.specs.Syntax.{PouData, ItemData, types, pou, FileData}
@@ -105,3 +106,14 @@ reads_pou f its ps number view places below =
       is = λ x at. some_is (item_view x) (pou_item r.pou)
           (sym (slice_get-map item_view its place ∙ ap (option_map item_view) (slice_get_read its (length its) place x refl within at)) ∙ ap (λ is. slice_get is place) view ∙ there);
     }
+
+-- what the POU of a number uses
+pub uses_there : (us : List (Vec ℕ Global)) (k : ℕ) (v : Vec ℕ Global) → slice_get us k ≡ Some v → uses_at (graph_of us) k ≡ v.items
+uses_there [] k v e = absurd (let h : ⊥ = cc in h)
+uses_there (u ∷ us) zero v e = let same : u ≡ v = cc in ap (λ (w : Vec ℕ Global). w.items) same
+uses_there (u ∷ us) (suc k) v e = uses_there us k v e
+
+pub uses_past : (us : List (Vec ℕ Global)) (k : ℕ) → slice_get us k ≡ None → uses_at (graph_of us) k ≡ []
+uses_past [] k e = refl
+uses_past (u ∷ us) zero e = absurd (let h : ⊥ = cc in h)
+uses_past (u ∷ us) (suc k) e = uses_past us k e

@@ -27,7 +27,7 @@ use Rattle.rules.specs.Judgements.{Judgement, ok, suppressed, whole_if, also}
 
 -- ---- an order of numbers that use one another, without circles
 
-abbrev AllBefore : (ℕ → Type 0) → List ℕ → Type 0
+abbrev pub AllBefore : (ℕ → Type 0) → List ℕ → Type 0
 AllBefore P ks = (u : ℕ) → is_among u ks ≡ true → P u
 
 module _ (g : Graph) (P : ℕ → Type 0) (step : (k : ℕ) → AllBefore P (uses_at g k) → P k) where
@@ -40,7 +40,7 @@ module _ (g : Graph) (P : ℕ → Type 0) (step : (k : ℕ) → AllBefore P (use
       let same = append_assoc before (k ∷ []) ks in
       onward (before ++ k ∷ []) ks (all ∙ sym same) more u (subst (λ (xs : List ℕ). is_among u xs ≡ true) (sym same) m)
 
-  by_order : length (order_of g) ≡ length g → (k : ℕ) → k < length g → P k
+  pub by_order : length (order_of g) ≡ length g → (k : ℕ) → k < length g → P k
   by_order full k below = onward [] (order_of g) refl (λ u m. absurd (let e : ⊥ = cc in e)) k (each_in g full k below)
 
 -- where no number reaches itself, the order has each
@@ -113,7 +113,7 @@ end-iterate f t = steps-iterate doublings (step_from f) t
 
 -- ---- which declarations use which
 
-read_map : {A : Type 0} (h : A → List ℕ) (xs : List A) (i : ℕ) (x : A) → slice_get xs i ≡ Some x → get_or (map h xs) i [] ≡ h x
+pub read_map : {A : Type 0} (h : A → List ℕ) (xs : List A) (i : ℕ) (x : A) → slice_get xs i ≡ Some x → get_or (map h xs) i [] ≡ h x
 read_map h [] i x e = absurd (let n : ⊥ = cc in n)
 read_map h (y ∷ ys) zero x e = let same : y ≡ x = cc in ap h same
 read_map h (y ∷ ys) (suc i) x e = read_map h ys i x e
@@ -303,7 +303,7 @@ module _ (f : FileData) where
 
     -- ---- each declaration is whole
 
-    abbrev whole_at : ℕ → Bool
+    abbrev pub whole_at : ℕ → Bool
     whole_at t = is_whole_end f (end_of f t) (end_specification f t)
 
     record IsWhole (k : ℕ) : Type 0 where
@@ -485,3 +485,17 @@ module _ (f : FileData) where
             let below = slice_get_within (pous_of f) p d e in
             let s = uses-size in
             whole_pou_at p (Some d) e (λ u m. whole_all u (used_below (length (types_of f) + p) u m))
+
+    all_before : (ks : List ℕ) → ((u : ℕ) → is_among u ks ≡ true → u < length (declaration_uses f)) → AllBefore IsWhole ks
+    all_before ks below u m = whole_all u (below u m)
+
+    -- no name is that of a broken declaration
+    pub no_broken_name : (n : Named) → is_broken_name f (standing f n.text) ≡ false
+    no_broken_name n = whole_used n (all_before (used_by_name f n) (λ u m. name_below u n m))
+
+    pub enumerator_clean : (t v : Named) → (in_enumerator f t v (standing f t.text)).broken ≡ [] → has_enumerator f t v ≡ true
+    enumerator_clean t v h = enumerator_whole t v (all_before (used_by_name f t) (λ u m. name_below u t m)) h
+
+    -- the end of each type is whole
+    pub whole_end : (n : Named) (t : ℕ) → standing f n.text ≡ Some (standings.Type t) → whole_at t ≡ true
+    whole_end n t e = let below = standing_type f n.text t e in let s = uses-size in (whole_all t (omega arith)).type below

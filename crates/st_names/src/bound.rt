@@ -18,12 +18,13 @@ pub struct Bound {
     pub role: Role,
 }
 
-/// The slots of each POU, the places of POUs among the items of a file, their order, the number of the PROGRAM, the table of
-/// all names, and where types lead to.
+/// The slots of each POU, the places of POUs among the items of a file, which POUs each uses, their order, the number of the
+/// PROGRAM, the table of all names, and where types lead to.
 #[derive(Drop)]
 pub struct Bindings {
     pub slots: Vec<Slots>,
     pub places: Vec<usize>,
+    pub uses: Vec<Vec<usize>>,
     pub order: Vec<usize>,
     pub program: Option<usize>,
     pub table: Table,
@@ -54,7 +55,7 @@ fn bound_by(slot: Option<Slot>) -> Option<Bound>
 
 impl Resolved {
     ghost use Rattle.std.specs.Prelude.{option_and_then};
-    ghost use Rattle.call_order.specs.Uses.{order_of};
+    ghost use Rattle.call_order.specs.Uses.{uses_at, order_of};
     ghost use Rattle.source_tree.specs.SyntaxView.{pou_view};
     ghost use Rattle.st_names.specs.Bound.{bound_named, program_number};
     ghost use Rattle.naming.specs.Circles.{uses_of};
@@ -107,6 +108,16 @@ impl Resolved {
         ensures { result.now ≡ order_of (uses_of (file_view self.now.file)) }
     {
         &self.bindings.order
+    }
+
+    /// The POUs that the POU of a number uses, in constant time.
+    pub fn uses(&self, number: usize) -> &[usize]
+        ensures { result.now ≡ uses_at (uses_of (file_view self.now.file)) number }
+    {
+        match self.bindings.uses.as_slice().get(number) {
+            None => &[],
+            Some(uses) => uses,
+        }
     }
 
     // The slot of a name in the POU of a number.

@@ -148,11 +148,13 @@ fn bindings_of(
     scope: FileScope<'_>,
     slots: Vec<Slots>,
     places: Vec<usize>,
+    uses: Vec<Vec<usize>>,
     order: Vec<usize>,
     program: Option<usize>,
 ) -> Bindings
     requires slots { (number : ℕ) → (text : List ℕ) → option_and_then (λ s. get_by_text s text) (slice_get slots.items number) ≡ option_and_then (λ p. slot_named (scope_of p) text) (pou_at (file_view scope.types.names.file.now) number) }
     requires places { places.items ≡ places_from 0 (file_view scope.types.names.file.now) }
+    requires uses { graph_of uses.items ≡ uses_of (file_view scope.types.names.file.now) }
     requires order { order.items ≡ order_of (uses_of (file_view scope.types.names.file.now)) }
     requires program { program ≡ program_number (file_view scope.types.names.file.now) }
     ensures { AreBindings (file_view scope.entry.types.names.file.now) result }
@@ -162,6 +164,7 @@ fn bindings_of(
     Bindings {
         slots,
         places,
+        uses,
         order,
         program,
         table: names.table,
@@ -183,7 +186,8 @@ fn walk_file(alloc: Global, file: &SourceFile) -> Result<(Option<Refusal>, Bindi
     let program = program_number(&list.pous);
     let slots = all_slots(alloc, all)?;
     let places = places(alloc, &file.items)?;
-    Ok((first, bindings_of(scope, slots, places, numbers, program)))
+    let bindings = bindings_of(scope, slots, places, judged.uses, numbers, program);
+    Ok((first, bindings))
 }
 
 /// The POUs of a file with every name bound, or the first rule on names that the file breaks.
@@ -199,11 +203,6 @@ pub fn resolve(alloc: Global, file: SourceFile) -> Result<Resolved, Fault>
     let (first, bindings) = walk_file(alloc, &file)?;
     match first {
         Some(refusal) => Err(Fault::Refused(refusal)),
-        None => {
-            if bindings.order.as_slice().len() != bindings.places.as_slice().len() {
-                return Err(Fault::Memory);
-            }
-            Ok(Resolved::new(file, bindings))
-        }
+        None => Ok(Resolved::new(file, bindings)),
     }
 }

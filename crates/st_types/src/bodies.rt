@@ -5,6 +5,7 @@ ghost use Rattle.program_tree.specs.View.{stmt_view, stmts_view};
 ghost use Rattle.naming.specs.FileScope.{pous_of};
 ghost use Rattle.naming.specs.ScopeView.{variable_view, variables_view};
 ghost use Rattle.decl_types.specs.Bodies.{file_in};
+ghost use Rattle.pou_cells.specs.Placed.{HasNoSizes, HasSizes};
 ghost use Rattle.typing.specs.Beginnings.{beginning, beginnings};
 ghost use Rattle.rules.specs.Outcomes.{outcome_of};
 ghost use Rattle.typing.specs.Outcomes.{pous_outcome};
@@ -41,6 +42,7 @@ fn judge_pou(
     number: usize,
     pou: &Pou,
 ) -> Result<Outcome, AllocError>
+    requires { HasNoSizes pous.now }
     ensures { IfOk result (λ o. o ≡ outcome_of (judged_pou (file_in pous.now.domains) number (pou_view pou.now))) }
 {
     let variables = declared_variables(alloc, pou)?;
@@ -56,6 +58,7 @@ pub(crate) fn judge_pous(
     pous: &Pous<'_>,
     so_far: Outcome,
 ) -> Result<Outcome, AllocError>
+    requires { HasNoSizes pous.now }
     ensures { IfOk result (λ o. o ≡ pous_outcome (file_in pous.now.domains) 0 so_far (pous_of (file_in pous.now.domains))) }
 {
     let names = pous.domains.types.names;
@@ -86,6 +89,7 @@ fn beginnings(
     first: Next,
     variables: &[Declared<'_>],
 ) -> Result<Vec<TypedStmt>, AllocError>
+    requires { HasSizes pous.now }
     ensures { IfOk result (λ list. map stmt_view list.items ≡ beginnings (file_in pous.now.domains) first (variables_view variables.now)) }
 {
     let names = pous.domains.types.names;
@@ -123,6 +127,7 @@ fn begin_body<S: Scope>(
     variables: &[Declared<'_>],
     body: &Body,
 ) -> Result<Vec<TypedStmt>, AllocError>
+    requires { HasSizes pous.now }
     ensures { IfOk result (λ list. stmts_view list.items ≡ begun (file_in pous.now.domains) first (variables_view variables.now) (typed_body (S.means scope.now) (body_view body.now))) }
 {
     let mut list = beginnings(alloc, pous, first, variables)?;
@@ -138,6 +143,7 @@ pub fn pou_body(
     number: usize,
     pou: &Pou,
 ) -> Result<Vec<TypedStmt>, AllocError>
+    requires { HasSizes pous.now }
     ensures { IfOk result (λ list. stmts_view list.items ≡ pou_body (file_in pous.now.domains) number (pou_view pou.now)) }
 {
     let variables = declared_variables(alloc, pou)?;

@@ -6,6 +6,7 @@ ghost use Rattle.program_tree.specs.View.{cell_view, cells_view, texts_view};
 ghost use Rattle.naming.specs.Scopes.{block_of};
 ghost use Rattle.naming.specs.ScopeView.{variable_view, variables_view};
 ghost use Rattle.decl_types.specs.Bodies.{file_in};
+ghost use Rattle.pou_cells.specs.Placed.{HasSizes};
 ghost use Rattle.typing.specs.TypedPrograms.{path_of, path_behind, cell_for, flag_cell, cells_for, fault_cell, cells_of_variable, cells_of, block_cells, cells_in, is_without_cell, names_without_cell};
 
 use decl_types::{Domains, block_of, domain_of, initial_of, pou_at};
@@ -150,6 +151,7 @@ fn write_block(
     block: usize,
     list: &mut Vec<Cell>,
 ) -> Result<(), AllocError>
+    requires { HasSizes pous.now }
     ensures { OnOk result (cells_view list.new.items ≡ cells_view list.old.items ++ block_cells (file_in pous.now.domains) depth (option_map (λ b. b.now) before.entry) block) }
 {
     if depth == 0 {
@@ -176,6 +178,7 @@ fn write_variables(
     variables: &[Declared<'_>],
     list: &mut Vec<Cell>,
 ) -> Result<(), AllocError>
+    requires { HasSizes pous.now }
     ensures { OnOk result (cells_view list.new.items ≡ cells_view list.old.items ++ cells_of (file_in pous.now.domains) (block_cells (file_in pous.now.domains) depth) inside (option_map (λ b. b.now) before.entry) (variables_view variables.now)) }
 {
     for variable in variables.iter() {
@@ -197,6 +200,7 @@ fn write_variable(
     variable: &Declared<'_>,
     list: &mut Vec<Cell>,
 ) -> Result<(), AllocError>
+    requires { HasSizes pous.now }
     ensures { OnOk result (cells_view list.new.items ≡ cells_view list.old.items ++ cells_of_variable (file_in pous.now.domains) (block_cells (file_in pous.now.domains) depth) inside (option_map (λ b. b.now) before.entry) (variable_view variable.now) (block_of (file_in pous.now.domains) (variable_view variable.now))) }
 {
     let Some(block) = block_of(pous.domains.types.names, variable) else {
@@ -220,6 +224,7 @@ pub(crate) fn cells_behind_fault(
     of_function: bool,
     variables: &[Declared<'_>],
 ) -> Result<Vec<Cell>, AllocError>
+    requires { HasSizes pous.now }
     ensures { IfOk result (λ list. cells_view list.items ≡ fault_cell ∷ cells_in (file_in pous.now.domains) (option_map (λ b. b.now) before.entry) of_function (variables_view variables.now)) }
 {
     let mut list = Vec::new(alloc);

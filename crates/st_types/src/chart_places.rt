@@ -3,6 +3,7 @@ ghost use Rattle.std.specs.Prelude.{◌≡◌, ◌++◌, IfOk, OnOk};
 ghost use Rattle.naming.specs.Scopes.{block_of};
 ghost use Rattle.naming.specs.ScopeView.{variable_view, variables_view};
 ghost use Rattle.decl_types.specs.Bodies.{file_in};
+ghost use Rattle.pou_cells.specs.Placed.{HasSizes};
 ghost use Rattle.typing.specs.ChartPlaces.{steps_among, charts_of_variable, charts_of, block_charts, charts_in};
 
 use decl_types::{block_of, pou_at};
@@ -35,6 +36,7 @@ fn write_block(
     block: usize,
     list: &mut Vec<ChartCells>,
 ) -> Result<(), AllocError>
+    requires { HasSizes pous.now }
     ensures { OnOk result (list.new.items ≡ list.old.items ++ block_charts (file_in pous.now.domains) depth place block) }
 {
     if depth == 0 {
@@ -60,6 +62,7 @@ fn write_charts(
     variables: &[Declared<'_>],
     list: &mut Vec<ChartCells>,
 ) -> Result<(), AllocError>
+    requires { HasSizes pous.now }
     ensures { OnOk result (list.new.items ≡ list.old.items ++ charts_of (file_in pous.now.domains) (block_charts (file_in pous.now.domains) depth) first (variables_view variables.now)) }
 {
     let mut place = first;
@@ -89,6 +92,7 @@ fn write_variable(
     variable: &Declared<'_>,
     list: &mut Vec<ChartCells>,
 ) -> Result<(), AllocError>
+    requires { HasSizes pous.now }
     ensures { OnOk result (list.new.items ≡ list.old.items ++ charts_of_variable (file_in pous.now.domains) (block_charts (file_in pous.now.domains) depth) place (block_of (file_in pous.now.domains) (variable_view variable.now))) }
 {
     let Some(block) = block_of(pous.domains.types.names, variable) else {
@@ -106,6 +110,7 @@ pub fn charts_in(
     pous: &Pous<'_>,
     variables: &[Declared<'_>],
 ) -> Result<Vec<ChartCells>, AllocError>
+    requires { HasSizes pous.now }
     ensures { IfOk result (λ list. list.items ≡ charts_in (file_in pous.now.domains) (variables_view variables.now)) }
 {
     let mut list = Vec::new(alloc);

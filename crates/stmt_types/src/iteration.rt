@@ -48,7 +48,9 @@ pub fn is_assignable(controls: &[usize], meaning: Option<Meaning>) -> bool
 {
     match meaning {
         None => false,
-        Some(meaning) => meaning.assignable && is_free(controls, meaning.place),
+        Some(meaning) => {
+            meaning.assignable && (!meaning.control || is_free(controls, meaning.place))
+        }
     }
 }
 

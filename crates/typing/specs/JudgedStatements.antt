@@ -26,10 +26,10 @@ abbrev pub is_free : List ℕ → Place → Bool
 is_free controls (places.Cell c) = not (list_any (λ d. c == d) controls)
 is_free controls (places.Value v) = false
 
--- an own input, a constant and a control variable inside its loop are no targets
+-- An own input, a constant and a control variable inside its loop are no targets. What may control no FOR is not looked for among those that do.
 abbrev pub is_assignable : List ℕ → Option Meaning → Bool
 is_assignable controls None = false
-is_assignable controls (Some m) = m.assignable && is_free controls m.place
+is_assignable controls (Some m) = m.assignable && (not m.control || is_free controls m.place)
 
 abbrev pub judged_target : List ℕ → Option Meaning → ℕ → Judgement
 judged_target controls m at = require (judged_meaning m) (is_assignable controls m) NotAssignable at

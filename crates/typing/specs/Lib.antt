@@ -7,6 +7,7 @@ pub mod Labels
 pub mod JudgedStatements
 pub mod Domains
 pub mod Variables
+pub mod Reached
 pub mod Places
 pub mod Members
 pub mod JudgedCharts

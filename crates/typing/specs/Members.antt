@@ -1,15 +1,13 @@
--- What the names of a POU stand for: its variables and the steps of its chart, the inputs and outputs of its instances, and the FUNCTIONs
--- and blocks of its file.
+-- What the names of a POU stand for, where blocks have some sizes: its variables and the steps of its chart, the inputs and outputs of its
+-- instances, and the FUNCTIONs and blocks of its file.
 use Rattle.std.specs.Prelude.{ℕ, ◌+◌, ◌-◌, List, [], ◌∷◌, length, map, filter, replicate, Bool, true, false, Option, Some, None, option_map, option_and_then, if◌then◌else◌, slice_index_or, slice_set}
 use Rattle.std.specs.List.{slice_get}
-use Rattle.call_order.specs.Uses.{order_of}
 use Rattle.plc_types.specs.declared.data_type.DataType.TheVariants.{Unknown}
 use Rattle.source_tree.specs.Syntax.{Named, PouKindData, function, function_block, program, PouData, FileData}
 use Rattle.naming.specs.declared.role.Role.{Role}
 use Rattle.naming.specs.declared.role.Role.TheVariants as roles
 use Rattle.naming.specs.declared.standing.Standing.{Standing}
 use Rattle.naming.specs.FileScope.{pous_of, pou_at, kind_at, standing, pou_number, number_if}
-use Rattle.naming.specs.Circles.{uses_of}
 use Rattle.naming.specs.Scopes.{Variable, variables_in_pou, is_of_name, is_input, is_step, block_of}
 use Rattle.typing.specs.declared.scope.Place.{Place}
 use Rattle.typing.specs.declared.scope.Place.TheVariants as places
@@ -21,7 +19,8 @@ use Rattle.typing.specs.Typing.{Reference, by_path, by_value, Scope}
 use Rattle.typing.specs.Domains.{value_at}
 use Rattle.typing.specs.Variables.{domain_of_variable, judged_variable, initial_of}
 use Rattle.typing.specs.declared.next.Next.{Next}
-use Rattle.typing.specs.Places.{has_cell, sizes_of, first_places, first_place, places_behind}
+use Rattle.typing.specs.Reached.{reached_order}
+use Rattle.typing.specs.Places.{has_cell, first_places, first_place, places_behind}
 use Rattle.typing.specs.declared.member.Member.{Member}
 
 abbrev pub may_be_assigned : Role → Bool
@@ -83,44 +82,45 @@ member_among f sizes text next [] = None
 member_among f sizes text next (v ∷ vs) =
     if is_of_name text v then Some (member_of f (first_place next v) v) else member_among f sizes text (places_behind f sizes next v) vs
 
-abbrev pub member_in : FileData → List ℕ → PouData → Option Member
-member_in f text p = let vs = variables_in_pou p in member_among f (sizes_of f) text (first_places f (sizes_of f) p.kind vs) vs
+abbrev pub member_in : FileData → List ℕ → List ℕ → PouData → Option Member
+member_in f sizes text p = let vs = variables_in_pou p in member_among f sizes text (first_places f sizes p.kind vs) vs
 
 -- the variable of a name of the POU of a number
-abbrev pub member_at : FileData → ℕ → List ℕ → Option Member
-member_at f number text = option_and_then (member_in f text) (pou_at f number)
+abbrev pub member_at : FileData → List ℕ → ℕ → List ℕ → Option Member
+member_at f sizes number text = option_and_then (member_in f sizes text) (pou_at f number)
 
 -- from outside, an instance's inputs may be assigned; its cells stand from the place of the instance on
 abbrev pub seen_from : ℕ → Member → Meaning
 seen_from cell m = record m.meaning { place = places.Cell (cell + m.cell); assignable = is_input m.role; control = false }
 
-abbrev pub in_instance : FileData → ℕ → Named → Option ℕ → Option Meaning
-in_instance f cell n None = None
-in_instance f cell n (Some b) = option_map (seen_from cell) (member_at f b n.text)
+abbrev pub in_instance : FileData → List ℕ → ℕ → Named → Option ℕ → Option Meaning
+in_instance f sizes cell n None = None
+in_instance f sizes cell n (Some b) = option_map (seen_from cell) (member_at f sizes b n.text)
 
 -- what a path stands for that begins with a variable, or with a step, whose first cell it is then
-abbrev pub meant_by : FileData → List Named → Member → Option Meaning
-meant_by f [] m = Some m.meaning
-meant_by f (n ∷ ns) m = if is_step m.role then Some m.meaning else in_instance f m.cell n m.block
+abbrev pub meant_by : FileData → List ℕ → List Named → Member → Option Meaning
+meant_by f sizes [] m = Some m.meaning
+meant_by f sizes (n ∷ ns) m = if is_step m.role then Some m.meaning else in_instance f sizes m.cell n m.block
 
 -- a path that begins with no variable may be that of a value
-abbrev pub variable_or_value : FileData → List ℕ → List Named → Option Member → Option Meaning
-variable_or_value f text members None = value_at f (standing f text)
-variable_or_value f text members (Some m) = meant_by f members m
+abbrev pub variable_or_value : FileData → List ℕ → List ℕ → List Named → Option Member → Option Meaning
+variable_or_value f sizes text members None = value_at f (standing f text)
+variable_or_value f sizes text members (Some m) = meant_by f sizes members m
 
-abbrev pub named_in : FileData → ℕ → Reference → Option Meaning
-named_in f number (by_path p) = variable_or_value f p.first.text p.members (member_at f number p.first.text)
-named_in f number (by_value n) = value_at f (standing f n.text)
+abbrev pub named_in : FileData → List ℕ → ℕ → Reference → Option Meaning
+named_in f sizes number (by_path p) = variable_or_value f sizes p.first.text p.members (member_at f sizes number p.first.text)
+named_in f sizes number (by_value n) = value_at f (standing f n.text)
 
--- FUNCTIONs and FUNCTION_BLOCKs may be called, in the order in which each stands behind those that it uses
+-- FUNCTIONs and FUNCTION_BLOCKs may be called
 abbrev pub may_be_called : Option PouKindData → Bool
 may_be_called None = false
 may_be_called (Some (function t)) = true
 may_be_called (Some function_block) = true
 may_be_called (Some program) = false
 
+-- those that are reached, in the order in which each stands behind those that it uses
 unfoldable pub called_order : FileData → List ℕ
-called_order f = filter (λ k. may_be_called (kind_at f k)) (order_of (uses_of f))
+called_order f = filter (λ k. may_be_called (kind_at f k)) (reached_order f)
 
 -- the numbers that POUs have among those that may be called, which are counted from a number on
 abbrev pub numbered : List ℕ → ℕ → List ℕ → List ℕ
@@ -148,19 +148,19 @@ abbrev pub result_of : List Member → Port
 result_of [] = no_port
 result_of (m ∷ ms) = port_of m
 
-abbrev pub members_if : FileData → Option PouData → List Member
-members_if f None = []
-members_if f (Some p) = members_in f (sizes_of f) p
+abbrev pub members_if : FileData → List ℕ → Option PouData → List Member
+members_if f sizes None = []
+members_if f sizes (Some p) = members_in f sizes p
 
-abbrev pub members_at : FileData → ℕ → List Member
-members_at f number = members_if f (pou_at f number)
+abbrev pub members_at : FileData → List ℕ → ℕ → List Member
+members_at f sizes number = members_if f sizes (pou_at f number)
 
-abbrev pub signature_of : FileData → ℕ → Signature
-signature_of f number = record {
+abbrev pub signature_of : FileData → List ℕ → ℕ → Signature
+signature_of f sizes number = record {
   function = number;
   number = called_number f number;
-  result = result_of (members_at f number);
-  count = length (ports_of (members_at f number));
+  result = result_of (members_at f sizes number);
+  count = length (ports_of (members_at f sizes number));
 }
 
 abbrev pub is_function : PouKindData → Bool
@@ -172,8 +172,8 @@ is_function program = false
 abbrev pub function_number : FileData → Option Standing → Option ℕ
 function_number f s = option_and_then (number_if f is_function) (pou_number s)
 
-abbrev pub signature_at : FileData → List ℕ → Option Signature
-signature_at f text = option_map (signature_of f) (function_number f (standing f text))
+abbrev pub signature_at : FileData → List ℕ → List ℕ → Option Signature
+signature_at f sizes text = option_map (signature_of f sizes) (function_number f (standing f text))
 
 -- the inputs of a FUNCTION stand behind FAULT and what it answers
 abbrev pub place_of_input : Member → Option ℕ
@@ -182,12 +182,12 @@ place_of_input m = if is_input m.role then Some (m.cell - 2) else None
 abbrev pub instance_of : FileData → Member → Option Instance
 instance_of f m = option_map (λ b. record { block = called_number f b; offset = m.cell }) m.block
 
--- the scope of the body of a POU, by its number
-abbrev pub scope_of : FileData → ℕ → Scope
-scope_of f number = record {
-  means = named_in f number;
-  signature = signature_at f;
-  port = λ function place. slice_get (ports_of (members_at f function)) place;
-  input = λ function text. option_and_then place_of_input (member_at f function text);
-  instance = λ text. option_and_then (instance_of f) (member_at f number text);
+-- the scope of the body of a POU, by its number, where blocks have some sizes
+abbrev pub scope_of : FileData → List ℕ → ℕ → Scope
+scope_of f sizes number = record {
+  means = named_in f sizes number;
+  signature = signature_at f sizes;
+  port = λ function place. slice_get (ports_of (members_at f sizes function)) place;
+  input = λ function text. option_and_then place_of_input (member_at f sizes function text);
+  instance = λ text. option_and_then (instance_of f) (member_at f sizes number text);
 }

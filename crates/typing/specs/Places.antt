@@ -2,13 +2,12 @@
 -- in its place; and behind them those of a chart, first of its steps, and then of its stored actions.
 use Rattle.std.specs.Prelude.{ℕ, ◌+◌, List, [], ◌∷◌, ◌++◌, length, filter, replicate, Bool, true, false, not, ◌||◌, Option, Some, None, if◌then◌else◌, slice_index_or, slice_set}
 use Rattle.source_tree.specs.Syntax.{PouKindData, function, function_block, program, PouData, FileData}
-use Rattle.call_order.specs.Uses.{order_of}
 use Rattle.naming.specs.declared.role.Role.{Role}
 use Rattle.naming.specs.declared.role.Role.TheVariants as roles
 use Rattle.naming.specs.FileScope.{pous_of, pou_at}
-use Rattle.naming.specs.Circles.{uses_of}
 use Rattle.naming.specs.Scopes.{Variable, variables_in_pou, is_input, is_result, is_step, block_of}
 use Rattle.typing.specs.declared.next.Next.{Next}
+use Rattle.typing.specs.Reached.{reached_order}
 
 -- constants have no cells, nor have transitions and actions that are not stored
 abbrev pub has_cell : Role → Bool
@@ -44,13 +43,14 @@ variables_in (Some p) = variables_in_pou p
 abbrev pub variables_at : FileData → ℕ → List Variable
 variables_at f number = variables_in (pou_at f number)
 
--- the sizes of POUs, by their numbers, made along an order in which each stands behind the blocks of its instances
+-- the sizes of POUs, by their numbers, made along numbers of which each stands behind the blocks of its instances
 abbrev pub sizes_along : FileData → List ℕ → List ℕ → List ℕ
 sizes_along f sizes [] = sizes
 sizes_along f sizes (k ∷ ks) = sizes_along f (slice_set sizes k (count_of_cells f sizes (variables_at f k))) ks
 
+-- Those of the POUs that are reached. Of a POU that no one uses no size is asked for, and it counts as one without cells.
 unfoldable pub sizes_of : FileData → List ℕ
-sizes_of f = sizes_along f (replicate (length (pous_of f)) 0) (order_of (uses_of f))
+sizes_of f = sizes_along f (replicate (length (pous_of f)) 0) (reached_order f)
 
 abbrev pub is_stored_action : Role → Bool
 is_stored_action roles.Input = false

@@ -17,9 +17,10 @@ abbrev pub judged_body : Scope → BodyData → Judgement
 judged_body scope (statements ss) = judged_stmts scope [] ss
 judged_body scope (chart_body ps) = judged_parts scope ps
 
--- the POU of a number: its variables, its result among them, and its body
+-- The POU of a number: its variables, its result among them, and its body. The rules on types ask for no places, so that no size of a
+-- block is told, and each counts as one without cells.
 abbrev pub judged_pou : FileData → ℕ → PouData → Judgement
-judged_pou f number p = also (judged_variables f (variables_in_pou p)) (judged_body (scope_of f number) p.body)
+judged_pou f number p = also (judged_variables f (variables_in_pou p)) (judged_body (scope_of f [] number) p.body)
 
 -- POUs that are counted from a number on
 abbrev pub judged_pous : FileData → ℕ → List PouData → Judgement

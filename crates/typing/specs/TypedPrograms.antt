@@ -158,7 +158,7 @@ typed_body scope (chart_body ps) = statement (typed_chart scope ps) no_statement
 
 -- what the POU of a number does, which begins with its VAR_TEMP variables
 abbrev pub pou_body : FileData → ℕ → PouData → Statements
-pou_body f k p = let vs = variables_in_pou p in begun f (first_places f (sizes_of f) p.kind vs) vs (typed_body (scope_of f k) p.body)
+pou_body f k p = let vs = variables_in_pou p in begun f (first_places f (sizes_of f) p.kind vs) vs (typed_body (scope_of f (sizes_of f) k) p.body)
 
 -- the cells of a FUNCTION's call, FAULT first
 abbrev pub frame_cells : FileData → PouData → List CellData
@@ -177,7 +177,7 @@ abbrev pub called_if : FileData → ℕ → Option PouData → CalledData
 called_if f k None = typed_block no_statements
 called_if f k (Some p) = called_of f k p.kind p
 
--- the POUs that may be called
+-- the POUs that are reached and may be called
 abbrev pub called_by : FileData → List CalledData
 called_by f = map (λ k. called_if f k (pou_at f k)) (called_order f)
 

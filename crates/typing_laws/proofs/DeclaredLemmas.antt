@@ -45,10 +45,10 @@ pous_outcome-is f number o (p ∷ ps) =
 
 -- the declarations and the body of a POU
 pub outcome_of-pou : (f : FileData) (number : ℕ) (p : PouData) (vs : List Variable) (s d b r : Outcome) → vs ≡ variables_in_pou p → s ≡ outcome_of ok → d ≡ variables_outcome f s vs
-    → b ≡ outcome_of (judged_body (scope_of f number) p.body) → r ≡ both d b → r ≡ outcome_of (judged_pou f number p)
+    → b ≡ outcome_of (judged_body (scope_of f [] number) p.body) → r ≡ both d b → r ≡ outcome_of (judged_pou f number p)
 outcome_of-pou f number p vs s d b r same start declared body whole =
     let jv = judged_variables f (variables_in_pou p) in
-    let jb = judged_body (scope_of f number) p.body in
+    let jb = judged_body (scope_of f [] number) p.body in
     let of_declared : d ≡ outcome_of jv =
     declared ∙ ap (variables_outcome f s) same ∙ ap (λ (x : Outcome). variables_outcome f x (variables_in_pou p)) start ∙ variables_outcome-is f (outcome_of ok) (variables_in_pou p) ∙ ok_both (outcome_of jv) in
     whole ∙ ap (λ (x : Outcome). both x b) of_declared ∙ ap (both (outcome_of jv)) body ∙ outcome_also jv jb

@@ -15,3 +15,4 @@ pub mod NamedLemmas
 pub mod ReadyLemmas
 pub mod OnlyPou
 pub mod ChartLemmas
+pub mod CellCounts

@@ -1,4 +1,4 @@
-use Rattle.std.proofs.Common.{◌≡◌, ◌++◌, ◌+◌, length, drop}
+use Rattle.std.proofs.Common.{◌≡◌, ◌++◌, ◌+◌, drop}
 use Rattle.program_tree.specs.View.{cells_view}
 use Rattle.scan_model.specs.Pairs.{candidates_view}
 use Rattle.scan_model.specs.Candidates.{initial_values}

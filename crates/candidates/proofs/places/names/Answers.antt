@@ -1,4 +1,4 @@
-use Rattle.std.proofs.Common.{◌-◌, arith}
+use Rattle.std.proofs.Common.{arith}
 use Rattle.candidates.proofs.PlaceLemmas.{has_one_more}
 use Rattle.candidates.proofs.places.names.Goals as goal
 

@@ -1,4 +1,4 @@
-use Rattle.std.proofs.Common.{◌≡◌, ℕ, List, ◌+◌, ◌++◌, length, drop, ap, sym, ◌∙◌, arith}
+use Rattle.std.proofs.Common.{ℕ, List, ◌+◌, ◌++◌, length, drop, ap, sym, ◌∙◌, arith}
 use Rattle.program_tree.specs.View.{cell_view, cells_view, program_view}
 use Rattle.naming.proofs.Steps.{view-drop}
 use Rattle.scan_model.specs.Pairs.{candidates_view}

@@ -1,4 +1,4 @@
-use Rattle.std.proofs.Common.{◌≡◌, ◌++◌, ◌+◌, length, drop}
+use Rattle.std.proofs.Common.{◌≡◌, ◌++◌, length, drop}
 use Rattle.program_tree.specs.View.{cells_view, program_view}
 use Rattle.scan_model.specs.Pairs.{candidates_view}
 use Rattle.clause_types.specs.PairedTypes.{paired_in}

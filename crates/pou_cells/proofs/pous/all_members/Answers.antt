@@ -11,7 +11,7 @@ pub loop-number-preserved : goal.loop-number-preserved
 loop-number-preserved c =
     let f = file_in c.args.domains.now in
     let k = c.loop-number.number in
-    let g = members_in f c.args.sizes.now in
+    let g = members_in f [] in
     let items : c.push.new.self.items ≡ c.loop-number.list.items ++ c.in_ok-members_in.field-0 ∷ [] = c.in_ok-push.ensures.items in
     ap (λ l. map (λ v. v.items) l ++ map g (drop (k + 1) (pous_of f))) items
-    ∙ one_pou_more g (pous_of f) c.loop-number.list.items c.in_ok-members_in.field-0 k (pou_view c.pou.result.now) (all_members f) c.pou.ensures c.in_ok-members_in.ensures c.loop-number.invariant
+    ∙ one_pou_more g (pous_of f) c.loop-number.list.items c.in_ok-members_in.field-0 k (pou_view c.pou.result.now) (all_members f []) c.pou.ensures c.in_ok-members_in.ensures c.loop-number.invariant

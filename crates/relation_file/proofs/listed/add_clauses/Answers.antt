@@ -1,7 +1,6 @@
-use Rattle.std.proofs.Common.{◌≡◌, ◌+◌, ◌++◌, List, drop, ap, sym, ◌∙◌, arith}
+use Rattle.std.proofs.Common.{◌+◌, ◌++◌, List, drop, ap, sym, ◌∙◌, arith}
 use Rattle.naming.proofs.Steps.{view-drop}
-use Rattle.program_tree.specs.Tree.{Expression}
-use Rattle.scan_model.specs.Pairs.{CandidateData, candidates_view}
+use Rattle.scan_model.specs.Pairs.{candidates_view}
 use Rattle.scan_model.specs.Candidates.{numbered}
 use Rattle.candidates.specs.Candidates.{before}
 use Rattle.candidates.specs.PairView.{old_of, new_of}

@@ -1,8 +1,7 @@
-use Rattle.std.proofs.Common.{◌≡◌, Result, Ok, Err, None, ap, ◌∙◌}
+use Rattle.std.proofs.Common.{None, ap}
 use Rattle.source_tree.specs.SyntaxView.{tree_view}
 use Rattle.typing.specs.Typed.{typed}
 use Rattle.typing.specs.Typing.{Scope}
-use Rattle.std.specs.Prelude.{IfOk}
 use Rattle.program_tree.specs.View.{expr_view}
 use Rattle.candidates.proofs.PairLemmas.{if_other}
 use Rattle.relation_file.proofs.listed.typed_in.Goals as goal

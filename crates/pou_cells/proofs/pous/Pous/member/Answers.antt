@@ -11,10 +11,12 @@ pub returns-in-None : goal.returns-in-None
 returns-in-None c =
     let f = file_in c.args.self.now.domains in
     let n = c.args.number in
-    member_at-is f n c.args.name.now c.variable.result None c.variable.ensures (sym (ap (option_and_then (λ (b : Bound). slice_get (members_at f n) (b.number - 1))) c.in-None.is))
+    let sizes = c.args.self.now.sizes.items in
+    member_at-is f sizes n c.args.name.now c.variable.result None c.variable.ensures (sym (ap (option_and_then (λ (b : Bound). slice_get (members_at f sizes n) (b.number - 1))) c.in-None.is))
 
 pub returns-in-Some : goal.returns-in-Some
 returns-in-Some c =
     let f = file_in c.args.self.now.domains in
     let n = c.args.number in
-    member_at-is f n c.args.name.now c.variable.result c.numbered.result c.variable.ensures (c.numbered.ensures ∙ sym (ap (option_and_then (λ (b : Bound). slice_get (members_at f n) (b.number - 1))) c.in-Some.is))
+    let sizes = c.args.self.now.sizes.items in
+    member_at-is f sizes n c.args.name.now c.variable.result c.numbered.result c.variable.ensures (c.numbered.ensures ∙ sym (ap (option_and_then (λ (b : Bound). slice_get (members_at f sizes n) (b.number - 1))) c.in-Some.is))

@@ -1,0 +1,6 @@
+pub mod Making
+pub mod Folds
+pub mod Held
+pub mod Trails
+pub mod Merging
+pub mod OpenArms
