@@ -1,10 +1,13 @@
 // Reads a program's text, and tells how far its readers come.
 use crate::stages::Stages;
 use fb_inline::{FlatFault, flatten};
-use front_end::{AcceptFault, tokens_of};
+use front_end::tokens_of;
+use program_tree::Program;
+use rules::{Fault, Refusal};
+use scan_ssa::{NodeFault, to_nodes};
+use source_tree::{SourceFile, Tok};
 use st_names::{Resolved, resolve};
 use st_parser::parse_file;
-use st_tree::{Program, Refusal, SourceFile, Tok};
 use st_types::check;
 use std::alloc::Global;
 use std::io::Print;
@@ -16,15 +19,16 @@ use std::{fs, io};
 enum Stop {
     Refused(Refusal),
     Untyped,
+    TooManyNodes,
     Memory,
     Output(io::Error),
 }
 
-impl From<AcceptFault> for Stop {
-    fn from(fault: AcceptFault) -> Self {
+impl From<Fault> for Stop {
+    fn from(fault: Fault) -> Self {
         match fault {
-            AcceptFault::Refused(refusal) => Stop::Refused(refusal),
-            AcceptFault::Memory => Stop::Memory,
+            Fault::Refused(refusal) => Stop::Refused(refusal),
+            Fault::Memory => Stop::Memory,
         }
     }
 }
@@ -39,36 +43,51 @@ impl From<FlatFault> for Stop {
     }
 }
 
+impl From<NodeFault> for Stop {
+    fn from(fault: NodeFault) -> Self {
+        match fault {
+            NodeFault::TooMany => Stop::TooManyNodes,
+            NodeFault::Memory => Stop::Memory,
+        }
+    }
+}
+
 impl From<io::Error> for Stop {
     fn from(error: io::Error) -> Self {
         Stop::Output(error)
     }
 }
 
-fn tree_of(alloc: Global, toks: &[Tok<'_>], end: usize) -> Result<SourceFile, AcceptFault> {
+fn tree_of(alloc: Global, toks: &[Tok<'_>], end: usize) -> Result<SourceFile, Fault> {
     Ok(parse_file(alloc, toks, end)?)
 }
 
-fn resolved(alloc: Global, file: SourceFile) -> Result<Resolved, AcceptFault> {
+fn resolved(alloc: Global, file: SourceFile) -> Result<Resolved, Fault> {
     Ok(resolve(alloc, file)?)
 }
 
-fn checked(alloc: Global, names: Resolved) -> Result<Program, AcceptFault> {
+fn checked(alloc: Global, names: Resolved) -> Result<Program, Fault> {
     Ok(check(alloc, names)?)
 }
 
-/// Reads the program of the file, and prints how many tokens and cells it has or why it was not read, and the time of each
-/// stage where that is asked.
+/// Reads the program of the file, and prints how many tokens, cells and nodes it has or why it was not read, and the time of
+/// each stage where that is asked.
 pub fn run(rt: &HostRuntime, path: &str, is_timed: bool) -> io::Result<()> {
     let text = fs::read(rt, path)?;
     let mut stages = Stages::start(rt, is_timed)?;
     match read(rt, rt.alloc(), &text, &mut stages) {
-        Ok((tokens, cells)) => println!(rt; "{tokens} tokens, {cells} cells"),
+        Ok(counts) => print_counts(rt, counts),
         Err(Stop::Refused(refusal)) => print_refusal(rt, refusal),
         Err(Stop::Untyped) => println!(rt; "the program is not well typed"),
+        Err(Stop::TooManyNodes) => println!(rt; "refused: M6 at 0"),
         Err(Stop::Memory) => println!(rt; "memory was wanting"),
         Err(Stop::Output(error)) => Err(error),
     }
+}
+
+fn print_counts(rt: &impl Print, counts: Counts) -> io::Result<()> {
+    let (tokens, cells, nodes) = (counts.tokens, counts.cells, counts.nodes);
+    println!(rt; "{tokens} tokens, {cells} cells, {nodes} nodes")
 }
 
 fn print_refusal(rt: &impl Print, refusal: Refusal) -> io::Result<()> {
@@ -76,13 +95,21 @@ fn print_refusal(rt: &impl Print, refusal: Refusal) -> io::Result<()> {
     println!(rt; "refused: {rule} at {at}")
 }
 
-/// Reads a text, and answers how many tokens and cells it has.
+/// What a text has.
+#[derive(Drop)]
+struct Counts {
+    tokens: usize,
+    cells: usize,
+    nodes: usize,
+}
+
+/// Reads a text, and answers how many tokens, cells and nodes it has.
 fn read<R: Clock + Print>(
     rt: &R,
     alloc: Global,
     text: &[u8],
     stages: &mut Stages,
-) -> Result<(usize, usize), Stop> {
+) -> Result<Counts, Stop> {
     let toks = tokens_of(alloc, text)?;
     stages.done(rt, "lex")?;
     let file = tree_of(alloc, &toks, text.len())?;
@@ -91,7 +118,13 @@ fn read<R: Clock + Print>(
     stages.done(rt, "resolve")?;
     let program = checked(alloc, names)?;
     stages.done(rt, "check")?;
-    let _flat = flatten(alloc, &program)?;
+    let flat = flatten(alloc, &program)?;
     stages.done(rt, "flatten")?;
-    Ok((toks.len(), program.cells.len()))
+    let scan = to_nodes(alloc, &flat)?;
+    stages.done(rt, "nodes")?;
+    Ok(Counts {
+        tokens: toks.len(),
+        cells: program.cells.len(),
+        nodes: scan.nodes.len(),
+    })
 }

@@ -1,20 +1,21 @@
--- What is marked while a number's uses are followed.
+-- What is marked while the uses of numbers are followed.
 use Rattle.std.proofs.Common.{◌≡◌, ℕ, ◌<◌, ◌≤◌, Bool, true, false, List, [], ◌∷◌, ◌++◌, length, replicate, ◌↔◌, refl, arith, ◌∙◌, sym, subst, ◌⊎◌, inl, inr, ⊎_elim}
 use Rattle.std.proofs.lemmas.Bool.{cases_Bool, false_from_ne_true, or_cases, or_left, or_right, or_parts, and_parts, and_from, not_from_false, both_ways, lt-ltb, cases_lt, cases_eq}
 use Rattle.std.proofs.lemmas.List.{get_or_past, get_or-replicate, length-replicate}
 use Rattle.call_order.specs.Uses.{Graph, uses_at, is_among, Reaches, directly, through}
 use Rattle.call_order.specs.Marks.{is_marked, GetMarks}
+use Rattle.call_order.specs.Parts.{IsReached}
 use Rattle.call_order.proofs.Members.{is_among-left, is_among-right, is_among-head, is_among-cases, is_among-either}
 use Rattle.call_order.proofs.Orders.{begins}
 use Rattle.call_order.proofs.Circles.{reaches-step}
 
 -- what is marked is reached, and but for what waits, the uses of what is marked are marked
-pub record Explores (g : Graph) (start : ℕ) (marks : List Bool) (waiting : List ℕ) : Type 0 where
+pub record Explores (g : Graph) (starts : List ℕ) (marks : List Bool) (waiting : List ℕ) : Type 0 where
   pub size : length marks ≡ length g
-  pub reached : (k : ℕ) → is_marked marks k ≡ true → Reaches g start k
+  pub reached : (k : ℕ) → is_marked marks k ≡ true → IsReached g starts k
   pub waits : (k : ℕ) → is_among k waiting ≡ true → is_marked marks k ≡ true
   pub closed : (k used : ℕ) → is_marked marks k ≡ true → is_among k waiting ≡ false → is_among used (uses_at g k) ≡ true → used < length g → is_marked marks used ≡ true
-  pub begun : (used : ℕ) → is_among used (uses_at g start) ≡ true → used < length g → is_marked marks used ≡ true
+  pub begun : (used : ℕ) → is_among used starts ≡ true → used < length g → is_marked marks used ≡ true
 
 -- what has a mark is below the length
 pub below-from_mark : (marks : List Bool) (k : ℕ) → is_marked marks k ≡ true → k < length marks
@@ -55,26 +56,31 @@ no_marks n k =
     (λ (past : n ≤ k). get_or_past (replicate n false) k false (omega (arith, length-replicate n false)))
     (cases_lt k n)
 
--- at first the uses of the start are marked
-pub explores-begun : (g : Graph) (start : ℕ) (marks : List Bool) (waiting : List ℕ) → GetMarks (uses_at g start) (replicate (length g) false) marks [] waiting → Explores g start marks waiting
-explores-begun g start marks waiting is =
+-- what a reached number uses is reached
+reached-step : (g : Graph) (starts : List ℕ) (b c : ℕ) → IsReached g starts b → is_among c (uses_at g b) ≡ true → IsReached g starts c
+reached-step g starts b c (inl there) used = inr (b, there, directly b c used)
+reached-step g starts b c (inr way) used = inr (way.0, way.1, reaches-step g way.0 b c way.2 used)
+
+-- at first the starts are marked
+pub explores-begun : (g : Graph) (starts : List ℕ) (marks : List Bool) (waiting : List ℕ) → GetMarks starts (replicate (length g) false) marks [] waiting → Explores g starts marks waiting
+explores-begun g starts marks waiting is =
     let n = length g in
     let size : length marks ≡ length g = is.size ∙ length-replicate (length g) false in
     record {
       size = size;
-      reached = λ k h. ⊎_elim (λ o. absurd (both_ways _ (no_marks (length g) k) o)) (λ m. directly start k m) (was _ _ _ _ _ is k h);
+      reached = λ k h. ⊎_elim (λ o. absurd (both_ways _ (no_marks (length g) k) o)) (λ m. inl m) (was _ _ _ _ _ is k h);
       waits = λ k h. ⊎_elim (λ o. cc) (λ m. m) (waits_marked _ _ _ _ _ is k h);
       closed = λ k used h out u below. absurd (both_ways _ (no_marks (length g) k) ((settled _ _ _ _ _ is k h out).1));
       begun = λ used u below. got _ _ _ _ _ is used (let l = length-replicate (length g) false in omega arith) u;
     }
 
 -- the uses of one that waited are marked
-pub explores-more : (g : Graph) (start number : ℕ) (old new : List Bool) (rest waiting : List ℕ) → Explores g start old (rest ++ number ∷ []) → GetMarks (uses_at g number) old new rest waiting → Explores g start new waiting
-explores-more g start number old new rest waiting was_so is =
+pub explores-more : (g : Graph) (starts : List ℕ) (number : ℕ) (old new : List Bool) (rest waiting : List ℕ) → Explores g starts old (rest ++ number ∷ []) → GetMarks (uses_at g number) old new rest waiting → Explores g starts new waiting
+explores-more g starts number old new rest waiting was_so is =
     let marked : is_marked old number ≡ true = was_so.waits number (is_among-right number rest (number ∷ []) (is_among-head number [])) in
     record {
       size = is.size ∙ was_so.size;
-      reached = λ k h. ⊎_elim (λ o. was_so.reached k o) (λ m. reaches-step g start number k (was_so.reached number marked) m) (was _ _ _ _ _ is k h);
+      reached = λ k h. ⊎_elim (λ o. was_so.reached k o) (λ m. reached-step g starts number k (was_so.reached number marked) m) (was _ _ _ _ _ is k h);
       waits = λ k h. ⊎_elim (λ o. kept _ _ _ _ _ is k (was_so.waits k (is_among-left k rest (number ∷ []) o))) (λ m. m) (waits_marked _ _ _ _ _ is k h);
       closed = λ k used h out u below.
           let p = settled _ _ _ _ _ is k h out in
@@ -85,14 +91,16 @@ explores-more g start number old new rest waiting was_so is =
     }
 
 -- in the end what is reached is marked
-closed_reach : (g : Graph) (start : ℕ) (marks : List Bool) → Explores g start marks [] → (a b : ℕ) → Reaches g a b → ((used : ℕ) → is_among used (uses_at g a) ≡ true → used < length g → is_marked marks used ≡ true) → b < length g → is_marked marks b ≡ true
-closed_reach g start marks is a b (directly _ _ u) from below = from b u below
-closed_reach g start marks is a b (through _ c _ u r) from below =
-    closed_reach g start marks is c b r (λ used v l. is.closed c used (from c u (begins g c b r)) refl v l) below
+closed_reach : (g : Graph) (starts : List ℕ) (marks : List Bool) → Explores g starts marks [] → (a b : ℕ) → Reaches g a b → is_marked marks a ≡ true → b < length g → is_marked marks b ≡ true
+closed_reach g starts marks is a b (directly _ _ u) from below = is.closed a b from refl u below
+closed_reach g starts marks is a b (through _ c _ u r) from below =
+    closed_reach g starts marks is c b r (is.closed a c from refl u (begins g c b r)) below
 
-pub explored : (g : Graph) (start : ℕ) (marks : List Bool) → Explores g start marks [] → (is_marked marks start ≡ true) ↔ Reaches g start start
-explored g start marks is = (is.reached start, λ r. closed_reach g start marks is start start r is.begun (begins g start start r))
-
--- a number from the length on uses nothing
-pub past_reaches : (g : Graph) (start : ℕ) → length g ≤ start → ¬ Reaches g start start
-past_reaches g start past r = let below = begins g start start r in absurd (omega arith)
+pub explored : (g : Graph) (starts : List ℕ) (marks : List Bool) → Explores g starts marks [] → (k : ℕ) → k < length g → (is_marked marks k ≡ true) ↔ IsReached g starts k
+explored g starts marks is k below = (
+  is.reached k,
+  λ r. elim r as (λ _. is_marked marks k ≡ true) [
+    | inl there ↦ is.begun k there below
+    | inr way ↦ closed_reach g starts marks is way.0 k way.2 (is.begun way.0 way.1 (begins g way.0 k way.2)) below
+  ],
+)

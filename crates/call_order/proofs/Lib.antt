@@ -8,3 +8,6 @@ pub mod Counts
 pub mod Released
 pub mod UnderWay
 pub mod Gained
+pub mod Ways
+pub mod PartLemmas
+pub mod Filters

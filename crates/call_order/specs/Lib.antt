@@ -2,3 +2,4 @@ pub mod Uses
 pub mod OrderLaws
 pub mod Marks
 pub mod Users
+pub mod Parts

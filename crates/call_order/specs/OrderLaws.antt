@@ -1,6 +1,6 @@
 -- Laws of the order.
-use Rattle.std.specs.Prelude.{◌≡◌, ◌<◌, ℕ, true, false, List, ◌∷◌, ◌++◌, length}
-use Rattle.call_order.specs.Uses.{Graph, uses_at, is_among, Reaches, order_of}
+use Rattle.std.specs.Prelude.{◌≡◌, ◌<◌, ◌↔◌, ℕ, true, false, List, ◌∷◌, ◌++◌, length, IsTrue}
+use Rattle.call_order.specs.Uses.{Graph, uses_at, is_among, Reaches, leads_to, order_of}
 
 -- in the order, each number stands behind those that it uses
 abbrev pub StandsBehindItsUses : Type 0
@@ -29,3 +29,7 @@ abbrev pub SomeReachesItself : Type 0
 SomeReachesItself =
     (g : Graph) → ((k used : ℕ) → is_among used (uses_at g k) ≡ true → used < length g) → length (order_of g) < length g
     → (k : ℕ) × (k < length g) × Reaches g k k
+
+-- one number leads to another exactly where it reaches it
+abbrev pub LeadsWhereItReaches : Type 0
+LeadsWhereItReaches = (g : Graph) (a b : ℕ) → IsTrue (leads_to g a b) ↔ Reaches g a b

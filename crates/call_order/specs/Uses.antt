@@ -1,5 +1,5 @@
 -- Things that use one another, as numbers, and an order in which each stands behind those that it uses.
-use Rattle.std.specs.Prelude.{◌≡◌, ℕ, zero, suc, ◌+◌, ◌==◌, Bool, true, not, ◌&&◌, List, [], ◌∷◌, ◌++◌, length, map, slice_index_or, Option, Some, None, if◌then◌else◌, Vec}
+use Rattle.std.specs.Prelude.{◌≡◌, ℕ, zero, suc, ◌+◌, ◌==◌, Bool, true, not, ◌&&◌, ◌||◌, List, [], ◌∷◌, ◌++◌, length, map, slice_index_or, Option, Some, None, if◌then◌else◌, Vec}
 use Rattle.std.specs.List.{list_any, list_all}
 use Rattle.std.specs.declared.alloc.Global.{Global}
 
@@ -23,6 +23,23 @@ is_among k numbers = list_any (λ n. k == n) numbers
 pub data Reaches (g : Graph) : ℕ → ℕ → Type 0 where
   directly : (a b : ℕ) → is_among b (uses_at g a) ≡ true → Reaches g a b
   through : (a b c : ℕ) → is_among b (uses_at g a) ≡ true → Reaches g b c → Reaches g a c
+
+-- a number leads to another by at most so many uses more than one
+unfoldable pub leads_within : Graph → ℕ → ℕ → ℕ → Bool
+leads_within g zero a b = is_among b (uses_at g a)
+leads_within g (suc more) a b = is_among b (uses_at g a) || list_any (λ c. leads_within g more c b) (uses_at g a)
+
+-- the same as `Reaches`, as a test: where there is a way, there is one that meets each number once at most
+unfoldable pub leads_to : Graph → ℕ → ℕ → Bool
+leads_to g a b = leads_within g (length g) a b
+
+-- a number uses another that leads back to it: the two stand in a circle
+abbrev pub is_in_circle : Graph → ℕ → ℕ → Bool
+is_in_circle g user used = is_among used (uses_at g user) && leads_to g used user
+
+-- for each number those of its uses that lead back to it
+abbrev pub HasCircles : Graph → Graph → Type 0
+HasCircles g circles = (user used : ℕ) → is_among used (uses_at circles user) ≡ is_in_circle g user used
 
 -- a number may be taken that is not taken yet, and uses only numbers that are taken
 abbrev pub is_ready : Graph → List ℕ → ℕ → Bool

@@ -1,5 +1,5 @@
 // Laws of the order. The functions do nothing: their clauses are the laws.
-ghost use Rattle.call_order.specs.OrderLaws.{StandsBehindItsUses, StandsOnce, IsBelowLength, HasEach, NoneReachesItself, SomeReachesItself};
+ghost use Rattle.call_order.specs.OrderLaws.{StandsBehindItsUses, StandsOnce, IsBelowLength, HasEach, NoneReachesItself, SomeReachesItself, LeadsWhereItReaches};
 
 /// In the order, each number stands behind those that it uses.
 pub fn stands_behind_its_uses()
@@ -29,4 +29,9 @@ pub fn none_reaches_itself()
 /// Where the order has fewer numbers than there are, and all that are used are there, some number reaches itself.
 pub fn some_reaches_itself()
     ensures { SomeReachesItself }
+{}
+
+/// One number leads to another exactly where it reaches it.
+pub fn leads_where_it_reaches()
+    ensures { LeadsWhereItReaches }
 {}

@@ -20,7 +20,7 @@ fn add_user(user: usize, used: &[usize], users: &mut [Vec<usize>]) -> Result<(),
 }
 
 /// For each number those that use it, as often as they do.
-fn users_of(alloc: Global, uses: &[Vec<usize>]) -> Result<Vec<Vec<usize>>, AllocError>
+pub fn users_of(alloc: Global, uses: &[Vec<usize>]) -> Result<Vec<Vec<usize>>, AllocError>
     ensures len { IfOk result (λ users. length users.items ≡ length uses.now) }
     ensures users { IfOk result (λ users. HasUsers (graph_of uses.now) (graph_of users.items)) }
 {

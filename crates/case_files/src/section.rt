@@ -11,6 +11,8 @@ pub enum Word {
     Answer,
     Flat,
     List,
+    Nodes,
+    Gates,
     Lowered,
     Scan,
     Before,
@@ -47,6 +49,8 @@ impl Word {
             "answer" => Some(Word::Answer),
             "flat" => Some(Word::Flat),
             "list" => Some(Word::List),
+            "nodes" => Some(Word::Nodes),
+            "gates" => Some(Word::Gates),
             "lowered" => Some(Word::Lowered),
             "scan" => Some(Word::Scan),
             "before" => Some(Word::Before),
@@ -81,6 +85,8 @@ impl Word {
             Word::Answer => "answer",
             Word::Flat => "flat",
             Word::List => "list",
+            Word::Nodes => "nodes",
+            Word::Gates => "gates",
             Word::Lowered => "lowered",
             Word::Scan => "scan",
             Word::Before => "before",
@@ -101,7 +107,8 @@ impl Word {
         match self {
             Word::Accept => Some(Door::Accept),
             Word::Trace | Word::Answer => Some(Door::Replay),
-            Word::Flat | Word::List | Word::Lowered => Some(Door::Flat),
+            Word::Flat | Word::List => Some(Door::Flat),
+            Word::Nodes | Word::Gates | Word::Lowered => Some(Door::Flat),
             Word::Scan | Word::Before | Word::After | Word::Statements => Some(Door::Scan),
             Word::Candidates | Word::Clauses | Word::Parts => Some(Door::Relation),
             Word::Lines | Word::Along | Word::Held => Some(Door::Relation),
@@ -124,6 +131,11 @@ impl Word {
             Word::Lowered => argument.is_empty() || argument == "last",
             Word::List | Word::Candidates => {
                 argument.is_empty() || argument.starts_with("refused ")
+            }
+            Word::Nodes => {
+                argument.is_empty()
+                    || argument.starts_with("refused ")
+                    || argument.parse::<u64>().is_ok()
             }
             _ => argument.is_empty(),
         }

@@ -1,11 +1,12 @@
 // The door `accept`: a text is accepted, or refused by the rule and at the place that its mark names.
 ghost use Rattle.std.specs.Prelude.{IfOk};
-ghost use Rattle.st_tree.specs.View.{program_view};
-ghost use Rattle.st_types.specs.Ready.{IsReady};
+ghost use Rattle.program_tree.specs.View.{program_view};
+ghost use Rattle.scan_model.specs.InRange.{IsProgram as IsFitToRun};
 
 use case_files::{Case, CaseFault, Marked, Mismatch, Word, compare, malformed, program_of};
-use front_end::{AcceptFault, accept_text};
-use st_tree::Program;
+use front_end::accept_text;
+use program_tree::Program;
+use rules::Fault;
 use std::alloc::{AllocError, Global};
 
 /// Runs a case of this door.
@@ -19,10 +20,10 @@ pub fn run_accept(
     let expected = expected_answer(alloc, &text)?;
     let got = match accept_text(alloc, &text.bytes) {
         Ok(_) => String::from_str(alloc, "accepted")?,
-        Err(AcceptFault::Refused(refusal)) => {
+        Err(Fault::Refused(refusal)) => {
             refused_at(alloc, refusal.rule.name(), refusal.at, &text.bytes)?
         }
-        Err(AcceptFault::Memory) => return Err(CaseFault::Memory),
+        Err(Fault::Memory) => return Err(CaseFault::Memory),
     };
     compare(
         alloc,
@@ -58,14 +59,14 @@ pub fn refused_at(alloc: Global, rule: &str, at: usize, text: &[u8]) -> Result<S
 
 /// The program of a text that has to be accepted.
 pub fn accepted(alloc: Global, text: &[u8]) -> Result<Program, CaseFault>
-    ensures ready { IfOk result (λ p. IsReady (program_view p)) }
+    ensures fit { IfOk result (λ p. IsFitToRun (program_view p)) }
 {
     match accept_text(alloc, text) {
         Ok(program) => Ok(program),
-        Err(AcceptFault::Refused(refusal)) => {
+        Err(Fault::Refused(refusal)) => {
             let refusal = refused_at(alloc, refusal.rule.name(), refusal.at, text)?;
             Err(malformed(alloc, "a program is refused: ", refusal.as_str()))
         }
-        Err(AcceptFault::Memory) => Err(CaseFault::Memory),
+        Err(Fault::Memory) => Err(CaseFault::Memory),
     }
 }

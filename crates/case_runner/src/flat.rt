@@ -1,15 +1,17 @@
-// The door `flat`: the printed flat list of a text, or its refusal for the number of its statements, and the statements that come in
+// The door `flat`: the printed flat list of a text, its nodes and its gates, or its refusal for their number, and the statements that come in
 // place of its charts.
 use crate::accept::{accepted, refused_at};
+use crate::gate_lists::gates_of;
 use case_files::{
     Case, CaseFault, Mismatch, Section, Word, compare, compare_words, expected_text_of, malformed,
     program_of, without_places,
 };
 use flat_end::accept_flat;
-use front_end::AcceptFault;
-use program_printing::{print_body, print_flat};
+use node_end::{AcceptFault, accept};
+use program_printing::{print_body, print_flat, print_nodes};
+use program_tree::{Called, Cell, Program, TypedStmt};
+use rules::Fault;
 use sfc_lowering::{Lowered, lower};
-use st_tree::{Called, Cell, Program, TypedStmt};
 use std::alloc::{AllocError, Global};
 
 /// Runs a case of this door.
@@ -21,12 +23,15 @@ pub fn run_flat(
 ) -> Result<(), CaseFault> {
     let text = program_of(alloc, head, case, Word::Flat)?;
     let text = without_places(alloc, text)?.bytes;
-    if case.section(Word::List).is_none() && case.section(Word::Lowered).is_none() {
+    let words = [Word::List, Word::Nodes, Word::Gates, Word::Lowered];
+    if words.iter().all(|word| case.section(*word).is_none()) {
         return Err(malformed(alloc, "the case expects nothing", ""));
     }
     for section in &case.sections {
         match section.word {
             Word::List => compare_list(alloc, &text, section, found)?,
+            Word::Nodes => compare_nodes(alloc, &text, section, found)?,
+            Word::Gates => compare_gates(alloc, &text, section, found)?,
             Word::Lowered => compare_lowered(alloc, &text, section, found)?,
             _ => {}
         }
@@ -42,17 +47,64 @@ fn compare_list(
 ) -> Result<(), CaseFault> {
     let got = match accept_flat(alloc, text) {
         Ok(accepted) => print_flat(alloc, &accepted.flat)?,
+        Err(Fault::Refused(refusal)) => {
+            refused_at(alloc, refusal.rule.name(), refusal.at, text)?
+        }
+        Err(Fault::Memory) => return Err(CaseFault::Memory),
+    };
+    let expected = expected_list(alloc, text, section)?;
+    compare_words(alloc, "flat list", expected.as_str(), got.as_str(), found)?;
+    Ok(())
+}
+
+fn compare_nodes(
+    alloc: Global,
+    text: &[u8],
+    section: &Section,
+    found: &mut Vec<Mismatch>,
+) -> Result<(), CaseFault> {
+    let count = section.argument.as_str().parse::<u64>();
+    let got = match accept(alloc, text) {
+        Ok(accepted) if count.is_ok() => format!(in alloc; "{}", accepted.scan.nodes.len())?,
+        Ok(accepted) => print_nodes(alloc, &accepted.scan)?,
         Err(AcceptFault::Refused(refusal)) => {
             refused_at(alloc, refusal.rule.name(), refusal.at, text)?
         }
+        Err(AcceptFault::TooManyNodes) => refused_at(alloc, "M6", 0, text)?,
         Err(AcceptFault::Memory) => return Err(CaseFault::Memory),
     };
-    let expected = match section.argument.as_str().strip_prefix("refused ") {
-        Some(rule) => refused_at(alloc, rule.trim(), 0, text)?,
-        None => expected_text_of(alloc, section)?,
+    let expected = match count {
+        Ok(count) => format!(in alloc; "{count}")?,
+        Err(_) => expected_list(alloc, text, section)?,
     };
-    compare_words(alloc, "flat list", expected.as_str(), got.as_str(), found)?;
+    compare_words(alloc, "nodes", expected.as_str(), got.as_str(), found)?;
     Ok(())
+}
+
+fn compare_gates(
+    alloc: Global,
+    text: &[u8],
+    section: &Section,
+    found: &mut Vec<Mismatch>,
+) -> Result<(), CaseFault> {
+    let got = match accept(alloc, text) {
+        Ok(accepted) => gates_of(alloc, &accepted.program, &accepted.scan)?,
+        Err(AcceptFault::Refused(_) | AcceptFault::TooManyNodes) => {
+            return Err(malformed(alloc, "the program is refused", ""));
+        }
+        Err(AcceptFault::Memory) => return Err(CaseFault::Memory),
+    };
+    let expected = expected_text_of(alloc, section)?;
+    compare_words(alloc, "gates", expected.as_str(), got.as_str(), found)?;
+    Ok(())
+}
+
+// What a section expects: its text, or a refusal of the whole program.
+fn expected_list(alloc: Global, text: &[u8], section: &Section) -> Result<String, CaseFault> {
+    match section.argument.as_str().strip_prefix("refused ") {
+        Some(rule) => Ok(refused_at(alloc, rule.trim(), 0, text)?),
+        None => expected_text_of(alloc, section),
+    }
 }
 
 fn compare_lowered(

@@ -1,6 +1,6 @@
 // A plain evaluator of flat programs.
-use effects::evaluate;
 use flat_core::{Flat, FlatArm, FlatStmt};
+use interpreter::evaluate;
 
 /// Runs flat statements over a store of the cells and behind them the scratch cells.
 #[cycle(run_flat)]

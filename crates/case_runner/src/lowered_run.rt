@@ -1,9 +1,10 @@
 // Scans of programs without charts. The program's own scratch variables stand behind FAULT while its body runs. Those of a POU that it
-// calls would stand in the owner's state only while the body of an instance runs, and the interpreter of `effects` puts nothing there; so a
+// calls would stand in the owner's state only while the body of an instance runs, and the interpreter puts nothing there; so a
 // POU that has scratch variables keeps its chart here.
-use effects::{Scope, add_room, run_all};
+use interpreter::{Scope, add_room, run_all};
+use plc_types::Range;
+use program_tree::{Called, Program};
 use sfc_lowering::Lowered;
-use st_tree::{Called, Program, Range};
 use std::alloc::{AllocError, Global};
 
 /// The cells behind a scan of a lowered program.

@@ -10,7 +10,7 @@
 //   along               `start:` and a line for each row, `0 1:`, each with the names of the candidates that do not hold there
 //   held                the names of the candidates that hold at the start and after each of these rows
 ghost use Rattle.std.specs.Prelude.{IfOk};
-ghost use Rattle.st_tree.specs.View.{program_view};
+ghost use Rattle.program_tree.specs.View.{program_view};
 ghost use Rattle.scan_model.specs.Pairs.{relation_view, BelongsTo};
 ghost use Rattle.scan_replay.specs.Duos.{AreComparable};
 
@@ -20,12 +20,13 @@ use case_files::{
     Case, CaseFault, Mismatch, Section, Word, compare, compare_words, expected_text_of,
     in_one_line, malformed, new_program_of, program_of, text_of, without_places,
 };
-use front_end::{AcceptFault, tokens_of};
+use front_end::tokens_of;
 use program_printing::{cell_names, print_candidates, print_clauses, print_lines, print_parts};
-use relation_file::{RelFault, read_relation};
-use relation_lines::parse_lines;
+use program_tree::Program;
+use relation_file::read_relation;
+use relation_lines::{Line, parse_lines};
+use rules::{Fault, Refusal};
 use scan_model::Relation;
-use st_tree::{ParseFault, Program, Refusal};
 use std::alloc::Global;
 
 /// Two programs, and a relation between them.
@@ -75,14 +76,11 @@ pub fn run_relation(
 }
 
 // What a text of a relation leads to between two programs.
-fn stated(alloc: Global, text: &[u8], old: &Program, new: &Program) -> Result<Relation, RelFault>
+fn stated(alloc: Global, text: &[u8], old: &Program, new: &Program) -> Result<Relation, Fault>
     ensures belongs { IfOk result (λ r. BelongsTo (program_view old.now) (program_view new.now) (relation_view r)) }
 {
-    match tokens_of(alloc, text) {
-        Ok(tokens) => read_relation(alloc, &tokens, text.len(), old, new),
-        Err(AcceptFault::Refused(refusal)) => Err(RelFault::Refused(refusal)),
-        Err(AcceptFault::Memory) => Err(RelFault::Memory),
-    }
+    let tokens = tokens_of(alloc, text)?;
+    read_relation(alloc, &tokens, text.len(), old, new)
 }
 
 fn refused_relation(alloc: Global, refusal: Refusal, text: &[u8]) -> CaseFault {
@@ -98,8 +96,8 @@ fn related(alloc: Global, text: &[u8], old: &Program, new: &Program) -> Result<R
 {
     match stated(alloc, text, old, new) {
         Ok(relation) => Ok(relation),
-        Err(RelFault::Refused(refusal)) => Err(refused_relation(alloc, refusal, text)),
-        Err(RelFault::Memory) => Err(CaseFault::Memory),
+        Err(Fault::Refused(refusal)) => Err(refused_relation(alloc, refusal, text)),
+        Err(Fault::Memory) => Err(CaseFault::Memory),
     }
 }
 
@@ -124,10 +122,10 @@ fn compare_refusal(
     let expected = refused_at(alloc, rule, 0, &texts.relation)?;
     let got = match stated(alloc, &texts.relation, &old, &new) {
         Ok(relation) => print_candidates(alloc, &relation.candidates)?,
-        Err(RelFault::Refused(refusal)) => {
+        Err(Fault::Refused(refusal)) => {
             refused_at(alloc, refusal.rule.name(), refusal.at, &texts.relation)?
         }
-        Err(RelFault::Memory) => return Err(CaseFault::Memory),
+        Err(Fault::Memory) => return Err(CaseFault::Memory),
     };
     compare(alloc, "candidates", expected.as_str(), got.as_str(), found)?;
     Ok(())
@@ -180,14 +178,15 @@ fn compare_names(
 
 // The printed lines of a relation.
 fn lines_of(alloc: Global, text: &[u8]) -> Result<String, CaseFault> {
-    let tokens = match tokens_of(alloc, text) {
-        Ok(tokens) => tokens,
-        Err(AcceptFault::Refused(refusal)) => return Err(refused_relation(alloc, refusal, text)),
-        Err(AcceptFault::Memory) => return Err(CaseFault::Memory),
-    };
-    match parse_lines(alloc, &tokens, text.len()) {
+    match read_text(alloc, text) {
         Ok(lines) => Ok(print_lines(alloc, &lines)?),
-        Err(ParseFault::Refused(refusal)) => Err(refused_relation(alloc, refusal, text)),
-        Err(ParseFault::Memory) => Err(CaseFault::Memory),
+        Err(Fault::Refused(refusal)) => Err(refused_relation(alloc, refusal, text)),
+        Err(Fault::Memory) => Err(CaseFault::Memory),
     }
+}
+
+// The lines of a text.
+fn read_text(alloc: Global, text: &[u8]) -> Result<Vec<Line>, Fault> {
+    let tokens = tokens_of(alloc, text)?;
+    parse_lines(alloc, &tokens, text.len())
 }

@@ -1,7 +1,8 @@
-// The door `scan`: the state behind a scan, by the interpreter, by the flat form, and by the program without its charts.
+// The door `scan`: the state behind a scan, by the interpreter, by the flat form, by its nodes, and by the program without its charts.
 use crate::accept::refused_at;
 use crate::flat_run::{run_all, size_of};
 use crate::lowered_run::lowered_scan;
+use crate::node_run::node_scan;
 use case_files::{
     Case, CaseFault, Mismatch, Section, Word, compare, expected_text_of, find_section, malformed,
     numbers_of, program_of, without_places,
@@ -9,10 +10,12 @@ use case_files::{
 use flat_core::Flat;
 use flat_end::{Accepted, accept_flat};
 use flat_typing::check_program;
-use front_end::AcceptFault;
+use node_core::Scan;
+use program_tree::Program;
+use rules::Fault;
 use scan_replay::Machine;
+use scan_ssa::{NodeFault, to_nodes};
 use sfc_lowering::{Lowered, lower};
-use st_tree::Program;
 use std::alloc::{AllocError, Global};
 
 /// Runs a case of this door.
@@ -26,6 +29,12 @@ pub fn run_scan(
     let text = without_places(alloc, text)?.bytes;
     let accepted = flat_of(alloc, &text)?;
     let lowered = lower(&accepted.program, alloc)?;
+    let nodes = nodes_of(alloc, &accepted.flat)?;
+    let forms = Forms {
+        accepted: &accepted,
+        lowered: &lowered,
+        nodes: &nodes,
+    };
     if let Some(statements) = find_section(head, case, Word::Statements) {
         let size = size_of(&accepted.flat.body);
         let got = format!(in alloc; "{size}")?;
@@ -38,22 +47,39 @@ pub fn run_scan(
             found,
         )?;
     }
-    let count = run_pairs(alloc, case, &accepted, &lowered, found)?;
+    let count = run_pairs(alloc, case, &forms, found)?;
     if count == 0 && case.section(Word::Statements).is_none() {
         return Err(malformed(alloc, "the case expects nothing", ""));
     }
     Ok(())
 }
 
+// A program, its flat form, its nodes, and the program without charts.
+#[derive(Drop)]
+struct Forms<'f> {
+    accepted: &'f Accepted,
+    lowered: &'f Lowered,
+    nodes: &'f Scan,
+}
+
+// The nodes of a flat form, which have to be few enough.
+fn nodes_of(alloc: Global, flat: &Flat) -> Result<Scan, CaseFault> {
+    match to_nodes(alloc, flat) {
+        Ok(scan) => Ok(scan),
+        Err(NodeFault::TooMany) => Err(malformed(alloc, "the program has too many nodes", "")),
+        Err(NodeFault::Memory) => Err(CaseFault::Memory),
+    }
+}
+
 // The flat form of a text that has to be accepted.
 fn flat_of(alloc: Global, text: &[u8]) -> Result<Accepted, CaseFault> {
     match accept_flat(alloc, text) {
         Ok(accepted) => Ok(accepted),
-        Err(AcceptFault::Refused(refusal)) => {
+        Err(Fault::Refused(refusal)) => {
             let refusal = refused_at(alloc, refusal.rule.name(), refusal.at, text)?;
             Err(malformed(alloc, "the program is refused: ", refusal.as_str()))
         }
-        Err(AcceptFault::Memory) => Err(CaseFault::Memory),
+        Err(Fault::Memory) => Err(CaseFault::Memory),
     }
 }
 
@@ -61,8 +87,7 @@ fn flat_of(alloc: Global, text: &[u8]) -> Result<Accepted, CaseFault> {
 fn run_pairs(
     alloc: Global,
     case: &Case,
-    accepted: &Accepted,
-    lowered: &Lowered,
+    forms: &Forms<'_>,
     found: &mut Vec<Mismatch>,
 ) -> Result<u64, CaseFault> {
     let mut count = 0u64;
@@ -71,7 +96,7 @@ fn run_pairs(
         match (section.word, before) {
             (Word::Before, None) => before = Some(section),
             (Word::After, Some(state)) => {
-                run_pair(alloc, accepted, lowered, state, section, found)?;
+                run_pair(alloc, forms, state, section, found)?;
                 before = None;
                 count = count.wrapping_add(1);
             }
@@ -93,21 +118,20 @@ fn run_pairs(
 
 fn run_pair(
     alloc: Global,
-    accepted: &Accepted,
-    lowered: &Lowered,
+    forms: &Forms<'_>,
     before: &Section,
     after: &Section,
     found: &mut Vec<Mismatch>,
 ) -> Result<(), CaseFault> {
     let before = state_of(alloc, before)?;
     let after = state_of(alloc, after)?;
-    let program = &accepted.program;
+    let program = &forms.accepted.program;
     let Some(state) = interpreted_scan(alloc, program, &before)? else {
         let reason = "a state before a scan is none of the program's";
         return Err(malformed(alloc, reason, ""));
     };
     compare_states(alloc, "state behind a scan", &after, &state, found)?;
-    let store = flat_scan(alloc, &accepted.flat, &before)?;
+    let store = flat_scan(alloc, &forms.accepted.flat, &before)?;
     let cells = store.get(..program.cells.len()).unwrap_or(&store);
     compare_states(
         alloc,
@@ -116,7 +140,15 @@ fn run_pair(
         cells,
         found,
     )?;
-    let state = lowered_scan(alloc, program, lowered, &before)?;
+    let state = node_scan(alloc, forms.nodes, &before)?;
+    compare_states(
+        alloc,
+        "state behind a scan by its nodes",
+        &after,
+        &state,
+        found,
+    )?;
+    let state = lowered_scan(alloc, program, forms.lowered, &before)?;
     compare_states(
         alloc,
         "state behind a scan without charts",

@@ -1,31 +1,13 @@
--- Tests of a chart that are joined, and its statements, one part behind the other.
-use Rattle.std.proofs.Common.{◌≡◌, ℕ, zero, suc, ◌+◌, ◌<◌, false, List, [], ◌∷◌, ◌++◌, length, map, drop, pos, refl, ap, arith, append_assoc, length-append}
-use Rattle.std.specs.Prelude.{◌==◌}
-use Rattle.st_tree.specs.declared.token.Operator.{Operator}
-use Rattle.st_tree.specs.declared.elementary.Elementary.TheVariants as types
-use Rattle.st_tree.specs.declared.typed.Operand.{Operand}
-use Rattle.st_tree.specs.declared.typed.StepCells.{StepCells}
-use Rattle.st_tree.specs.Tree.{Expression, number, chain, operand, TransitionData, chart, Actions}
-use Rattle.st_tree.specs.View.{operands_of, operands_view}
+-- The statements of a chart, one part behind the other.
+use Rattle.std.proofs.Common.{◌≡◌, ℕ, zero, suc, ◌+◌, ◌<◌, List, [], ◌∷◌, ◌++◌, length, drop, pos, refl, ap, arith, append_assoc, length-append}
+use Rattle.program_tree.specs.declared.typed.StepCells.{StepCells}
+use Rattle.program_tree.specs.Tree.{number, TransitionData, chart, Actions}
 use Rattle.flat_core.specs.declared.flat_tree.Scratch.{Scratch}
 use Rattle.flat_core.specs.FlatTree.{FlatStatement, set}
 use Rattle.flat_form.specs.Owners.{OwnerData}
 use Rattle.flat_form.specs.Bodies.{Bodies}
-use Rattle.flat_form.specs.FlatCharts.{operands_by, joining, joined_to, latch_list, flag_cell, flags_of, clear_flags, flat_transitions, mark_list}
+use Rattle.flat_form.specs.FlatCharts.{latch_list, flag_cell, flags_of, clear_flags, flat_transitions, mark_list}
 use Rattle.flat_form.specs.FlatLists.{scratch_of_actions, flat_of, flat_actions}
-
--- some operands behind the first
-pub joined_to-some : (e : Expression) (os : List Operand) → (length os == 0) ≡ false → chain e (operands_view os) ≡ joined_to e (operands_view os)
-joined_to-some e [] h = cc
-joined_to-some e (o ∷ os) h = refl
-
-pub operands_by-all : (o : Operator) (es : List Expression) → operands_of (map (joining o) es) ≡ operands_by o es
-operands_by-all o [] = refl
-operands_by-all o (e ∷ es) = ap (operand o types.Bool e) (operands_by-all o es)
-
-pub operands_by-map : (o : Operator) (f : ℕ → Expression) (list : List ℕ) → operands_of (map (λ i. joining o (f i)) list) ≡ operands_by o (map f list)
-operands_by-map o f [] = refl
-operands_by-map o f (i ∷ list) = ap (operand o types.Bool (f i)) (operands_by-map o f list)
 
 -- ---- the flags of one more step
 
@@ -54,14 +36,14 @@ module _ (steps : List StepCells) (i cells : ℕ) (below : i < length steps) (ma
 -- ---- a chart
 
 module _ (bodies : Bodies) (owner : OwnerData) (base cells : ℕ) (steps : List StepCells) (actions : Actions) (ts : List TransitionData) (made made1 made2 : List Scratch)
-    (is_made1 : made1 ≡ made ++ scratch_of_actions bodies owner.kinds base actions) (is_made2 : made2 ≡ made1 ++ flags_of steps) where
+    (is_made1 : made1 ≡ made ++ scratch_of_actions bodies actions) (is_made2 : made2 ≡ made1 ++ flags_of steps) where
   pub chart-listed : (out out1 out2 out3 out4 out5 : List FlatStatement) (flags : ℕ) → flags ≡ cells + length made1
       → out1 ≡ out ++ latch_list owner base steps actions → out2 ≡ out1 ++ flat_actions bodies owner base steps actions (cells + length made) → out3 ≡ out2 ++ clear_flags steps (cells + length made1)
       → out4 ≡ out3 ++ flat_transitions bodies owner base steps flags ts (cells + length made2) → out5 ≡ out4 ++ mark_list owner base steps flags
       → out5 ≡ out ++ flat_of bodies owner base (chart steps actions ts) (cells + length made)
   chart-listed out out1 out2 out3 out4 out5 flags is_flags is_out1 is_out2 is_out3 is_out4 is_out5 =
-      let t1 : cells + length made1 ≡ cells + length made + length (scratch_of_actions bodies owner.kinds base actions)
-      = omega (arith, ap length is_made1, length-append made (scratch_of_actions bodies owner.kinds base actions)) in
-      let t2 : cells + length made2 ≡ cells + length made + length (scratch_of_actions bodies owner.kinds base actions) + length (flags_of steps)
+      let t1 : cells + length made1 ≡ cells + length made + length (scratch_of_actions bodies actions)
+      = omega (arith, ap length is_made1, length-append made (scratch_of_actions bodies actions)) in
+      let t2 : cells + length made2 ≡ cells + length made + length (scratch_of_actions bodies actions) + length (flags_of steps)
       = omega (arith, t1, ap length is_made2, length-append made1 (flags_of steps)) in
       rw (is_out5, is_out4, is_out3, is_out2, is_out1, is_flags, t2, t1) (simp append_assoc)

@@ -1,6 +1,6 @@
 -- The turns of a FOR, one at a time.
 use Rattle.std.proofs.Common.{◌≡◌, ℕ, suc, ◌+◌, ◌-◌, ◌<◌, List, [], ◌∷◌, ◌++◌, ℤ, ◌+ℤ◌, append_assoc, arith}
-use Rattle.st_tree.specs.Tree.{number}
+use Rattle.program_tree.specs.Tree.{number}
 use Rattle.flat_core.specs.declared.flat_tree.Scratch.{Scratch}
 use Rattle.flat_core.specs.FlatTree.{FlatStatement, set}
 use Rattle.flat_form.specs.FlatLists.{repeated, unrolled}

@@ -1,7 +1,7 @@
 -- Why a program has no flat form.
 use Rattle.std.specs.Prelude.{◌≡◌, true, false}
-use Rattle.st_tree.specs.Tree.{ProgramData}
-use Rattle.st_tree.specs.declared.rule.Rule.TheVariants.{TooManyStatements}
+use Rattle.program_tree.specs.Tree.{ProgramData}
+use Rattle.rules.specs.declared.rule.Rule.TheVariants.{TooManyStatements}
 use Rattle.scan_model.specs.InRange.{IsProgram}
 use Rattle.flat_form.specs.FlatPrograms.{is_short}
 use Rattle.flat_form.specs.WellTyped.{IsWellTyped}

@@ -1,26 +1,25 @@
 // Expressions, with the statements that their calls become.
 ghost use Rattle.std.specs.Prelude.{◌≡◌, ◌+◌, ◌++◌, length, IfOk, OnOk};
-ghost use Rattle.st_tree.specs.Tree.{answer};
-ghost use Rattle.st_tree.specs.View.{expr_view, operands_view, arguments_view};
+ghost use Rattle.program_tree.specs.Tree.{answer};
+ghost use Rattle.program_tree.specs.View.{expr_view, operands_view, arguments_view};
 ghost use Rattle.flat_core.specs.FlatView.{flats_view};
-ghost use Rattle.fb_inline.specs.Views.{frame_view};
-ghost use Rattle.fb_inline.specs.Views.{owner_view};
+ghost use Rattle.flat_charts.specs.Views.{frame_view};
+ghost use Rattle.flat_charts.specs.Views.{owner_view};
 ghost use Rattle.flat_form.specs.Calls.{scratch_in, operand_scratch, all_scratch, input_scratch, moved, moved_operands, all_moved, before, operands_before, all_before, inputs_before, input_places};
-ghost use Rattle.fb_inline.specs.Views.{bodies_here, IsKnown};
+ghost use Rattle.flat_charts.specs.Views.{bodies_here, IsKnown};
 
 use crate::frames::{put_input, put_others, put_start};
-use crate::places::{cell_at, place_at};
-use crate::scope::{FlatScope, Owner};
 use crate::statements::flatten_all;
+use flat_charts::{FlatScope, Owner, cell_at, place_at};
 use flat_core::{FlatStmt, Scratch};
-use st_tree::{Called, Frame, Operand, TypedExpr};
+use program_tree::{Called, Frame, Operand, TypedExpr};
 use std::alloc::{AllocError, Global};
 
 /// Appends the statements that the calls of an expression become; the expression that is left.
 #[cycle(flatten)]
 pub fn flatten_expr(
     expr: &TypedExpr,
-    scope: &FlatScope<'_>,
+    scope: &FlatScope<'_, '_>,
     scratch: &mut Vec<Scratch>,
     out: &mut Vec<FlatStmt>,
     alloc: Global,
@@ -57,7 +56,7 @@ pub fn flatten_expr(
 #[cycle(flatten)]
 fn flatten_operands(
     operands: &[Operand],
-    scope: &FlatScope<'_>,
+    scope: &FlatScope<'_, '_>,
     scratch: &mut Vec<Scratch>,
     out: &mut Vec<FlatStmt>,
     alloc: Global,
@@ -84,7 +83,7 @@ fn flatten_operands(
 #[cycle(flatten)]
 fn flatten_exprs(
     list: &[TypedExpr],
-    scope: &FlatScope<'_>,
+    scope: &FlatScope<'_, '_>,
     scratch: &mut Vec<Scratch>,
     out: &mut Vec<FlatStmt>,
     alloc: Global,
@@ -109,7 +108,7 @@ fn flatten_exprs(
 fn flatten_answer(
     inputs: &[TypedExpr],
     function: usize,
-    scope: &FlatScope<'_>,
+    scope: &FlatScope<'_, '_>,
     scratch: &mut Vec<Scratch>,
     out: &mut Vec<FlatStmt>,
     alloc: Global,
@@ -129,7 +128,7 @@ fn flatten_answer(
             let answer = put_start(frame, 1, scope.cells, scratch, out)?;
             let call = FlatScope {
                 cells: scope.cells,
-                owner: Owner::Call(&frame.types, answer, &places),
+                owner: Owner::Call(answer, &places),
                 base: 0,
                 called: scope.called,
                 idle: scope.idle,
@@ -147,7 +146,7 @@ fn flatten_answer(
 fn flatten_inputs(
     inputs: &[TypedExpr],
     frame: &Frame,
-    scope: &FlatScope<'_>,
+    scope: &FlatScope<'_, '_>,
     scratch: &mut Vec<Scratch>,
     out: &mut Vec<FlatStmt>,
     alloc: Global,

@@ -1,27 +1,24 @@
 // The flat statements of a chart that its steps and latches alone become.
 ghost use Rattle.std.specs.Prelude.{◌≡◌, ◌+◌, ◌++◌, ◌∷◌, [], length, map, pos, IfOk, OnOk};
-ghost use Rattle.st_tree.specs.Tree.{number};
-ghost use Rattle.st_tree.specs.View.{action_view, actions_view};
+ghost use Rattle.program_tree.specs.Tree.{number};
+ghost use Rattle.program_tree.specs.View.{action_view, actions_view};
 ghost use Rattle.flat_core.specs.FlatTree.{set};
 ghost use Rattle.flat_core.specs.FlatView.{flats_view};
-ghost use Rattle.fb_inline.specs.Views.{owner_view};
+ghost use Rattle.flat_charts.specs.Views.{owner_view};
 ghost use Rattle.flat_form.specs.FlatCharts.{latch_set, latch_list, flag_cell, flags_of, clear_flags, left_flag, left_set, come_set, fired_list, mark_before, mark_active, mark_list};
 
-use crate::chart_tests::{latch_test, left_flag, own_cell};
-use crate::joins::{joined, without};
-use crate::kinds::range;
-use crate::places::{cell_at, place_at};
-use crate::puts::{new_scratch, put_number, put_set};
-use crate::scope::FlatScope;
+use crate::puts::{new_scratch, put_number, put_set, whole_cell};
+use flat_charts::{FlatScope, cell_at, joined, latch_test, left_flag, own_cell, place_at, without};
 use flat_core::{FlatStmt, Scratch};
-use st_tree::{Elementary, Operator, StepCells, TypedAction};
+use plc_types::{Elementary, Operator};
+use program_tree::{StepCells, TypedAction};
 use std::alloc::{AllocError, Global};
 
 /// Sets the latches of actions.
 pub fn put_latches(
     actions: &[TypedAction],
     steps: &[StepCells],
-    scope: &FlatScope<'_>,
+    scope: &FlatScope<'_, '_>,
     out: &mut Vec<FlatStmt>,
     alloc: Global,
 ) -> Result<(), AllocError>
@@ -37,7 +34,7 @@ pub fn put_latches(
 fn put_latch(
     action: &TypedAction,
     steps: &[StepCells],
-    scope: &FlatScope<'_>,
+    scope: &FlatScope<'_, '_>,
     out: &mut Vec<FlatStmt>,
     alloc: Global,
 ) -> Result<(), AllocError>
@@ -79,12 +76,7 @@ fn put_flag(
     ensures list { OnOk result (flats_view out.new.items ≡ flats_view out.old.items ++ set (cells + length scratch.old.items) (number (pos 0)) ∷ []) }
     ensures scratch { OnOk result (scratch.new.items ≡ scratch.old.items ++ flag_cell ∷ []) }
 {
-    let flag = Scratch {
-        kind: Elementary::Bool,
-        range: range(Elementary::Bool),
-        limited: false,
-    };
-    let place = new_scratch(flag, cells, scratch)?;
+    let place = new_scratch(whole_cell(Elementary::Bool), cells, scratch)?;
     put_number(out, place, 0)
 }
 
@@ -127,7 +119,7 @@ fn put_come(list: &[usize], flags: usize, out: &mut Vec<FlatStmt>) -> Result<(),
 pub fn put_marks(
     steps: &[StepCells],
     flags: usize,
-    scope: &FlatScope<'_>,
+    scope: &FlatScope<'_, '_>,
     out: &mut Vec<FlatStmt>,
     alloc: Global,
 ) -> Result<(), AllocError>
@@ -145,7 +137,7 @@ pub fn put_marks(
 fn put_mark(
     step: StepCells,
     left: usize,
-    scope: &FlatScope<'_>,
+    scope: &FlatScope<'_, '_>,
     out: &mut Vec<FlatStmt>,
     alloc: Global,
 ) -> Result<(), AllocError>

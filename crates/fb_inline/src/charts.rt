@@ -1,22 +1,21 @@
 // Charts as flat statements.
 ghost use Rattle.std.specs.Prelude.{◌≡◌, ◌+◌, ◌++◌, ◌∷◌, [], length, OnOk};
-ghost use Rattle.st_tree.specs.Tree.{chart};
-ghost use Rattle.st_tree.specs.View.{action_view, actions_view, transition_view, transitions_view};
+ghost use Rattle.program_tree.specs.Tree.{chart};
+ghost use Rattle.program_tree.specs.View.{action_view, actions_view, transition_view, transitions_view};
 ghost use Rattle.flat_core.specs.FlatView.{flats_view};
-ghost use Rattle.fb_inline.specs.Views.{owner_view};
+ghost use Rattle.flat_charts.specs.Views.{owner_view};
 ghost use Rattle.flat_form.specs.Calls.{scratch_in};
 ghost use Rattle.flat_form.specs.FlatCharts.{scratch_of_transitions, flat_transition, flat_transitions};
 ghost use Rattle.flat_form.specs.FlatLists.{scratch_of, scratch_of_actions, scratch_of_action, flat_of, flat_actions, flat_action};
-ghost use Rattle.fb_inline.specs.Views.{bodies_here, IsKnown};
+ghost use Rattle.flat_charts.specs.Views.{bodies_here, IsKnown};
 
 use crate::calls::flatten_expr;
 use crate::chart_lists::{put_fired, put_flags, put_latches, put_marks};
-use crate::chart_tests::{ready_test, runs_test};
 use crate::puts::put_branch;
-use crate::scope::FlatScope;
 use crate::statements::flatten_all;
+use flat_charts::{FlatScope, ready_test, runs_test};
 use flat_core::{FlatStmt, Scratch};
-use st_tree::{StepCells, TypedAction, TypedTransition};
+use program_tree::{StepCells, TypedAction, TypedTransition};
 use std::alloc::{AllocError, Global};
 
 /// Appends the flat list of a chart, and its scratch cells.
@@ -25,7 +24,7 @@ pub fn flatten_chart(
     steps: &[StepCells],
     actions: &[TypedAction],
     transitions: &[TypedTransition],
-    scope: &FlatScope<'_>,
+    scope: &FlatScope<'_, '_>,
     scratch: &mut Vec<Scratch>,
     out: &mut Vec<FlatStmt>,
     alloc: Global,
@@ -34,7 +33,7 @@ pub fn flatten_chart(
     ensures list { OnOk result (flats_view out.new.items
         ≡ flats_view out.old.items ++ flat_of (bodies_here scope.now) (owner_view scope.now.owner) scope.now.base (chart steps.now (actions_view actions.now) (transitions_view transitions.now)) (scope.now.cells + length scratch.old.items)) }
     ensures scratch { OnOk result (scratch.new.items
-        ≡ scratch.old.items ++ scratch_of (bodies_here scope.now) (owner_view scope.now.owner).kinds scope.now.base (chart steps.now (actions_view actions.now) (transitions_view transitions.now))) }
+        ≡ scratch.old.items ++ scratch_of (bodies_here scope.now) (chart steps.now (actions_view actions.now) (transitions_view transitions.now))) }
 {
     put_latches(actions, steps, scope, out, alloc)?;
     flatten_actions(actions, steps, scope, scratch, out, alloc)?;
@@ -49,7 +48,7 @@ pub fn flatten_chart(
 fn flatten_actions(
     actions: &[TypedAction],
     steps: &[StepCells],
-    scope: &FlatScope<'_>,
+    scope: &FlatScope<'_, '_>,
     scratch: &mut Vec<Scratch>,
     out: &mut Vec<FlatStmt>,
     alloc: Global,
@@ -57,7 +56,7 @@ fn flatten_actions(
     requires known { IsKnown scope.now }
     ensures list { OnOk result (flats_view out.new.items
         ≡ flats_view out.old.items ++ flat_actions (bodies_here scope.now) (owner_view scope.now.owner) scope.now.base steps.now (actions_view actions.now) (scope.now.cells + length scratch.old.items)) }
-    ensures scratch { OnOk result (scratch.new.items ≡ scratch.old.items ++ scratch_of_actions (bodies_here scope.now) (owner_view scope.now.owner).kinds scope.now.base (actions_view actions.now)) }
+    ensures scratch { OnOk result (scratch.new.items ≡ scratch.old.items ++ scratch_of_actions (bodies_here scope.now) (actions_view actions.now)) }
 {
     for action in actions {
         flatten_action(action, steps, scope, scratch, out, alloc)?;
@@ -69,7 +68,7 @@ fn flatten_actions(
 fn flatten_action(
     action: &TypedAction,
     steps: &[StepCells],
-    scope: &FlatScope<'_>,
+    scope: &FlatScope<'_, '_>,
     scratch: &mut Vec<Scratch>,
     out: &mut Vec<FlatStmt>,
     alloc: Global,
@@ -77,7 +76,7 @@ fn flatten_action(
     requires known { IsKnown scope.now }
     ensures list { OnOk result (flats_view out.new.items
         ≡ flats_view out.old.items ++ flat_action (bodies_here scope.now) (owner_view scope.now.owner) scope.now.base steps.now (action_view action.now) (scope.now.cells + length scratch.old.items)) }
-    ensures scratch { OnOk result (scratch.new.items ≡ scratch.old.items ++ scratch_of_action (bodies_here scope.now) (owner_view scope.now.owner).kinds scope.now.base (action_view action.now)) }
+    ensures scratch { OnOk result (scratch.new.items ≡ scratch.old.items ++ scratch_of_action (bodies_here scope.now) (action_view action.now)) }
 {
     if action.associations.is_empty() {
         return Ok(());
@@ -95,7 +94,7 @@ fn flatten_transitions(
     transitions: &[TypedTransition],
     steps: &[StepCells],
     flags: usize,
-    scope: &FlatScope<'_>,
+    scope: &FlatScope<'_, '_>,
     scratch: &mut Vec<Scratch>,
     out: &mut Vec<FlatStmt>,
     alloc: Global,
@@ -117,7 +116,7 @@ fn flatten_transition(
     transition: &TypedTransition,
     steps: &[StepCells],
     flags: usize,
-    scope: &FlatScope<'_>,
+    scope: &FlatScope<'_, '_>,
     scratch: &mut Vec<Scratch>,
     out: &mut Vec<FlatStmt>,
     alloc: Global,

@@ -1,6 +1,6 @@
 // Why a program has no flat form.
 use flat_typing::TypingFault;
-use st_tree::Refusal;
+use rules::Refusal;
 use std::alloc::AllocError;
 use thiserror::Error;
 

@@ -1,38 +1,17 @@
 // The cells of calls, as scratch cells.
 ghost use Rattle.std.specs.Prelude.{◌≡◌, ◌+◌, ◌++◌, ◌∷◌, [], length, IfOk, OnOk};
-ghost use Rattle.st_tree.specs.Tree.{number};
-ghost use Rattle.st_tree.specs.View.{expr_view};
+ghost use Rattle.program_tree.specs.Tree.{number};
+ghost use Rattle.program_tree.specs.View.{expr_view};
 ghost use Rattle.flat_core.specs.FlatTree.{set};
 ghost use Rattle.flat_core.specs.FlatView.{flats_view};
-ghost use Rattle.effects.specs.Effects.{range_at};
-ghost use Rattle.flat_form.specs.Frames.{type_at, scratch_at, initial_at, input_start, others_behind, other_scratch, other_starts, places_of};
-ghost use Rattle.fb_inline.specs.Views.{frame_view};
+ghost use Rattle.flat_form.specs.Frames.{scratch_at, initial_at, input_start, others_behind, other_scratch, other_starts, places_of};
+ghost use Rattle.flat_charts.specs.Views.{frame_view};
 
 use crate::puts::{new_scratch, put_number, put_set};
 use flat_core::{FlatStmt, Scratch};
-use st_tree::{CellType, DataType, Frame, Range, TypedExpr};
+use flat_form::{range_at, type_at};
+use program_tree::{Frame, TypedExpr};
 use std::alloc::AllocError;
-
-/// The type of a cell that is none.
-pub const NO_TYPE: CellType = CellType {
-    kind: DataType::Unknown,
-    limited: false,
-};
-
-const NO_RANGE: Range = Range { low: 1, high: 0 };
-
-/// The type of a frame's cell.
-pub fn type_at(types: &[CellType], place: usize) -> CellType
-    ensures { result ≡ type_at types.now place }
-{
-    types.get(place).copied().unwrap_or(NO_TYPE)
-}
-
-fn range_at(ranges: &[Range], place: usize) -> Range
-    ensures { result ≡ range_at ranges.now place }
-{
-    ranges.get(place).copied().unwrap_or(NO_RANGE)
-}
 
 fn initial_at(frame: &Frame, place: usize) -> i64
     ensures { result ≡ initial_at (frame_view frame.now) place }

@@ -1,11 +1,12 @@
 // Tests of the labels of a CASE.
 ghost use Rattle.std.specs.Prelude.{◌≡◌, map, IfOk};
-ghost use Rattle.st_tree.specs.View.{expr_view, operand_view};
-ghost use Rattle.st_tree.specs.declared.typed.TypedLabel.TheVariants.{Span};
+ghost use Rattle.program_tree.specs.View.{expr_view, operand_view};
+ghost use Rattle.program_tree.specs.declared.typed.TypedLabel.TheVariants.{Span};
 ghost use Rattle.flat_form.specs.FlatLists.{label_test, or_test, labels_test};
 
-use crate::joins::{chain, joined};
-use st_tree::{Elementary, Operand, Operator, Range, TypedExpr, TypedLabel};
+use flat_charts::{chain, joined};
+use plc_types::{Elementary, Operator, Range};
+use program_tree::{Operand, TypedExpr, TypedLabel};
 use std::alloc::{AllocError, Global};
 
 /// Whether the value at a place is one of those of labels: their tests, joined by OR from the left.

@@ -1,23 +1,23 @@
 // The flat form of a program.
 ghost use Rattle.std.specs.Prelude.{◌≡◌, IfOk, MatchResult, IsTrue};
-ghost use Rattle.st_tree.specs.View.{cells_view, program_view};
-ghost use Rattle.flat_core.specs.FlatRules.{IsFlat};
+ghost use Rattle.program_tree.specs.View.{cells_view, program_view};
+ghost use Rattle.scan_model.specs.InRange.{IsProgram};
 ghost use Rattle.flat_core.specs.FlatView.{flat_program_view};
 ghost use Rattle.flat_form.specs.FlatLaws.{LeavesTheSame};
 ghost use Rattle.flat_form.specs.FlatPrograms.{flat_program, is_short};
+ghost use Rattle.flat_form.specs.WellTyped.{IsWellTyped};
 ghost use Rattle.fb_inline.specs.Faults.{IsFault};
 
-use crate::count::{count_all, count_pous};
-use crate::counts::Counts;
 use crate::fault::FlatFault;
 use crate::puts::put_number;
-use crate::scope::{FlatScope, Owner};
 use crate::statements::flatten_all;
-use crate::sums::MOST_STATEMENTS;
+use flat_charts::{FlatScope, Owner};
 use flat_core::Flat;
+use flat_count::is_short;
 use flat_form::idle_blocks;
 use flat_typing::check_program;
-use st_tree::{Cell, Program, Refusal, Rule};
+use program_tree::{Cell, Program};
+use rules::{Refusal, Rule};
 use std::alloc::{AllocError, Global};
 
 /// The flat form of a program; none that has more than 200,000 statements, which are counted before any is built, and then none of a
@@ -26,7 +26,6 @@ pub fn flatten(alloc: Global, program: &Program) -> Result<Flat, FlatFault>
     ensures list { IfOk result (λ f. flat_program_view f ≡ flat_program (program_view program.now)) }
     ensures refused { MatchResult result (λ f. IsTrue (is_short (program_view program.now))) (λ e. IsFault (program_view program.now) e) }
     ensures meaning { IfOk result (λ f. LeavesTheSame (program_view program.now) (flat_program_view f)) }
-    ensures rules { IfOk result (λ f. IsFlat (flat_program_view f)) }
 {
     if !is_short(alloc, program)? {
         return Err(FlatFault::Refused(Refusal {
@@ -39,21 +38,10 @@ pub fn flatten(alloc: Global, program: &Program) -> Result<Flat, FlatFault>
     Ok(flat)
 }
 
-// Whether the flat form has at most 200,000 statements.
-fn is_short(alloc: Global, program: &Program) -> Result<bool, AllocError>
-    ensures { IfOk result (λ short. short ≡ is_short (program_view program.now)) }
-{
-    let pous = count_pous(&program.called, alloc)?;
-    let counts = Counts {
-        called: &program.called,
-        runs: &pous.runs,
-        bodies: &pous.bodies,
-    };
-    let count = count_all(&program.body, &counts);
-    Ok(count < MOST_STATEMENTS)
-}
-
+// The flat form of a well-typed program, which keeps the rules of flat programs.
 fn flat_program(alloc: Global, program: &Program) -> Result<Flat, AllocError>
+    requires program { IsProgram (program_view program.now) }
+    requires typed { IsWellTyped (program_view program.now) }
     ensures { IfOk result (λ f. flat_program_view f ≡ flat_program (program_view program.now)) }
 {
     let idle = idle_blocks(&program.called, alloc)?;
@@ -62,7 +50,7 @@ fn flat_program(alloc: Global, program: &Program) -> Result<Flat, AllocError>
     put_number(&mut body, 0, 0)?;
     let scope = FlatScope {
         cells: program.cells.len(),
-        owner: Owner::Program(&program.cells),
+        owner: Owner::Program,
         base: 0,
         called: &program.called,
         idle: &idle,

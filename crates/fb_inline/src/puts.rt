@@ -1,14 +1,15 @@
 // One more flat statement, arm or scratch cell.
 ghost use Rattle.std.specs.Prelude.{◌≡◌, ◌+◌, ◌++◌, ◌∷◌, [], length, IfOk, OnOk};
-ghost use Rattle.st_tree.specs.Tree.{number};
-ghost use Rattle.st_tree.specs.View.{expr_view};
+ghost use Rattle.program_tree.specs.Tree.{number};
+ghost use Rattle.program_tree.specs.View.{expr_view};
 ghost use Rattle.flat_core.specs.FlatTree.{set, branch, no_flats};
 ghost use Rattle.flat_core.specs.FlatView.{nested, flat_view, flats_of, flats_view, flat_arms_view};
-ghost use Rattle.flat_form.specs.FlatLists.{selector_cell};
+ghost use Rattle.flat_form.specs.Frames.{whole_cell};
 
-use crate::kinds::range;
 use flat_core::{FlatArm, FlatStmt, Scratch};
-use st_tree::{Elementary, TypedExpr};
+use flat_form::range_of;
+use plc_types::Elementary;
+use program_tree::TypedExpr;
 use std::alloc::{AllocError, Global};
 
 fn put(out: &mut Vec<FlatStmt>, flat: FlatStmt) -> Result<(), AllocError>
@@ -91,6 +92,17 @@ pub fn new_scratch(
     Ok(place)
 }
 
+/// A scratch cell that takes each value of a type.
+pub fn whole_cell(kind: Elementary) -> Scratch
+    ensures { result ≡ whole_cell kind }
+{
+    Scratch {
+        kind,
+        range: range_of(kind),
+        limited: false,
+    }
+}
+
 /// One more scratch cell, of a selector, which is set to its value; its place.
 pub fn put_selector(
     kind: Elementary,
@@ -100,16 +112,11 @@ pub fn put_selector(
     out: &mut Vec<FlatStmt>,
 ) -> Result<usize, AllocError>
     ensures place { IfOk result (λ place. place ≡ cells + length scratch.old.items) }
-    ensures scratch { OnOk result (scratch.new.items ≡ scratch.old.items ++ selector_cell kind ∷ []) }
+    ensures scratch { OnOk result (scratch.new.items ≡ scratch.old.items ++ whole_cell kind ∷ []) }
     ensures list { OnOk result (flats_view out.new.items
         ≡ flats_view out.old.items ++ set (cells + length scratch.old.items) (expr_view value) ∷ []) }
 {
-    let cell = Scratch {
-        kind,
-        range: range(kind),
-        limited: false,
-    };
-    let place = new_scratch(cell, cells, scratch)?;
+    let place = new_scratch(whole_cell(kind), cells, scratch)?;
     put_set(out, place, value)?;
     Ok(place)
 }

@@ -1,29 +1,28 @@
 // Statements as flat statements.
 ghost use Rattle.std.specs.Prelude.{◌≡◌, ◌+◌, ◌++◌, ◌∷◌, [], ◌+ℤ◌, length, IfOk, OnOk};
-ghost use Rattle.st_tree.specs.Tree.{cases};
-ghost use Rattle.st_tree.specs.View.{expr_view, stmt_view, stmts_view, arm_view, choices_view, entries_view};
+ghost use Rattle.program_tree.specs.Tree.{cases};
+ghost use Rattle.program_tree.specs.View.{expr_view, stmt_view, stmts_view, arm_view, choices_view, entries_view};
 ghost use Rattle.flat_core.specs.FlatView.{flats_view, flat_arms_view};
-ghost use Rattle.fb_inline.specs.Views.{owner_view};
+ghost use Rattle.flat_charts.specs.Views.{owner_view};
 ghost use Rattle.flat_form.specs.FlatLists.{scratch_of, scratch_of_all, scratch_of_choices, scratch_of_entries, repeated, flat_of, flat_of_all, flat_choices, flat_choice, scratch_of_choice, flat_entries, unrolled};
-ghost use Rattle.fb_inline.specs.Views.{bodies_here, IsKnown};
+ghost use Rattle.flat_charts.specs.Views.{bodies_here, IsKnown};
 
 use crate::calls::flatten_expr;
 use crate::charts::flatten_chart;
-use crate::kinds::kind_of;
 use crate::labels::labels_test;
-use crate::places::{base_at, place_at};
 use crate::puts::{put_arm, put_if, put_number, put_selector, put_set};
-use crate::scope::FlatScope;
+use flat_charts::{FlatScope, base_at, place_at};
 use flat_core::{FlatArm, FlatStmt, Scratch};
 use flat_form::is_idle_block;
-use st_tree::{Called, Elementary, Turns, TypedArm, TypedEntry, TypedExpr, TypedStmt};
+use plc_types::Elementary;
+use program_tree::{Called, Turns, TypedArm, TypedEntry, TypedExpr, TypedStmt};
 use std::alloc::{AllocError, Global};
 
 /// Appends the flat list of statements over cells, and their scratch cells.
 #[cycle(flatten)]
 pub fn flatten_all(
     list: &[TypedStmt],
-    scope: &FlatScope<'_>,
+    scope: &FlatScope<'_, '_>,
     scratch: &mut Vec<Scratch>,
     out: &mut Vec<FlatStmt>,
     alloc: Global,
@@ -31,7 +30,7 @@ pub fn flatten_all(
     requires known { IsKnown scope.now }
     ensures list { OnOk result (flats_view out.new.items
         ≡ flats_view out.old.items ++ flat_of_all (bodies_here scope.now) (owner_view scope.now.owner) scope.now.base (stmts_view list.now) (scope.now.cells + length scratch.old.items)) }
-    ensures scratch { OnOk result (scratch.new.items ≡ scratch.old.items ++ scratch_of_all (bodies_here scope.now) (owner_view scope.now.owner).kinds scope.now.base (stmts_view list.now)) }
+    ensures scratch { OnOk result (scratch.new.items ≡ scratch.old.items ++ scratch_of_all (bodies_here scope.now) (stmts_view list.now)) }
 {
     for stmt in list {
         flatten_one(stmt, scope, scratch, out, alloc)?;
@@ -42,7 +41,7 @@ pub fn flatten_all(
 #[cycle(flatten)]
 fn flatten_one(
     stmt: &TypedStmt,
-    scope: &FlatScope<'_>,
+    scope: &FlatScope<'_, '_>,
     scratch: &mut Vec<Scratch>,
     out: &mut Vec<FlatStmt>,
     alloc: Global,
@@ -50,7 +49,7 @@ fn flatten_one(
     requires known { IsKnown scope.now }
     ensures list { OnOk result (flats_view out.new.items
         ≡ flats_view out.old.items ++ flat_of (bodies_here scope.now) (owner_view scope.now.owner) scope.now.base (stmt_view stmt.now) (scope.now.cells + length scratch.old.items)) }
-    ensures scratch { OnOk result (scratch.new.items ≡ scratch.old.items ++ scratch_of (bodies_here scope.now) (owner_view scope.now.owner).kinds scope.now.base (stmt_view stmt.now)) }
+    ensures scratch { OnOk result (scratch.new.items ≡ scratch.old.items ++ scratch_of (bodies_here scope.now) (stmt_view stmt.now)) }
 {
     match stmt {
         TypedStmt::Assign(target, expr) => {
@@ -68,8 +67,8 @@ fn flatten_one(
             flatten_all(other, scope, scratch, &mut rest, alloc)?;
             put_if(out, flat_arms, rest)
         }
-        TypedStmt::Case(selector, entries, other) => {
-            flatten_case(selector, entries, other, scope, scratch, out, alloc)
+        TypedStmt::Case(kind, selector, entries, other) => {
+            flatten_case(*kind, selector, entries, other, scope, scratch, out, alloc)
         }
         TypedStmt::For(turns, body) => unroll(body, *turns, scope, scratch, out, alloc),
         TypedStmt::Chart(steps, actions, transitions) => {
@@ -81,21 +80,21 @@ fn flatten_one(
 // A CASE.
 #[cycle(flatten)]
 fn flatten_case(
+    kind: Elementary,
     selector: &TypedExpr,
     entries: &[TypedEntry],
     other: &[TypedStmt],
-    scope: &FlatScope<'_>,
+    scope: &FlatScope<'_, '_>,
     scratch: &mut Vec<Scratch>,
     out: &mut Vec<FlatStmt>,
     alloc: Global,
 ) -> Result<(), AllocError>
     requires known { IsKnown scope.now }
     ensures list { OnOk result (flats_view out.new.items
-        ≡ flats_view out.old.items ++ flat_of (bodies_here scope.now) (owner_view scope.now.owner) scope.now.base (cases (expr_view selector.now) (entries_view entries.now) (stmts_view other.now)) (scope.now.cells + length scratch.old.items)) }
+        ≡ flats_view out.old.items ++ flat_of (bodies_here scope.now) (owner_view scope.now.owner) scope.now.base (cases kind (expr_view selector.now) (entries_view entries.now) (stmts_view other.now)) (scope.now.cells + length scratch.old.items)) }
     ensures scratch { OnOk result (scratch.new.items
-        ≡ scratch.old.items ++ scratch_of (bodies_here scope.now) (owner_view scope.now.owner).kinds scope.now.base (cases (expr_view selector.now) (entries_view entries.now) (stmts_view other.now))) }
+        ≡ scratch.old.items ++ scratch_of (bodies_here scope.now) (cases kind (expr_view selector.now) (entries_view entries.now) (stmts_view other.now))) }
 {
-    let kind = kind_of(selector, scope)?;
     let value = flatten_expr(selector, scope, scratch, out, alloc)?;
     let place = put_selector(kind, value, scope.cells, scratch, out)?;
     let mut flat_arms = Vec::new(alloc);
@@ -112,7 +111,7 @@ fn flatten_case(
 fn flatten_block(
     block: usize,
     offset: usize,
-    scope: &FlatScope<'_>,
+    scope: &FlatScope<'_, '_>,
     scratch: &mut Vec<Scratch>,
     out: &mut Vec<FlatStmt>,
     alloc: Global,
@@ -120,7 +119,7 @@ fn flatten_block(
     requires known { IsKnown scope.now }
     ensures list { OnOk result (flats_view out.new.items
         ≡ flats_view out.old.items ++ (bodies_here scope.now).run_list (owner_view scope.now.owner) block (scope.now.base + offset) (scope.now.cells + length scratch.old.items)) }
-    ensures scratch { OnOk result (scratch.new.items ≡ scratch.old.items ++ (bodies_here scope.now).run_scratch (owner_view scope.now.owner).kinds block (scope.now.base + offset)) }
+    ensures scratch { OnOk result (scratch.new.items ≡ scratch.old.items ++ (bodies_here scope.now).run_scratch block) }
 {
     if block < scope.below {
         if is_idle_block(scope.idle, block) {
@@ -147,7 +146,7 @@ fn flatten_block(
 #[cycle(flatten)]
 fn flatten_arms(
     arms: &[TypedArm],
-    scope: &FlatScope<'_>,
+    scope: &FlatScope<'_, '_>,
     scratch: &mut Vec<Scratch>,
     out: &mut Vec<FlatArm>,
     alloc: Global,
@@ -155,7 +154,7 @@ fn flatten_arms(
     requires known { IsKnown scope.now }
     ensures list { OnOk result (flat_arms_view out.new.items
         ≡ flat_arms_view out.old.items ++ flat_choices (bodies_here scope.now) (owner_view scope.now.owner) scope.now.base (choices_view arms.now) (scope.now.cells + length scratch.old.items)) }
-    ensures scratch { OnOk result (scratch.new.items ≡ scratch.old.items ++ scratch_of_choices (bodies_here scope.now) (owner_view scope.now.owner).kinds scope.now.base (choices_view arms.now)) }
+    ensures scratch { OnOk result (scratch.new.items ≡ scratch.old.items ++ scratch_of_choices (bodies_here scope.now) (choices_view arms.now)) }
 {
     for arm in arms {
         flatten_arm(arm, scope, scratch, out, alloc)?;
@@ -166,7 +165,7 @@ fn flatten_arms(
 #[cycle(flatten)]
 fn flatten_arm(
     arm: &TypedArm,
-    scope: &FlatScope<'_>,
+    scope: &FlatScope<'_, '_>,
     scratch: &mut Vec<Scratch>,
     out: &mut Vec<FlatArm>,
     alloc: Global,
@@ -174,7 +173,7 @@ fn flatten_arm(
     requires known { IsKnown scope.now }
     ensures list { OnOk result (flat_arms_view out.new.items
         ≡ flat_arms_view out.old.items ++ flat_choice (bodies_here scope.now) (owner_view scope.now.owner) scope.now.base (arm_view arm.now) (scope.now.cells + length scratch.old.items) ∷ []) }
-    ensures scratch { OnOk result (scratch.new.items ≡ scratch.old.items ++ scratch_of_choice (bodies_here scope.now) (owner_view scope.now.owner).kinds scope.now.base (arm_view arm.now)) }
+    ensures scratch { OnOk result (scratch.new.items ≡ scratch.old.items ++ scratch_of_choice (bodies_here scope.now) (arm_view arm.now)) }
 {
     let mut before = Vec::new(alloc);
     let condition = flatten_expr(&arm.condition, scope, scratch, &mut before, alloc)?;
@@ -190,7 +189,7 @@ fn flatten_entries(
     entries: &[TypedEntry],
     kind: Elementary,
     place: usize,
-    scope: &FlatScope<'_>,
+    scope: &FlatScope<'_, '_>,
     scratch: &mut Vec<Scratch>,
     out: &mut Vec<FlatArm>,
     alloc: Global,
@@ -198,7 +197,7 @@ fn flatten_entries(
     requires known { IsKnown scope.now }
     ensures list { OnOk result (flat_arms_view out.new.items
         ≡ flat_arms_view out.old.items ++ flat_entries (bodies_here scope.now) (owner_view scope.now.owner) scope.now.base kind place (entries_view entries.now) (scope.now.cells + length scratch.old.items)) }
-    ensures scratch { OnOk result (scratch.new.items ≡ scratch.old.items ++ scratch_of_entries (bodies_here scope.now) (owner_view scope.now.owner).kinds scope.now.base (entries_view entries.now)) }
+    ensures scratch { OnOk result (scratch.new.items ≡ scratch.old.items ++ scratch_of_entries (bodies_here scope.now) (entries_view entries.now)) }
 {
     for entry in entries {
         let mut body = Vec::new(alloc);
@@ -214,16 +213,16 @@ fn flatten_entries(
 fn unroll(
     body: &[TypedStmt],
     turns: Turns,
-    scope: &FlatScope<'_>,
+    scope: &FlatScope<'_, '_>,
     scratch: &mut Vec<Scratch>,
     out: &mut Vec<FlatStmt>,
     alloc: Global,
 ) -> Result<(), AllocError>
     requires known { IsKnown scope.now }
     ensures list { OnOk result (flats_view out.new.items
-        ≡ flats_view out.old.items ++ unrolled turns.count ((owner_view scope.now.owner).place_at (scope.now.base + turns.control)) turns.first turns.step (length (scratch_of_all (bodies_here scope.now) (owner_view scope.now.owner).kinds scope.now.base (stmts_view body.now)))
+        ≡ flats_view out.old.items ++ unrolled turns.count (owner_view scope.now.owner (scope.now.base + turns.control)) turns.first turns.step (length (scratch_of_all (bodies_here scope.now) (stmts_view body.now)))
         (flat_of_all (bodies_here scope.now) (owner_view scope.now.owner) scope.now.base (stmts_view body.now)) (scope.now.cells + length scratch.old.items)) }
-    ensures scratch { OnOk result (scratch.new.items ≡ scratch.old.items ++ repeated turns.count (scratch_of_all (bodies_here scope.now) (owner_view scope.now.owner).kinds scope.now.base (stmts_view body.now))) }
+    ensures scratch { OnOk result (scratch.new.items ≡ scratch.old.items ++ repeated turns.count (scratch_of_all (bodies_here scope.now) (stmts_view body.now))) }
 {
     let control = place_at(scope, turns.control)?;
     let mut value = turns.first;

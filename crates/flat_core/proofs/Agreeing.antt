@@ -2,11 +2,11 @@
 use Rattle.std.proofs.Common.{◌≡◌, ◌⊎◌, ℕ, zero, suc, ◌+◌, ◌-◌, ◌<◌, Bool, true, false, List, [], ◌∷◌, ◌++◌, length, take, ℤ, pos, refl, sym, ap, subst, ◌∙◌, inl, inr, arith, rules, tests, length-append, zero-add}
 use Rattle.std.specs.Prelude.{slice_set, slice_index_or, if◌then◌else◌, nat_lt}
 use Rattle.std.proofs.lemmas.List.{length-set, length-map}
-use Rattle.st_tree.specs.declared.typed.Range.{Range}
-use Rattle.st_tree.specs.Types.{in_range}
-use Rattle.st_tree.specs.Tree.{Expression, number, cell, unary, chain, call, answer, Operands, no_operands, operand, Expressions, no_expressions, expression, CellData}
-use Rattle.effects.specs.Values.{State, no_callees, value_of, value_on, values_of, faults, any_faults, one_faults, applied, is_truth}
-use Rattle.effects.specs.Effects.{range_at, with_fault}
+use Rattle.plc_types.specs.declared.range.Range.{Range}
+use Rattle.plc_types.specs.Types.{in_range}
+use Rattle.program_tree.specs.Tree.{Expression, number, cell, unary, chain, call, answer, Operands, no_operands, operand, Expressions, no_expressions, expression, CellData}
+use Rattle.meaning.specs.Values.{State, no_callees, value_of, value_on, values_of, faults, any_faults, one_faults, applied, is_truth}
+use Rattle.meaning.specs.Effects.{range_at, with_fault}
 use Rattle.scan_model.specs.Scans.{ranges_of}
 use Rattle.flat_core.specs.declared.flat_tree.Scratch.{Scratch}
 use Rattle.flat_core.specs.FlatTree.{FlatStatement, set, branch, FlatStatements, no_flats, flat}

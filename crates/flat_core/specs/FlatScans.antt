@@ -1,10 +1,10 @@
 -- What flat statements do to a store, which has the values of the cells and behind them those of the scratch cells, and one scan.
 -- They call nothing, and their cells begin at place 0.
 use Rattle.std.specs.Prelude.{ℕ, suc, zero, ◌-◌, List, [], ◌∷◌, ◌++◌, map, length, take, Bool, true, not, ◌||◌, nat_lt, slice_set, ℤ, pos, if◌then◌else◌}
-use Rattle.st_tree.specs.declared.typed.Range.{Range}
-use Rattle.st_tree.specs.Types.{in_range}
-use Rattle.effects.specs.Values.{State, no_callees, value_of, faults, is_truth}
-use Rattle.effects.specs.Effects.{with_fault, stored}
+use Rattle.plc_types.specs.declared.range.Range.{Range}
+use Rattle.plc_types.specs.Types.{in_range}
+use Rattle.meaning.specs.Values.{State, no_callees, value_of, faults, is_truth}
+use Rattle.meaning.specs.Effects.{with_fault, stored}
 use Rattle.scan_model.specs.Scans.{ranges_of}
 use Rattle.flat_core.specs.declared.flat_tree.Scratch.{Scratch}
 use Rattle.flat_core.specs.FlatTree.{FlatStatement, set, branch, FlatStatements, no_flats, flat, FlatData}

@@ -1,4 +1,5 @@
 pub mod FlatTree
+pub mod StatementView
 pub mod FlatView
 pub mod FlatScans
 pub mod FlatRules

@@ -1,5 +1,6 @@
-// Flat programs.
-use st_tree::{Cell, Elementary, Range, TypedExpr};
+// Flat statements and scratch cells.
+use plc_types::{Elementary, Range};
+use program_tree::TypedExpr;
 
 /// A cell that a scan sets before it reads it, so that no state has it: the elementary type whose numbers its values
 /// are, their range, and whether they are those of a subrange, which takes no others.
@@ -26,13 +27,5 @@ pub enum FlatStmt {
 pub struct FlatArm {
     pub before: Vec<FlatStmt>,
     pub condition: TypedExpr,
-    pub body: Vec<FlatStmt>,
-}
-
-/// A program in flat form: its cells, FAULT first, its scratch cells, and the statements of a scan.
-#[derive(Drop)]
-pub struct Flat {
-    pub cells: Vec<Cell>,
-    pub scratch: Vec<Scratch>,
     pub body: Vec<FlatStmt>,
 }

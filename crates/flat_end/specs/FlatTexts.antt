@@ -1,8 +1,8 @@
 -- The texts of programs that have a flat form, and which rule each other text breaks first.
 use Rattle.std.specs.Prelude.{◌≡◌, ℕ, List, false}
-use Rattle.st_tree.specs.declared.rule.Rule.TheVariants.{TooManyStatements}
-use Rattle.st_tree.specs.declared.rule.Refusal.{Refusal}
-use Rattle.st_tree.specs.Tree.{ProgramData}
+use Rattle.rules.specs.declared.rule.Rule.TheVariants.{TooManyStatements}
+use Rattle.rules.specs.declared.rule.Refusal.{Refusal}
+use Rattle.program_tree.specs.Tree.{ProgramData}
 use Rattle.flat_form.specs.FlatPrograms.{is_short}
 use Rattle.front_end.specs.Texts.{IsProgram, IsNoProgram}
 

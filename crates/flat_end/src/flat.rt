@@ -1,18 +1,18 @@
 // The program that a text states, handed on to its flat form.
 ghost use Rattle.std.specs.Prelude.{◌≡◌, IfOk, IfErr};
-ghost use Rattle.st_tree.specs.View.{program_view};
-ghost use Rattle.flat_core.specs.FlatRules.{IsFlat};
+ghost use Rattle.program_tree.specs.View.{program_view};
 ghost use Rattle.flat_core.specs.FlatView.{flat_program_view};
 ghost use Rattle.flat_form.specs.FlatPrograms.{flat_program};
 ghost use Rattle.flat_form.specs.FlatLaws.{LeavesTheSame};
 ghost use Rattle.front_end.specs.Texts.{IsProgram};
-ghost use Rattle.front_end.specs.Faults.{IfRefused};
+ghost use Rattle.rules.specs.Faults.{IfRefused};
 ghost use Rattle.flat_end.specs.FlatTexts.{HasNoFlatForm};
 
 use fb_inline::{FlatFault, flatten};
 use flat_core::Flat;
-use front_end::{AcceptFault, accept_text};
-use st_tree::Program;
+use front_end::accept_text;
+use program_tree::Program;
+use rules::Fault;
 use std::alloc::Global;
 
 /// A program and its flat form.
@@ -25,22 +25,21 @@ pub struct Accepted {
 /// The program that a text states and its flat form, or the first rule that it breaks: those of `accept_text`, and then that on the
 /// number of flat statements (M5). No text states a program that is not well typed as far as tests show; no law says so, and one that did
 /// would count as want of memory.
-pub fn accept_flat(alloc: Global, text: &[u8]) -> Result<Accepted, AcceptFault>
+pub fn accept_flat(alloc: Global, text: &[u8]) -> Result<Accepted, Fault>
     ensures program { IfOk result (λ a. IsProgram text.now (program_view a.program)) }
     ensures flat { IfOk result (λ a. flat_program_view a.flat ≡ flat_program (program_view a.program)) }
     ensures meaning { IfOk result (λ a. LeavesTheSame (program_view a.program) (flat_program_view a.flat)) }
-    ensures rules { IfOk result (λ a. IsFlat (flat_program_view a.flat)) }
     ensures refused { IfErr result (IfRefused (HasNoFlatForm text.now)) }
 {
     let program = match accept_text(alloc, text) {
         Ok(program) => program,
-        Err(AcceptFault::Refused(refusal)) => return Err(AcceptFault::Refused(refusal)),
-        Err(AcceptFault::Memory) => return Err(AcceptFault::Memory),
+        Err(Fault::Refused(refusal)) => return Err(Fault::Refused(refusal)),
+        Err(Fault::Memory) => return Err(Fault::Memory),
     };
     match flatten(alloc, &program) {
         Ok(flat) => Ok(Accepted { program, flat }),
-        Err(FlatFault::Refused(refusal)) => Err(AcceptFault::Refused(refusal)),
-        Err(FlatFault::Untyped) => Err(AcceptFault::Memory),
-        Err(FlatFault::Memory) => Err(AcceptFault::Memory),
+        Err(FlatFault::Refused(refusal)) => Err(Fault::Refused(refusal)),
+        Err(FlatFault::Untyped) => Err(Fault::Memory),
+        Err(FlatFault::Memory) => Err(Fault::Memory),
     }
 }

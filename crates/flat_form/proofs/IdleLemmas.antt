@@ -2,12 +2,11 @@
 use Rattle.std.proofs.Common.{◌≡◌, ℕ, zero, suc, ◌+◌, Bool, true, false, List, [], ◌++◌, length, refl, ap, ◌∙◌}
 use Rattle.std.proofs.lemmas.Bool.{and_parts}
 use Rattle.std.specs.Prelude.{◌==◌, slice_index_or, if◌then◌else◌}
-use Rattle.st_tree.specs.declared.data_type.DataType.{DataType}
-use Rattle.st_tree.specs.declared.typed.Range.{Range}
-use Rattle.st_tree.specs.Tree.{Statement, assign, run, choice, cases, repeat, chart, Statements, no_statements, statement, CalledData, block, function}
-use Rattle.effects.specs.Values.{State, Callees}
-use Rattle.effects.specs.Effects.{effect_of, effect_of_all}
-use Rattle.effects.specs.Calls.{nothing, run_of as effect_of_run, callees_of}
+use Rattle.plc_types.specs.declared.range.Range.{Range}
+use Rattle.program_tree.specs.Tree.{Statement, assign, run, choice, cases, repeat, chart, Statements, no_statements, statement, CalledData, block, function}
+use Rattle.meaning.specs.Values.{State, Callees}
+use Rattle.meaning.specs.Effects.{effect_of, effect_of_all}
+use Rattle.meaning.specs.Calls.{nothing, run_of as effect_of_run, callees_of}
 use Rattle.flat_core.specs.declared.flat_tree.Scratch.{Scratch}
 use Rattle.flat_core.specs.FlatTree.{FlatStatement}
 use Rattle.flat_form.specs.Owners.{OwnerData}
@@ -19,27 +18,27 @@ use Rattle.flat_form.specs.Idle.{is_idle, is_idle_all, idle_of}
 -- ---- statements, where each block that is told idle becomes and does nothing
 
 module _ (idle : ℕ → Bool) where
-  module _ (bodies : Bodies) (kinds : List DataType) (each : (b base : ℕ) → idle b ≡ true → bodies.run_scratch kinds b base ≡ []) where
-    one-scratch : (base : ℕ) (t : Statement) → is_idle idle t ≡ true → scratch_of bodies kinds base t ≡ []
-    one-scratch base (assign target e) h = cc
-    one-scratch base (run b offset) h = each b (base + offset) h
-    one-scratch base (choice arms other) h = cc
-    one-scratch base (cases e es other) h = cc
-    one-scratch base (repeat turns body) h = cc
-    one-scratch base (chart _ _ _) h = cc
+  module _ (bodies : Bodies) (each : (b : ℕ) → idle b ≡ true → bodies.run_scratch b ≡ []) where
+    one-scratch : (t : Statement) → is_idle idle t ≡ true → scratch_of bodies t ≡ []
+    one-scratch (assign target e) h = cc
+    one-scratch (run b offset) h = each b h
+    one-scratch (choice arms other) h = cc
+    one-scratch (cases kind e es other) h = cc
+    one-scratch (repeat turns body) h = cc
+    one-scratch (chart _ _ _) h = cc
 
-    all-scratch : (base : ℕ) (ts : Statements) → is_idle_all idle ts ≡ true → scratch_of_all bodies kinds base ts ≡ []
-    all-scratch base no_statements h = refl
-    all-scratch base (statement t ts) h =
+    all-scratch : (ts : Statements) → is_idle_all idle ts ≡ true → scratch_of_all bodies ts ≡ []
+    all-scratch no_statements h = refl
+    all-scratch (statement t ts) h =
         let each_holds = and_parts (is_idle idle t) (is_idle_all idle ts) h in
-        ap (λ (l : List Scratch). l ++ scratch_of_all bodies kinds base ts) (one-scratch base t each_holds.0) ∙ all-scratch base ts each_holds.1
+        ap (λ (l : List Scratch). l ++ scratch_of_all bodies ts) (one-scratch t each_holds.0) ∙ all-scratch ts each_holds.1
 
   module _ (bodies : Bodies) (owner : OwnerData) (each : (b base k : ℕ) → idle b ≡ true → bodies.run_list owner b base k ≡ []) where
     one-list : (base : ℕ) (t : Statement) (k : ℕ) → is_idle idle t ≡ true → flat_of bodies owner base t k ≡ []
     one-list base (assign target e) k h = cc
     one-list base (run b offset) k h = each b (base + offset) k h
     one-list base (choice arms other) k h = cc
-    one-list base (cases e es other) k h = cc
+    one-list base (cases kind e es other) k h = cc
     one-list base (repeat turns body) k h = cc
     one-list base (chart _ _ _) k h = cc
 
@@ -47,15 +46,15 @@ module _ (idle : ℕ → Bool) where
     all-list base no_statements k h = refl
     all-list base (statement t ts) k h =
         let each_holds = and_parts (is_idle idle t) (is_idle_all idle ts) h in
-        ap (λ (l : List FlatStatement). l ++ flat_of_all bodies owner base ts (k + length (scratch_of bodies owner.kinds base t))) (one-list base t k each_holds.0)
-        ∙ all-list base ts (k + length (scratch_of bodies owner.kinds base t)) each_holds.1
+        ap (λ (l : List FlatStatement). l ++ flat_of_all bodies owner base ts (k + length (scratch_of bodies t))) (one-list base t k each_holds.0)
+        ∙ all-list base ts (k + length (scratch_of bodies t)) each_holds.1
 
   module _ (callees : Callees) (rs : List Range) (each : (b base : ℕ) (s : State) → idle b ≡ true → callees.runs b rs base s ≡ s) where
     one-effect : (base : ℕ) (t : Statement) (s : State) → is_idle idle t ≡ true → effect_of callees rs base t s ≡ s
     one-effect base (assign target e) s h = cc
     one-effect base (run b offset) s h = each b (base + offset) s h
     one-effect base (choice arms other) s h = cc
-    one-effect base (cases e es other) s h = cc
+    one-effect base (cases kind e es other) s h = cc
     one-effect base (repeat turns body) s h = cc
     one-effect base (chart _ _ _) s h = cc
 
@@ -75,14 +74,14 @@ module _ (ps : List CalledData) where
   abbrev IdleBody : ℕ → ℕ → Bool → Type 0
   IdleBody n b test = (if test then is_idle_all (idle_of ps n) (block_body (slice_index_or ps n nothing)) else idle_of ps n b) ≡ true
 
-  next-scratch : (n : ℕ) (kinds : List DataType) (each : (b base : ℕ) → idle_of ps n b ≡ true → (bodies_of ps n).run_scratch kinds b base ≡ []) (b base : ℕ) (test : Bool) → IdleBody n b test
-      → (if test then scratch_of_all (bodies_of ps n) kinds base (block_body (slice_index_or ps n nothing)) else (bodies_of ps n).run_scratch kinds b base) ≡ []
-  next-scratch n kinds each b base true h = all-scratch (idle_of ps n) (bodies_of ps n) kinds each base (block_body (slice_index_or ps n nothing)) h
-  next-scratch n kinds each b base false h = each b base h
+  next-scratch : (n : ℕ) (each : (b : ℕ) → idle_of ps n b ≡ true → (bodies_of ps n).run_scratch b ≡ []) (b : ℕ) (test : Bool) → IdleBody n b test
+      → (if test then scratch_of_all (bodies_of ps n) (block_body (slice_index_or ps n nothing)) else (bodies_of ps n).run_scratch b) ≡ []
+  next-scratch n each b true h = all-scratch (idle_of ps n) (bodies_of ps n) each (block_body (slice_index_or ps n nothing)) h
+  next-scratch n each b false h = each b h
 
-  pub idle-scratch : (n : ℕ) (kinds : List DataType) (b base : ℕ) → idle_of ps n b ≡ true → (bodies_of ps n).run_scratch kinds b base ≡ []
-  idle-scratch zero kinds b base h = refl
-  idle-scratch (suc n) kinds b base h = next-scratch n kinds (idle-scratch n kinds) b base (b == n) h
+  pub idle-scratch : (n b : ℕ) → idle_of ps n b ≡ true → (bodies_of ps n).run_scratch b ≡ []
+  idle-scratch zero b h = refl
+  idle-scratch (suc n) b h = next-scratch n (idle-scratch n) b (b == n) h
 
   next-list : (n : ℕ) (owner : OwnerData) (each : (b base k : ℕ) → idle_of ps n b ≡ true → (bodies_of ps n).run_list owner b base k ≡ []) (b base k : ℕ) (test : Bool) → IdleBody n b test
       → (if test then flat_of_all (bodies_of ps n) owner base (block_body (slice_index_or ps n nothing)) k else (bodies_of ps n).run_list owner b base k) ≡ []
@@ -104,8 +103,8 @@ module _ (ps : List CalledData) where
 
   -- ---- statements that do nothing, over the first so many POUs
 
-  pub idle_body-scratch : (n : ℕ) (kinds : List DataType) (base : ℕ) (ts : Statements) → is_idle_all (idle_of ps n) ts ≡ true → scratch_of_all (bodies_of ps n) kinds base ts ≡ []
-  idle_body-scratch n kinds base ts h = all-scratch (idle_of ps n) (bodies_of ps n) kinds (idle-scratch n kinds) base ts h
+  pub idle_body-scratch : (n : ℕ) (ts : Statements) → is_idle_all (idle_of ps n) ts ≡ true → scratch_of_all (bodies_of ps n) ts ≡ []
+  idle_body-scratch n ts h = all-scratch (idle_of ps n) (bodies_of ps n) (idle-scratch n) ts h
 
   pub idle_body-list : (n : ℕ) (owner : OwnerData) (base : ℕ) (ts : Statements) (k : ℕ) → is_idle_all (idle_of ps n) ts ≡ true → flat_of_all (bodies_of ps n) owner base ts k ≡ []
   idle_body-list n owner base ts k h = all-list (idle_of ps n) (bodies_of ps n) owner (idle-list n owner) base ts k h

@@ -1,9 +1,9 @@
 -- When POUs may be run and called: what an idle block, a POU of a number, and one without a number owe.
 use Rattle.std.proofs.Common.{◌≡◌, ◌≢◌, ℕ, zero, suc, ◌<◌, ◌≤◌, Bool, true, false, List, refl, subst, arith, rules, tests}
 use Rattle.std.specs.Prelude.{◌==◌, slice_index_or, if◌then◌else◌}
-use Rattle.st_tree.specs.declared.typed.Range.{Range}
-use Rattle.st_tree.specs.Tree.{CalledData}
-use Rattle.effects.specs.Calls.{nothing}
+use Rattle.plc_types.specs.declared.range.Range.{Range}
+use Rattle.program_tree.specs.Tree.{CalledData}
+use Rattle.meaning.specs.Calls.{nothing}
 use Rattle.flat_form.specs.Frames.{frames_of, function_body}
 use Rattle.flat_form.specs.Pous.{block_body}
 use Rattle.flat_form.specs.Idle.{is_idle_all, idle_of}

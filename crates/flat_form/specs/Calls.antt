@@ -2,7 +2,7 @@
 -- before what asks for the value, and the expression that is left, where the result's scratch cell stands for each call. Calls are
 -- made from left to right, and those in a call's inputs before it.
 use Rattle.std.specs.Prelude.{ℕ, ◌+◌, List, [], ◌∷◌, ◌++◌, length}
-use Rattle.st_tree.specs.Tree.{Expression, number, cell, unary, chain, call, answer, Operands, no_operands, operand, Expressions, no_expressions, expression}
+use Rattle.program_tree.specs.Tree.{Expression, number, cell, unary, chain, call, answer, Operands, no_operands, operand, Expressions, no_expressions, expression}
 use Rattle.flat_core.specs.declared.flat_tree.Scratch.{Scratch}
 use Rattle.flat_core.specs.FlatTree.{FlatStatement, set}
 use Rattle.flat_form.specs.Frames.{FrameData, scratch_at, initial_at, input_start, others_behind, other_scratch, other_starts, places_of}
@@ -56,7 +56,7 @@ input_places bodies (expression e es) k = (k + length (scratch_in bodies e)) ∷
 abbrev mutual
   pub moved : Bodies → OwnerData → ℕ → Expression → ℕ → Expression
   moved bodies owner base (number v) k = number v
-  moved bodies owner base (cell place) k = cell (owner.place_at (base + place))
+  moved bodies owner base (cell place) k = cell (owner (base + place))
   moved bodies owner base (unary o t e) k = unary o t (moved bodies owner base e k)
   moved bodies owner base (chain e os) k = chain (moved bodies owner base e k) (moved_operands bodies owner base os (k + length (scratch_in bodies e)))
   moved bodies owner base (call f t es) k = call f t (all_moved bodies owner base es k)

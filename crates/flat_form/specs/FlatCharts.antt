@@ -1,22 +1,22 @@
 -- The flat list of a chart (IEC 61131-3, 2.6), but for the statements of its actions. It asks for the marking where the run starts by the
 -- cells of the steps, and keeps in two scratch cells of each step whether a transition left it, and whether one entered it.
-use Rattle.std.specs.Prelude.{ℕ, zero, suc, ◌+◌, ◌*◌, List, [], ◌∷◌, ◌++◌, map, length, false, pos, Option, None, Some, slice_index_or, if◌then◌else◌}
+use Rattle.std.specs.Prelude.{ℕ, ◌+◌, ◌*◌, List, [], ◌∷◌, ◌++◌, map, length, pos, Option, None, Some, slice_index_or, if◌then◌else◌}
 use Rattle.std.specs.Prelude as prelude
-use Rattle.st_tree.specs.declared.elementary.Elementary.TheVariants.{Bool}
-use Rattle.st_tree.specs.declared.syntax.UnaryOperator.TheVariants.{Not}
-use Rattle.st_tree.specs.declared.token.Operator.{Operator}
-use Rattle.st_tree.specs.declared.token.Operator.TheVariants.{Or, And}
-use Rattle.st_tree.specs.declared.typed.StepCells.{StepCells}
-use Rattle.st_tree.specs.declared.typed.Association.{Association}
-use Rattle.st_tree.specs.declared.typed.Qualifier.{Qualifier}
-use Rattle.st_tree.specs.declared.typed.Qualifier.TheVariants.{NonStored, Set, Reset, Pulse, FallingPulse}
-use Rattle.st_tree.specs.Types.{range_of}
-use Rattle.st_tree.specs.Tree.{Expression, number, cell, unary, chain, Operands, no_operands, operand, TransitionData, Actions, no_actions, action}
-use Rattle.st_tree.specs.View.{OperandData}
-use Rattle.effects.specs.Charts.{is_set, is_reset}
+use Rattle.plc_types.specs.declared.elementary.Elementary.TheVariants.{Bool}
+use Rattle.plc_types.specs.declared.operator.UnaryOperator.TheVariants.{Not}
+use Rattle.plc_types.specs.declared.operator.Operator.{Operator}
+use Rattle.plc_types.specs.declared.operator.Operator.TheVariants.{Or, And}
+use Rattle.program_tree.specs.declared.typed.StepCells.{StepCells}
+use Rattle.program_tree.specs.declared.typed.Association.{Association}
+use Rattle.program_tree.specs.declared.typed.Qualifier.{Qualifier}
+use Rattle.program_tree.specs.declared.typed.Qualifier.TheVariants.{NonStored, Set, Reset, Pulse, FallingPulse}
+use Rattle.program_tree.specs.Tree.{Expression, number, cell, unary, chain, Operands, no_operands, operand, TransitionData, Actions, no_actions, action}
+use Rattle.program_tree.specs.View.{OperandData}
+use Rattle.meaning.specs.Charts.{is_set, is_reset}
 use Rattle.flat_core.specs.declared.flat_tree.Scratch.{Scratch}
 use Rattle.flat_core.specs.FlatTree.{FlatStatement, set, branch, no_flats}
 use Rattle.flat_core.specs.FlatView.{flats_of}
+use Rattle.flat_form.specs.Frames.{whole_cell}
 use Rattle.flat_form.specs.Owners.{OwnerData}
 use Rattle.flat_form.specs.Bodies.{Bodies}
 use Rattle.flat_form.specs.Calls.{scratch_in, before, moved}
@@ -51,10 +51,10 @@ no_step = record { active = 0; before = 0 }
 
 -- whether a step is active, by its number, and whether it was where the run before this one started
 abbrev pub active_at : OwnerData → ℕ → List StepCells → ℕ → Expression
-active_at owner base steps i = cell (owner.place_at (base + (slice_index_or steps i no_step).active))
+active_at owner base steps i = cell (owner (base + (slice_index_or steps i no_step).active))
 
 abbrev pub before_at : OwnerData → ℕ → List StepCells → ℕ → Expression
-before_at owner base steps i = cell (owner.place_at (base + (slice_index_or steps i no_step).before))
+before_at owner base steps i = cell (owner (base + (slice_index_or steps i no_step).before))
 
 -- the steps of the associations of such a qualifier
 abbrev pub steps_that : (Qualifier → prelude.Bool) → List Association → List ℕ
@@ -70,12 +70,12 @@ unless_reset e (r ∷ rs) = both e (negated (joined_by Or r rs))
 
 abbrev pub latch_test : OwnerData → ℕ → List StepCells → ℕ → List Association → Expression
 latch_test owner base steps place associations =
-    unless_reset (joined_by Or (cell (owner.place_at (base + place))) (map (active_at owner base steps) (steps_that is_set associations)))
+    unless_reset (joined_by Or (cell (owner (base + place))) (map (active_at owner base steps) (steps_that is_set associations)))
     (map (active_at owner base steps) (steps_that is_reset associations))
 
 abbrev pub latch_set : OwnerData → ℕ → List StepCells → Option ℕ → List Association → List FlatStatement
 latch_set owner base steps None associations = []
-latch_set owner base steps (Some place) associations = set (owner.place_at (base + place)) (latch_test owner base steps place associations) ∷ []
+latch_set owner base steps (Some place) associations = set (owner (base + place)) (latch_test owner base steps place associations) ∷ []
 
 abbrev pub latch_list : OwnerData → ℕ → List StepCells → Actions → List FlatStatement
 latch_list owner base steps no_actions = []
@@ -98,7 +98,7 @@ terms owner base steps (a ∷ more) = asking a.qualifier (active_at owner base s
 -- an action without a latch has none that is TRUE
 abbrev pub latch_start : OwnerData → ℕ → Option ℕ → Expression
 latch_start owner base None = number (pos 0)
-latch_start owner base (Some place) = cell (owner.place_at (base + place))
+latch_start owner base (Some place) = cell (owner (base + place))
 
 abbrev pub runs_test : OwnerData → ℕ → List StepCells → Option ℕ → List Association → Expression
 runs_test owner base steps latch associations =
@@ -113,7 +113,7 @@ of_associated (a ∷ more) l = l
 
 -- Two scratch cells for each step, the first of them all being k: whether a transition left it, and whether one entered it.
 abbrev pub flag_cell : Scratch
-flag_cell = record { kind = Bool; range = range_of Bool; limited = false }
+flag_cell = whole_cell Bool
 
 abbrev pub flags_of : List StepCells → List Scratch
 flags_of [] = []
@@ -169,11 +169,11 @@ flat_transitions bodies owner base steps k (t ∷ ts) j =
 
 -- whether a step was active is whether it is, and it is active where it was and is not left, or where it is entered; k is its first flag
 abbrev pub mark_before : OwnerData → ℕ → StepCells → FlatStatement
-mark_before owner base p = set (owner.place_at (base + p.before)) (cell (owner.place_at (base + p.active)))
+mark_before owner base p = set (owner (base + p.before)) (cell (owner (base + p.active)))
 
 abbrev pub mark_active : OwnerData → ℕ → StepCells → ℕ → FlatStatement
 mark_active owner base p k =
-    set (owner.place_at (base + p.active)) (chain (both (cell (owner.place_at (base + p.active))) (negated (cell k))) (operand Or Bool (cell (k + 1)) no_operands))
+    set (owner (base + p.active)) (chain (both (cell (owner (base + p.active))) (negated (cell k))) (operand Or Bool (cell (k + 1)) no_operands))
 
 abbrev pub mark_list : OwnerData → ℕ → List StepCells → ℕ → List FlatStatement
 mark_list owner base [] k = []

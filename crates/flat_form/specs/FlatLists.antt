@@ -1,60 +1,54 @@
 -- The flat list of statements. Scratch cells are numbered from a place on, in the order of the text.
-use Rattle.std.specs.Prelude.{ℕ, zero, suc, ◌+◌, List, [], ◌∷◌, ◌++◌, map, length, false, ℤ, pos, ◌+ℤ◌}
-use Rattle.st_tree.specs.declared.elementary.Elementary.{Elementary}
-use Rattle.st_tree.specs.declared.elementary.Elementary.TheVariants.{Bool}
-use Rattle.st_tree.specs.declared.token.Operator.TheVariants.{Or, And, Equal, LessEqual}
-use Rattle.st_tree.specs.declared.data_type.DataType.{DataType}
-use Rattle.st_tree.specs.declared.typed.TypedLabel.{TypedLabel}
-use Rattle.st_tree.specs.declared.typed.TypedLabel.TheVariants.{Single, Span}
-use Rattle.st_tree.specs.declared.typed.StepCells.{StepCells}
-use Rattle.st_tree.specs.Types.{range_of}
-use Rattle.st_tree.specs.Tree.{Expression, number, cell, chain, no_operands, operand, Statement, assign, run, choice, cases, repeat, chart, Statements, no_statements, statement, Choices, no_choices, choose, Entries, no_entries, entry, Actions, no_actions, action}
-use Rattle.st_tree.specs.View.{OperandData, operands_of, ChoiceData, ActionData}
+use Rattle.std.specs.Prelude.{ℕ, zero, suc, ◌+◌, List, [], ◌∷◌, ◌++◌, map, length, ℤ, pos, ◌+ℤ◌}
+use Rattle.plc_types.specs.declared.elementary.Elementary.{Elementary}
+use Rattle.plc_types.specs.declared.elementary.Elementary.TheVariants.{Bool}
+use Rattle.plc_types.specs.declared.operator.Operator.TheVariants.{Or, And, Equal, LessEqual}
+use Rattle.program_tree.specs.declared.typed.TypedLabel.{TypedLabel}
+use Rattle.program_tree.specs.declared.typed.TypedLabel.TheVariants.{Single, Span}
+use Rattle.program_tree.specs.declared.typed.StepCells.{StepCells}
+use Rattle.program_tree.specs.Tree.{Expression, number, cell, chain, no_operands, operand, Statement, assign, run, choice, cases, repeat, chart, Statements, no_statements, statement, Choices, no_choices, choose, Entries, no_entries, entry, Actions, no_actions, action}
+use Rattle.program_tree.specs.View.{OperandData, operands_of, ChoiceData, ActionData}
 use Rattle.flat_core.specs.declared.flat_tree.Scratch.{Scratch}
 use Rattle.flat_core.specs.FlatTree.{FlatStatement, set, branch, no_flats}
 use Rattle.flat_core.specs.FlatView.{FlatArmData, nested, flats_of}
-use Rattle.flat_form.specs.Kinds.{kind_of}
+use Rattle.flat_form.specs.Frames.{whole_cell}
 use Rattle.flat_form.specs.Owners.{OwnerData}
 use Rattle.flat_form.specs.Bodies.{Bodies}
 use Rattle.flat_form.specs.Calls.{scratch_in, before, moved}
 use Rattle.flat_form.specs.FlatCharts.{latch_list, runs_test, of_associated, scratch_of_moves, flat_moves}
 
--- the scratch cell of a CASE, which keeps the selector's value
-abbrev pub selector_cell : Elementary → Scratch
-selector_cell kind = record { kind = kind; range = range_of kind; limited = false }
-
 abbrev pub repeated : ℕ → List Scratch → List Scratch
 repeated zero cs = []
 repeated (suc n) cs = cs ++ repeated n cs
 
--- The scratch cells that statements make, whose own cells begin at a base among their owner's: those of the calls in their expressions,
--- one for each CASE, in each turn of the FORs around it, those of the blocks that they run, and two for each step of a chart.
+-- The scratch cells that statements make: those of the calls in their expressions, one for each CASE, in each turn of the FORs around
+-- it, those of the blocks that they run, and two for each step of a chart.
 abbrev mutual
-  pub scratch_of : Bodies → List DataType → ℕ → Statement → List Scratch
-  scratch_of bodies kinds base (assign target e) = scratch_in bodies e
-  scratch_of bodies kinds base (run b offset) = bodies.run_scratch kinds b (base + offset)
-  scratch_of bodies kinds base (choice arms other) = scratch_of_choices bodies kinds base arms ++ scratch_of_all bodies kinds base other
-  scratch_of bodies kinds base (cases e es other) =
-      scratch_in bodies e ++ selector_cell (kind_of bodies.frame kinds base e) ∷ (scratch_of_entries bodies kinds base es ++ scratch_of_all bodies kinds base other)
-  scratch_of bodies kinds base (repeat turns body) = repeated turns.count (scratch_of_all bodies kinds base body)
-  scratch_of bodies kinds base (chart steps actions ts) = scratch_of_actions bodies kinds base actions ++ scratch_of_moves bodies steps ts
+  pub scratch_of : Bodies → Statement → List Scratch
+  scratch_of bodies (assign target e) = scratch_in bodies e
+  scratch_of bodies (run b offset) = bodies.run_scratch b
+  scratch_of bodies (choice arms other) = scratch_of_choices bodies arms ++ scratch_of_all bodies other
+  scratch_of bodies (cases kind e es other) =
+      scratch_in bodies e ++ whole_cell kind ∷ (scratch_of_entries bodies es ++ scratch_of_all bodies other)
+  scratch_of bodies (repeat turns body) = repeated turns.count (scratch_of_all bodies body)
+  scratch_of bodies (chart steps actions ts) = scratch_of_actions bodies actions ++ scratch_of_moves bodies steps ts
 
-  pub scratch_of_all : Bodies → List DataType → ℕ → Statements → List Scratch
-  scratch_of_all bodies kinds base no_statements = []
-  scratch_of_all bodies kinds base (statement t ts) = scratch_of bodies kinds base t ++ scratch_of_all bodies kinds base ts
+  pub scratch_of_all : Bodies → Statements → List Scratch
+  scratch_of_all bodies no_statements = []
+  scratch_of_all bodies (statement t ts) = scratch_of bodies t ++ scratch_of_all bodies ts
 
-  pub scratch_of_choices : Bodies → List DataType → ℕ → Choices → List Scratch
-  scratch_of_choices bodies kinds base no_choices = []
-  scratch_of_choices bodies kinds base (choose e ss arms) = scratch_in bodies e ++ (scratch_of_all bodies kinds base ss ++ scratch_of_choices bodies kinds base arms)
+  pub scratch_of_choices : Bodies → Choices → List Scratch
+  scratch_of_choices bodies no_choices = []
+  scratch_of_choices bodies (choose e ss arms) = scratch_in bodies e ++ (scratch_of_all bodies ss ++ scratch_of_choices bodies arms)
 
-  pub scratch_of_entries : Bodies → List DataType → ℕ → Entries → List Scratch
-  scratch_of_entries bodies kinds base no_entries = []
-  scratch_of_entries bodies kinds base (entry labels ss es) = scratch_of_all bodies kinds base ss ++ scratch_of_entries bodies kinds base es
+  pub scratch_of_entries : Bodies → Entries → List Scratch
+  scratch_of_entries bodies no_entries = []
+  scratch_of_entries bodies (entry labels ss es) = scratch_of_all bodies ss ++ scratch_of_entries bodies es
 
-  pub scratch_of_actions : Bodies → List DataType → ℕ → Actions → List Scratch
-  scratch_of_actions bodies kinds base no_actions = []
-  scratch_of_actions bodies kinds base (action latch associations ss rest) =
-      of_associated associations (scratch_of_all bodies kinds base ss) ++ scratch_of_actions bodies kinds base rest
+  pub scratch_of_actions : Bodies → Actions → List Scratch
+  scratch_of_actions bodies no_actions = []
+  scratch_of_actions bodies (action latch associations ss rest) =
+      of_associated associations (scratch_of_all bodies ss) ++ scratch_of_actions bodies rest
 
 -- a label's test of the selector's scratch cell t: `t = k` for a value, and `low <= t AND t <= high` for a range
 abbrev pub label_test : Elementary → ℕ → TypedLabel → Expression
@@ -82,54 +76,54 @@ unrolled (suc n) control v step m body k = set control (number v) ∷ (body k ++
 -- actions, tries its transitions, and marks its steps.
 abbrev mutual
   pub flat_of : Bodies → OwnerData → ℕ → Statement → ℕ → List FlatStatement
-  flat_of bodies owner base (assign target e) k = before bodies owner base e k ++ set (owner.place_at (base + target)) (moved bodies owner base e k) ∷ []
+  flat_of bodies owner base (assign target e) k = before bodies owner base e k ++ set (owner (base + target)) (moved bodies owner base e k) ∷ []
   flat_of bodies owner base (run b offset) k = bodies.run_list owner b (base + offset) k
   flat_of bodies owner base (choice arms other) k =
-      nested (flat_choices bodies owner base arms k) (flat_of_all bodies owner base other (k + length (scratch_of_choices bodies owner.kinds base arms)))
-  flat_of bodies owner base (cases e es other) k =
+      nested (flat_choices bodies owner base arms k) (flat_of_all bodies owner base other (k + length (scratch_of_choices bodies arms)))
+  flat_of bodies owner base (cases kind e es other) k =
       before bodies owner base e k ++ set (k + length (scratch_in bodies e)) (moved bodies owner base e k)
-      ∷ nested (flat_entries bodies owner base (kind_of bodies.frame owner.kinds base e) (k + length (scratch_in bodies e)) es (k + length (scratch_in bodies e) + 1))
-      (flat_of_all bodies owner base other (k + length (scratch_in bodies e) + 1 + length (scratch_of_entries bodies owner.kinds base es)))
+      ∷ nested (flat_entries bodies owner base kind (k + length (scratch_in bodies e)) es (k + length (scratch_in bodies e) + 1))
+      (flat_of_all bodies owner base other (k + length (scratch_in bodies e) + 1 + length (scratch_of_entries bodies es)))
   flat_of bodies owner base (repeat turns body) k =
-      unrolled turns.count (owner.place_at (base + turns.control)) turns.first turns.step (length (scratch_of_all bodies owner.kinds base body)) (flat_of_all bodies owner base body) k
+      unrolled turns.count (owner (base + turns.control)) turns.first turns.step (length (scratch_of_all bodies body)) (flat_of_all bodies owner base body) k
   flat_of bodies owner base (chart steps actions ts) k =
       latch_list owner base steps actions
-      ++ (flat_actions bodies owner base steps actions k ++ flat_moves bodies owner base steps ts (k + length (scratch_of_actions bodies owner.kinds base actions)))
+      ++ (flat_actions bodies owner base steps actions k ++ flat_moves bodies owner base steps ts (k + length (scratch_of_actions bodies actions)))
 
   pub flat_of_all : Bodies → OwnerData → ℕ → Statements → ℕ → List FlatStatement
   flat_of_all bodies owner base no_statements k = []
-  flat_of_all bodies owner base (statement t ts) k = flat_of bodies owner base t k ++ flat_of_all bodies owner base ts (k + length (scratch_of bodies owner.kinds base t))
+  flat_of_all bodies owner base (statement t ts) k = flat_of bodies owner base t k ++ flat_of_all bodies owner base ts (k + length (scratch_of bodies t))
 
   -- what runs before each condition, the condition and its statements
   pub flat_choices : Bodies → OwnerData → ℕ → Choices → ℕ → List FlatArmData
   flat_choices bodies owner base no_choices k = []
   flat_choices bodies owner base (choose e ss arms) k =
       (before bodies owner base e k, moved bodies owner base e k, flat_of_all bodies owner base ss (k + length (scratch_in bodies e)))
-      ∷ flat_choices bodies owner base arms (k + length (scratch_in bodies e) + length (scratch_of_all bodies owner.kinds base ss))
+      ∷ flat_choices bodies owner base arms (k + length (scratch_in bodies e) + length (scratch_of_all bodies ss))
 
   -- the test of each entry's labels with its statements; t is the selector's scratch cell, and kind its type
   pub flat_entries : Bodies → OwnerData → ℕ → Elementary → ℕ → Entries → ℕ → List FlatArmData
   flat_entries bodies owner base kind t no_entries k = []
   flat_entries bodies owner base kind t (entry labels ss es) k =
-      ([], labels_test kind t labels, flat_of_all bodies owner base ss k) ∷ flat_entries bodies owner base kind t es (k + length (scratch_of_all bodies owner.kinds base ss))
+      ([], labels_test kind t labels, flat_of_all bodies owner base ss k) ∷ flat_entries bodies owner base kind t es (k + length (scratch_of_all bodies ss))
 
   -- the actions of a chart, in the order of the text
   pub flat_actions : Bodies → OwnerData → ℕ → List StepCells → Actions → ℕ → List FlatStatement
   flat_actions bodies owner base steps no_actions k = []
   flat_actions bodies owner base steps (action latch associations ss rest) k =
       of_associated associations (branch (runs_test owner base steps latch associations) (flats_of (flat_of_all bodies owner base ss k)) no_flats ∷ [])
-      ++ flat_actions bodies owner base steps rest (k + length (of_associated associations (scratch_of_all bodies owner.kinds base ss)))
+      ++ flat_actions bodies owner base steps rest (k + length (of_associated associations (scratch_of_all bodies ss)))
 
 -- one condition with its statements
-abbrev pub scratch_of_choice : Bodies → List DataType → ℕ → ChoiceData → List Scratch
-scratch_of_choice bodies kinds base c = scratch_in bodies c.0 ++ scratch_of_all bodies kinds base c.1
+abbrev pub scratch_of_choice : Bodies → ChoiceData → List Scratch
+scratch_of_choice bodies c = scratch_in bodies c.0 ++ scratch_of_all bodies c.1
 
 abbrev pub flat_choice : Bodies → OwnerData → ℕ → ChoiceData → ℕ → FlatArmData
 flat_choice bodies owner base c k = (before bodies owner base c.0 k, moved bodies owner base c.0 k, flat_of_all bodies owner base c.1 (k + length (scratch_in bodies c.0)))
 
 -- one action
-abbrev pub scratch_of_action : Bodies → List DataType → ℕ → ActionData → List Scratch
-scratch_of_action bodies kinds base a = of_associated a.1 (scratch_of_all bodies kinds base a.2)
+abbrev pub scratch_of_action : Bodies → ActionData → List Scratch
+scratch_of_action bodies a = of_associated a.1 (scratch_of_all bodies a.2)
 
 abbrev pub flat_action : Bodies → OwnerData → ℕ → List StepCells → ActionData → ℕ → List FlatStatement
 flat_action bodies owner base steps a k = of_associated a.1 (branch (runs_test owner base steps a.0 a.1) (flats_of (flat_of_all bodies owner base a.2 k)) no_flats ∷ [])

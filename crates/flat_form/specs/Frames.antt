@@ -1,13 +1,15 @@
 -- The cells that a call of a FUNCTION has, each a scratch cell but the first, which is FAULT: what it answers, its inputs, and its
 -- other variables.
 use Rattle.std.specs.Prelude.{ℕ, suc, zero, ◌+◌, ◌-◌, List, [], ◌∷◌, ◌++◌, length, false, slice_index_or, ℤ, pos, if◌then◌else◌}
-use Rattle.st_tree.specs.declared.data_type.DataType.TheVariants.{Unknown}
-use Rattle.st_tree.specs.declared.typed.CellType.{CellType}
-use Rattle.st_tree.specs.declared.typed.Range.{Range}
-use Rattle.st_tree.specs.DataTypes.{carrier}
-use Rattle.st_tree.specs.Tree.{number, Statements, no_statements, CalledData, block, function}
-use Rattle.effects.specs.Effects.{range_at}
-use Rattle.effects.specs.Calls.{nothing}
+use Rattle.plc_types.specs.declared.elementary.Elementary.{Elementary}
+use Rattle.plc_types.specs.declared.data_type.DataType.TheVariants.{Unknown}
+use Rattle.program_tree.specs.declared.typed.CellType.{CellType}
+use Rattle.plc_types.specs.declared.range.Range.{Range}
+use Rattle.plc_types.specs.DataTypes.{carrier}
+use Rattle.plc_types.specs.Types.{range_of}
+use Rattle.program_tree.specs.Tree.{number, Statements, no_statements, CalledData, block, function}
+use Rattle.meaning.specs.Effects.{range_at}
+use Rattle.meaning.specs.Calls.{nothing}
 use Rattle.flat_core.specs.declared.flat_tree.Scratch.{Scratch}
 use Rattle.flat_core.specs.FlatTree.{FlatStatement, set}
 
@@ -33,6 +35,10 @@ function_body (function types ranges start body) = body
 -- where there is no cell, there is no type
 abbrev pub type_at : List CellType → ℕ → CellType
 type_at types place = slice_index_or types place (record { kind = Unknown; limited = false })
+
+-- a scratch cell that takes each value of a type
+abbrev pub whole_cell : Elementary → Scratch
+whole_cell kind = record { kind = kind; range = range_of kind; limited = false }
 
 abbrev pub scratch_at : FrameData → ℕ → Scratch
 scratch_at frame place = record { kind = carrier (type_at frame.types place).kind; range = range_at frame.ranges place; limited = (type_at frame.types place).limited }

@@ -1,7 +1,6 @@
 pub mod Frames
 pub mod Owners
 pub mod Bodies
-pub mod Kinds
 pub mod Calls
 pub mod FlatCharts
 pub mod FlatLists

@@ -2,17 +2,17 @@
 -- the FUNCTIONs that are called have so many inputs; what is assigned to a variable of a FUNCTION that is no subrange lies in its
 -- range; and the actions of a chart leave the chart's own cells.
 use Rattle.std.specs.Prelude.{◌≡◌, ◌<◌, ◌≤◌, ◌+◌, ◌==◌, ◌&&◌, ◌||◌, ℕ, zero, suc, max, Bool, true, false, List, [], ◌∷◌, length, pos, ◌+ℤ◌, ◌*ℤ◌, int_le, slice_index_or, Option, None, Some, if◌then◌else◌}
-use Rattle.st_tree.specs.declared.function.Function.{Function}
-use Rattle.st_tree.specs.declared.function.Function.TheVariants as functions
-use Rattle.st_tree.specs.declared.typed.Range.{Range}
-use Rattle.st_tree.specs.declared.typed.Turns.{Turns}
-use Rattle.st_tree.specs.declared.typed.StepCells.{StepCells}
-use Rattle.st_tree.specs.declared.typed.Association.{Association}
-use Rattle.st_tree.specs.Types.{range_of, in_range}
-use Rattle.st_tree.specs.Tree.{Expression, number, cell, unary, chain, call, answer, Operands, no_operands, operand, Expressions, no_expressions, expression, TransitionData, Statement, assign, run, choice, cases, repeat, chart, Statements, no_statements, statement, Choices, no_choices, choose, Entries, no_entries, entry, Actions, no_actions, action, CalledData, ProgramData}
-use Rattle.effects.specs.Values.{result_type}
-use Rattle.effects.specs.Effects.{range_at}
-use Rattle.effects.specs.Calls.{nothing}
+use Rattle.plc_types.specs.declared.function.Function.{Function}
+use Rattle.plc_types.specs.declared.function.Function.TheVariants as functions
+use Rattle.plc_types.specs.declared.range.Range.{Range}
+use Rattle.program_tree.specs.declared.typed.Turns.{Turns}
+use Rattle.program_tree.specs.declared.typed.StepCells.{StepCells}
+use Rattle.program_tree.specs.declared.typed.Association.{Association}
+use Rattle.plc_types.specs.Types.{range_of, in_range}
+use Rattle.program_tree.specs.Tree.{Expression, number, cell, unary, chain, call, answer, Operands, no_operands, operand, Expressions, no_expressions, expression, TransitionData, Statement, assign, run, choice, cases, repeat, chart, Statements, no_statements, statement, Choices, no_choices, choose, Entries, no_entries, entry, Actions, no_actions, action, CalledData, ProgramData}
+use Rattle.meaning.specs.Values.{result_type}
+use Rattle.meaning.specs.Effects.{range_at}
+use Rattle.meaning.specs.Calls.{nothing}
 use Rattle.scan_model.specs.Scans.{ranges_of}
 use Rattle.scan_model.specs.InRange.{IsInRange}
 use Rattle.flat_form.specs.Frames.{FrameData, frames_of, function_body, type_at}
@@ -103,7 +103,7 @@ abbrev mutual
   extent_of extents (assign target e) = target + 1
   extent_of extents (run b offset) = offset + extents b
   extent_of extents (choice arms other) = max (extent_of_choices extents arms) (extent_of_all extents other)
-  extent_of extents (cases e es other) = max (extent_of_entries extents es) (extent_of_all extents other)
+  extent_of extents (cases kind e es other) = max (extent_of_entries extents es) (extent_of_all extents other)
   extent_of extents (repeat turns body) = max (turns.control + 1) (extent_of_all extents body)
   extent_of extents (chart steps actions ts) = max (extent_of_steps steps) (extent_of_actions extents actions)
 
@@ -195,7 +195,7 @@ module _ (frames : ℕ → FrameData) (MayCall : ℕ → ℕ → Type 0) (MayRun
         IsOwnPlace rs (base + target) × IsTypedValue frames MayCall rs base e × ((tested (base + target) || stays_in frames rs base e (range_at rs (base + target))) ≡ true)
     IsTyped base (run b offset) = (0 < base + offset) × MayRun b (base + offset)
     IsTyped base (choice arms other) = AreTypedChoices base arms × AreTyped base other
-    IsTyped base (cases e es other) = IsTypedValue frames MayCall rs base e × AreTypedEntries base es × AreTyped base other
+    IsTyped base (cases kind e es other) = IsTypedValue frames MayCall rs base e × AreTypedEntries base es × AreTyped base other
     IsTyped base (repeat turns body) =
         IsOwnPlace rs (base + turns.control) × ((tested (base + turns.control) || turns_stay turns (range_at rs (base + turns.control))) ≡ true) × Choice (turns.count == 0) (Unit {0}) (AreTyped base body)
     IsTyped base (chart steps actions ts) =

@@ -1,10 +1,10 @@
 // Which blocks do nothing.
 ghost use Rattle.std.specs.Prelude.{◌≡◌, IfOk};
-ghost use Rattle.st_tree.specs.View.{stmt_view, stmts_view, called_view, all_called_view};
+ghost use Rattle.program_tree.specs.View.{stmt_view, stmts_view, called_view, all_called_view};
 ghost use Rattle.flat_form.specs.Pous.{block_body};
 ghost use Rattle.flat_form.specs.Idle.{is_idle, is_idle_all, idle_in, AreIdle};
 
-use st_tree::{Called, TypedStmt};
+use program_tree::{Called, TypedStmt};
 use std::alloc::{AllocError, Global};
 
 /// For each POU whether a run of it does nothing, by its text alone. A FUNCTION is not run.

@@ -1,8 +1,8 @@
-// The flat form of programs as definitions, and its laws: a scan of it leaves what the program's scan leaves.
+// The flat form of programs as definitions, what its laws say, and which blocks do nothing.
 #![tactic(auto)]
 
+mod frames;
 mod idle;
-mod laws;
 
+pub use frames::{range_at, range_of, type_at};
 pub use idle::{idle_blocks, is_idle_block};
-pub use laws::{flat_form_keeps_meaning, flat_form_keeps_rules};

@@ -4,10 +4,10 @@ use Rattle.std.proofs.Common.{◌≡◌, ℕ, zero, suc, ◌+◌, ◌<◌, ◌�
 use Rattle.std.specs.Prelude.{◌==◌, nat_lt, if◌then◌else◌}
 use Rattle.std.proofs.lemmas.Bool.Decides.{nat_tests}
 use Rattle.std.proofs.lemmas.List.{length-map}
-use Rattle.st_tree.specs.declared.typed.Called.{Called}
-use Rattle.st_tree.specs.Tree.{Statements, CalledData}
-use Rattle.st_tree.specs.View.{called_view, all_called_view}
-use Rattle.effects.specs.Calls.{nothing}
+use Rattle.program_tree.specs.declared.typed.Called.{Called}
+use Rattle.program_tree.specs.Tree.{Statements, CalledData}
+use Rattle.program_tree.specs.View.{called_view, all_called_view}
+use Rattle.meaning.specs.Calls.{nothing}
 use Rattle.flat_form.specs.Pous.{block_body}
 use Rattle.flat_form.specs.WellTyped.{extent_of_all, extents_of}
 use Rattle.flat_form.proofs.IdleTables.{by_test}

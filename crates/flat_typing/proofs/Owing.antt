@@ -1,10 +1,10 @@
 -- What the runs and calls of POUs owe: the other way round of when these may be run and called.
 use Rattle.std.proofs.Common.{◌≡◌, ◌≢◌, ℕ, zero, suc, ◌<◌, ◌≤◌, Bool, true, false, List, [], length, ◌+◌, refl, ap, sym, subst, arith, rules, tests}
 use Rattle.std.specs.Prelude.{◌==◌, slice_index_or, if◌then◌else◌}
-use Rattle.st_tree.specs.declared.typed.Range.{Range}
-use Rattle.st_tree.specs.declared.typed.CellType.{CellType}
-use Rattle.st_tree.specs.Tree.{Statements, CalledData}
-use Rattle.effects.specs.Calls.{nothing}
+use Rattle.plc_types.specs.declared.range.Range.{Range}
+use Rattle.program_tree.specs.declared.typed.CellType.{CellType}
+use Rattle.program_tree.specs.Tree.{Statements, CalledData}
+use Rattle.meaning.specs.Calls.{nothing}
 use Rattle.flat_form.specs.Frames.{frame_of, frames_of, function_body, type_at}
 use Rattle.flat_form.specs.Pous.{block_body}
 use Rattle.flat_form.specs.Idle.{is_idle_all, idle_of}

@@ -1,13 +1,11 @@
 -- What POUs may do, and weigh.
-use Rattle.std.proofs.Common.{◌≡◌, ℕ, ◌<◌, Bool, List, [], ◌∷◌, length, slice_index_or, refl, sym, subst, arith}
-use Rattle.st_tree.specs.declared.typed.Range.{Range}
-use Rattle.st_tree.specs.declared.typed.CellType.{CellType}
-use Rattle.st_tree.specs.declared.typed.TypedExpr.{TypedExpr}
-use Rattle.st_tree.specs.Tree.{Statements, CalledData}
-use Rattle.st_tree.specs.View.{arguments_view, all_called_view}
-use Rattle.effects.specs.Calls.{nothing}
-use Rattle.effects.proofs.Sizes.{weight}
-use Rattle.flat_form.specs.Calls.{arity}
+use Rattle.std.proofs.Common.{◌≡◌, ℕ, ◌<◌, Bool, List, slice_index_or, sym, subst}
+use Rattle.plc_types.specs.declared.range.Range.{Range}
+use Rattle.program_tree.specs.declared.typed.CellType.{CellType}
+use Rattle.program_tree.specs.Tree.{Statements, CalledData}
+use Rattle.program_tree.specs.View.{all_called_view}
+use Rattle.meaning.specs.Calls.{nothing}
+use Rattle.meaning.proofs.Sizes.{weight}
 use Rattle.flat_form.specs.Frames.{FrameData, frame_of, frames_of, function_body, type_at}
 use Rattle.flat_form.specs.Pous.{block_body}
 use Rattle.flat_form.specs.WellTyped.{AreTyped, MayRunOf, MayCallOf, FrameFits, extents_of, tested_in}
@@ -53,7 +51,3 @@ module _ (ps : List CalledData) where
       let with_frame : Typed (frame_of p).types (frame_of p).ranges (function_body p) = subst (λ (g : FrameData). Typed g.types g.ranges (function_body p)) is_frame with_body in
       let with_fit : FrameFits (frame_of p) inputs = subst (λ (g : FrameData). FrameFits g inputs) is_frame (subst (λ (k : ℕ). FrameFits frame k) is_given fits) in
       may-call f n inputs p h is (with_fit, with_frame)
-
-pub arity-length : (es : List TypedExpr) → arity (arguments_view es) ≡ length es
-arity-length [] = refl
-arity-length (e ∷ es) = omega (arith, arity-length es)

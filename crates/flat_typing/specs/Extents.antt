@@ -1,6 +1,6 @@
 -- Extents in lists.
 use Rattle.std.specs.Prelude.{◌≡◌, ℕ, List, length, slice_index_or}
-use Rattle.st_tree.specs.Tree.{CalledData}
+use Rattle.program_tree.specs.Tree.{CalledData}
 use Rattle.flat_form.specs.WellTyped.{extents_of}
 
 -- by the number of the POU; 0 where there is none

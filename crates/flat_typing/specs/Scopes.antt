@@ -1,9 +1,9 @@
 -- What is claimed of the statements of a scope.
 use Rattle.std.specs.Prelude.{◌≡◌, ◌≤◌, ℕ, List, length, Bool}
-use Rattle.st_tree.specs.declared.typed.Frame.{Frame}
-use Rattle.st_tree.specs.declared.typed.Range.{Range}
-use Rattle.st_tree.specs.Tree.{Expression, Operands, Expressions, TransitionData, Statement, Statements, Choices, Entries, Actions, CalledData}
-use Rattle.st_tree.specs.View.{all_called_view}
+use Rattle.program_tree.specs.declared.typed.Frame.{Frame}
+use Rattle.plc_types.specs.declared.range.Range.{Range}
+use Rattle.program_tree.specs.Tree.{Expression, Operands, Expressions, TransitionData, Statement, Statements, Choices, Entries, Actions, CalledData}
+use Rattle.program_tree.specs.View.{all_called_view}
 use Rattle.flat_form.specs.Frames.{FrameData, frames_of, type_at}
 use Rattle.flat_form.specs.WellTyped.{IsTypedValue, AreTypedOperands, AreTypedValues, AreTypedInputs, AreTypedTransitions, IsTyped, AreTyped, AreTypedChoices, AreTypedEntries, AreTypedActions, AreFlags, AreRisingFrom, MayRunOf, MayCallOf, each_tested, extents_of}
 use Rattle.flat_form.specs.Idle.{AreIdleBelow}

@@ -1,17 +1,19 @@
 // The cells of a program.
 ghost use Rattle.std.specs.Prelude.{◌≡◌, IfErr, OnOk};
-ghost use Rattle.st_tree.specs.declared.elementary.Elementary.TheVariants as types;
-ghost use Rattle.st_tree.specs.declared.data_type.DataType.TheVariants as kinds;
-ghost use Rattle.st_tree.specs.declared.typed.Part.TheVariants.{Fault};
-ghost use Rattle.st_tree.specs.Types.{range_of};
-ghost use Rattle.st_tree.specs.View.{cells_view};
+ghost use Rattle.plc_types.specs.declared.elementary.Elementary.TheVariants as types;
+ghost use Rattle.plc_types.specs.declared.data_type.DataType.TheVariants as kinds;
+ghost use Rattle.program_tree.specs.declared.typed.Part.TheVariants.{Fault};
+ghost use Rattle.plc_types.specs.Types.{range_of};
+ghost use Rattle.program_tree.specs.View.{cells_view};
 ghost use Rattle.scan_model.specs.Scans.{ranges_of, initial};
 ghost use Rattle.scan_model.specs.InRange.{BeginsWithFault, IsInRange};
 ghost use Rattle.flat_typing.specs.Faults.{Refutes};
 
 use crate::fault::TypingFault;
-use crate::ranges::{is_in_range, range_of};
-use st_tree::{Cell, DataType, Elementary, Part};
+use crate::ranges::is_in_range;
+use flat_form::range_of;
+use plc_types::{DataType, Elementary};
+use program_tree::{Cell, Part};
 
 /// The first cell is FAULT, and each cell begins in its range.
 pub fn check_cells(cells: &[Cell]) -> Result<(), TypingFault>

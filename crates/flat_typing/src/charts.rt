@@ -1,7 +1,7 @@
 // Charts.
 ghost use Rattle.std.specs.Prelude.{◌≡◌, ◌+◌, IfErr, OnOk};
-ghost use Rattle.st_tree.specs.Tree.{chart};
-ghost use Rattle.st_tree.specs.View.{action_view, actions_view, transitions_view};
+ghost use Rattle.program_tree.specs.Tree.{chart};
+ghost use Rattle.program_tree.specs.View.{action_view, actions_view, transitions_view};
 ghost use Rattle.flat_form.specs.WellTyped.{OfAssociated};
 ghost use Rattle.flat_typing.specs.Faults.{Refutes};
 ghost use Rattle.flat_typing.specs.Scopes.{IsKnown, IsTypedIn, AreTypedIn, AreTypedActionsIn, AreTypedTransitionsIn};
@@ -12,7 +12,7 @@ use crate::marks::{are_places, are_steps, is_associated, name_steps};
 use crate::scope::TypingScope;
 use crate::statements::typed_all;
 use crate::values::typed_value;
-use st_tree::{StepCells, TypedAction, TypedTransition};
+use program_tree::{StepCells, TypedAction, TypedTransition};
 
 /// A chart is well typed.
 #[cycle(typing)]

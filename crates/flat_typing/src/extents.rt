@@ -1,13 +1,13 @@
 // The places that statements set.
 ghost use Rattle.std.specs.Prelude.{◌≡◌, ◌+◌, ◌<◌, ℕ, max, slice_index_or, length, IfOk};
-ghost use Rattle.st_tree.specs.View.{stmt_view, stmts_view, choices_view, entries_view, actions_view, called_view, all_called_view};
+ghost use Rattle.program_tree.specs.View.{stmt_view, stmts_view, choices_view, entries_view, actions_view, called_view, all_called_view};
 ghost use Rattle.flat_form.specs.Pous.{block_body};
 ghost use Rattle.flat_form.specs.WellTyped.{extent_of, extent_of_all, extent_of_choices, extent_of_entries, extent_of_actions, extent_of_latch, extent_of_steps, extent_of_bodies, extents_of};
 ghost use Rattle.flat_typing.specs.Extents.{extent_in, AreExtents};
 ghost use Rattle.flat_typing.specs.Scopes.{IsKnown};
 
 use crate::scope::TypingScope;
-use st_tree::{Called, StepCells, TypedAction, TypedArm, TypedEntry, TypedStmt};
+use program_tree::{Called, StepCells, TypedAction, TypedArm, TypedEntry, TypedStmt};
 use std::alloc::{AllocError, Global};
 
 /// One above the greatest place that the body of each POU sets. One that is no usize, which no checked program has, has no place in
@@ -60,7 +60,7 @@ fn extent_of(stmt: &TypedStmt, extents: &[usize]) -> Result<usize, AllocError>
             let second = extent_of_all(other, extents)?;
             Ok(first.max(second))
         }
-        TypedStmt::Case(_, entries, other) => {
+        TypedStmt::Case(_, _, entries, other) => {
             let first = extent_of_entries(entries, extents)?;
             let second = extent_of_all(other, extents)?;
             Ok(first.max(second))

@@ -1,7 +1,7 @@
 // The frames of FUNCTIONs.
 ghost use Rattle.std.specs.Prelude.{◌≡◌, ◌||◌, true, IfErr, OnOk};
-ghost use Rattle.st_tree.specs.View.{expr_view};
-ghost use Rattle.effects.specs.Effects.{range_at};
+ghost use Rattle.program_tree.specs.View.{expr_view};
+ghost use Rattle.meaning.specs.Effects.{range_at};
 ghost use Rattle.scan_model.specs.InRange.{IsInRange};
 ghost use Rattle.flat_form.specs.Frames.{type_at};
 ghost use Rattle.flat_form.specs.WellTyped.{stays_in, FrameFits};
@@ -9,11 +9,12 @@ ghost use Rattle.flat_typing.specs.Faults.{Refutes};
 ghost use Rattle.flat_typing.specs.Scopes.{frame_view, frames_here};
 
 use crate::fault::TypingFault;
-use crate::places::type_at;
-use crate::ranges::{is_in_range, range_at};
+use crate::ranges::is_in_range;
 use crate::scope::TypingScope;
 use crate::stays::stays_in;
-use st_tree::{Frame, Range, TypedExpr};
+use flat_form::{range_at, type_at};
+use plc_types::Range;
+use program_tree::{Frame, TypedExpr};
 
 /// An input is one of a subrange, or takes each value of its expression.
 pub fn may_take(

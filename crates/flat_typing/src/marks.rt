@@ -1,6 +1,6 @@
 // The steps that charts name, and the cells of charts.
 ghost use Rattle.std.specs.Prelude.{◌≡◌, ◌+◌, IfErr, OnOk};
-ghost use Rattle.st_tree.specs.View.{actions_view};
+ghost use Rattle.program_tree.specs.View.{actions_view};
 ghost use Rattle.flat_form.specs.WellTyped.{AreSteps, NameSteps, IsAssociated, chart_places};
 ghost use Rattle.flat_typing.specs.Faults.{Refutes};
 ghost use Rattle.flat_typing.specs.Scopes.{ArePlacesIn};
@@ -8,7 +8,7 @@ ghost use Rattle.flat_typing.specs.Scopes.{ArePlacesIn};
 use crate::fault::TypingFault;
 use crate::places::behind_flag;
 use crate::scope::TypingScope;
-use st_tree::{Association, StepCells, TypedAction};
+use program_tree::{Association, StepCells, TypedAction};
 
 /// Numbers are those of steps.
 pub fn are_steps(numbers: &[usize], steps: usize) -> Result<(), TypingFault>

@@ -1,30 +1,18 @@
 // Places of an owner's cells.
 ghost use Rattle.std.specs.Prelude.{◌≡◌, ◌+◌, ◌≤◌, ◌||◌, pos, true, IfOk, IfErr, OnOk};
-ghost use Rattle.st_tree.specs.View.{expr_view};
-ghost use Rattle.effects.specs.Effects.{range_at};
-ghost use Rattle.flat_form.specs.Frames.{type_at};
+ghost use Rattle.program_tree.specs.View.{expr_view};
+ghost use Rattle.meaning.specs.Effects.{range_at};
 ghost use Rattle.flat_form.specs.WellTyped.{IsOwnPlace, stays_in, turns_stay};
 ghost use Rattle.flat_typing.specs.Faults.{Refutes};
 ghost use Rattle.flat_typing.specs.Scopes.{tested_by, frames_here};
 
 use crate::fault::TypingFault;
-use crate::ranges::{range_at, turns_stay};
+use crate::ranges::turns_stay;
 use crate::scope::{Owner, TypingScope};
 use crate::stays::stays_in;
-use st_tree::{CellType, DataType, Turns, TypedExpr};
+use flat_form::{range_at, type_at};
+use program_tree::{Turns, TypedExpr};
 use std::alloc::AllocError;
-
-const NO_TYPE: CellType = CellType {
-    kind: DataType::Unknown,
-    limited: false,
-};
-
-/// The type of a frame's cell.
-pub fn type_at(types: &[CellType], place: usize) -> CellType
-    ensures { result ≡ type_at types.now place }
-{
-    types.get(place).copied().unwrap_or(NO_TYPE)
-}
 
 /// Where a cell of a POU stands among its owner's. A place that is no usize has none in memory.
 pub fn place_at(scope: &TypingScope<'_>, place: usize) -> Result<usize, AllocError>

@@ -1,6 +1,6 @@
 // Programs.
 ghost use Rattle.std.specs.Prelude.{◌≡◌, IfOk, IfErr, OnOk};
-ghost use Rattle.st_tree.specs.View.{cells_view, stmts_view, all_called_view, program_view};
+ghost use Rattle.program_tree.specs.View.{cells_view, stmts_view, all_called_view, program_view};
 ghost use Rattle.scan_model.specs.Scans.{ranges_of};
 ghost use Rattle.scan_model.specs.InRange.{IsProgram};
 ghost use Rattle.flat_form.specs.WellTyped.{IsWellTyped};
@@ -15,7 +15,8 @@ use crate::fault::TypingFault;
 use crate::scope::{Owner, TypingScope};
 use crate::statements::typed_all;
 use flat_form::idle_blocks;
-use st_tree::{Called, Cell, Program, Range, TypedStmt};
+use plc_types::Range;
+use program_tree::{Called, Cell, Program, TypedStmt};
 use std::alloc::{AllocError, Global};
 
 /// A program is one that scans are run of, and well typed. A place that is no usize, which no checked program has, has no place in

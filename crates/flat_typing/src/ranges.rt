@@ -1,14 +1,11 @@
 // Ranges of cells.
 ghost use Rattle.std.specs.Prelude.{◌≡◌, ◌+◌, ◌*ℤ◌, ◌+ℤ◌, pos};
-ghost use Rattle.st_tree.specs.Types.{in_range, range_of};
-ghost use Rattle.effects.specs.Values.{result_type};
-ghost use Rattle.effects.specs.Effects.{range_at};
+ghost use Rattle.plc_types.specs.Types.{in_range};
+ghost use Rattle.meaning.specs.Values.{result_type};
 ghost use Rattle.flat_form.specs.WellTyped.{covers, turns_stay};
 
-use num_core::IntType;
-use st_tree::{Elementary, Operator, Range, Turns};
-
-const NO_RANGE: Range = Range { low: 1, high: 0 };
+use plc_types::{Elementary, Operator, Range};
+use program_tree::Turns;
 
 /// Whether all values of the second range lie in the first.
 pub fn covers(outer: Range, inner: Range) -> bool
@@ -22,24 +19,6 @@ pub fn is_in_range(value: i64, range: Range) -> bool
     ensures { result ≡ in_range value range }
 {
     range.low <= value && value <= range.high
-}
-
-/// The range of a cell; where there is no cell no value is in it.
-pub fn range_at(ranges: &[Range], place: usize) -> Range
-    ensures { result ≡ range_at ranges.now place }
-{
-    ranges.get(place).copied().unwrap_or(NO_RANGE)
-}
-
-/// The values of a type.
-pub fn range_of(kind: Elementary) -> Range
-    ensures { result ≡ range_of kind }
-{
-    let numbers = IntType::whole(kind.width(), kind.is_signed());
-    Range {
-        low: numbers.lo as i64,
-        high: numbers.hi as i64,
-    }
 }
 
 /// The type of what an operator makes of operands of a type.

@@ -1,5 +1,6 @@
 // What statements are judged over.
-use st_tree::{Called, CellType, Range};
+use plc_types::Range;
+use program_tree::{Called, CellType};
 
 /// Who owns the cells of a POU: the PROGRAM, where each assignment tests the range of its target; or a call of a FUNCTION, by the types of
 /// its cells, where only an assignment to a subrange does.

@@ -1,6 +1,6 @@
 // Statements.
 ghost use Rattle.std.specs.Prelude.{◌≡◌, ◌+◌, ◌<◌, ◌==◌, IfErr, OnOk};
-ghost use Rattle.st_tree.specs.View.{stmt_view, stmts_view, choices_view, entries_view};
+ghost use Rattle.program_tree.specs.View.{stmt_view, stmts_view, choices_view, entries_view};
 ghost use Rattle.flat_form.specs.WellTyped.{Choice};
 ghost use Rattle.flat_typing.specs.Faults.{Refutes};
 ghost use Rattle.flat_typing.specs.Scopes.{IsKnown, IsTypedIn, AreTypedIn, AreTypedChoicesIn, AreTypedEntriesIn, MayRunHere};
@@ -12,7 +12,7 @@ use crate::places::{may_store, may_turn, own_place, place_at};
 use crate::scope::TypingScope;
 use crate::values::typed_value;
 use flat_form::is_idle_block;
-use st_tree::{Called, TypedArm, TypedEntry, TypedStmt};
+use program_tree::{Called, TypedArm, TypedEntry, TypedStmt};
 
 /// Statements are well typed. Each run of a FUNCTION_BLOCK checks its body again, over the cells of its instance.
 #[cycle(typing)]
@@ -44,7 +44,7 @@ fn typed_one(stmt: &TypedStmt, scope: &TypingScope<'_>) -> Result<(), TypingFaul
             typed_arms(arms, scope)?;
             typed_all(other, scope)
         }
-        TypedStmt::Case(selector, entries, other) => {
+        TypedStmt::Case(_, selector, entries, other) => {
             typed_value(selector, scope)?;
             typed_entries(entries, scope)?;
             typed_all(other, scope)

@@ -1,13 +1,15 @@
 // Whether the types of an expression say that its values lie in a range.
 ghost use Rattle.std.specs.Prelude.{◌≡◌, ◌+◌};
-ghost use Rattle.st_tree.specs.View.{expr_view, operands_view, arguments_view, called_view, all_called_view};
-ghost use Rattle.effects.specs.Effects.{range_at};
+ghost use Rattle.program_tree.specs.View.{expr_view, operands_view, arguments_view, called_view, all_called_view};
+ghost use Rattle.meaning.specs.Effects.{range_at};
 ghost use Rattle.flat_form.specs.Frames.{frame_of, frames_of};
 ghost use Rattle.flat_form.specs.WellTyped.{last_stays, chosen_stay, stays_in, each_stays};
 
-use crate::ranges::{covers, is_in_range, range_at, range_of, result_type};
+use crate::ranges::{covers, is_in_range, result_type};
 use crate::scope::TypingScope;
-use st_tree::{Called, Function, Operand, Range, TypedExpr};
+use flat_form::{range_at, range_of};
+use plc_types::{Function, Range};
+use program_tree::{Called, Operand, TypedExpr};
 
 /// Whether the types of an expression say that its values lie in a range.
 #[cycle(stays)]

@@ -1,7 +1,7 @@
 // Expressions, and the FUNCTIONs that they call.
 ghost use Rattle.std.specs.Prelude.{◌≡◌, ◌+◌, IfErr, OnOk};
-ghost use Rattle.st_tree.specs.Tree.{answer};
-ghost use Rattle.st_tree.specs.View.{expr_view, operands_view, arguments_view};
+ghost use Rattle.program_tree.specs.Tree.{answer};
+ghost use Rattle.program_tree.specs.View.{expr_view, operands_view, arguments_view};
 ghost use Rattle.flat_typing.specs.Faults.{Refutes};
 ghost use Rattle.flat_typing.specs.Scopes.{IsKnown, frame_view, IsTypedValueIn, AreTypedOperandsIn, AreTypedValuesIn, AreTypedInputsIn};
 
@@ -11,7 +11,7 @@ use crate::frames::{frame_fits, may_take};
 use crate::places::own_place;
 use crate::scope::{Owner, TypingScope};
 use crate::statements::typed_all;
-use st_tree::{Called, Frame, Operand, TypedExpr};
+use program_tree::{Called, Frame, Operand, TypedExpr};
 
 /// An expression is well typed. Each call of a FUNCTION checks its body again.
 #[cycle(typing)]

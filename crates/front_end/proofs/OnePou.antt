@@ -3,10 +3,10 @@ use Rattle.std.proofs.Common.{◌≡◌, ◌<◌, ◌≤◌, ◌+◌, ◌==◌, 
 use Rattle.std.specs.List.{position, position_or_len, count_by, slice_get, slice_index_or}
 use Rattle.std.proofs.lemmas.Iterator.Adapters.{position_from-zero}
 use Rattle.std.proofs.lemmas.Option.{slice_get_cases}
-use Rattle.st_tree.specs.declared.rule.Refusal.{Refusal}
-use Rattle.st_tree.specs.Syntax.{PouData, FileData}
-use Rattle.st_names.specs.FileScope.{types_of, pous_of, names_of}
-use Rattle.st_names.specs.Broken.{broken_names, is_program_pou, not_one, names_twice, in_types, in_results, in_pous}
+use Rattle.rules.specs.declared.rule.Refusal.{Refusal}
+use Rattle.source_tree.specs.Syntax.{PouData, FileData}
+use Rattle.naming.specs.FileScope.{types_of, pous_of, names_of}
+use Rattle.naming.specs.Broken.{broken_names, is_program_pou, not_one, names_twice, in_types, in_results, in_pous}
 use Rattle.front_end.specs.Texts.{HasProgram}
 
 -- what passes a test stands before the end
@@ -54,7 +54,7 @@ one_pou f none =
     let ps = pous_of f in
     let names = names_twice [] (names_of f) in
     let kinds = in_types f 0 (types_of f) in
-    let results = in_results f 0 ps in
+    let results = in_results f (length (types_of f)) ps in
     let one = front_of_none (not_one ps) names (front_of_none (not_one ps ++ names) kinds (front_of_none (not_one ps ++ names ++ kinds) results (front_of_none (not_one ps ++ names ++ kinds ++ results) (in_pous f ps) none))) in
     let count = counted_by ps (count_by is_program_pou ps == 1) refl one in
     let before = before_end is_program_pou ps (omega (arith, count)) in

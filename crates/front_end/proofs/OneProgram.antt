@@ -1,16 +1,16 @@
 -- A text states one program, or breaks one rule first.
 use Rattle.std.proofs.Common.{◌≡◌, ℕ, List, [], ◌∷◌, Some, sym, ap, ◌∙◌, subst, inl}
 use Rattle.std.proofs.lemmas.Bool.{both_ways}
-use Rattle.st_tree.specs.declared.rule.Refusal.{Refusal}
-use Rattle.st_tree.specs.Rules.{IsAmong, IsFirst, IsSame}
-use Rattle.st_tree.specs.Syntax.{PouData, FileData}
-use Rattle.st_tree.specs.Tree.{ProgramData}
-use Rattle.st_tree.proofs.FirstOnce.{first_once}
+use Rattle.rules.specs.declared.rule.Refusal.{Refusal}
+use Rattle.rules.specs.Rules.{IsAmong, IsFirst, IsSame}
+use Rattle.source_tree.specs.Syntax.{PouData, FileData}
+use Rattle.program_tree.specs.Tree.{ProgramData}
+use Rattle.rules.proofs.FirstOnce.{first_once}
 use Rattle.st_names.specs.Bound.{program_number}
-use Rattle.st_names.specs.FileScope.{pou_at}
-use Rattle.st_names.specs.Circles.{IsBroken}
-use Rattle.st_types.specs.Pous.{broken_types, has_room}
-use Rattle.st_types.specs.TypedPrograms.{typed_program}
+use Rattle.naming.specs.FileScope.{pou_at}
+use Rattle.naming.specs.Circles.{IsBroken}
+use Rattle.typing.specs.Pous.{broken_types, has_room}
+use Rattle.typing.specs.TypedPrograms.{typed_program}
 use Rattle.front_end.specs.Texts.{HasFile, HasNoTree, AreNamesSound, HasProgram, IsProgram, IsNoProgram, by_tree, by_names, by_types, by_room}
 use Rattle.front_end.proofs.OneReading.{one_tree, no_tree_too, one_no_tree}
 

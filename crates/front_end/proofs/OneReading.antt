@@ -2,18 +2,18 @@
 use Rattle.std.proofs.Common.{◌≡◌, ◌⊎◌, ◌<◌, ℕ, List, [], ◌∷◌, map, refl, sym, ap, ◌∙◌, arith, inl, inr}
 use Rattle.std.specs.Prelude.{All}
 use Rattle.std.proofs.lemmas.List.Elements.{All-head, All-tail}
-use Rattle.st_tree.specs.declared.token.Tok.{Tok}
-use Rattle.st_tree.specs.declared.rule.Refusal.{Refusal}
-use Rattle.st_tree.specs.Rules.{IsSame}
-use Rattle.st_tree.specs.Tokens.{Lexeme}
-use Rattle.st_tree.specs.Terminals.{IsClassified, terminal_of}
-use Rattle.st_tree.specs.Syntax.{Symbol, FileData}
-use Rattle.st_tree.specs.SyntaxView.{symbol_of}
+use Rattle.source_tree.specs.declared.token.Tok.{Tok}
+use Rattle.rules.specs.declared.rule.Refusal.{Refusal}
+use Rattle.rules.specs.Rules.{IsSame}
+use Rattle.source_tree.specs.Tokens.{Lexeme}
+use Rattle.source_tree.specs.Terminals.{IsClassified, terminal_of}
+use Rattle.source_tree.specs.Syntax.{Symbol, FileData}
+use Rattle.source_tree.specs.SyntaxView.{symbol_of}
 use Rattle.st_lexer.specs.Lexing.{lexeme_of, lexemes_of}
 use Rattle.st_lexer.proofs.Spellings.{spells_once}
-use Rattle.st_parser.specs.Same.{placed_symbol, AreSameTokens}
-use Rattle.st_parser.proofs.SameTokens.{same_symbols, sound_or_broken, one_first_fault}
-use Rattle.st_parser.proofs.FileWhole.{one_file}
+use Rattle.grammar.specs.Same.{placed_symbol, AreSameTokens}
+use Rattle.token_rules.proofs.SameTokens.{same_symbols, sound_or_broken, one_first_fault}
+use Rattle.file_laws.proofs.FileWhole.{one_file}
 use Rattle.front_end.specs.Texts.{HasTokens, HasNoTokens, too_long, by_token, HasTree, HasNoTree, by_tokens, by_nesting, by_grammar}
 
 -- ---- tokens

@@ -1,3 +1,2 @@
 pub mod StandardBlocks
 pub mod Texts
-pub mod Faults

@@ -1,25 +1,25 @@
 -- The texts of programs: which program a text states, once the blocks of the prelude stand before it, and which rule each other text breaks first. The passes
 -- come one after the other: size, tokens, left-out words and nesting, grammar, names, types, and the count of cells.
 use Rattle.std.specs.Prelude.{◌≡◌, ◌<◌, ◌≤◌, ℕ, List, [], ◌++◌, length, All, true, false, Some}
-use Rattle.st_tree.specs.declared.token.Tok.{Tok}
-use Rattle.st_tree.specs.declared.rule.Rule.TheVariants.{TooLong, NoTree, TooManyCells}
-use Rattle.st_tree.specs.declared.rule.Refusal.{Refusal}
-use Rattle.st_tree.specs.Rules.{IsAmong, IsFirst}
-use Rattle.st_tree.specs.Tokens.{Spells}
-use Rattle.st_tree.specs.Terminals.{IsClassified}
-use Rattle.st_tree.specs.Syntax.{PouData, FileData}
-use Rattle.st_tree.specs.SyntaxView.{symbols}
-use Rattle.st_tree.specs.Prints.{print_file}
-use Rattle.st_tree.specs.Levels.{IsFileLevelled}
-use Rattle.st_tree.specs.Tree.{ProgramData}
+use Rattle.source_tree.specs.declared.token.Tok.{Tok}
+use Rattle.rules.specs.declared.rule.Rule.TheVariants.{TooLong, NoTree, TooManyCells}
+use Rattle.rules.specs.declared.rule.Refusal.{Refusal}
+use Rattle.rules.specs.Rules.{IsAmong, IsFirst}
+use Rattle.source_tree.specs.Tokens.{Spells}
+use Rattle.source_tree.specs.Terminals.{IsClassified}
+use Rattle.source_tree.specs.Syntax.{PouData, FileData}
+use Rattle.source_tree.specs.SyntaxView.{symbols}
+use Rattle.source_tree.specs.Prints.{print_file}
+use Rattle.source_tree.specs.Levels.{IsFileLevelled}
+use Rattle.program_tree.specs.Tree.{ProgramData}
 use Rattle.st_lexer.specs.Parts as lexer
 use Rattle.st_lexer.specs.Lexing.{lexemes_of}
-use Rattle.st_parser.specs.FirstFault as nesting
-use Rattle.st_names.specs.Circles.{IsBroken}
+use Rattle.grammar.specs.FirstFault as nesting
+use Rattle.naming.specs.Circles.{IsBroken}
 use Rattle.st_names.specs.Bound.{program_number}
-use Rattle.st_names.specs.FileScope.{pou_at}
-use Rattle.st_types.specs.Pous.{broken_types, has_room}
-use Rattle.st_types.specs.TypedPrograms.{typed_program}
+use Rattle.naming.specs.FileScope.{pou_at}
+use Rattle.typing.specs.Pous.{broken_types, has_room}
+use Rattle.typing.specs.TypedPrograms.{typed_program}
 use Rattle.front_end.specs.StandardBlocks.{prelude_text}
 
 -- how many bytes a text may have

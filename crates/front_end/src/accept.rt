@@ -1,19 +1,20 @@
 // The passes, one after the other.
 ghost use Rattle.std.specs.Prelude.{◌≡◌, IfOk, IfErr};
-ghost use Rattle.st_tree.specs.View.{program_view};
-ghost use Rattle.st_tree.specs.SyntaxView.{file_view};
-ghost use Rattle.front_end.specs.declared.fault.AcceptFault.TheVariants.{Memory};
+ghost use Rattle.program_tree.specs.View.{program_view};
+ghost use Rattle.source_tree.specs.SyntaxView.{file_view};
+ghost use Rattle.rules.specs.declared.fault.Fault.TheVariants.{Memory};
 ghost use Rattle.front_end.specs.StandardBlocks.{prelude_text};
 ghost use Rattle.front_end.specs.Texts.{HasTokens, HasNoTokens, HasTree, HasNoTree, HasFile, IsProgram, IsNoProgram};
-ghost use Rattle.front_end.specs.Faults.{IfRefused};
-ghost use Rattle.st_types.specs.Ready.{IsReady};
+ghost use Rattle.rules.specs.Faults.{IfRefused};
+ghost use Rattle.scan_model.specs.InRange.{IsProgram as IsFitToRun};
 
-use crate::fault::AcceptFault;
 use crate::prelude::prelude;
+use program_tree::Program;
+use rules::{Fault, Refusal, Rule};
+use source_tree::{SourceFile, Tok};
 use st_lexer::lex;
 use st_names::resolve;
 use st_parser::parse_file;
-use st_tree::{Program, Refusal, Rule, SourceFile, Tok};
 use st_types::check;
 use std::alloc::Global;
 
@@ -21,21 +22,21 @@ use std::alloc::Global;
 const LIMIT: usize = 1_048_576;
 
 /// The tokens of a text of at most 1,048,576 bytes, or the first rule of size and tokens that it breaks.
-pub fn tokens_of(alloc: Global, text: &[u8]) -> Result<Vec<Tok<'_>>, AcceptFault>
+pub fn tokens_of(alloc: Global, text: &[u8]) -> Result<Vec<Tok<'_>>, Fault>
     ensures tokens { IfOk result (λ v. HasTokens text.now v.items) }
     ensures refused { IfErr result (IfRefused (HasNoTokens text.now)) }
 {
     if text.len() > LIMIT {
-        return Err(AcceptFault::Refused(Refusal {
+        return Err(Fault::Refused(Refusal {
             rule: Rule::TooLong,
             at: 0,
         }));
     }
-    Ok(lex(alloc, text)?)
+    lex(alloc, text)
 }
 
 // The tree of a text, or the first rule up to the grammar that it breaks.
-fn tree_of(alloc: Global, text: &[u8]) -> Result<SourceFile, AcceptFault>
+fn tree_of(alloc: Global, text: &[u8]) -> Result<SourceFile, Fault>
     ensures tree { IfOk result (λ f. HasTree text.now (file_view f)) }
     ensures refused { IfErr result (IfRefused (HasNoTree text.now)) }
 {
@@ -45,18 +46,18 @@ fn tree_of(alloc: Global, text: &[u8]) -> Result<SourceFile, AcceptFault>
 
 // The tree of the prelude. Its text is fixed; that it has a tree is shown by tests, and were it refused, no text would be
 // accepted: memory would be said to be wanting.
-fn blocks(alloc: Global) -> Result<SourceFile, AcceptFault>
+fn blocks(alloc: Global) -> Result<SourceFile, Fault>
     ensures tree { IfOk result (λ f. HasTree prelude_text (file_view f)) }
     ensures memory { IfErr result (λ e. e ≡ Memory) }
 {
     match tree_of(alloc, prelude()) {
         Ok(file) => Ok(file),
-        Err(_) => Err(AcceptFault::Memory),
+        Err(_) => Err(Fault::Memory),
     }
 }
 
 // The file of a text: the blocks of the prelude, and then its own items; or the first rule up to the grammar that it breaks.
-fn file_of(alloc: Global, text: &[u8]) -> Result<SourceFile, AcceptFault>
+fn file_of(alloc: Global, text: &[u8]) -> Result<SourceFile, Fault>
     ensures file { IfOk result (λ f. HasFile text.now (file_view f)) }
     ensures refused { IfErr result (IfRefused (HasNoTree text.now)) }
 {
@@ -68,9 +69,9 @@ fn file_of(alloc: Global, text: &[u8]) -> Result<SourceFile, AcceptFault>
 
 /// The program that a text states, or the first rule that it breaks of those on size, tokens, words that are left
 /// out, nesting, grammar, names, types and the count of cells, in this order of passes.
-pub fn accept_text(alloc: Global, text: &[u8]) -> Result<Program, AcceptFault>
+pub fn accept_text(alloc: Global, text: &[u8]) -> Result<Program, Fault>
     ensures program { IfOk result (λ p. IsProgram text.now (program_view p)) }
-    ensures ready { IfOk result (λ p. IsReady (program_view p)) }
+    ensures fit { IfOk result (λ p. IsFitToRun (program_view p)) }
     ensures refused { IfErr result (IfRefused (IsNoProgram text.now)) }
 {
     let file = file_of(alloc, text)?;

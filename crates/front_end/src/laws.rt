@@ -1,8 +1,8 @@
 // Laws of acceptance.
 ghost use Rattle.std.specs.Prelude.{◌≡◌, ℕ, List};
-ghost use Rattle.st_tree.specs.declared.rule.Refusal.{Refusal};
-ghost use Rattle.st_tree.specs.Rules.{IsSame};
-ghost use Rattle.st_tree.specs.Tree.{ProgramData};
+ghost use Rattle.rules.specs.declared.rule.Refusal.{Refusal};
+ghost use Rattle.rules.specs.Rules.{IsSame};
+ghost use Rattle.program_tree.specs.Tree.{ProgramData};
 ghost use Rattle.front_end.specs.Texts.{IsProgram, IsNoProgram};
 
 /// There is one answer to a text: it states at most one program, or breaks one rule first (the place of G1 apart), and

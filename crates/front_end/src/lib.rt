@@ -2,10 +2,8 @@
 #![tactic(auto)]
 
 mod accept;
-mod fault;
 mod laws;
 mod prelude;
 
 pub use accept::{accept_text, tokens_of};
-pub use fault::AcceptFault;
 pub use laws::one_acceptance;

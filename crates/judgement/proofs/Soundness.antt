@@ -31,7 +31,7 @@ use Rattle.judgement.proofs.StartLemmas.{known_when, known_open_log, known_open_
 use Rattle.judgement.proofs.RowLemmas.{known_first, known_drop, known_pair, known_scan}
 use Rattle.judgement.proofs.StepLemmas.{known_log_step, known_query_step, known_query_end}
 
-is_deep-true : (scans : ℕ) (asked : Asked) → is_deep scans asked ≡ true → asked ≡ Deep (pos scans)
+pub is_deep-true : (scans : ℕ) (asked : Asked) → is_deep scans asked ≡ true → asked ≡ Deep (pos scans)
 is_deep-true scans (Deep (pos d)) h = let same : d ≡ scans = grind (arith, h) in ap (λ n. Deep (pos n)) same
 is_deep-true scans (Deep (negsuc d)) h = absurd (false≢true h)
 is_deep-true scans First h = absurd (false≢true h)

@@ -9,10 +9,11 @@ use Rattle.queries.specs.Settings.{setting_of}
 use Rattle.queries.specs.Questions.{QueryData, IsQueryOf}
 use Rattle.queries.specs.Meaning.{HasAnswer, Means}
 use Rattle.judgement.specs.declared.answers.Reason.{Reason}
+use Rattle.judgement.specs.Steps.{opened}
 use Rattle.judgement.specs.Places.{Place, Moved}
 use Rattle.judgement.specs.Tests.{when, open_log, open_query}
 use Rattle.judgement.specs.Shown.{asked_of}
-use Rattle.judgement.specs.Known.{Known, KnownAfter}
+use Rattle.judgement.specs.Known.{KnownInQuery, Known, KnownAfter}
 
 module _ (c : Comparison) (formula : QueryData → Formula) where
   -- what is known where a test passes
@@ -31,17 +32,21 @@ module _ (c : Comparison) (formula : QueryData → Formula) where
     λ none. h (no_answer query means none),
   )
 
-  pub known_open_query : (asked : Asked) (query : QueryData) → asked ≡ asked_of query → IsQueryOf c query
-      → KnownAfter c formula (open_query (setting_of c) asked (formula query))
+  -- no step of the log of a query
+  pub no_step : (asked : Asked) (query : QueryData) → asked ≡ asked_of query → IsQueryOf c query
+      → KnownInQuery c formula asked (opened (formula query)) (setting_of c).conflicts []
   unfolding setting_of
-  known_open_query asked query named is_query = record {
+  no_step asked query named is_query = record {
     query = query;
     named = named;
     is_query = is_query;
     opened = refl;
-    log = [];
     held = append-nil (formula query).clauses;
     accepted = tt;
     fresh = tt;
     counted = omega arith;
   }
+
+  pub known_open_query : (asked : Asked) (query : QueryData) → asked ≡ asked_of query → IsQueryOf c query
+      → KnownAfter c formula (open_query (setting_of c) asked (formula query))
+  known_open_query asked query named is_query = ([], no_step asked query named is_query)

@@ -42,23 +42,22 @@ module _ (c : Comparison) (formula : QueryData → Formula) where
       (λ empty. k.1 (HasNoSolution-empty d step k.0 ok empty))
       (λ some. (Implies-with_derived d step k.0 ok, k.1))))
 
-  step_more : (asked : Asked) (d : Derivation) (left : ℕ) (step : Step) → KnownInQuery c formula asked d left → accepts d step ≡ true
-      → is_empty step.clause ≡ false → IsFresh (held_of d) step.clause → 0 < left → KnownInQuery c formula asked (with_derived d step.clause) (left - 1)
-  step_more asked d left step k ok some fresh more = record {
+  pub step_more : (asked : Asked) (d : Derivation) (left : ℕ) (log : List Entry) (step : Step) → KnownInQuery c formula asked d left log → accepts d step ≡ true
+      → is_empty step.clause ≡ false → IsFresh (held_of d) step.clause → 0 < left → KnownInQuery c formula asked (with_derived d step.clause) (left - 1) (log ++ Derived step ∷ [])
+  step_more asked d left log step k ok some fresh more = record {
     query = k.query;
     named = k.named;
     is_query = k.is_query;
     opened = k.opened;
-    log = k.log ++ Derived step ∷ [];
-    held = sym (held_of-with_derived d step.clause) ∙ ap (λ h. h ++ step.clause ∷ []) k.held ∙ sym (held_after-append d.formula.clauses k.log step);
-    accepted = AcceptsLog-append d.formula.variables d.formula.clauses k.log step k.accepted
+    held = sym (held_of-with_derived d step.clause) ∙ ap (λ h. h ++ step.clause ∷ []) k.held ∙ sym (held_after-append d.formula.clauses log step);
+    accepted = AcceptsLog-append d.formula.variables d.formula.clauses log step k.accepted
         (subst (λ h. outcome d.formula.variables h step.clause step.hints ≡ Accepted) k.held (is_accepted-true _ ok));
-    fresh = IsFreshLog-append d.formula.clauses k.log step k.fresh (subst (λ h. IsFresh h step.clause) k.held fresh) (not_empty step.clause some);
-    counted = omega (arith, k.counted, length-append k.log (Derived step ∷ []));
+    fresh = IsFreshLog-append d.formula.clauses log step k.fresh (subst (λ h. IsFresh h step.clause) k.held fresh) (not_empty step.clause some);
+    counted = omega (arith, k.counted, length-append log (Derived step ∷ []));
   }
 
   pub known_query_step : (asked : Asked) (d : Derivation) (left : ℕ) (literals hints : List ℤ) (told : Bool)
-      → IsTold (setting_of c) (in_query asked d left) (lines.Derived literals hints) told → KnownInQuery c formula asked d left
+      → IsTold (setting_of c) (in_query asked d left) (lines.Derived literals hints) told → Known c formula (in_query asked d left)
       → KnownAfter c formula (in_query_next (setting_of c) asked d left told (lines.Derived literals hints))
   known_query_step asked d left literals hints told is_told k =
       let step = step_of literals hints in
@@ -66,16 +65,23 @@ module _ (c : Comparison) (formula : QueryData → Formula) where
       known_when c formula (not (is_empty (clause_of literals)) && (told && nat_lt 0 left)) _ _ (λ more.
       let first = and_parts (not (is_empty (clause_of literals))) (told && nat_lt 0 left) more in
       let second = and_parts told (nat_lt 0 left) first.1 in
-      step_more asked d left step k ok (not-true _ first.0) ((is_told ordered).0 second.0) (ltb-true 0 left second.1))))
+      (k.0 ++ Derived step ∷ [], step_more asked d left k.0 step k.1 ok (not-true _ first.0) ((is_told ordered).0 second.0) (ltb-true 0 left second.1)))))
 
-  pub known_query_end : (asked : Asked) (d : Derivation) (left : ℕ) (conclusion : Conclusion) (told : Bool) → KnownInQuery c formula asked d left
+  -- a log without steps to come spends its query
+  pub spends : (asked : Asked) (d : Derivation) (left : ℕ) (log : List Entry) (k : KnownInQuery c formula asked d left log) → (left == 0) ≡ true
+      → Spends (formula k.query) c.relation.conflicts log
+  spends asked d left log k all =
+      let none : left ≡ 0 = grind (arith, all) in
+      subst (λ f. Spends f c.relation.conflicts log) k.opened (record { all = omega (arith, k.counted); accepted = k.accepted; fresh = k.fresh })
+
+  pub known_query_end : (asked : Asked) (d : Derivation) (left : ℕ) (conclusion : Conclusion) (told : Bool) → Known c formula (in_query asked d left)
       → KnownAfter c formula (in_query_next (setting_of c) asked d left told (lines.End conclusion))
   unfolding setting_of
   known_query_end asked d left conclusion told k =
       known_when c formula (left == 0) _ _ (λ all. known_when c formula told _ _ (λ same. (
-        k.query,
-        k.log,
-        k.is_query,
-        subst (λ f. Spends f c.relation.conflicts k.log) k.opened (record { all = (let none : left ≡ 0 = grind (arith, all) in omega (arith, k.counted)); accepted = k.accepted; fresh = k.fresh }),
-        ap (λ a. Spent a (pos c.relation.conflicts)) k.named,
+        k.1.query,
+        k.0,
+        k.1.is_query,
+        spends asked d left k.0 k.1 all,
+        ap (λ a. Spent a (pos c.relation.conflicts)) k.1.named,
       )))

@@ -47,13 +47,12 @@ module _ (c : Comparison) where
         → (all : List Row) × (length all ≡ scans) × IsBreakFrom c.old c.new c.relation (start c.old c.new) all
 
 module _ (c : Comparison) (formula : QueryData → Formula) where
-  -- the steps so far spend the query, as far as they go
-  pub record KnownInQuery (asked : Asked) (d : Derivation) (left : ℕ) : Type 0 where
+  -- these steps spend the query, as far as they go
+  pub record KnownInQuery (asked : Asked) (d : Derivation) (left : ℕ) (log : List Entry) : Type 0 where
     pub query : QueryData
     pub named : asked ≡ asked_of query
     pub is_query : IsQueryOf c query
     pub opened : d.formula ≡ formula query
-    pub log : List Entry
     pub held : held_of d ≡ held_after d.formula.clauses log
     pub accepted : AcceptsLog d.formula.variables d.formula.clauses log
     pub fresh : IsFreshLog d.formula.clauses log
@@ -69,7 +68,7 @@ module _ (c : Comparison) (formula : QueryData → Formula) where
   Known (at_end verdict) = IsShown c formula verdict
   Known (finished verdict) = IsShown c formula verdict
   Known (in_log d behind) = Implies d.formula.clauses (held_of d) × (HasNoSolution d.formula.clauses → Known behind)
-  Known (in_query asked d left) = KnownInQuery asked d left
+  Known (in_query asked d left) = (log : List Entry) × KnownInQuery asked d left log
 
   abbrev pub KnownAfter : Moved → Type 0
   KnownAfter (goes place) = Known place

@@ -1,5 +1,6 @@
 // What a judge of findings answers.
 use finding_lines::Conclusion;
+use std::alloc::AllocError;
 use thiserror::Error;
 
 /// The test that a line fails.
@@ -54,4 +55,15 @@ pub enum JudgeErr {
     /// A line that follows lines which all pass holds the first byte past the limit.
     #[error("the finding is too long")]
     M8,
+}
+
+impl From<AllocError> for JudgeErr {
+    ghost use Rattle.std.specs.Prelude.{◌≡◌};
+    ghost use Rattle.judgement.specs.declared.answers.JudgeErr.TheVariants.{Memory};
+
+    ghost from_gives = { λ _ e. e ≡ Memory };
+
+    fn from(_: AllocError) -> Self {
+        JudgeErr::Memory
+    }
 }

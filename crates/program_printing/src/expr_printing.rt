@@ -1,5 +1,6 @@
 // Expressions as texts: a cell by its name, or by its place where it has none, and an operator with the type of its operands.
-use st_tree::{Elementary, Function, Operand, Operator, Shift, TypedExpr, UnaryOperator};
+use plc_types::{Elementary, Function, Operator, Shift, UnaryOperator};
+use program_tree::{Operand, TypedExpr};
 use std::alloc::{AllocError, Global};
 
 /// Adds an expression to a text. The names are those of the first cells.
@@ -14,10 +15,8 @@ pub fn print_expr(
         TypedExpr::Number(value) => text.push_str(format!(in alloc; "{value}")?.as_str()),
         TypedExpr::Cell(place) => print_cell(*place, names, alloc, text),
         TypedExpr::Unary(operator, kind, inner) => {
-            text.push_str(match operator {
-                UnaryOperator::Minus => "-:",
-                UnaryOperator::Not => "NOT:",
-            })?;
+            text.push_str(unary_name(*operator))?;
+            text.push_str(":")?;
             text.push_str(kind_name(*kind))?;
             text.push_str(" ")?;
             print_expr(inner, names, alloc, text)
@@ -97,19 +96,14 @@ fn print_function(
     text: &mut String,
 ) -> Result<(), AllocError> {
     match function {
-        Function::Convert => text.push_str("CONVERT:")?,
+        Function::Convert(_) => text.push_str("CONVERT:")?,
         Function::Absolute => text.push_str("ABS:")?,
         Function::Minimum => text.push_str("MIN:")?,
         Function::Maximum => text.push_str("MAX:")?,
         Function::Limit => text.push_str("LIMIT:")?,
         Function::Select => text.push_str("SEL:")?,
         Function::Shift(shift, amount) => {
-            text.push_str(match shift {
-                Shift::Left => "SHL",
-                Shift::Right => "SHR",
-                Shift::RotateLeft => "ROL",
-                Shift::RotateRight => "ROR",
-            })?;
+            text.push_str(shift_name(shift))?;
             text.push_str(format!(in alloc; " {amount}:")?.as_str())?;
         }
     }
@@ -133,7 +127,26 @@ pub fn kind_name(kind: Elementary) -> &'static str {
     }
 }
 
-fn operator_name(operator: Operator) -> &'static str {
+/// The name of an operator of one operand.
+pub fn unary_name(operator: UnaryOperator) -> &'static str {
+    match operator {
+        UnaryOperator::Minus => "-",
+        UnaryOperator::Not => "NOT",
+    }
+}
+
+/// The name of a shift or rotation.
+pub fn shift_name(shift: Shift) -> &'static str {
+    match shift {
+        Shift::Left => "SHL",
+        Shift::Right => "SHR",
+        Shift::RotateLeft => "ROL",
+        Shift::RotateRight => "ROR",
+    }
+}
+
+/// The name of an operator of two operands.
+pub fn operator_name(operator: Operator) -> &'static str {
     match operator {
         Operator::Or => "OR",
         Operator::Xor => "XOR",

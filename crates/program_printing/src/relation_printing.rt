@@ -1,8 +1,9 @@
 // Relations as texts.
 use crate::expr_printing::print_expr;
+use plc_types::Range;
+use program_tree::{Cell, Program, TypedExpr};
 use relation_lines::{Condition, Content, Line, Setting};
 use scan_model::{Candidate, InputLine, Relation, Side};
-use st_tree::{Cell, Program, Range, TypedExpr};
 use std::alloc::{AllocError, Global};
 
 /// The names of OLD's cells and then of NEW's, each behind its side.
@@ -63,30 +64,33 @@ pub fn print_parts(
     for line in &relation.inputs {
         print_input(alloc, &old.cells, &new.cells, *line, &mut text)?;
     }
-    add_clauses(alloc, "ENV ", &relation.environment, names, &mut text)?;
+    for clause in &relation.environment {
+        add_clause(alloc, "ENV ", clause, names, &mut text)?;
+    }
     text.push_str(if relation.equal_faults {
         "FAULTS EQUAL\n"
     } else {
         "FAULTS FREE\n"
     })?;
-    add_clauses(alloc, "RELATE ", &relation.relates, names, &mut text)?;
-    add_clauses(alloc, "INVARIANT ", &relation.invariants, names, &mut text)?;
+    for candidate in relation.relate_clauses() {
+        add_clause(alloc, "RELATE ", &candidate.clause, names, &mut text)?;
+    }
+    for candidate in relation.invariant_clauses() {
+        add_clause(alloc, "INVARIANT ", &candidate.clause, names, &mut text)?;
+    }
     Ok(text)
 }
 
-fn add_clauses(
+fn add_clause(
     alloc: Global,
     word: &str,
-    clauses: &[TypedExpr],
+    clause: &TypedExpr,
     names: &[String],
     text: &mut String,
 ) -> Result<(), AllocError> {
-    for clause in clauses {
-        text.push_str(word)?;
-        print_expr(clause, names, alloc, text)?;
-        text.push_str("\n")?;
-    }
-    Ok(())
+    text.push_str(word)?;
+    print_expr(clause, names, alloc, text)?;
+    text.push_str("\n")
 }
 
 fn print_input(

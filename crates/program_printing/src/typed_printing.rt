@@ -1,6 +1,6 @@
 // Statements without charts as texts, in the notation of flat programs; a CASE, a FOR and a run of a block stay one statement.
 use crate::expr_printing::print_expr;
-use st_tree::{TypedArm, TypedEntry, TypedLabel, TypedStmt};
+use program_tree::{TypedArm, TypedEntry, TypedLabel, TypedStmt};
 use std::alloc::{AllocError, Global};
 
 /// How many scratch variables a POU has, and the statements of its body.
@@ -38,7 +38,7 @@ fn print_stmt(stmt: &TypedStmt, alloc: Global, text: &mut String) -> Result<(), 
             }
             Ok(())
         }
-        TypedStmt::Case(selector, entries, other) => {
+        TypedStmt::Case(_, selector, entries, other) => {
             text.push_str("Case ")?;
             print_expr(selector, &[], alloc, text)?;
             text.push_str(" {")?;

@@ -1,10 +1,10 @@
 -- The tests of a setting are the model's.
-use Rattle.std.proofs.Common.{◌≡◌, ℕ, zero, suc, ◌<◌, Bool, true, false, not, ◌&&◌, ◌||◌, List, [], ◌∷◌, length, refl, sym, ap, ◌∙◌, subst, rules, arith, tests, inl, inr, ℤ, ◌≤ℤ◌}
+use Rattle.std.proofs.Common.{◌≡◌, ℕ, zero, suc, ◌+◌, ◌<◌, ◌≤◌, Bool, true, false, not, ◌&&◌, ◌||◌, List, [], ◌∷◌, length, refl, sym, ap, ◌∙◌, subst, rules, arith, tests, inl, inr, ℤ, ◌≤ℤ◌}
 use Rattle.std.proofs.lemmas.Int.{ints}
 use Rattle.std.proofs.lemmas.Bool.{false≢true, cases_lt, and_parts, and_from, and_cases, or_parts, or_left, or_right, false_from_ne_true}
-use Rattle.st_tree.specs.declared.typed.Range.{Range}
-use Rattle.st_tree.specs.Types.{in_range}
-use Rattle.effects.specs.Values.{State}
+use Rattle.plc_types.specs.declared.range.Range.{Range}
+use Rattle.plc_types.specs.Types.{in_range}
+use Rattle.meaning.specs.Values.{State}
 use Rattle.scan_model.specs.Scans.{ranges_of}
 use Rattle.scan_model.specs.InRange.{IsInRange}
 use Rattle.scan_model.specs.Pairs.{Pair, CandidateData, IsPairInRange}
@@ -14,6 +14,7 @@ use Rattle.scan_model.proofs.Keeping.{within}
 use Rattle.verdict_laws.specs.Evidence.{candidate_on, FailsOn, held_at_start, left_on}
 use Rattle.queries.specs.Comparisons.{Comparison, IsComparison}
 use Rattle.queries.specs.Ranges.{are_in_range, is_pair_in_range}
+use Rattle.queries.specs.Questions.{deep, IsQueryOf}
 use Rattle.queries.specs.Settings.{Setting, setting_of, meets_below, meets, first_set, left_of}
 
 in_range_from : (v : ℤ) (r : Range) → r.low ≤ℤ v → v ≤ℤ r.high → in_range v r ≡ true
@@ -132,3 +133,8 @@ module _ (c : Comparison) (is : IsComparison c) where
 
   pub left_of-setting : (set : CandidateSet) (pair : Pair) (n : ℕ) → left_of (setting_of c) set pair n ≡ left_on c.old c.new c.relation set pair n
   left_of-setting set pair n = rw (holds-setting n pair) refl
+
+-- one more scan than searched so far
+pub IsQueryOf-deep : (c : Comparison) (none : ℕ) → none < (setting_of c).depth → IsQueryOf c (deep (none + 1))
+unfolding setting_of
+IsQueryOf-deep c none less = ((omega arith), (omega arith))

@@ -1,6 +1,6 @@
 -- What is compared: OLD, NEW and the relation between them.
 use Rattle.std.specs.Prelude.{◌≡◌, ◌≤◌, ℕ, length}
-use Rattle.st_tree.specs.Tree.{ProgramData}
+use Rattle.program_tree.specs.Tree.{ProgramData}
 use Rattle.scan_model.specs.Pairs.{RelationData}
 use Rattle.scan_model.specs.Candidates.{candidates_of}
 use Rattle.scan_model.specs.VerdictLaws.{AreRelatable}

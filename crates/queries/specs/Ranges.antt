@@ -1,9 +1,9 @@
 -- Whether values lie in their cells' ranges, as a test.
 use Rattle.std.specs.Prelude.{Bool, true, false, ◌&&◌, List, [], ◌∷◌}
-use Rattle.st_tree.specs.declared.typed.Range.{Range}
-use Rattle.st_tree.specs.Types.{in_range}
-use Rattle.st_tree.specs.Tree.{ProgramData}
-use Rattle.effects.specs.Values.{State}
+use Rattle.plc_types.specs.declared.range.Range.{Range}
+use Rattle.plc_types.specs.Types.{in_range}
+use Rattle.program_tree.specs.Tree.{ProgramData}
+use Rattle.meaning.specs.Values.{State}
 use Rattle.scan_model.specs.Scans.{ranges_of}
 use Rattle.scan_model.specs.Pairs.{Pair}
 

@@ -1,6 +1,7 @@
 use crate::set::CandidateSet;
 
 /// A query. The numbers of a set are those of the relation's candidates.
+#[derive(Clone, Copy)]
 pub enum Query<'s> {
     /// For a first row that is allowed.
     First,

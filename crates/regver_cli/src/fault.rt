@@ -1,12 +1,27 @@
-// An error of the system is a fault, and is counted.
+// An error of the system is a fault: it is counted, and the first one is told on standard error.
 ghost use Rattle.std.specs.Prelude.{◌≡◌, Ok, IfOk, IsErr, OnErr, OnOk};
 ghost use Rattle.outside.specs.Causes.{HasCause};
 
 use outside::OutErr;
-use std::io;
+use std::io::{self, Eprint, ErrorKind};
 
-/// Hands on what the system answered. The count rises at an error, and stands still at its type's end.
-pub fn counted<T: Drop>(answer: io::Result<T>, faults: &mut u64) -> Result<T, OutErr>
+// Tells what could not be done, and the system's reason: `cannot read trace.json: no such file`. Where this cannot be told either,
+// nothing more is tried.
+fn tell(rt: &impl Eprint, doing: &str, name: &str, error: &io::Error) {
+    let _told = match error.kind() {
+        ErrorKind::NotFound => eprintln!(rt; "cannot {doing} {name}: no such file"),
+        _ => eprintln!(rt; "cannot {doing} {name}: {error}"),
+    };
+}
+
+/// Hands on what the system answered. At an error the count rises, and stands still at its type's end; the first error is told.
+pub fn counted<T: Drop>(
+    rt: &impl Eprint,
+    answer: io::Result<T>,
+    doing: &str,
+    name: &str,
+    faults: &mut u64,
+) -> Result<T, OutErr>
     ensures ok { IfOk result (λ value. answer ≡ Ok value) }
     ensures err { OnErr result (IsErr answer) }
     ensures uncounted { OnOk result (faults.new ≡ faults.old) }
@@ -14,7 +29,10 @@ pub fn counted<T: Drop>(answer: io::Result<T>, faults: &mut u64) -> Result<T, Ou
 {
     match answer {
         Ok(value) => Ok(value),
-        Err(_) => {
+        Err(error) => {
+            if *faults == 0 {
+                tell(rt, doing, name, &error);
+            }
             *faults = faults.saturating_add(1);
             Err(OutErr::Fault)
         }

@@ -4,7 +4,7 @@ ghost use Rattle.std.specs.Prelude.{◌≡◌, List, ℕ, None, IfOk, ◌≤◌,
 use crate::fault::counted;
 use outside::{OutErr, Shelf};
 use std::fs::{File, OpenOptions};
-use std::io::{self, Read, Seek, SeekFrom, Write};
+use std::io::{self, Eprint, Read, Seek, SeekFrom, Write};
 use std::rt::Files;
 
 /// Files by their paths, which are those of the folder that the program runs in.
@@ -15,7 +15,7 @@ pub struct FileShelf<'a, R> {
     write_faults: u64,
 }
 
-impl<'a, R: Files> FileShelf<'a, R> {
+impl<'a, R: Eprint + Files> FileShelf<'a, R> {
     pub fn new(rt: &'a R) -> Self
         ensures reads { (name : List ℕ) → ⟦<FileShelf<'a, R> as Shelf>⟧.read_faults result name ≡ 0 }
         ensures writes { (name : List ℕ) → ⟦<FileShelf<'a, R> as Shelf>⟧.write_faults result name ≡ 0 }
@@ -48,7 +48,7 @@ fn add_to<R: Files>(rt: &R, name: &str, bytes: &[u8]) -> io::Result<()> {
     file.write_all(bytes)
 }
 
-impl<R: Files> Shelf for FileShelf<'_, R> {
+impl<R: Eprint + Files> Shelf for FileShelf<'_, R> {
     ghost file = { λ s name. None };
 
     ghost read_faults = { λ s name. s.read_faults };
@@ -56,14 +56,17 @@ impl<R: Files> Shelf for FileShelf<'_, R> {
     ghost write_faults = { λ s name. s.write_faults };
 
     fn read_at(&mut self, name: &str, from: u64, buf: &mut [u8]) -> Result<usize, OutErr> {
-        counted(read_from(self.rt, name, from, buf), &mut self.read_faults)
+        let answer = read_from(self.rt, name, from, buf);
+        counted(self.rt, answer, "read", name, &mut self.read_faults)
     }
 
     fn create(&mut self, name: &str) -> Result<(), OutErr> {
-        counted(make_empty(self.rt, name), &mut self.write_faults)
+        let answer = make_empty(self.rt, name);
+        counted(self.rt, answer, "make", name, &mut self.write_faults)
     }
 
     fn append(&mut self, name: &str, bytes: &[u8]) -> Result<(), OutErr> {
-        counted(add_to(self.rt, name, bytes), &mut self.write_faults)
+        let answer = add_to(self.rt, name, bytes);
+        counted(self.rt, answer, "write", name, &mut self.write_faults)
     }
 }

@@ -3,6 +3,7 @@ ghost use Rattle.std.specs.Prelude.{◌≡◌, None};
 
 use crate::fault::counted;
 use outside::{OutErr, Sink};
+use std::io::Eprint;
 
 /// Standard output, which keeps nothing back: a reader has the bytes of each put as soon as it is done.
 #[derive(Drop)]
@@ -11,7 +12,7 @@ pub struct StdSink<'a, R> {
     faults: u64,
 }
 
-impl<'a, R: Print> StdSink<'a, R> {
+impl<'a, R: Eprint + Print> StdSink<'a, R> {
     pub fn new(rt: &'a R) -> Self
         ensures { ⟦<StdSink<'a, R> as Sink>⟧.faults result ≡ 0 }
     {
@@ -19,12 +20,19 @@ impl<'a, R: Print> StdSink<'a, R> {
     }
 }
 
-impl<R: Print> Sink for StdSink<'_, R> {
+impl<R: Eprint + Print> Sink for StdSink<'_, R> {
     ghost taken = { λ s. None };
 
     ghost faults = { λ s. s.faults };
 
     fn put(&mut self, bytes: &[u8]) -> Result<(), OutErr> {
-        counted(self.rt.write_all(bytes), &mut self.faults)
+        let answer = self.rt.write_all(bytes);
+        counted(
+            self.rt,
+            answer,
+            "write",
+            "standard output",
+            &mut self.faults,
+        )
     }
 }

@@ -1,10 +1,10 @@
 -- There is one report on four texts, the place of G1 apart.
 use Rattle.std.proofs.Common.{◌≡◌, ℕ, List, length, sym, ap, ◌∙◌, subst, arith, inl, inr}
-use Rattle.st_tree.specs.declared.rule.Rule.{Rule}
-use Rattle.st_tree.specs.declared.rule.Refusal.{Refusal}
-use Rattle.st_tree.specs.Rules.{IsSame}
-use Rattle.st_tree.specs.Tree.{ProgramData}
-use Rattle.st_parser.proofs.Steps.{some_is}
+use Rattle.rules.specs.declared.rule.Rule.{Rule}
+use Rattle.rules.specs.declared.rule.Refusal.{Refusal}
+use Rattle.rules.specs.Rules.{IsSame}
+use Rattle.program_tree.specs.Tree.{ProgramData}
+use Rattle.grammar_laws.proofs.Steps.{some_is}
 use Rattle.front_end.specs.Texts.{IsProgram}
 use Rattle.front_end.proofs.OneReading.{same_tokens, no_tokens_too, one_no_tokens}
 use Rattle.front_end.proofs.OneProgram.{one_program, no_program_too, one_refusal}

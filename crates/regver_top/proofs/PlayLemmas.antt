@@ -2,15 +2,15 @@
 use Rattle.std.proofs.Common.{Bool, ◌≡◌, ◌<◌, ℕ, suc, ◌+◌, ℤ, List, [], ◌∷◌, ◌++◌, length, take, drop, get_or, drop-cons, add-one, Vec, true, false, if◌then◌else◌, Option, Some, None, Result, Ok, Err, OnErr, refl, sym, ap, ◌∙◌, subst, append_assoc, append-nil}
 use Rattle.std.proofs.lemmas.List.{take-append-drop}
 use Rattle.std.specs.declared.alloc.Global.{Global}
-use Rattle.st_tree.specs.declared.typed.Program.{Program}
-use Rattle.st_tree.specs.View.{program_view}
+use Rattle.program_tree.specs.declared.typed.Program.{Program}
+use Rattle.program_tree.specs.View.{program_view}
 use Rattle.scan_model.specs.declared.relation.Relation.{Relation}
 use Rattle.scan_replay.specs.Duos.{Compared, with_pair, allows, pair_after, is_pair_related}
 use Rattle.outside.specs.declared.OutErr.{OutErr}
 use Rattle.outside.specs.Contents.{extended, Adds}
-use Rattle.st_tree.specs.Tree.{ProgramData}
+use Rattle.program_tree.specs.Tree.{ProgramData}
 use Rattle.scan_model.specs.declared.relation.Ending.{Ending}
-use Rattle.scan_model.specs.declared.relation.Ending.TheVariants.{Unrelated}
+use Rattle.scan_model.specs.declared.relation.Ending.TheVariants.{Unrelated, NotAllowed}
 use Rattle.scan_model.specs.InRange.{Row}
 use Rattle.scan_model.specs.Pairs.{RelationData, Pair, relation_view, is_allowed, is_related, after_row}
 use Rattle.regver_top.specs.Held.{rows_of}
@@ -79,9 +79,9 @@ pub record AreOf (old new : Program) (rel : Relation) (d : Compared) : Type 0 wh
   pub new_is : d.new_program ≡ new
   pub relation_is : d.relation ≡ rel
 
-pub are_allowed : (old new : Program) (rel : Relation) (d : Compared) (row : Row) (b : Bool) → AreOf old new rel d → b ≡ allows d row → b ≡ true
-    → is_allowed (relation_view rel) row d.pair ≡ true
-are_allowed old new rel d row b h e may = ap (λ r. is_allowed (relation_view r) row d.pair) (sym h.relation_is) ∙ sym e ∙ may
+pub are_allowed : (old new : Program) (rel : Relation) (d : Compared) (row : Row) (b c : Bool) → AreOf old new rel d → b ≡ allows d row → b ≡ c
+    → is_allowed (relation_view rel) row d.pair ≡ c
+are_allowed old new rel d row b c h e may = ap (λ r. is_allowed (relation_view r) row d.pair) (sym h.relation_is) ∙ sym e ∙ may
 
 pub are_related : (old new : Program) (rel : Relation) (d : Compared) (b c : Bool) → AreOf old new rel d → b ≡ is_pair_related d → b ≡ c → is_related (relation_view rel) d.pair ≡ c
 are_related old new rel d b c h e is = ap (λ r. is_related (relation_view r) d.pair) (sym h.relation_is) ∙ sym e ∙ is
@@ -139,8 +139,24 @@ pub step_run : (old new : Program) (rel : Relation) (told now : Option (List ℕ
     → done < length rows → vec ≡ get_or rows done vec → tried ≡ vec.items → row ≡ vec.items → b ≡ allows d tried → b ≡ true → held ≡ d → next ≡ with_pair (pair_after held row) held
     → HasRunRow (program_view old) (program_view new) (relation_view rel) told now all done next.pair (rows_of (drop (done + 1) rows))
 step_run old new rel told now all done d held next rows vec tried row b are h short at first same e may still step =
-    let allowed = subst (λ r. is_allowed (relation_view rel) r d.pair ≡ true) (first ∙ sym same) (are_allowed old new rel d tried b are e may) in
+    let allowed = subst (λ r. is_allowed (relation_view rel) r d.pair ≡ true) (first ∙ sym same) (are_allowed old new rel d tried b true are e may) in
     row_run (program_view old) (program_view new) (relation_view rel) told now all done d.pair next.pair rows vec row h short at same allowed (pair_stepped old new rel d held next row are still step)
+
+outcome-not_allowed : (old new : ProgramData) (rel : RelationData) (k : ℕ) (pair : Pair) (row : Row) (rows : List Row) → is_allowed rel row pair ≡ false
+    → outcome_from old new rel k pair (row ∷ rows) ≡ ended (NotAllowed (k + 1))
+outcome-not_allowed old new rel k pair row rows a = rw a refl
+
+-- a row that is not allowed ends the replay
+pub row_refused : (old new : Program) (rel : Relation) (told now : Option (List ℕ)) (all : Outcome) (done : ℕ) (d : Compared) (rows : List (Vec ℤ Global)) (vec : Vec ℤ Global) (row : Row) (b : Bool)
+    → AreOf old new rel d → HasPlayed told now all (outcome_from (program_view old) (program_view new) (relation_view rel) done d.pair (rows_of (drop done rows)))
+    → done < length rows → vec ≡ get_or rows done vec → row ≡ vec.items → b ≡ allows d row → b ≡ false
+    → (now ≡ extended told all.lines) × (NotAllowed (done + 1) ≡ all.ending)
+row_refused old new rel told now all done d rows vec row b are h short at same e not =
+    let more = rows_of (drop (done + 1) rows) in
+    let cut : rows_of (drop done rows) ≡ row ∷ more = rows_of-drop rows done vec short at ∙ ap (λ r. r ∷ more) (sym same) in
+    let first = subst (λ r. HasPlayed told now all (outcome_from (program_view old) (program_view new) (relation_view rel) done d.pair r)) cut h in
+    let last = outcome-not_allowed (program_view old) (program_view new) (relation_view rel) done d.pair row more (are_allowed old new rel d row b false are e not) in
+    all_played told now all (NotAllowed (done + 1)) (subst (HasPlayed told now all) last first)
 
 -- its line was put, and the pair is related
 pub row_related : (old new : ProgramData) (rel : RelationData) (told now put : Option (List ℕ)) (all : Outcome) (done : ℕ) (next : Pair) (rows : List Row)

@@ -1,6 +1,6 @@
 -- A replay row by row is a report on the texts.
 use Rattle.std.proofs.Common.{◌≡◌, List, ap, ◌∙◌}
-use Rattle.st_tree.specs.Tree.{ProgramData}
+use Rattle.program_tree.specs.Tree.{ProgramData}
 use Rattle.scan_model.specs.InRange.{Row}
 use Rattle.scan_model.specs.Pairs.{RelationData, start}
 use Rattle.regver_top.specs.Outcomes.{outcome_of}

@@ -1,18 +1,15 @@
 -- What texts and what is accepted of them stand for in memory.
 use Rattle.std.specs.Prelude.{◌≡◌}
-use Rattle.st_tree.specs.View.{program_view}
+use Rattle.program_tree.specs.View.{program_view}
 use Rattle.scan_model.specs.Pairs.{relation_view}
-use Rattle.front_end.specs.declared.fault.AcceptFault.{AcceptFault}
-use Rattle.front_end.specs.declared.fault.AcceptFault.TheVariants as of_front_end
-use Rattle.relation_file.specs.declared.fault.RelFault.{RelFault}
-use Rattle.relation_file.specs.declared.fault.RelFault.TheVariants as of_relation_file
+use Rattle.rules.specs.declared.fault.Fault.{Fault}
+use Rattle.rules.specs.declared.fault.Fault.TheVariants as faults
 use Rattle.regver_top.specs.declared.accept.KeptTexts.{KeptTexts}
 use Rattle.regver_top.specs.declared.accept.Replay.{Replay}
 use Rattle.regver_top.specs.declared.refusal.AcceptError.{AcceptError}
 use Rattle.regver_top.specs.declared.refusal.AcceptError.TheVariants.{Refused, Memory}
 use Rattle.regver_top.specs.declared.refusal.Source.{Source}
-use Rattle.regver_top.specs.declared.refusal.Source.TheVariants.{Relation as RelationFile}
-use Rattle.st_tree.specs.declared.rule.Refusal.{Refusal}
+use Rattle.rules.specs.declared.rule.Refusal.{Refusal}
 use Rattle.regver_top.specs.Held.{rows_of}
 use Rattle.regver_top.specs.Kept.{IsKept}
 use Rattle.regver_top.specs.Accepting.{Texts, IsAccepted}
@@ -38,10 +35,6 @@ IfRefusedOf source P (Refused file r) = (file ≡ source) × P r
 IfRefusedOf source P Memory = Unit {0}
 
 -- a fault of a text as one of a file
-abbrev pub of_text : Source → AcceptFault → AcceptError
-of_text source (of_front_end.Refused r) = Refused source r
-of_text source of_front_end.Memory = Memory
-
-abbrev pub of_lines : RelFault → AcceptError
-of_lines (of_relation_file.Refused r) = Refused RelationFile r
-of_lines of_relation_file.Memory = Memory
+abbrev pub fault_of : Source → Fault → AcceptError
+fault_of source (faults.Refused r) = Refused source r
+fault_of source faults.Memory = Memory

@@ -1,9 +1,9 @@
 -- The four texts of a replay: which are accepted, and which rule is broken first.
 use Rattle.std.specs.Prelude.{◌≡◌, ◌<◌, ◌≤◌, ◌⊎◌, ℕ, List, length}
-use Rattle.st_tree.specs.declared.token.Tok.{Tok}
-use Rattle.st_tree.specs.declared.rule.Rule.TheVariants.{TooLong, NoTrace}
-use Rattle.st_tree.specs.declared.rule.Refusal.{Refusal}
-use Rattle.st_tree.specs.Tree.{ProgramData}
+use Rattle.source_tree.specs.declared.token.Tok.{Tok}
+use Rattle.rules.specs.declared.rule.Rule.TheVariants.{TooLong, NoTrace}
+use Rattle.rules.specs.declared.rule.Refusal.{Refusal}
+use Rattle.program_tree.specs.Tree.{ProgramData}
 use Rattle.front_end.specs.Texts.{limit, IsProgram, IsNoProgram, HasTokens, HasNoTokens}
 use Rattle.scan_model.specs.InRange.{Row}
 use Rattle.scan_model.specs.Pairs.{RelationData}

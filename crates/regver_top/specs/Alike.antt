@@ -1,6 +1,6 @@
 -- When two reports are alike.
 use Rattle.std.specs.Prelude.{◌≡◌, ℕ}
-use Rattle.st_tree.specs.declared.rule.Rule.TheVariants.{NoTree}
+use Rattle.rules.specs.declared.rule.Rule.TheVariants.{NoTree}
 use Rattle.regver_top.specs.declared.refusal.Source.{Source}
 use Rattle.regver_top.specs.Reports.{Report, refusal_report}
 

@@ -1,12 +1,12 @@
 -- The lines of a replay.
 use Rattle.std.specs.Prelude.{ℕ, ◌+◌, List, [], ◌∷◌, ◌++◌, codes, decimal, ℤ}
 use Rattle.std.specs.Fmt.{signed_decimal}
-use Rattle.st_tree.specs.declared.typed.Part.{Part}
-use Rattle.st_tree.specs.declared.typed.Part.TheVariants.{Fault, Input, Output, Local}
-use Rattle.st_tree.specs.Tree.{CellData, ProgramData}
+use Rattle.program_tree.specs.declared.typed.Part.{Part}
+use Rattle.program_tree.specs.declared.typed.Part.TheVariants.{Fault, Input, Output, Local}
+use Rattle.program_tree.specs.Tree.{CellData, ProgramData}
 use Rattle.scan_model.specs.declared.relation.Ending.{Ending}
 use Rattle.scan_model.specs.declared.relation.Ending.TheVariants.{Related, Unrelated, NotAllowed}
-use Rattle.effects.specs.Values.{State}
+use Rattle.meaning.specs.Values.{State}
 use Rattle.scan_model.specs.InRange.{Row}
 use Rattle.scan_model.specs.Pairs.{RelationData, Pair, after_row}
 

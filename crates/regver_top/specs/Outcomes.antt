@@ -1,6 +1,6 @@
 -- A replay row by row: the lines that it puts and how it ends.
 use Rattle.std.specs.Prelude.{ℕ, ◌+◌, List, [], ◌∷◌, ◌++◌, if◌then◌else◌}
-use Rattle.st_tree.specs.Tree.{ProgramData}
+use Rattle.program_tree.specs.Tree.{ProgramData}
 use Rattle.scan_model.specs.declared.relation.Ending.{Ending}
 use Rattle.scan_model.specs.declared.relation.Ending.TheVariants.{Related, Unrelated, NotAllowed}
 use Rattle.scan_model.specs.InRange.{Row}

@@ -1,6 +1,6 @@
 -- What the command `replay` answers.
 use Rattle.std.specs.Prelude.{◌≡◌, ◌⊎◌, ℕ, List, ◌++◌, codes, decimal, Option, Some}
-use Rattle.st_tree.specs.Tree.{ProgramData}
+use Rattle.program_tree.specs.Tree.{ProgramData}
 use Rattle.scan_model.specs.declared.relation.Ending.{Ending}
 use Rattle.scan_model.specs.declared.relation.Ending.TheVariants.{Related, Unrelated as UnrelatedAt, NotAllowed as NotAllowedAt}
 use Rattle.scan_model.specs.InRange.{Row}
@@ -8,12 +8,12 @@ use Rattle.scan_model.specs.Pairs.{RelationData, start}
 use Rattle.scan_model.specs.Runs.{IsRun}
 use Rattle.outside.specs.Causes.{Rose}
 use Rattle.command_line.specs.Asked.{Asked, replay, usage}
-use Rattle.st_tree.specs.Rules.{name_of}
+use Rattle.rules.specs.Rules.{name_of}
 use Rattle.regver_top.specs.declared.status.Status.{Status}
 use Rattle.regver_top.specs.declared.status.Status.TheVariants.{Replayed, Unrelated, NotAllowed, Usage, Refused}
 use Rattle.regver_top.specs.declared.refusal.Source.{Source}
 use Rattle.regver_top.specs.declared.refusal.Source.TheVariants.{Old, New, Relation as RelationFile, Trace}
-use Rattle.st_tree.specs.declared.rule.Refusal.{Refusal}
+use Rattle.rules.specs.declared.rule.Refusal.{Refusal}
 use Rattle.regver_top.specs.Lines.{scan_lines, ending_line}
 use Rattle.regver_top.specs.Accepting.{Texts, IsAccepted, IsRefused}
 

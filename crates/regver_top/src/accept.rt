@@ -1,8 +1,8 @@
 // From the four texts of a replay to its programs, relation and rows.
 ghost use Rattle.std.specs.Prelude.{◌≡◌, IfOk, IfErr, List, ℕ};
-ghost use Rattle.st_tree.specs.View.{program_view};
-ghost use Rattle.st_tree.specs.declared.rule.Rule.TheVariants.{TooLong};
-ghost use Rattle.st_types.specs.Ready.{IsReady};
+ghost use Rattle.program_tree.specs.View.{program_view};
+ghost use Rattle.rules.specs.declared.rule.Rule.TheVariants.{TooLong};
+ghost use Rattle.scan_model.specs.InRange.{IsProgram as IsFitToRun};
 ghost use Rattle.scan_model.specs.Pairs.{relation_view, BelongsTo};
 ghost use Rattle.scan_replay.specs.Duos.{AreComparable};
 ghost use Rattle.front_end.specs.Texts.{IsProgram, IsNoProgram};
@@ -10,14 +10,15 @@ ghost use Rattle.regver_top.specs.Held.{rows_of};
 ghost use Rattle.regver_top.specs.Kept.{IsKept};
 ghost use Rattle.regver_top.specs.Traces.{IsTrace};
 ghost use Rattle.regver_top.specs.Accepting.{Texts, Accepts, StatesRelation, StatesNoRelation, IsNoTrace, IsRefused};
-ghost use Rattle.regver_top.specs.Accepted.{AreKept, ReplayIsAccepted, IfRefused, IfRefusedOf, of_text, of_lines};
+ghost use Rattle.regver_top.specs.Accepted.{AreKept, ReplayIsAccepted, IfRefused, IfRefusedOf, fault_of};
 
 use crate::refusal::{AcceptError, Source};
 use crate::trace::read_trace;
-use front_end::{AcceptFault, accept_text, tokens_of};
-use relation_file::{RelFault, read_lines};
+use front_end::{accept_text, tokens_of};
+use program_tree::Program;
+use relation_file::read_lines;
+use rules::{Fault, Refusal, Rule};
 use scan_model::Relation;
-use st_tree::{Program, Refusal, Rule};
 use std::alloc::Global;
 
 /// The texts of the four files; one that is too long is not there.
@@ -44,27 +45,19 @@ fn refused(source: Source, rule: Rule) -> AcceptError
     AcceptError::Refused(source, Refusal { rule, at: 0 })
 }
 
-fn of_text(source: Source, fault: AcceptFault) -> AcceptError
-    ensures { result ≡ of_text source fault }
+// What a fault of the text of a file is.
+fn fault_of(source: Source, fault: Fault) -> AcceptError
+    ensures { result ≡ fault_of source fault }
 {
     match fault {
-        AcceptFault::Refused(refusal) => AcceptError::Refused(source, refusal),
-        AcceptFault::Memory => AcceptError::Memory,
-    }
-}
-
-fn of_lines(fault: RelFault) -> AcceptError
-    ensures { result ≡ of_lines fault }
-{
-    match fault {
-        RelFault::Refused(refusal) => AcceptError::Refused(Source::Relation, refusal),
-        RelFault::Memory => AcceptError::Memory,
+        Fault::Refused(refusal) => AcceptError::Refused(source, refusal),
+        Fault::Memory => AcceptError::Memory,
     }
 }
 
 fn program_in(alloc: Global, source: Source, text: &Option<Vec<u8>>) -> Result<Program, AcceptError>
     ensures ok { (bytes : List ℕ) → IsKept text.now bytes → IfOk result (λ p. IsProgram bytes (program_view p)) }
-    ensures ready { IfOk result (λ p. IsReady (program_view p)) }
+    ensures fit { IfOk result (λ p. IsFitToRun (program_view p)) }
     ensures refused { (bytes : List ℕ) → IsKept text.now bytes → IfErr result (IfRefusedOf source (IsNoProgram bytes)) }
 {
     let Some(text) = text else {
@@ -72,7 +65,7 @@ fn program_in(alloc: Global, source: Source, text: &Option<Vec<u8>>) -> Result<P
     };
     match accept_text(alloc, text) {
         Ok(program) => Ok(program),
-        Err(fault) => Err(of_text(source, fault)),
+        Err(fault) => Err(fault_of(source, fault)),
     }
 }
 
@@ -89,11 +82,11 @@ fn relation_of(
 {
     let toks = match tokens_of(alloc, text) {
         Ok(toks) => toks,
-        Err(fault) => return Err(of_text(Source::Relation, fault)),
+        Err(fault) => return Err(fault_of(Source::Relation, fault)),
     };
     match read_lines(alloc, &toks, text.len(), old, new) {
         Ok(relation) => Ok(relation),
-        Err(fault) => Err(of_lines(fault)),
+        Err(fault) => Err(fault_of(Source::Relation, fault)),
     }
 }
 

@@ -2,7 +2,7 @@
 ghost use Rattle.std.specs.Prelude.{◌≡◌, ◌≢◌, ◌≤◌, ◌++◌, List, ℕ, Option, IfOk, string_bytes};
 ghost use Rattle.outside.specs.Causes.{Rose};
 ghost use Rattle.outside.specs.Contents.{extended};
-ghost use Rattle.st_tree.specs.View.{program_view};
+ghost use Rattle.program_tree.specs.View.{program_view};
 ghost use Rattle.scan_model.specs.Pairs.{relation_view};
 ghost use Rattle.scan_replay.specs.Duos.{AreComparable};
 ghost use Rattle.regver_top.specs.Held.{rows_of};
@@ -22,8 +22,8 @@ use crate::show::show_ending;
 use crate::status::Status;
 use itoa::Buffer;
 use outside::{OutErr, Sink};
+use rules::Refusal;
 use scan_model::Ending;
-use st_tree::Refusal;
 use std::alloc::{AllocError, Global};
 
 /// Puts the last text of a run, and says with which status the run ends.

@@ -3,7 +3,7 @@ ghost use Rattle.std.specs.Prelude.{◌≡◌, ◌≤◌, ◌+◌, IfOk, OnOk, O
 ghost use Rattle.outside.specs.Causes.{Rose};
 ghost use Rattle.outside.specs.Contents.{extended};
 ghost use Rattle.outside.specs.declared.OutErr.TheVariants.{Fault};
-ghost use Rattle.st_tree.specs.View.{program_view};
+ghost use Rattle.program_tree.specs.View.{program_view};
 ghost use Rattle.scan_model.specs.Pairs.{relation_view};
 ghost use Rattle.scan_replay.specs.Duos.{AreComparable};
 ghost use Rattle.regver_top.specs.Lines.{scan_line};
@@ -14,9 +14,9 @@ ghost use Rattle.regver_top.specs.Held.{rows_of};
 use crate::put::put_text;
 use crate::show::show_scan;
 use outside::{OutErr, Sink};
+use program_tree::Program;
 use scan_model::{Ending, Relation};
 use scan_replay::{Duo, Side};
-use st_tree::Program;
 use std::alloc::{AllocError, Global};
 use thiserror::Error;
 

@@ -1,5 +1,5 @@
 // Why a replay is refused.
-use st_tree::Refusal;
+use rules::Refusal;
 use std::alloc::AllocError;
 use thiserror::Error;
 

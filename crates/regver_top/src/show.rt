@@ -1,11 +1,11 @@
 // The lines of a replay as text.
 ghost use Rattle.std.specs.Prelude.{◌≡◌, ◌++◌, OnOk, decimal, string_bytes};
-ghost use Rattle.st_tree.specs.View.{cells_view, program_view};
+ghost use Rattle.program_tree.specs.View.{cells_view, program_view};
 ghost use Rattle.regver_top.specs.Lines.{shown_cell, shown, scan_line, ending_line};
 
 use itoa::Buffer;
+use program_tree::{Cell, Part, Program};
 use scan_model::Ending;
-use st_tree::{Cell, Part, Program};
 use std::alloc::AllocError;
 
 fn show_cell(line: &mut String, part: Part, value: i64) -> Result<(), AllocError>

@@ -1,83 +1,45 @@
 -- The inputs of lines that break nothing are cells of the lines' ranges.
-use Rattle.std.proofs.Common.{◌≡◌, ◌<◌, ℕ, suc, ◌+◌, List, [], ◌∷◌, ◌++◌, length, Bool, true, false, ◌&&◌, Option, Some, None, refl, sym, ap, subst, ◌∙◌, arith, All}
-use Rattle.std.specs.Str.{bytes_eq}
+use Rattle.std.proofs.Common.{◌≡◌, ℕ, List, [], ◌∷◌, ◌++◌, Bool, true, false, ◌&&◌, Option, Some, None, refl, sym, subst, All}
 use Rattle.std.specs.Ordering.{int_eq}
 use Rattle.std.proofs.lemmas.Bool.Decides.{Decides-int_eq}
 use Rattle.std.proofs.lemmas.List.Elements.{All-nil, All-cons}
 use Rattle.std.proofs.lemmas.Bool.{and_parts}
-use Rattle.st_tree.specs.declared.rule.Rule.{Rule}
-use Rattle.st_tree.specs.declared.rule.Rule.TheVariants.{InputsDiffer}
-use Rattle.st_tree.specs.declared.rule.Refusal.{Refusal}
-use Rattle.st_tree.specs.declared.typed.Range.{Range}
-use Rattle.st_tree.specs.Syntax.{Named}
-use Rattle.st_tree.specs.Tree.{CellData, ProgramData}
-use Rattle.st_tree.specs.DataTypes.{is_same_type}
-use Rattle.st_tree.specs.Enumerations.{paired_type}
+use Rattle.rules.specs.declared.rule.Rule.{Rule}
+use Rattle.rules.specs.declared.rule.Rule.TheVariants.{InputsDiffer}
+use Rattle.rules.specs.declared.rule.Refusal.{Refusal}
+use Rattle.plc_types.specs.declared.range.Range.{Range}
+use Rattle.source_tree.specs.Syntax.{Named}
+use Rattle.program_tree.specs.Tree.{ProgramData}
+use Rattle.plc_types.specs.DataTypes.{is_same_type}
+use Rattle.plc_types.specs.Enumerations.{paired_type}
 use Rattle.scan_model.specs.declared.side.Side.TheVariants as sides
 use Rattle.scan_model.specs.declared.relation.InputLine.{InputLine}
-use Rattle.effects.specs.Effects.{range_at}
-use Rattle.scan_model.specs.Scans.{ranges_of}
 use Rattle.scan_model.specs.Pairs.{RelationData, IsCellOf, NamesCells, BelongsTo}
 use Rattle.relation_lines.specs.Lines.{ContentData, setting, faults, paired, single, clause, LineData}
-use Rattle.relation_file.specs.declared.places.Placed.{Placed}
+use Rattle.candidates.specs.declared.places.Placed.{Placed}
 use Rattle.relation_file.specs.Refusals.{unless, or_own}
-use Rattle.relation_file.specs.Inputs.{placed, cell_named, are_alike, is_same_flag, is_same_range}
+use Rattle.candidates.specs.ByPath.{cell_named}
+use Rattle.candidates.specs.Candidates.{before}
+use Rattle.candidates.proofs.PlacedLemmas.{is_cell}
+use Rattle.relation_file.specs.Inputs.{are_alike, is_same_flag, is_same_range}
 use Rattle.relation_file.specs.Broken.{broken_name, broken_parts, broken_line, broken_behind, broken_lines}
-use Rattle.relation_file.specs.Relations.{before, both_line, single_line, input_of, inputs_in, relation_of}
-
--- ---- what is found is a cell
-
-record IsPlaced (cs : List CellData) (place : ℕ) (p : Placed) : Type 0 where
-  pub index : ℕ
-  pub at : p.place ≡ place + index
-  pub within : index < length cs
-  pub ranged : range_at (ranges_of cs) index ≡ p.range
-
-placed_first : (c : CellData) (cs : List CellData) (place : ℕ) (p : Placed) → placed place c ≡ p → IsPlaced (c ∷ cs) place p
-placed_first c cs place p h = record {
-  index = 0;
-  at = sym (ap (λ (q : Placed). q.place) h) ∙ omega arith;
-  within = omega arith;
-  ranged = ap (λ (q : Placed). q.range) h;
-}
-
-placed_later : (c : CellData) (cs : List CellData) (place : ℕ) (p : Placed) → IsPlaced cs (place + 1) p → IsPlaced (c ∷ cs) place p
-placed_later c cs place p h = record {
-  index = suc h.index;
-  at = h.at ∙ omega arith;
-  within = omega (arith, h.within);
-  ranged = h.ranged;
-}
-
-found_placed : (text : List ℕ) (place : ℕ) (cs : List CellData) (p : Placed) → cell_named text place cs ≡ Some p → IsPlaced cs place p
-found_placed text place [] p h = absurd (let e : ⊥ = cc in e)
-found_placed text place (c ∷ cs) p h = by (bytes_eq c.path text) refl (found_placed text (place + 1) cs p)
-  where
-    by : (b : Bool) → bytes_eq c.path text ≡ b → (cell_named text (place + 1) cs ≡ Some p → IsPlaced cs (place + 1) p) → IsPlaced (c ∷ cs) place p
-    by true e rest = placed_first c cs place p (let f : Some (placed place c) ≡ Some p = rw e at h in cc)
-    by false e rest = placed_later c cs place p (rest (let f : cell_named text (place + 1) cs ≡ Some p = rw e at h in f))
-
-pub is_cell : (program : ProgramData) (text : List ℕ) (p : Placed) → cell_named text 0 program.cells ≡ Some p → IsCellOf program p.place p.range
-is_cell program text p h =
-    let q = found_placed text 0 program.cells p h in
-    let e : p.place ≡ q.index = q.at ∙ omega arith in
-    (omega (arith, q.within), ap (range_at (ranges_of program.cells)) e ∙ q.ranged)
+use Rattle.relation_file.specs.Relations.{both_line, single_line, input_of, inputs_in, relation_of}
 
 -- ---- the lines of a content
 
-or_nothing : (xs ys : List Refusal) → or_own xs ys ≡ [] → (xs ≡ []) × (ys ≡ [])
+pub or_nothing : (xs ys : List Refusal) → or_own xs ys ≡ [] → (xs ≡ []) × (ys ≡ [])
 or_nothing [] ys h = (refl, h)
 or_nothing (x ∷ xs) ys h = absurd (let e : ⊥ = cc in e)
 
-nothing_of_both : (xs ys : List Refusal) → xs ++ ys ≡ [] → (xs ≡ []) × (ys ≡ [])
+pub nothing_of_both : (xs ys : List Refusal) → xs ++ ys ≡ [] → (xs ≡ []) × (ys ≡ [])
 nothing_of_both [] ys h = (refl, h)
 nothing_of_both (x ∷ xs) ys h = absurd (let e : ⊥ = cc in e)
 
-holds : (b : Bool) (rule : Rule) (at : ℕ) → unless b rule at ≡ [] → b ≡ true
+pub holds : (b : Bool) (rule : Rule) (at : ℕ) → unless b rule at ≡ [] → b ≡ true
 holds true rule at h = refl
 holds false rule at h = absurd (let e : ⊥ = cc in e)
 
-same_range : (r s : Range) → is_same_range r s ≡ true → r ≡ s
+pub same_range : (r s : Range) → is_same_range r s ≡ true → r ≡ s
 same_range r s h =
     let e = and_parts (int_eq r.low s.low) (int_eq r.high s.high) h in
     let low = (Decides-int_eq r.low s.low).0 e.0 in

@@ -1,9 +1,9 @@
 -- The first of what constructs break.
 use Rattle.std.proofs.Common.{◌≡◌, List, [], ◌∷◌, ◌++◌, Option, Some, None, refl, sym, ap, ◌∙◌}
 use Rattle.std.specs.Option.{option_or}
-use Rattle.st_tree.specs.declared.rule.Refusal.{Refusal}
-use Rattle.st_tree.specs.Rules.{earlier, first_in}
-use Rattle.st_tree.proofs.Refusals.{first_in-append}
+use Rattle.rules.specs.declared.rule.Refusal.{Refusal}
+use Rattle.rules.specs.Rules.{earlier, first_in}
+use Rattle.rules.proofs.Refusals.{first_in-append}
 use Rattle.relation_file.specs.Refusals.{or_own}
 
 or_some : (r : Refusal) (o own : Option Refusal) → earlier (Some r) o ≡ option_or (earlier (Some r) o) own

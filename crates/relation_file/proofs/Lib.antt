@@ -2,11 +2,10 @@ pub mod Steps
 pub mod OneRelation
 pub mod FirstLemmas
 pub mod LineLemmas
-pub mod PlaceLemmas
 pub mod SeenLemmas
 pub mod BelongsLemmas
+pub mod LimitLemmas
+pub mod OnceLemmas
+pub mod WellFormedLemmas
 pub mod PassLemmas
-pub mod CandidateLemmas
-pub mod ExclusiveLemmas
-pub mod PairLemmas
-pub mod Ready
+pub mod ListedLemmas

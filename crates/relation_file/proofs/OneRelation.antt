@@ -1,12 +1,12 @@
 -- Tokens that spell the same state one relation, or break one rule first.
-use Rattle.std.proofs.Common.{◌≡◌, ℕ, Bool, true, false, List, [], sym, ap, ◌∙◌, subst, inl, inr}
-use Rattle.st_tree.specs.declared.token.Tok.{Tok}
-use Rattle.st_tree.specs.declared.rule.Refusal.{Refusal}
-use Rattle.st_tree.specs.Rules.{IsAmong, IsFirst, IsSame}
-use Rattle.st_tree.specs.Tree.{ProgramData}
-use Rattle.st_tree.proofs.FirstOnce.{first_once}
-use Rattle.st_parser.specs.Same.{AreSameTokens}
-use Rattle.st_parser.proofs.SameTokens.{same_symbols, sound_or_broken, one_first_fault}
+use Rattle.std.proofs.Common.{◌≡◌, ℕ, true, false, List, [], sym, ap, ◌∙◌, subst, inl, inr}
+use Rattle.source_tree.specs.declared.token.Tok.{Tok}
+use Rattle.rules.specs.declared.rule.Refusal.{Refusal}
+use Rattle.rules.specs.Rules.{IsAmong, IsFirst, IsSame}
+use Rattle.program_tree.specs.Tree.{ProgramData}
+use Rattle.rules.proofs.FirstOnce.{first_once}
+use Rattle.grammar.specs.Same.{AreSameTokens}
+use Rattle.token_rules.proofs.SameTokens.{same_symbols, sound_or_broken, one_first_fault}
 use Rattle.scan_model.specs.Pairs.{RelationData}
 use Rattle.relation_lines.specs.Lines.{LineData}
 use Rattle.relation_lines.specs.Whole.{AreLines, IsLinesRefusal}

@@ -1,15 +1,12 @@
 -- One more name.
-use Rattle.std.proofs.Common.{◌≡◌, ℕ, List, ◌∷◌, Bool, true, false, cond, ◌||◌, String, refl, ap, ◌∙◌}
+use Rattle.std.proofs.Common.{◌≡◌, ℕ, List, ◌∷◌, Bool, true, cond, ◌||◌, String, ap, ◌∙◌}
 use Rattle.std.specs.Str.{bytes_eq}
 use Rattle.std.specs.String.{string_bytes, string_eq}
 use Rattle.std.proofs.lemmas.Map.Text.{hash_set_updates_text}
 use Rattle.indexmap.specs.IndexSet.{IndexSet, contains_text, Updates}
-use Rattle.relation_file.specs.Inputs.{is_among}
+use Rattle.candidates.specs.ByPath.{is_among}
+use Rattle.candidates.proofs.PlaceLemmas.{or_is}
 use Rattle.relation_file.specs.Seen.{Lists}
-
-pub or_is : (b x : Bool) → cond b true x ≡ (b || x)
-or_is true x = refl
-or_is false x = refl
 
 pub lists_push : {Y S : Type 0} (old new : IndexSet (String Y) S) (key : String Y) (text : List ℕ) (before : List (List ℕ)) → Updates string_eq old new key true → string_bytes key ≡ text → Lists old before → Lists new (text ∷ before)
 lists_push old new key text before updates named lists = λ i t. (one t) i

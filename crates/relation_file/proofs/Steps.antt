@@ -1,8 +1,8 @@
 -- The first of what is broken so far, and what further lists have before it.
 use Rattle.std.proofs.Common.{◌≡◌, List, ◌++◌, Option, sym, ap, ◌∙◌}
-use Rattle.st_tree.specs.declared.rule.Refusal.{Refusal}
-use Rattle.st_tree.specs.Rules.{earlier, first_in}
-use Rattle.st_tree.proofs.Refusals.{earlier-assoc, first_in-append}
+use Rattle.rules.specs.declared.rule.Refusal.{Refusal}
+use Rattle.rules.specs.Rules.{earlier, first_in}
+use Rattle.rules.proofs.Refusals.{earlier-assoc, first_in-append}
 
 -- the first so far, and what a further list has before it
 earlier_on : (a : Option Refusal) (xs ys : List Refusal) → earlier (earlier a (first_in xs)) (first_in ys) ≡ earlier a (first_in (xs ++ ys))

@@ -1,19 +1,20 @@
 -- The rules on the lines of a relation file. A line one of whose parts breaks a rule breaks none itself; the file
 -- as a whole is no such construct.
 use Rattle.std.specs.Prelude.{ℕ, List, [], ◌∷◌, ◌++◌, not, ◌&&◌}
-use Rattle.st_tree.specs.declared.rule.Rule.TheVariants.{LineOrder, NumberLimits, InputsDiffer, InputCount}
-use Rattle.st_tree.specs.declared.rule.Refusal.{Refusal}
-use Rattle.st_tree.specs.Syntax.{Named}
-use Rattle.st_tree.specs.Enumerations.{paired_type}
-use Rattle.st_tree.specs.Tree.{ProgramData}
+use Rattle.rules.specs.declared.rule.Rule.TheVariants.{LineOrder, NumberLimits, InputsDiffer, InputCount}
+use Rattle.rules.specs.declared.rule.Refusal.{Refusal}
+use Rattle.source_tree.specs.Syntax.{Named}
+use Rattle.plc_types.specs.Enumerations.{paired_type}
+use Rattle.program_tree.specs.Tree.{ProgramData}
 use Rattle.scan_model.specs.declared.side.Side.{Side}
 use Rattle.scan_model.specs.declared.side.Side.TheVariants as sides
-use Rattle.st_types.specs.Judged.{judged_clause}
-use Rattle.st_types.specs.Programs.{pair_scope}
+use Rattle.typing.specs.Judged.{judged_clause}
+use Rattle.typing.specs.Programs.{pair_scope}
 use Rattle.relation_lines.specs.Lines.{ContentData, setting, faults, paired, single, clause, LineData}
 use Rattle.relation_file.specs.Refusals.{unless, or_own}
 use Rattle.relation_file.specs.Order.{is_out_of_order, has_needed, in_limits}
-use Rattle.relation_file.specs.Inputs.{cell_named, names_in, is_among, broken_input, are_alike, all_listed}
+use Rattle.candidates.specs.ByPath.{cell_named, is_among}
+use Rattle.relation_file.specs.Inputs.{names_in, broken_input, are_alike, all_listed}
 use Rattle.relation_file.specs.Clauses.{broken_names}
 
 module _ (old new : ProgramData) where

@@ -1,12 +1,12 @@
 -- The names of clauses.
 use Rattle.std.specs.Prelude.{ℕ, List, [], ◌∷◌, ◌++◌, codes, Bool, ◌||◌, Option, Some, None, if◌then◌else◌}
 use Rattle.std.specs.Str.{bytes_eq}
-use Rattle.st_tree.specs.declared.rule.Rule.TheVariants.{NoSide, UnknownName}
-use Rattle.st_tree.specs.declared.rule.Refusal.{Refusal}
-use Rattle.st_tree.specs.Syntax.{Named, PathData, Tree, literal, path, enumerator, paren, unary, chain, call, Links, no_links, link, Arguments, no_arguments, argument}
-use Rattle.st_names.specs.Library.{is_library}
-use Rattle.st_types.specs.declared.scope.Meaning.{Meaning}
-use Rattle.st_types.specs.Typing.{Scope, by_path}
+use Rattle.rules.specs.declared.rule.Rule.TheVariants.{NoSide, UnknownName}
+use Rattle.rules.specs.declared.rule.Refusal.{Refusal}
+use Rattle.source_tree.specs.Syntax.{Named, PathData, Tree, literal, path, enumerator, paren, unary, chain, call, Links, no_links, link, Arguments, no_arguments, argument}
+use Rattle.naming.specs.Library.{is_library}
+use Rattle.typing.specs.declared.scope.Meaning.{Meaning}
+use Rattle.typing.specs.Typing.{Scope, by_path}
 use Rattle.relation_file.specs.Refusals.{breaks}
 
 abbrev pub is_side : List ℕ → Bool

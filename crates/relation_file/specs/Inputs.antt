@@ -1,30 +1,21 @@
 -- The names of INPUT lines.
-use Rattle.std.specs.Prelude.{ℕ, ◌+◌, List, [], ◌∷◌, ◌++◌, Bool, true, false, not, ◌&&◌, Option, Some, None, if◌then◌else◌}
-use Rattle.std.specs.List.{list_any, list_all}
+use Rattle.std.specs.Prelude.{ℕ, List, [], ◌∷◌, ◌++◌, Bool, true, false, not, ◌&&◌, Option, Some, None, if◌then◌else◌}
+use Rattle.std.specs.List.{list_all}
 use Rattle.std.specs.Ordering.{int_eq}
-use Rattle.std.specs.Str.{bytes_eq}
-use Rattle.st_tree.specs.declared.rule.Rule.TheVariants.{UnknownName, WrongKind, InputCount}
-use Rattle.st_tree.specs.declared.rule.Refusal.{Refusal}
-use Rattle.st_tree.specs.declared.typed.Range.{Range}
-use Rattle.st_tree.specs.declared.data_type.DataType.{DataType}
-use Rattle.st_tree.specs.DataTypes.{is_same_type}
-use Rattle.st_tree.specs.Cells.{is_input}
-use Rattle.st_tree.specs.Syntax.{Named}
-use Rattle.st_tree.specs.Tree.{CellData, ProgramData}
+use Rattle.rules.specs.declared.rule.Rule.TheVariants.{UnknownName, WrongKind, InputCount}
+use Rattle.rules.specs.declared.rule.Refusal.{Refusal}
+use Rattle.plc_types.specs.declared.range.Range.{Range}
+use Rattle.plc_types.specs.declared.data_type.DataType.{DataType}
+use Rattle.plc_types.specs.DataTypes.{is_same_type}
+use Rattle.program_tree.specs.Cells.{is_input}
+use Rattle.source_tree.specs.Syntax.{Named}
+use Rattle.program_tree.specs.Tree.{CellData, ProgramData}
 use Rattle.scan_model.specs.declared.side.Side.{Side}
 use Rattle.scan_model.specs.declared.side.Side.TheVariants as sides
 use Rattle.relation_file.specs.Refusals.{breaks, unless}
-use Rattle.relation_file.specs.declared.places.Placed.{Placed}
+use Rattle.candidates.specs.declared.places.Placed.{Placed}
+use Rattle.candidates.specs.ByPath.{cell_named, is_among}
 use Rattle.relation_lines.specs.Lines.{ContentData, setting, faults, paired, single, clause, LineData}
-
--- what is known of a cell at a place
-abbrev pub placed : ℕ → CellData → Placed
-placed place c = record { place = place; part = c.part; kind = c.kind; range = c.range; limited = c.limited }
-
--- the first cell of a path, among those that begin at a place
-abbrev pub cell_named : List ℕ → ℕ → List CellData → Option Placed
-cell_named text place [] = None
-cell_named text place (c ∷ cs) = if bytes_eq c.path text then Some (placed place c) else cell_named text (place + 1) cs
 
 -- the names by which a line names inputs of a program
 abbrev pub named_single : Side → Side → Named → List (List ℕ)
@@ -47,9 +38,6 @@ named_by side (clause c e) = []
 abbrev pub names_in : Side → List LineData → List (List ℕ)
 names_in side [] = []
 names_in side (l ∷ ls) = named_by side l.content ++ names_in side ls
-
-abbrev pub is_among : List (List ℕ) → List ℕ → Bool
-is_among names text = list_any (λ name. bytes_eq name text) names
 
 -- What a name of an INPUT line breaks: N2 where it is no variable; N4 where it is a constant or an instance, which are no cells, or
 -- no input; P2 where a line before has named it.

@@ -5,8 +5,6 @@ pub mod Clauses
 pub mod Broken
 pub mod Relations
 pub mod Stated
-pub mod Faults
-pub mod Places
 pub mod Seen
-pub mod PairView
-pub mod Candidates
+pub mod Listed
+pub mod WellFormed

@@ -1,7 +1,7 @@
 -- What constructs break.
 use Rattle.std.specs.Prelude.{ℕ, List, [], ◌∷◌, Bool, if◌then◌else◌}
-use Rattle.st_tree.specs.declared.rule.Rule.{Rule}
-use Rattle.st_tree.specs.declared.rule.Refusal.{Refusal}
+use Rattle.rules.specs.declared.rule.Rule.{Rule}
+use Rattle.rules.specs.declared.rule.Refusal.{Refusal}
 
 abbrev pub breaks : Rule → ℕ → List Refusal
 breaks rule at = record { rule = rule; at = at } ∷ []

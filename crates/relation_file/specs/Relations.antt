@@ -1,11 +1,11 @@
 -- The relation that lines state between two programs.
 use Rattle.std.specs.Prelude.{ℕ, List, [], ◌∷◌, ◌++◌, length, Bool, true, false, Option, Some, None, unwrap_or, if◌then◌else◌}
 use Rattle.std.specs.List.{list_any}
-use Rattle.st_tree.specs.declared.elementary.Elementary.TheVariants.{Bool as BoolType}
-use Rattle.st_tree.specs.declared.token.Operator.TheVariants.{Equal}
-use Rattle.st_tree.specs.Tree.{Expression, cell, chain, no_operands, operand, ProgramData}
-use Rattle.st_types.specs.Typed.{typed}
-use Rattle.st_types.specs.Programs.{pair_scope}
+use Rattle.plc_types.specs.declared.elementary.Elementary.TheVariants.{Bool as BoolType}
+use Rattle.plc_types.specs.declared.operator.Operator.TheVariants.{Equal}
+use Rattle.program_tree.specs.Tree.{Expression, cell, chain, no_operands, operand, ProgramData}
+use Rattle.typing.specs.Typed.{typed}
+use Rattle.typing.specs.Programs.{pair_scope}
 use Rattle.scan_model.specs.declared.side.Side.{Side}
 use Rattle.scan_model.specs.declared.side.Side.TheVariants as sides
 use Rattle.scan_model.specs.declared.relation.InputLine.{InputLine}
@@ -17,8 +17,9 @@ use Rattle.relation_lines.specs.declared.line.Setting.TheVariants as settings
 use Rattle.relation_lines.specs.declared.line.Condition.{Condition}
 use Rattle.relation_lines.specs.declared.line.Condition.TheVariants as conditions
 use Rattle.relation_lines.specs.Lines.{ContentData, setting, faults, paired, single, clause, LineData}
-use Rattle.relation_file.specs.declared.places.Placed.{Placed}
-use Rattle.relation_file.specs.Inputs.{cell_named}
+use Rattle.candidates.specs.declared.places.Placed.{Placed}
+use Rattle.candidates.specs.ByPath.{cell_named}
+use Rattle.candidates.specs.Candidates.{before}
 
 abbrev pub is_setting : Setting → Setting → Bool
 is_setting settings.Version settings.Version = true
@@ -70,10 +71,9 @@ single_line sides.New (Some c) = Some (inputs_of.New c.range c.place)
 abbrev pub equal_faults : ℕ → Expression
 equal_faults old_cells = chain (cell 0) (operand Equal BoolType (cell old_cells) no_operands)
 
--- a value before others, where there is one
-abbrev pub before : {A : Type 0} → Option A → List A → List A
-before None xs = xs
-before (Some x) xs = x ∷ xs
+-- the clause on FAULT, where faults have to agree
+abbrev pub faults_clause : Bool → ℕ → List Expression
+faults_clause agree old_cells = if agree then equal_faults old_cells ∷ [] else []
 
 module _ (old new : ProgramData) where
   abbrev pub input_of : ContentData → Option InputLine
@@ -99,10 +99,6 @@ module _ (old new : ProgramData) where
   clauses_in wanted [] = []
   clauses_in wanted (l ∷ ls) = before (clause_of wanted l.content) (clauses_in wanted ls)
 
-  -- the clause on FAULT, where faults have to agree
-  abbrev pub faults_clause : List LineData → List Expression
-  faults_clause ls = if faults_are_equal ls then equal_faults (length old.cells) ∷ [] else []
-
   -- the relation but for its candidates: its numbers, its inputs, and its clauses, the RELATE clauses with that on FAULT last
   abbrev pub clauses_of : List LineData → RelationData
   clauses_of ls = record {
@@ -111,7 +107,7 @@ module _ (old new : ProgramData) where
     inputs = inputs_in ls;
     environment = clauses_in conditions.Environment ls;
     equal_faults = faults_are_equal ls;
-    relates = clauses_in conditions.Relate ls ++ faults_clause ls;
+    relates = clauses_in conditions.Relate ls ++ faults_clause (faults_are_equal ls) (length old.cells);
     invariants = clauses_in conditions.Invariant ls;
     candidates = [];
   }

@@ -2,13 +2,14 @@
 use Rattle.std.specs.Prelude.{◌≡◌, ◌<◌, ℕ, List, [], ◌∷◌, false, nat_lt, slice_index_or, Option, Some, None, String, string_bytes}
 use denote.Ref.{Bor}
 use Rattle.indexmap.specs.IndexSet.{IndexSet, contains_text}
-use Rattle.st_tree.specs.declared.syntax.Name.{Name}
+use Rattle.source_tree.specs.declared.syntax.Name.{Name}
 use Rattle.scan_model.specs.declared.side.Side.TheVariants as sides
 use Rattle.relation_lines.specs.Lines.{LineData}
 use Rattle.relation_file.specs.declared.kinds.Kinds.{Kinds}
 use Rattle.relation_file.specs.declared.seen.Seen.{Seen as Kept}
 use Rattle.relation_file.specs.Order.{is_late, has_kind}
-use Rattle.relation_file.specs.Inputs.{is_among, names_in}
+use Rattle.candidates.specs.ByPath.{is_among}
+use Rattle.relation_file.specs.Inputs.{names_in}
 
 -- the kinds of lines before, nearest first
 pub record HasKinds (kinds : Kinds) (before : List LineData) : Type 0 where

@@ -1,11 +1,11 @@
 -- Which relation the tokens of a relation file state, and which rule other tokens break first. The passes come one
 -- after the other: left-out words and nesting, grammar, lines and names, types.
-use Rattle.std.specs.Prelude.{◌≡◌, ◌⊎◌, ℕ, List, [], length, nat_le, Bool, true, false}
-use Rattle.st_tree.specs.declared.token.Tok.{Tok}
-use Rattle.st_tree.specs.declared.rule.Rule.TheVariants.{TooManyCandidates}
-use Rattle.st_tree.specs.declared.rule.Refusal.{Refusal}
-use Rattle.st_tree.specs.Rules.{IsAmong, IsFirst}
-use Rattle.st_tree.specs.Tree.{ProgramData}
+use Rattle.std.specs.Prelude.{◌≡◌, ◌⊎◌, ℕ, List, [], length, nat_le, Bool, false}
+use Rattle.source_tree.specs.declared.token.Tok.{Tok}
+use Rattle.rules.specs.declared.rule.Rule.TheVariants.{TooManyCandidates}
+use Rattle.rules.specs.declared.rule.Refusal.{Refusal}
+use Rattle.rules.specs.Rules.{IsAmong, IsFirst}
+use Rattle.program_tree.specs.Tree.{ProgramData}
 use Rattle.scan_model.specs.Pairs.{RelationData}
 use Rattle.relation_lines.specs.Lines.{LineData}
 use Rattle.relation_lines.specs.Whole.{AreLines, IsLinesRefusal}

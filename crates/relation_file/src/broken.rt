@@ -1,23 +1,23 @@
 // What the lines of a relation file break.
 ghost use Rattle.std.specs.Prelude.{◌≡◌, List, ◌++◌, ◌&&◌, IfOk};
-ghost use Rattle.st_tree.specs.Rules.{first_in};
+ghost use Rattle.rules.specs.Rules.{first_in};
 ghost use Rattle.indexmap.specs.IndexSet.{contains_text};
 ghost use Rattle.relation_lines.specs.Lines.{LineData};
 ghost use Rattle.relation_lines.specs.View.{content_view, line_view, lines_view};
 ghost use Rattle.relation_file.specs.Order.{in_limits};
 ghost use Rattle.relation_file.specs.Inputs.{all_listed};
 ghost use Rattle.relation_file.specs.Broken.{broken_parts, broken_line, missing_kinds, missing_inputs, broken_lines, broken_content, broken_clauses};
-ghost use Rattle.relation_file.specs.PairView.{old_of, new_of};
+ghost use Rattle.candidates.specs.PairView.{old_of, new_of};
 ghost use Rattle.relation_file.specs.Seen.{Recalls};
 
 use crate::inputs::{all_listed, name_refusal, pair_refusal};
 use crate::names::names_refusal;
-use crate::pair::Pair;
 use crate::seen::Seen;
 use crate::unless::unless;
+use candidates::Pair;
+use clause_types::judge_clause;
 use relation_lines::{Content, Line, Setting};
-use st_tree::{Refusal, Rule};
-use st_types::judge_clause;
+use rules::{Refusal, Rule};
 use std::alloc::{AllocError, Global};
 
 // Whether a number is from 1 to its greatest value.

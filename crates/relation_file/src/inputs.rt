@@ -1,24 +1,26 @@
 // What INPUT lines break.
 ghost use Rattle.std.specs.Prelude.{◌≡◌, List};
-ghost use Rattle.st_tree.specs.Rules.{first_in};
-ghost use Rattle.st_tree.specs.Cells.{is_input as plays_input};
-ghost use Rattle.st_tree.specs.Enumerations.{paired_type};
-ghost use Rattle.st_tree.specs.SyntaxView.{name_view};
-ghost use Rattle.st_tree.specs.View.{cell_view, cells_view};
+ghost use Rattle.rules.specs.Rules.{first_in};
+ghost use Rattle.program_tree.specs.Cells.{is_input as plays_input};
+ghost use Rattle.plc_types.specs.Enumerations.{paired_type};
+ghost use Rattle.source_tree.specs.SyntaxView.{name_view};
+ghost use Rattle.program_tree.specs.View.{cell_view, cells_view};
 ghost use Rattle.indexmap.specs.IndexSet.{contains_text};
 ghost use Rattle.relation_lines.specs.Lines.{LineData};
 ghost use Rattle.relation_file.specs.Inputs.{broken_at_cell, are_alike, is_same_flag, is_same_range, is_listed, all_listed};
 ghost use Rattle.relation_file.specs.Broken.{broken_name, broken_pair};
-ghost use Rattle.relation_file.specs.PairView.{old_of, new_of};
+ghost use Rattle.candidates.specs.PairView.{old_of, new_of};
 ghost use Rattle.relation_file.specs.Seen.{Recalls};
 
-use crate::pair::Pair;
-use crate::places::Placed;
 use crate::seen::Seen;
 use crate::unless::{breaks, unless};
+use candidates::{Pair, Placed};
 use indexmap::IndexSet;
+use plc_types::Range;
+use program_tree::{Cell, Part};
+use rules::{Refusal, Rule};
 use scan_model::Side;
-use st_tree::{Cell, Name, Part, Range, Refusal, Rule};
+use source_tree::Name;
 
 fn is_input(part: Part) -> bool
     ensures { result ≡ plays_input part }

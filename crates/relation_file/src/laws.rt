@@ -1,10 +1,10 @@
 // Laws of relations.
 ghost use Rattle.std.specs.Prelude.{◌≡◌, ℕ, List, true};
-ghost use Rattle.st_tree.specs.declared.token.Tok.{Tok};
-ghost use Rattle.st_tree.specs.declared.rule.Refusal.{Refusal};
-ghost use Rattle.st_tree.specs.Rules.{IsSame};
-ghost use Rattle.st_tree.specs.Tree.{ProgramData};
-ghost use Rattle.st_parser.specs.Same.{AreSameTokens};
+ghost use Rattle.source_tree.specs.declared.token.Tok.{Tok};
+ghost use Rattle.rules.specs.declared.rule.Refusal.{Refusal};
+ghost use Rattle.rules.specs.Rules.{IsSame};
+ghost use Rattle.program_tree.specs.Tree.{ProgramData};
+ghost use Rattle.grammar.specs.Same.{AreSameTokens};
 ghost use Rattle.scan_model.specs.Pairs.{RelationData};
 ghost use Rattle.relation_file.specs.Stated.{IsRelation, IsNoRelation, has_few_candidates, IsNoSmallRelation};
 

@@ -2,20 +2,15 @@
 #![tactic(auto)]
 
 mod broken;
-mod candidates;
-mod exclusive;
-mod fault;
 mod inputs;
 mod kinds;
 mod laws;
+mod listed;
 mod names;
-mod pair;
-mod places;
 mod read;
 mod relation;
 mod seen;
 mod unless;
 
-pub use fault::RelFault;
 pub use laws::{one_relation, one_small_relation};
 pub use read::{read_lines, read_relation};

@@ -1,13 +1,14 @@
 // The names of clauses.
 ghost use Rattle.std.specs.Prelude.{◌≡◌, None, option_map};
-ghost use Rattle.st_tree.specs.Rules.{earlier, first_in};
-ghost use Rattle.st_tree.specs.SyntaxView.{name_view, path_view, tree_view, links_view, arguments_view};
+ghost use Rattle.rules.specs.Rules.{earlier, first_in};
+ghost use Rattle.source_tree.specs.SyntaxView.{name_view, path_view, tree_view, links_view, arguments_view};
 ghost use Rattle.relation_file.specs.Clauses.{is_side, broken_path, broken_called, broken_argument, broken_names, broken_links, broken_arguments, unknown_unless};
 
 use crate::unless::breaks;
-use st_names::is_library;
-use st_tree::{Argument, Expr, Link, Name, Path, Refusal, Rule};
-use st_types::{Meaning, Scope};
+use naming::is_library;
+use rules::{Refusal, Rule};
+use source_tree::{Argument, Expr, Link, Name, Path};
+use typing::{Meaning, Scope};
 
 // Whether a word says which program is meant.
 fn is_side(text: &str) -> bool

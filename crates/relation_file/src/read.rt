@@ -1,21 +1,23 @@
 // The relation that a file states.
 ghost use Rattle.std.specs.Prelude.{◌≡◌, [], true, IfOk, IfErr, OnOk};
-ghost use Rattle.st_tree.specs.View.{program_view};
+ghost use Rattle.program_tree.specs.View.{program_view};
 ghost use Rattle.scan_model.specs.Pairs.{relation_view, BelongsTo};
 ghost use Rattle.relation_lines.specs.View.{lines_view};
 ghost use Rattle.relation_file.specs.Broken.{broken_lines, broken_clauses};
-ghost use Rattle.relation_file.specs.PairView.{old_of, new_of};
+ghost use Rattle.candidates.specs.PairView.{old_of, new_of};
 ghost use Rattle.relation_file.specs.Relations.{relation_of};
 ghost use Rattle.relation_file.specs.Stated.{IsFirstOf, IsRelation, IsNoRelation, has_few_candidates, IsNoSmallRelation};
-ghost use Rattle.relation_file.specs.Faults.{IfRefused};
+ghost use Rattle.relation_file.specs.WellFormed.{IsWellFormed};
+ghost use Rattle.rules.specs.Faults.{IfRefused};
 
 use crate::broken::{first_of_clauses, first_of_lines};
-use crate::fault::RelFault;
-use crate::pair::Pair;
 use crate::relation::relation_of;
+use candidates::Pair;
+use program_tree::Program;
 use relation_lines::{Line, parse_lines};
+use rules::{Fault, Refusal, Rule};
 use scan_model::Relation;
-use st_tree::{Program, Refusal, Rule, Tok};
+use source_tree::Tok;
 use std::alloc::Global;
 
 // The relation that the lines of a file of `end` bytes state, or the first rule that they break.
@@ -24,17 +26,17 @@ fn relation_in(
     pair: &Pair<'_>,
     end: usize,
     lines: &[Line],
-) -> Result<Relation, RelFault>
+) -> Result<Relation, Fault>
     ensures sound { OnOk result (broken_lines (old_of pair.now) (new_of pair.now) end (lines_view lines.now) ≡ []) }
     ensures typing { OnOk result (broken_clauses (old_of pair.now) (new_of pair.now) (lines_view lines.now) ≡ []) }
     ensures stated { IfOk result (λ r. relation_view r ≡ relation_of (old_of pair.now) (new_of pair.now) (lines_view lines.now)) }
     ensures refused { IfErr result (IfRefused (IsFirstOf (old_of pair.now) (new_of pair.now) end (lines_view lines.now))) }
 {
     if let Some(refusal) = first_of_lines(alloc, pair, end, lines)? {
-        return Err(RelFault::Refused(refusal));
+        return Err(Fault::Refused(refusal));
     }
     if let Some(refusal) = first_of_clauses(alloc, pair, lines)? {
-        return Err(RelFault::Refused(refusal));
+        return Err(Fault::Refused(refusal));
     }
     let relation = relation_of(alloc, pair, lines)?;
     Ok(relation)
@@ -49,10 +51,12 @@ pub fn read_lines(
     end: usize,
     old: &Program,
     new: &Program,
-) -> Result<Relation, RelFault>
+) -> Result<Relation, Fault>
     ensures read { IfOk result (λ r. IsRelation (program_view old.now) (program_view new.now) end toks.now (relation_view r)) }
-    // The cells that its INPUT lines name are cells of the programs, of the lines' ranges.
+    // The cells that its INPUT lines name are cells of the programs, of the lines' ranges; its candidates are the model's, its numbers lie in their
+    // limits, no input gets two numbers, and inputs that get one number are alike.
     ensures belongs { IfOk result (λ r. BelongsTo (program_view old.now) (program_view new.now) (relation_view r)) }
+    ensures well_formed { IfOk result (λ r. IsWellFormed (program_view old.now) (program_view new.now) (relation_view r)) }
     ensures refused { IfErr result (IfRefused (IsNoRelation (program_view old.now) (program_view new.now) end toks.now)) }
 {
     let lines = parse_lines(alloc, toks, end)?;
@@ -79,16 +83,17 @@ pub fn read_relation(
     end: usize,
     old: &Program,
     new: &Program,
-) -> Result<Relation, RelFault>
+) -> Result<Relation, Fault>
     ensures read { IfOk result (λ r. IsRelation (program_view old.now) (program_view new.now) end toks.now (relation_view r)) }
     ensures few { IfOk result (λ r. has_few_candidates (relation_view r) ≡ true) }
     ensures belongs { IfOk result (λ r. BelongsTo (program_view old.now) (program_view new.now) (relation_view r)) }
+    ensures well_formed { IfOk result (λ r. IsWellFormed (program_view old.now) (program_view new.now) (relation_view r)) }
     ensures refused { IfErr result (IfRefused (IsNoSmallRelation (program_view old.now) (program_view new.now) end toks.now)) }
 {
     let relation = read_lines(alloc, toks, end, old, new)?;
     if !has_few_candidates(&relation) {
         let rule = Rule::TooManyCandidates;
-        return Err(RelFault::Refused(Refusal { rule, at: 0 }));
+        return Err(Fault::Refused(Refusal { rule, at: 0 }));
     }
     Ok(relation)
 }

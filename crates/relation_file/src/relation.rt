@@ -1,21 +1,16 @@
 // The relation that lines state.
-ghost use Rattle.std.specs.Prelude.{◌≡◌, None, option_map, IfOk};
-ghost use Rattle.st_tree.specs.SyntaxView.{tree_view};
-ghost use Rattle.st_tree.specs.View.{expr_view, exprs_view};
-ghost use Rattle.st_types.specs.Programs.{pair_scope};
-ghost use Rattle.st_types.specs.Typed.{typed};
+ghost use Rattle.std.specs.Prelude.{◌≡◌, IfOk};
+ghost use Rattle.program_tree.specs.View.{exprs_view};
 ghost use Rattle.scan_model.specs.Pairs.{relation_view};
 ghost use Rattle.relation_lines.specs.View.{content_view, lines_view};
-ghost use Rattle.relation_file.specs.Relations.{number_of, setting_in, asks_equal_faults, faults_are_equal, both_line, single_line, equal_faults, input_of, inputs_in, clause_of, clauses_in, clauses_of, relation_of};
-ghost use Rattle.relation_file.specs.PairView.{old_of, new_of};
+ghost use Rattle.relation_file.specs.Relations.{number_of, setting_in, asks_equal_faults, faults_are_equal, both_line, single_line, input_of, inputs_in, clauses_in, relation_of};
+ghost use Rattle.candidates.specs.PairView.{old_of, new_of};
 
-use crate::candidates::candidates_of;
-use crate::pair::Pair;
-use crate::places::Placed;
+use crate::listed::{candidates_in, clause_of};
+use candidates::{Pair, Placed};
+use program_tree::TypedExpr;
 use relation_lines::{Condition, Content, Line, Setting};
 use scan_model::{InputLine, Relation, Side};
-use st_tree::{Elementary, Expr, Operand, Operator, TypedExpr};
-use st_types::typed_clause;
 use std::alloc::{AllocError, Global};
 
 // The number of a line of this kind.
@@ -120,30 +115,6 @@ fn inputs_in(alloc: Global, pair: &Pair<'_>, lines: &[Line]) -> Result<Vec<Input
     Ok(inputs)
 }
 
-// The typed expression of a clause.
-fn typed_in(alloc: Global, pair: &Pair<'_>, clause: &Expr) -> Result<TypedExpr, AllocError>
-    ensures { IfOk result (λ e. expr_view e ≡ typed (pair_scope (old_of pair.now) (new_of pair.now)) None (tree_view clause.now)) }
-{
-    typed_clause(alloc, &pair.scope, clause)
-}
-
-// The clause of a line, where it is of this kind.
-fn clause_of(
-    alloc: Global,
-    pair: &Pair<'_>,
-    wanted: Condition,
-    content: &Content,
-) -> Result<Option<TypedExpr>, AllocError>
-    ensures { IfOk result (λ clause. option_map expr_view clause ≡ clause_of (old_of pair.now) (new_of pair.now) wanted (content_view content.now)) }
-{
-    match content {
-        Content::Clause(condition, clause) if *condition == wanted => {
-            Ok(Some(typed_in(alloc, pair, clause)?))
-        }
-        _ => Ok(None),
-    }
-}
-
 // The clauses of lines of this kind, in their order.
 fn clauses_in(
     alloc: Global,
@@ -162,41 +133,6 @@ fn clauses_in(
     Ok(clauses)
 }
 
-// `old.FAULT = new.FAULT`, where NEW's cells stand behind so many of OLD.
-fn equal_faults(alloc: Global, old_cells: usize) -> Result<TypedExpr, AllocError>
-    ensures { IfOk result (λ e. expr_view e ≡ equal_faults old_cells) }
-{
-    let mut operands = Vec::new(alloc);
-    operands.push(Operand {
-        operator: Operator::Equal,
-        kind: Elementary::Bool,
-        right: TypedExpr::Cell(old_cells),
-    })?;
-    Ok(TypedExpr::Chain(Box::new(alloc, TypedExpr::Cell(0))?, operands))
-}
-
-// The relation but for its candidates: its numbers, its inputs, and its clauses, the RELATE clauses with that on
-// FAULT last.
-fn clauses_of(alloc: Global, pair: &Pair<'_>, lines: &[Line]) -> Result<Relation, AllocError>
-    ensures { IfOk result (λ r. relation_view r ≡ clauses_of (old_of pair.now) (new_of pair.now) (lines_view lines.now)) }
-{
-    let mut relates = clauses_in(alloc, pair, Condition::Relate, lines)?;
-    let must_agree = faults_are_equal(lines);
-    if must_agree {
-        relates.push(equal_faults(alloc, pair.old.program.cells.len())?)?;
-    }
-    Ok(Relation {
-        depth: setting_in(Setting::Depth, lines),
-        conflicts: setting_in(Setting::Conflicts, lines),
-        inputs: inputs_in(alloc, pair, lines)?,
-        environment: clauses_in(alloc, pair, Condition::Environment, lines)?,
-        equal_faults: must_agree,
-        relates,
-        invariants: clauses_in(alloc, pair, Condition::Invariant, lines)?,
-        candidates: Vec::new(alloc),
-    })
-}
-
 /// The relation that lines state, with its candidates.
 pub(crate) fn relation_of(
     alloc: Global,
@@ -205,7 +141,17 @@ pub(crate) fn relation_of(
 ) -> Result<Relation, AllocError>
     ensures { IfOk result (λ r. relation_view r ≡ relation_of (old_of pair.now) (new_of pair.now) (lines_view lines.now)) }
 {
-    let mut relation = clauses_of(alloc, pair, lines)?;
-    relation.candidates = candidates_of(alloc, pair, &relation)?;
-    Ok(relation)
+    let must_agree = faults_are_equal(lines);
+    let listed = candidates_in(alloc, pair, must_agree, lines)?;
+    Ok(Relation {
+        depth: setting_in(Setting::Depth, lines),
+        conflicts: setting_in(Setting::Conflicts, lines),
+        inputs: inputs_in(alloc, pair, lines)?,
+        environment: clauses_in(alloc, pair, Condition::Environment, lines)?,
+        equal_faults: must_agree,
+        candidates: listed.candidates,
+        invariants: listed.invariants,
+        first_relate: listed.first_relate,
+        relates: listed.relates,
+    })
 }

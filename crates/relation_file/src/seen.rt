@@ -1,6 +1,6 @@
 // What is kept of the lines so far.
 ghost use Rattle.std.specs.Prelude.{◌≡◌, ℕ, List, [], ◌∷◌, ◌++◌, OnOk};
-ghost use Rattle.st_tree.specs.SyntaxView.{name_view};
+ghost use Rattle.source_tree.specs.SyntaxView.{name_view};
 ghost use Rattle.relation_lines.specs.Lines.{LineData};
 ghost use Rattle.relation_lines.specs.View.{content_view, line_view};
 ghost use Rattle.relation_file.specs.Inputs.{named_by};
@@ -10,7 +10,7 @@ use crate::kinds::Kinds;
 use indexmap::IndexSet;
 use relation_lines::{Content, Line};
 use scan_model::Side;
-use st_tree::Name;
+use source_tree::Name;
 use std::alloc::{AllocError, Global};
 
 /// The kinds of the lines so far, and the names by which they name inputs.

@@ -1,9 +1,9 @@
 // What constructs break.
 ghost use Rattle.std.specs.Prelude.{◌≡◌};
-ghost use Rattle.st_tree.specs.Rules.{first_in};
+ghost use Rattle.rules.specs.Rules.{first_in};
 ghost use Rattle.relation_file.specs.Refusals.{breaks, unless};
 
-use st_tree::{Refusal, Rule};
+use rules::{Refusal, Rule};
 
 /// A rule that is broken at a place.
 pub(crate) fn breaks(rule: Rule, at: usize) -> Option<Refusal>

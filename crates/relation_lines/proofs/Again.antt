@@ -2,14 +2,14 @@
 use Rattle.std.proofs.Common.{◌≡◌, ℕ, zero, suc, ◌≤◌, Bool, false, List, [], ◌∷◌, ◌++◌, length, Some, None, refl, sym, ap, ◌∙◌, append_assoc, arith, length-append}
 use Rattle.std.proofs.lemmas.List.{append-nil}
 use Rattle.scan_model.specs.declared.side.Side.{Side}
-use Rattle.st_tree.specs.declared.token.Operator.TheVariants.{Equal}
-use Rattle.st_tree.specs.declared.token.Mark.TheVariants.{Semicolon}
-use Rattle.st_tree.specs.Syntax.{Symbol, name, number, operator, mark, Named}
-use Rattle.st_tree.specs.Prints.{name_symbol}
-use Rattle.st_parser.specs.Marks.{same_mark}
-use Rattle.st_parser.specs.Ends.{goes_on}
-use Rattle.st_parser.specs.Reading.{after, numbered}
-use Rattle.st_parser.proofs.Again.{step_named, expression_again}
+use Rattle.plc_types.specs.declared.operator.Operator.TheVariants.{Equal}
+use Rattle.source_tree.specs.declared.token.Mark.TheVariants.{Semicolon}
+use Rattle.source_tree.specs.Syntax.{Symbol, name, number, operator, mark, Named}
+use Rattle.source_tree.specs.Prints.{name_symbol}
+use Rattle.grammar.specs.Marks.{same_mark}
+use Rattle.grammar.specs.Ends.{goes_on}
+use Rattle.grammar.specs.Reading.{after, numbered}
+use Rattle.grammar_laws.proofs.Again.{step_named, expression_again}
 use Rattle.relation_lines.specs.declared.word.FirstWord.{FirstWord}
 use Rattle.relation_lines.specs.declared.word.FirstWord.TheVariants as words
 use Rattle.relation_lines.specs.Lines.{ContentData, setting, faults, paired, single, clause, LineData}

@@ -1,11 +1,11 @@
 -- Lines whose clauses nest within a depth.
 use Rattle.std.proofs.Common.{◌≡◌, ℕ, ◌-◌, List, [], ◌∷◌, ◌++◌, ap, subst, arith, append_assoc}
-use Rattle.st_tree.specs.declared.token.Mark.TheVariants.{Semicolon}
-use Rattle.st_tree.specs.Syntax.{Symbol, name, mark}
-use Rattle.st_parser.specs.Fits.{Fits}
-use Rattle.st_parser.specs.Nesting.{nothing_open, NestsWithin}
-use Rattle.st_parser.proofs.Nests.{nests-behind}
-use Rattle.st_parser.proofs.Nested.{nested, fits_levelled}
+use Rattle.source_tree.specs.declared.token.Mark.TheVariants.{Semicolon}
+use Rattle.source_tree.specs.Syntax.{Symbol, name, mark}
+use Rattle.grammar.specs.Fits.{Fits}
+use Rattle.grammar.specs.Nesting.{nothing_open, NestsWithin}
+use Rattle.grammar_laws.proofs.Nests.{nests-behind}
+use Rattle.grammar_laws.proofs.Nested.{nested, fits_levelled}
 use Rattle.relation_lines.specs.Lines.{ContentData, setting, faults, paired, single, clause, LineData}
 use Rattle.relation_lines.specs.Prints.{word_of, print_content, print_line, print_lines}
 use Rattle.relation_lines.specs.Levels.{IsContentLevelled, AreLinesLevelled}

@@ -1,14 +1,14 @@
 -- What is read of lines prints the symbols that were taken.
 use Rattle.std.proofs.Common.{◌≡◌, ℕ, zero, suc, Bool, true, false, cond, List, [], ◌∷◌, ◌++◌, codes, Option, Some, None, refl, sym, ap, subst, ◌∙◌, append_assoc}
 use Rattle.std.proofs.lemmas.List.{append-nil}
-use Rattle.st_tree.specs.declared.token.Operator.TheVariants.{Equal}
-use Rattle.st_tree.specs.declared.token.Mark.TheVariants.{Semicolon}
-use Rattle.st_tree.specs.Syntax.{Symbol, name, operator, mark, Named}
-use Rattle.st_tree.specs.Prints.{name_symbol}
-use Rattle.st_parser.specs.Reading.{◌>>=◌, after, named, numbered}
-use Rattle.st_parser.specs.Expressions.{expression}
-use Rattle.st_parser.proofs.Steps.{bind_some, some_is, after_is, named_is, numbered_is}
-use Rattle.st_parser.proofs.Sound.{expression_is}
+use Rattle.plc_types.specs.declared.operator.Operator.TheVariants.{Equal}
+use Rattle.source_tree.specs.declared.token.Mark.TheVariants.{Semicolon}
+use Rattle.source_tree.specs.Syntax.{Symbol, name, operator, mark, Named}
+use Rattle.source_tree.specs.Prints.{name_symbol}
+use Rattle.grammar.specs.Reading.{◌>>=◌, after, named, numbered}
+use Rattle.grammar.specs.Expressions.{expression}
+use Rattle.grammar_laws.proofs.Steps.{bind_some, some_is, after_is, named_is, numbered_is}
+use Rattle.grammar_laws.proofs.Sound.{expression_is}
 use Rattle.relation_lines.specs.declared.line.Setting.{Setting}
 use Rattle.relation_lines.specs.declared.line.Condition.{Condition}
 use Rattle.relation_lines.specs.declared.word.FirstWord.{FirstWord}

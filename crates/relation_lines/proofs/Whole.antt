@@ -1,17 +1,17 @@
 -- What the reader of whole relation files says of lines.
 use Rattle.std.proofs.Common.{◌≡◌, ◌≢◌, ℕ, ◌≤◌, List, length, Some, None, refl, sym, ap, subst, ◌∙◌, arith, inr}
 use Rattle.std.proofs.lemmas.List.{length-map}
-use Rattle.st_tree.specs.declared.token.Tok.{Tok}
-use Rattle.st_tree.specs.Syntax.{Symbol}
-use Rattle.st_tree.specs.SyntaxView as view
-use Rattle.st_parser.specs.declared.fault.Stop.{Stop}
-use Rattle.st_parser.specs.declared.fault.Stop.TheVariants as stops
-use Rattle.st_parser.specs.Faults.{fault_of}
-use Rattle.st_parser.specs.Nesting.{nothing_open, NestsWithin, Shallow}
-use Rattle.st_parser.specs.Reading.{ahead}
-use Rattle.st_parser.specs.FirstFault.{IsSound}
-use Rattle.st_parser.proofs.Steps.{some_is}
-use Rattle.st_parser.proofs.Nests.{nests-length}
+use Rattle.source_tree.specs.declared.token.Tok.{Tok}
+use Rattle.source_tree.specs.Syntax.{Symbol}
+use Rattle.source_tree.specs.SyntaxView as view
+use Rattle.grammar.specs.declared.fault.Stop.{Stop}
+use Rattle.grammar.specs.declared.fault.Stop.TheVariants as stops
+use Rattle.grammar.specs.Faults.{fault_of}
+use Rattle.grammar.specs.Nesting.{nothing_open, NestsWithin, Shallow}
+use Rattle.grammar.specs.Reading.{ahead}
+use Rattle.grammar.specs.FirstFault.{IsSound}
+use Rattle.grammar_laws.proofs.Steps.{some_is}
+use Rattle.grammar_laws.proofs.Nests.{nests-length}
 use Rattle.relation_lines.specs.Lines.{LineData}
 use Rattle.relation_lines.specs.Prints.{print_lines}
 use Rattle.relation_lines.specs.Levels.{AreLinesLevelled}

@@ -9,7 +9,7 @@ use Rattle.relation_lines.specs.declared.word.FirstWord.{FirstWord}
 use Rattle.relation_lines.specs.declared.word.FirstWord.TheVariants as words
 use Rattle.relation_lines.specs.Prints.{setting_word, condition_word, side_word, faults_word}
 use Rattle.relation_lines.specs.Words.{first_word_of, agreement_of, side_of}
-use Rattle.st_parser.proofs.Steps.{some_is}
+use Rattle.grammar_laws.proofs.Steps.{some_is}
 
 -- the text of a first word
 abbrev pub spelling : FirstWord → List ℕ

@@ -1,6 +1,6 @@
 -- Which lines are levelled: their clauses are.
 use Rattle.std.specs.Prelude.{List, [], ◌∷◌}
-use Rattle.st_tree.specs.Levels.{IsLevelled}
+use Rattle.source_tree.specs.Levels.{IsLevelled}
 use Rattle.relation_lines.specs.Lines.{ContentData, setting, faults, paired, single, clause, LineData}
 
 abbrev pub IsContentLevelled : ContentData → Type 0

@@ -1,6 +1,6 @@
 -- The lines of a relation file as plain data. A number beside a part is its place in the text.
 use Rattle.std.specs.Prelude.{ℕ, Bool}
-use Rattle.st_tree.specs.Syntax.{Named, Tree}
+use Rattle.source_tree.specs.Syntax.{Named, Tree}
 use Rattle.relation_lines.specs.declared.line.Setting.{Setting}
 use Rattle.scan_model.specs.declared.side.Side.{Side}
 use Rattle.relation_lines.specs.declared.line.Condition.{Condition}

@@ -1,9 +1,9 @@
 -- What the lines of a relation file print.
 use Rattle.std.specs.Prelude.{ℕ, List, [], ◌∷◌, ◌++◌, codes, Bool, if◌then◌else◌}
-use Rattle.st_tree.specs.declared.token.Operator.TheVariants.{Equal}
-use Rattle.st_tree.specs.declared.token.Mark.TheVariants.{Semicolon}
-use Rattle.st_tree.specs.Syntax.{Symbol, name, number, operator, mark}
-use Rattle.st_tree.specs.Prints.{name_symbol, print}
+use Rattle.plc_types.specs.declared.operator.Operator.TheVariants.{Equal}
+use Rattle.source_tree.specs.declared.token.Mark.TheVariants.{Semicolon}
+use Rattle.source_tree.specs.Syntax.{Symbol, name, number, operator, mark}
+use Rattle.source_tree.specs.Prints.{name_symbol, print}
 use Rattle.relation_lines.specs.declared.line.Setting.{Setting}
 use Rattle.relation_lines.specs.declared.line.Setting.TheVariants as settings
 use Rattle.scan_model.specs.declared.side.Side.{Side}

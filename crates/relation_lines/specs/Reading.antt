@@ -1,13 +1,13 @@
 -- Reading the lines of a relation file.
 use Rattle.std.specs.Prelude.{◌≡◌, ◌≢◌, ℕ, zero, suc, Bool, true, false, if◌then◌else◌, List, [], ◌∷◌, ◌++◌, Option, Some, None, Result, Ok, Err, Vec}
 use Rattle.std.specs.declared.alloc.Global.{Global}
-use Rattle.st_tree.specs.declared.token.Operator.TheVariants.{Equal}
-use Rattle.st_tree.specs.declared.token.Mark.TheVariants.{Semicolon}
-use Rattle.st_tree.specs.Syntax.{Symbol, operator, Named}
-use Rattle.st_parser.specs.declared.fault.Stop.{Stop}
-use Rattle.st_parser.specs.declared.fault.Stop.TheVariants.{Memory}
-use Rattle.st_parser.specs.Reading.{Read, ◌>>=◌, after, named, numbered}
-use Rattle.st_parser.specs.Expressions.{expression}
+use Rattle.plc_types.specs.declared.operator.Operator.TheVariants.{Equal}
+use Rattle.source_tree.specs.declared.token.Mark.TheVariants.{Semicolon}
+use Rattle.source_tree.specs.Syntax.{Symbol, operator, Named}
+use Rattle.grammar.specs.declared.fault.Stop.{Stop}
+use Rattle.grammar.specs.declared.fault.Stop.TheVariants.{Memory}
+use Rattle.grammar.specs.Reading.{Read, ◌>>=◌, after, named, numbered}
+use Rattle.grammar.specs.Expressions.{expression}
 use Rattle.relation_lines.specs.declared.line.Setting.{Setting}
 use Rattle.relation_lines.specs.declared.line.Condition.{Condition}
 use Rattle.relation_lines.specs.declared.line.Line.{Line}

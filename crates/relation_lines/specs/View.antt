@@ -1,6 +1,6 @@
 -- The data that lines stand for.
 use Rattle.std.specs.Prelude.{List, map}
-use Rattle.st_tree.specs.SyntaxView.{name_view, tree_view}
+use Rattle.source_tree.specs.SyntaxView.{name_view, tree_view}
 use Rattle.relation_lines.specs.declared.line.Content.{Content}
 use Rattle.relation_lines.specs.declared.line.Content.TheVariants as contents
 use Rattle.relation_lines.specs.declared.line.Line.{Line}

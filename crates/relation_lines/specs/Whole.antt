@@ -1,12 +1,12 @@
 -- What tokens are the lines of a relation file, and why others are none.
 use Rattle.std.specs.Prelude.{◌≡◌, ◌⊎◌, List}
-use Rattle.st_tree.specs.declared.token.Tok.{Tok}
-use Rattle.st_tree.specs.declared.rule.Rule.TheVariants.{NoTree}
-use Rattle.st_tree.specs.declared.rule.Refusal.{Refusal}
-use Rattle.st_tree.specs.declared.parse_fault.ParseFault.{ParseFault}
-use Rattle.st_tree.specs.declared.parse_fault.ParseFault.TheVariants.{Refused, Memory}
-use Rattle.st_tree.specs.SyntaxView.{symbols}
-use Rattle.st_parser.specs.FirstFault.{IsSound, IsFirstFault}
+use Rattle.source_tree.specs.declared.token.Tok.{Tok}
+use Rattle.rules.specs.declared.rule.Rule.TheVariants.{NoTree}
+use Rattle.rules.specs.declared.rule.Refusal.{Refusal}
+use Rattle.rules.specs.declared.fault.Fault.{Fault}
+use Rattle.rules.specs.declared.fault.Fault.TheVariants.{Refused, Memory}
+use Rattle.source_tree.specs.SyntaxView.{symbols}
+use Rattle.grammar.specs.FirstFault.{IsSound, IsFirstFault}
 use Rattle.relation_lines.specs.Lines.{LineData}
 use Rattle.relation_lines.specs.Prints.{print_lines}
 use Rattle.relation_lines.specs.Levels.{AreLinesLevelled}
@@ -27,6 +27,6 @@ pub record HasNoLines (toks : List Tok) (r : Refusal) : Type 0 where
 abbrev pub IsLinesRefusal : List Tok → Refusal → Type 0
 IsLinesRefusal toks r = IsFirstFault toks r ⊎ HasNoLines toks r
 
-abbrev pub IsLinesFault : List Tok → ParseFault → Type 0
+abbrev pub IsLinesFault : List Tok → Fault → Type 0
 IsLinesFault toks (Refused r) = IsLinesRefusal toks r
 IsLinesFault toks Memory = Unit {0}

@@ -1,17 +1,16 @@
 // What stands behind the first word of a line.
 ghost use Rattle.std.specs.Prelude.{◌≡◌, length};
-ghost use Rattle.st_tree.specs.SyntaxView.{name_view};
-ghost use Rattle.st_parser.specs.Reading.{Gives, given, ahead};
+ghost use Rattle.source_tree.specs.SyntaxView.{name_view};
+ghost use Rattle.grammar.specs.Reading.{Gives, given, ahead};
 ghost use Rattle.relation_lines.specs.View.{content_view};
 ghost use Rattle.relation_lines.specs.Reading as spec;
 
 use crate::line::{Condition, Content, Setting};
 use crate::word::{FirstWord, agreement_of, side_of};
-use st_parser::DEPTH;
-use st_parser::cursor::{named, numbered, refuse, token};
-use st_parser::expression::expression;
-use st_parser::fault::Stop;
-use st_tree::{Name, Operator, Terminal, Tok};
+use grammar::{DEPTH, Stop};
+use plc_types::Operator;
+use source_tree::{Name, Terminal, Tok};
+use st_reader::{expression, named, numbered, refuse, token};
 use std::alloc::Global;
 
 /// The place of `=`, and the place behind it.

@@ -1,7 +1,7 @@
 // The lines of a relation file as trees, which print its tokens. A number beside a part is the place of the
 // part's first token, in bytes from 0.
 use scan_model::Side;
-use st_tree::{Expr, Name};
+use source_tree::{Expr, Name};
 
 /// A line that has a number: `RELATION n;`, `DEPTH n;` or `CONFLICTS n;`.
 #[derive(Clone, Copy, Debug, PartialEq, Eq)]

@@ -1,6 +1,6 @@
 // Whole relation files.
 ghost use Rattle.std.specs.Prelude.{◌≡◌, List, [], length, IfOk, IfErr};
-ghost use Rattle.st_parser.specs.Reading.{Gives, ahead};
+ghost use Rattle.grammar.specs.Reading.{Gives, ahead};
 ghost use Rattle.relation_lines.specs.Lines.{LineData};
 ghost use Rattle.relation_lines.specs.Prints.{print_lines};
 ghost use Rattle.relation_lines.specs.Levels.{AreLinesLevelled};
@@ -12,11 +12,12 @@ ghost use Rattle.relation_lines.specs.Whole.{AreLines, IsLinesFault};
 use crate::content::content;
 use crate::line::Line;
 use crate::word::first_word_of;
-use st_parser::cursor::{expect, named, refuse, token};
-use st_parser::fault::Stop;
-use st_parser::{DEPTH, first_fault};
-use st_tree::{Mark, ParseFault, Tok};
+use grammar::{DEPTH, Stop};
+use rules::Fault;
+use source_tree::{Mark, Tok};
+use st_reader::{expect, named, refuse, token};
 use std::alloc::Global;
+use token_rules::first_fault;
 
 /// A line.
 #[tactic(auto, unfolding(crate::specs::Reading::line))]
@@ -81,12 +82,12 @@ fn whole(alloc: Global, toks: &[Tok<'_>], end: usize) -> Result<Vec<Line>, Stop>
 /// # Errors
 ///
 /// X1 and G2 come first, by place; then G1, at the first token with which no relation file goes on, else at `end`.
-pub fn parse_lines(alloc: Global, toks: &[Tok<'_>], end: usize) -> Result<Vec<Line>, ParseFault>
+pub fn parse_lines(alloc: Global, toks: &[Tok<'_>], end: usize) -> Result<Vec<Line>, Fault>
     ensures read { IfOk result (λ lines. AreLines toks.now (view.lines_view lines.items)) }
     ensures refused { IfErr result (IsLinesFault toks.now) }
 {
     if let Some(refusal) = first_fault(toks) {
-        return Err(ParseFault::Refused(refusal));
+        return Err(Fault::Refused(refusal));
     }
     Ok(whole(alloc, toks, end)?)
 }

@@ -3,17 +3,17 @@ use Rattle.std.proofs.Common.{◌≡◌, ℕ, zero, suc, Bool, true, false, List
 use Rattle.std.specs.Prelude.{◌+◌, ◌==◌, Option, None, Some, slice_set, slice_index_or, if◌then◌else◌, All}
 use Rattle.std.proofs.lemmas.Int.{ints}
 use Rattle.std.proofs.lemmas.Bool.{and_parts}
-use Rattle.st_tree.specs.declared.typed.Range.{Range}
-use Rattle.st_tree.specs.declared.typed.StepCells.{StepCells}
-use Rattle.st_tree.specs.declared.typed.Association.{Association}
-use Rattle.st_tree.specs.Types.{in_range}
-use Rattle.st_tree.specs.Tree.{Statement, assign, run, choice, cases, repeat, chart, Statements, no_statements, statement, Choices, no_choices, choose, Entries, no_entries, entry, Actions, no_actions, action, CellData, CalledData, block, function, ProgramData}
+use Rattle.plc_types.specs.declared.range.Range.{Range}
+use Rattle.program_tree.specs.declared.typed.StepCells.{StepCells}
+use Rattle.program_tree.specs.declared.typed.Association.{Association}
+use Rattle.plc_types.specs.Types.{in_range}
+use Rattle.program_tree.specs.Tree.{Statement, assign, run, choice, cases, repeat, chart, Statements, no_statements, statement, Choices, no_choices, choose, Entries, no_entries, entry, Actions, no_actions, action, CellData, CalledData, block, function, ProgramData}
 use Rattle.scan_model.specs.declared.relation.InputLine.{InputLine}
 use Rattle.scan_model.specs.declared.relation.InputLine.TheVariants.{Both, Old, New}
-use Rattle.effects.specs.Values.{State, Callees, value_of, faults, is_truth}
-use Rattle.effects.specs.Charts.{Marking, runs}
-use Rattle.effects.specs.Effects.{range_at, with_fault, stored, is_labelled, effect_of_turns, latched, all_latched, marked, effect_of, effect_of_all, effect_of_choices, effect_of_entries, effect_of_actions}
-use Rattle.effects.specs.Calls.{run_of, nothing, callees_of}
+use Rattle.meaning.specs.Values.{State, Callees, value_of, faults, is_truth}
+use Rattle.meaning.specs.Charts.{Marking, runs}
+use Rattle.meaning.specs.Effects.{range_at, with_fault, stored, is_labelled, effect_of_turns, latched, all_latched, marked, effect_of, effect_of_all, effect_of_choices, effect_of_entries, effect_of_actions}
+use Rattle.meaning.specs.Calls.{run_of, nothing, callees_of}
 use Rattle.scan_model.specs.Scans.{ranges_of, callees_in, scanned}
 use Rattle.scan_model.specs.InRange.{Row, IsInRange, BeginsWithFault, IsProgram, fits_places, put_at}
 use Rattle.scan_model.specs.Pairs.{RelationData, BelongsTo, is_allowed, after_row, Pair, IsPairInRange, IsCellOf, NamesCells, fits_lines, range_of_line, loaded_one, loaded}
@@ -92,7 +92,7 @@ module _ (rs : List Range) (first : HoldsFault rs) where
       kept_by_statement base (assign c e) s f = kept_by_store (base + c) _ _ (fault_added (faults callees base e s) s f)
       kept_by_statement base (run b offset) s f = calls b (base + offset) s f
       kept_by_statement base (choice arms other) s f = kept_by_choices base arms (effect_of_all callees rs base other) (λ x g. kept_by_all base other x g) s f
-      kept_by_statement base (cases e es other) s f =
+      kept_by_statement base (cases kind e es other) s f =
           kept_by_entries base (value_of callees base e s) es (effect_of_all callees rs base other) (λ x g. kept_by_all base other x g) _ (fault_added (faults callees base e s) s f)
       kept_by_statement base (repeat turns body) s f =
           kept_by_turns turns.count (base + turns.control) turns.first turns.step (effect_of_all callees rs base body) (λ x g. kept_by_all base body x g) s f

@@ -1,6 +1,6 @@
 -- The union of all inductive sets is inductive, and what it proves holds along allowed rows.
 use Rattle.std.proofs.Common.{◌≡◌, ℕ, true, false, List, [], ◌∷◌, sym, ◌∙◌}
-use Rattle.st_tree.specs.Tree.{ProgramData}
+use Rattle.program_tree.specs.Tree.{ProgramData}
 use Rattle.scan_model.specs.InRange.{Row}
 use Rattle.scan_model.specs.Pairs.{RelationData, Pair, IsPairInRange, start, holds, is_allowed, after_row}
 use Rattle.scan_model.specs.Candidates.{candidates_of, clause_at}

@@ -2,7 +2,7 @@
 use Rattle.std.proofs.Common.{◌≡◌, ℕ, suc, zero, ◌<◌, refl, sym, ◌∙◌, ap, arith, inl, inr}
 use Rattle.std.proofs.lemmas.Bool.{cases_lt}
 use Rattle.std.proofs.lemmas.Bool.Decides.{same_from_decides}
-use Rattle.st_tree.specs.Tree.{ProgramData}
+use Rattle.program_tree.specs.Tree.{ProgramData}
 use Rattle.scan_model.specs.Pairs.{RelationData}
 use Rattle.scan_model.specs.declared.verdict.Verdict.TheVariants.{Vacuous, Related, Different, Open}
 use Rattle.scan_model.specs.Verdicts.{CandidateSet, size_below, IsGreatest, IsSizeOfGreatest, HasBreak, NoBreakBelow, count_of}

@@ -2,14 +2,14 @@
 use Rattle.std.specs.Prelude.{ℕ, zero, suc, ◌+◌, nat_le, List, [], ◌∷◌, ◌++◌, length, codes, decimal, map, Bool, pos, if◌then◌else◌, slice_index_or}
 use Rattle.std.specs.Fmt.{signed_decimal}
 use Rattle.std.specs.Str.{bytes_eq}
-use Rattle.st_tree.specs.declared.data_type.DataType.{DataType}
-use Rattle.st_tree.specs.DataTypes.{carrier, is_same_type}
-use Rattle.st_tree.specs.Enumerations.{paired_type}
-use Rattle.st_tree.specs.declared.elementary.Elementary.TheVariants as types
-use Rattle.st_tree.specs.declared.syntax.UnaryOperator.TheVariants.{Not}
-use Rattle.st_tree.specs.declared.token.Operator.TheVariants.{And, Equal}
-use Rattle.st_tree.specs.declared.typed.ChartCells.{ChartCells}
-use Rattle.st_tree.specs.Tree.{Expression, number, cell, unary, chain, no_operands, operand, CellData, ProgramData}
+use Rattle.plc_types.specs.declared.data_type.DataType.{DataType}
+use Rattle.plc_types.specs.DataTypes.{carrier, is_same_type}
+use Rattle.plc_types.specs.Enumerations.{paired_type}
+use Rattle.plc_types.specs.declared.elementary.Elementary.TheVariants as types
+use Rattle.plc_types.specs.declared.operator.UnaryOperator.TheVariants.{Not}
+use Rattle.plc_types.specs.declared.operator.Operator.TheVariants.{And, Equal}
+use Rattle.program_tree.specs.declared.typed.ChartCells.{ChartCells}
+use Rattle.program_tree.specs.Tree.{Expression, number, cell, unary, chain, no_operands, operand, CellData, ProgramData}
 use Rattle.scan_model.specs.Pairs.{CandidateData, RelationData, Pair, holds}
 
 -- a cell of the pair has the value of an expression of its type
@@ -30,6 +30,11 @@ abbrev pub same_cells : (DataType → DataType) → ℕ → ℕ → List CellDat
 same_cells paired place behind new [] = []
 same_cells paired place behind new (c ∷ cs) = same_as paired c place behind new ++ same_cells paired (place + 1) behind new cs
 
+-- clauses as candidates: their names are a word and their numbers, from a number on
+abbrev pub numbered : List ℕ → ℕ → List Expression → List CandidateData
+numbered word n [] = []
+numbered word n (e ∷ es) = record { name = word ++ decimal n; clause = e } ∷ numbered word (n + 1) es
+
 abbrev pub relate_name : ℕ → List ℕ
 relate_name n = codes "RELATE " ++ decimal n
 
@@ -45,11 +50,6 @@ initial_values program place [] = []
 initial_values program place (c ∷ cs) =
     record { name = program ++ codes " " ++ c.path ++ codes " = " ++ signed_decimal c.initial; clause = is_equal place c.kind (number c.initial) }
     ∷ initial_values program (place + 1) cs
-
--- `INVARIANT n`: the INVARIANT clauses as written
-abbrev pub invariant_clauses : ℕ → List Expression → List CandidateData
-invariant_clauses n [] = []
-invariant_clauses n (e ∷ es) = record { name = codes "INVARIANT " ++ decimal n; clause = e } ∷ invariant_clauses (n + 1) es
 
 -- the path of the cell at a place
 abbrev pub path_at : List (List ℕ) → ℕ → List ℕ
@@ -83,10 +83,10 @@ exclusive_steps program start paths (c ∷ cs) =
 abbrev pub paths_of : List CellData → List (List ℕ)
 paths_of cells = map (λ c. c.path) cells
 
--- the candidates in their order
+-- the candidates in their order; the INVARIANT clauses, `INVARIANT n`, come first
 abbrev pub candidates_of : ProgramData → ProgramData → RelationData → List CandidateData
 candidates_of old new rel =
-    invariant_clauses 1 rel.invariants ++ same_cells (paired_type old.types new.types) 0 (length old.cells) new.cells old.cells ++ relate_clauses rel.equal_faults 1 rel.relates
+    numbered (codes "INVARIANT ") 1 rel.invariants ++ same_cells (paired_type old.types new.types) 0 (length old.cells) new.cells old.cells ++ relate_clauses rel.equal_faults 1 rel.relates
     ++ initial_values (codes "OLD") 0 old.cells ++ initial_values (codes "NEW") (length old.cells) new.cells
     ++ exclusive_steps (codes "OLD") 0 (paths_of old.cells) old.charts ++ exclusive_steps (codes "NEW") (length old.cells) (paths_of new.cells) new.charts
 

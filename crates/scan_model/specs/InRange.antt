@@ -1,13 +1,13 @@
 -- States and rows whose values lie in their cells' ranges, and the programs that scans are run of.
 use Rattle.std.specs.Prelude.{◌≡◌, ◌≤ℤ◌, ℕ, Bool, true, false, ◌&&◌, List, [], ◌∷◌, slice_set, ℤ}
-use Rattle.st_tree.specs.declared.elementary.Elementary.TheVariants as types
-use Rattle.st_tree.specs.declared.data_type.DataType.TheVariants.{Elementary}
-use Rattle.st_tree.specs.declared.typed.Part.TheVariants as parts
-use Rattle.st_tree.specs.declared.typed.Range.{Range}
-use Rattle.st_tree.specs.Types.{range_of, in_range}
-use Rattle.st_tree.specs.Tree.{CellData, ProgramData}
-use Rattle.effects.specs.Values.{State}
-use Rattle.effects.specs.Effects.{range_at}
+use Rattle.plc_types.specs.declared.elementary.Elementary.TheVariants as types
+use Rattle.plc_types.specs.declared.data_type.DataType.TheVariants.{Elementary}
+use Rattle.program_tree.specs.declared.typed.Part.TheVariants as parts
+use Rattle.plc_types.specs.declared.range.Range.{Range}
+use Rattle.plc_types.specs.Types.{range_of, in_range}
+use Rattle.program_tree.specs.Tree.{CellData, ProgramData}
+use Rattle.meaning.specs.Values.{State}
+use Rattle.meaning.specs.Effects.{range_at}
 use Rattle.scan_model.specs.Scans.{ranges_of, initial}
 
 -- each cell has one value, in its range

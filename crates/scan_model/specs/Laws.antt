@@ -1,7 +1,7 @@
 -- Laws of the definitions.
 use Rattle.std.specs.Prelude.{◌≡◌, true}
-use Rattle.st_tree.specs.Tree.{ProgramData}
-use Rattle.effects.specs.Values.{State}
+use Rattle.program_tree.specs.Tree.{ProgramData}
+use Rattle.meaning.specs.Values.{State}
 use Rattle.scan_model.specs.Scans.{ranges_of, scanned}
 use Rattle.scan_model.specs.InRange.{Row, IsInRange, IsProgram}
 use Rattle.scan_model.specs.Pairs.{RelationData, Pair, BelongsTo, IsPairInRange, is_allowed, after_row}

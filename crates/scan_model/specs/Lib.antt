@@ -1,5 +1,6 @@
 pub mod Scans
 pub mod InRange
+pub mod Among
 pub mod Pairs
 pub mod Runs
 pub mod Candidates

@@ -1,15 +1,16 @@
 -- A pair of programs under a relation: rows of inputs, and what must hold after a scan.
 use Rattle.std.specs.Prelude.{◌≡◌, ◌<◌, ℕ, List, [], ◌∷◌, ◌++◌, length, map, string_bytes, All, Bool, true, false, not, ◌&&◌, slice_set, ℤ}
-use Rattle.st_tree.specs.declared.typed.Range.{Range}
-use Rattle.st_tree.specs.Types.{in_range}
-use Rattle.st_tree.specs.Tree.{Expression, ProgramData}
-use Rattle.st_tree.specs.View.{expr_view, exprs_view}
+use Rattle.plc_types.specs.declared.range.Range.{Range}
+use Rattle.plc_types.specs.Types.{in_range}
+use Rattle.program_tree.specs.Tree.{Expression, ProgramData}
+use Rattle.program_tree.specs.View.{expr_view, exprs_view}
 use Rattle.scan_model.specs.declared.relation.Candidate.{Candidate}
 use Rattle.scan_model.specs.declared.relation.Relation.{Relation}
 use Rattle.scan_model.specs.declared.relation.InputLine.{InputLine}
 use Rattle.scan_model.specs.declared.relation.InputLine.TheVariants.{Both, Old, New}
-use Rattle.effects.specs.Values.{State, no_callees, value_of, faults, is_truth}
-use Rattle.effects.specs.Effects.{range_at}
+use Rattle.meaning.specs.Values.{State, no_callees, value_of, faults, is_truth}
+use Rattle.meaning.specs.Effects.{range_at}
+use Rattle.scan_model.specs.Among.{among}
 use Rattle.scan_model.specs.Scans.{ranges_of, initial, scanned}
 use Rattle.scan_model.specs.InRange.{Row, IsInRange}
 
@@ -36,6 +37,10 @@ candidate_view c = record { name = string_bytes c.name; clause = expr_view c.cla
 abbrev pub candidates_view : List Candidate → List CandidateData
 candidates_view cs = map candidate_view cs
 
+-- the clauses of candidates
+abbrev pub clauses_among : List Candidate → List Expression
+clauses_among cs = map (λ c. expr_view c.clause) cs
+
 abbrev pub relation_view : Relation → RelationData
 relation_view r = record {
   depth = r.depth;
@@ -43,8 +48,8 @@ relation_view r = record {
   inputs = r.inputs.items;
   environment = exprs_view r.environment.items;
   equal_faults = r.equal_faults;
-  relates = exprs_view r.relates.items;
-  invariants = exprs_view r.invariants.items;
+  relates = clauses_among (among r.first_relate r.relates r.candidates.items);
+  invariants = clauses_among (among 0 r.invariants r.candidates.items);
   candidates = candidates_view r.candidates.items;
 }
 

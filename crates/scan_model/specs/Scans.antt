@@ -1,10 +1,10 @@
 -- The states of a program, and one scan of it.
 use Rattle.std.specs.Prelude.{List, length, map, slice_set, pos}
-use Rattle.st_tree.specs.declared.typed.Range.{Range}
-use Rattle.st_tree.specs.Tree.{CellData, ProgramData}
-use Rattle.effects.specs.Values.{State, Callees}
-use Rattle.effects.specs.Effects.{effect_of_all}
-use Rattle.effects.specs.Calls.{callees_of}
+use Rattle.plc_types.specs.declared.range.Range.{Range}
+use Rattle.program_tree.specs.Tree.{CellData, ProgramData}
+use Rattle.meaning.specs.Values.{State, Callees}
+use Rattle.meaning.specs.Effects.{effect_of_all}
+use Rattle.meaning.specs.Calls.{callees_of}
 
 abbrev pub ranges_of : List CellData → List Range
 ranges_of cells = map (λ c. c.range) cells

@@ -1,6 +1,6 @@
 -- Laws of verdicts, over all programs and their relations.
 use Rattle.std.specs.Prelude.{◌≡◌, ◌<◌, ℕ, List, true, false}
-use Rattle.st_tree.specs.Tree.{ProgramData}
+use Rattle.program_tree.specs.Tree.{ProgramData}
 use Rattle.scan_model.specs.declared.verdict.Verdict.{Verdict}
 use Rattle.scan_model.specs.declared.verdict.Verdict.TheVariants.{Related}
 use Rattle.scan_model.specs.InRange.{Row, IsProgram}

@@ -1,6 +1,6 @@
 -- Verdicts on two programs under a relation: inductive sets of candidates, breaks, and what is said of the pair.
 use Rattle.std.specs.Prelude.{◌≡◌, ◌↔◌, ℕ, zero, suc, ◌+◌, ◌<◌, ◌≤◌, List, [], ◌∷◌, length, Bool, true, false, if◌then◌else◌}
-use Rattle.st_tree.specs.Tree.{ProgramData}
+use Rattle.program_tree.specs.Tree.{ProgramData}
 use Rattle.scan_model.specs.declared.verdict.Verdict.{Verdict}
 use Rattle.scan_model.specs.declared.verdict.Verdict.TheVariants.{Vacuous, Related, Different, Open}
 use Rattle.scan_model.specs.InRange.{Row}

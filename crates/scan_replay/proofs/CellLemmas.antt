@@ -1,8 +1,8 @@
 -- The range of a cell, as the code reads it.
 use Rattle.std.proofs.Common.{◌≡◌, ℕ, zero, suc, ◌<◌, List, [], ◌∷◌, length, slice_index_or, refl, arith}
-use Rattle.st_tree.specs.declared.typed.Cell.{Cell}
-use Rattle.st_tree.specs.View.{cells_view}
-use Rattle.effects.specs.Effects.{range_at}
+use Rattle.program_tree.specs.declared.typed.Cell.{Cell}
+use Rattle.program_tree.specs.View.{cells_view}
+use Rattle.meaning.specs.Effects.{range_at}
 use Rattle.scan_model.specs.Scans.{ranges_of}
 
 pub range_at-cell : (cells : List Cell) (place : ℕ) (c : Cell) → place < length cells → (slice_index_or cells place c).range ≡ range_at (ranges_of (cells_view cells)) place

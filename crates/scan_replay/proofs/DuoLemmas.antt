@@ -1,12 +1,12 @@
 -- States in range: their lengths, and what scans make of them.
 use Rattle.std.proofs.Common.{◌≡◌, ℕ, true, List, ◌++◌, length, take, drop, ap, sym, subst, ◌∙◌}
-use Rattle.st_tree.specs.declared.typed.Range.{Range}
-use Rattle.st_tree.specs.declared.typed.Cell.{Cell}
-use Rattle.st_tree.specs.declared.typed.Program.{Program}
-use Rattle.st_tree.specs.View.{cells_view, program_view}
+use Rattle.plc_types.specs.declared.range.Range.{Range}
+use Rattle.program_tree.specs.declared.typed.Cell.{Cell}
+use Rattle.program_tree.specs.declared.typed.Program.{Program}
+use Rattle.program_tree.specs.View.{cells_view, program_view}
 use Rattle.scan_model.specs.declared.relation.Relation.{Relation}
 use Rattle.scan_model.specs.declared.relation.InputLine.{InputLine}
-use Rattle.effects.specs.Values.{State}
+use Rattle.meaning.specs.Values.{State}
 use Rattle.scan_model.specs.Scans.{ranges_of, scanned}
 use Rattle.scan_model.specs.InRange.{Row, IsInRange, IsProgram}
 use Rattle.scan_model.specs.Pairs.{Pair, IsPairInRange, relation_view, is_allowed, loaded, scanned_both}

@@ -3,14 +3,14 @@ use Rattle.std.proofs.Common.{◌≡◌, ◌≢◌, ◌≤◌, ℕ, suc, false, 
 use Rattle.std.proofs.lemmas.List.{length-map}
 use Rattle.std.proofs.lemmas.Grind.{common_steps}
 use Rattle.std.proofs.lemmas.Bool.{and_right}
-use Rattle.st_tree.specs.declared.typed.Range.{Range}
-use Rattle.st_tree.specs.declared.typed.Cell.{Cell}
-use Rattle.st_tree.specs.Types.{in_range}
-use Rattle.st_tree.specs.View.{cells_view}
+use Rattle.plc_types.specs.declared.range.Range.{Range}
+use Rattle.program_tree.specs.declared.typed.Cell.{Cell}
+use Rattle.plc_types.specs.Types.{in_range}
+use Rattle.program_tree.specs.View.{cells_view}
 use Rattle.scan_model.specs.declared.relation.InputLine.{InputLine}
 use Rattle.scan_model.specs.Pairs.{Pair, range_of_line, fits_lines, loaded}
-use Rattle.effects.specs.Values.{State}
-use Rattle.effects.specs.Effects.{range_at}
+use Rattle.meaning.specs.Values.{State}
+use Rattle.meaning.specs.Effects.{range_at}
 use Rattle.scan_model.specs.Scans.{ranges_of}
 use Rattle.scan_model.specs.InRange.{Row, IsInRange, fits_places, put_at}
 

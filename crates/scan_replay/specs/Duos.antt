@@ -1,9 +1,9 @@
 -- Pairs of programs that run under a relation.
 use Rattle.std.specs.Prelude.{ℕ, Bool}
-use Rattle.st_tree.specs.declared.typed.Program.{Program}
-use Rattle.st_tree.specs.View.{program_view}
+use Rattle.program_tree.specs.declared.typed.Program.{Program}
+use Rattle.program_tree.specs.View.{program_view}
 use Rattle.scan_model.specs.declared.relation.Relation.{Relation}
-use Rattle.effects.specs.Values.{State}
+use Rattle.meaning.specs.Values.{State}
 use Rattle.scan_model.specs.InRange.{Row, IsProgram}
 use Rattle.scan_model.specs.Pairs.{Pair, relation_view, BelongsTo, IsPairInRange, is_allowed, is_related, after_row, start}
 use Rattle.scan_model.specs.Candidates.{candidate_holds}

@@ -1,10 +1,10 @@
 -- Programs that run.
 use Rattle.std.specs.Prelude.{ℕ, ◌+◌, length, Bool}
-use Rattle.st_tree.specs.declared.typed.Program.{Program}
-use Rattle.st_tree.specs.Cells.{inputs_of}
-use Rattle.st_tree.specs.View.{program_view, cells_view, stmts_view, all_called_view}
-use Rattle.effects.specs.Values.{State}
-use Rattle.effects.specs.Room.{room_for, markings_in_all}
+use Rattle.program_tree.specs.declared.typed.Program.{Program}
+use Rattle.program_tree.specs.Cells.{inputs_of}
+use Rattle.program_tree.specs.View.{program_view, cells_view, stmts_view, all_called_view}
+use Rattle.meaning.specs.Values.{State}
+use Rattle.meaning.specs.Room.{room_for, markings_in_all}
 use Rattle.scan_model.specs.Scans.{ranges_of}
 use Rattle.scan_model.specs.InRange.{Row, fits_places, put_at}
 

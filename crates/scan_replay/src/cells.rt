@@ -1,11 +1,12 @@
 // Cells and their ranges.
 ghost use Rattle.std.specs.Prelude.{◌≡◌, IfOk, slice_set};
-ghost use Rattle.st_tree.specs.Types.{in_range};
-ghost use Rattle.st_tree.specs.View.{cells_view};
-ghost use Rattle.effects.specs.Effects.{range_at};
+ghost use Rattle.plc_types.specs.Types.{in_range};
+ghost use Rattle.program_tree.specs.View.{cells_view};
+ghost use Rattle.meaning.specs.Effects.{range_at};
 ghost use Rattle.scan_model.specs.Scans.{ranges_of};
 
-use st_tree::{Cell, Range};
+use plc_types::Range;
+use program_tree::Cell;
 use std::alloc::{AllocError, Global};
 
 /// The ranges of cells, one behind the other.

@@ -1,18 +1,20 @@
 // Two programs that run under a relation, scan by scan.
 ghost use Rattle.std.specs.Prelude.{◌≡◌, ◌<◌, IsTrue, IfOk, pos, length, slice_index_or};
-ghost use Rattle.st_tree.specs.View.{program_view};
+ghost use Rattle.program_tree.specs.View.{program_view};
 ghost use Rattle.scan_model.specs.Pairs.{start};
 ghost use Rattle.scan_replay.specs.Duos.{AreComparable, with_pair, start_of, IsInRangeOf, allows, pair_after, is_pair_related, has_candidate, program_of, state_of};
 
 use crate::cells::ranges_of;
 use crate::pair::{
-    all_hold, candidate_holds, copy_both, fits_lines, load, reset_both, scan_both, start_both,
+    all_hold, all_of_them_hold, candidate_holds, copy_both, fits_lines, load, reset_both,
+    scan_both, start_both,
 };
 use crate::states::value_at;
 use crate::two_states::States;
-use effects::add_room;
+use interpreter::add_room;
+use plc_types::Range;
+use program_tree::Program;
 use scan_model::{Relation, Side};
-use st_tree::{Program, Range};
 use std::alloc::{AllocError, Global};
 use std::marker::Model;
 
@@ -33,14 +35,14 @@ pub struct Duo<'p> {
 
 impl<'p> Model for Duo<'p> {
     ghost use Rattle.std.specs.Prelude.{◌≡◌, ◌≤◌, length};
-    ghost use Rattle.st_tree.specs.View.{cells_view, program_view};
+    ghost use Rattle.program_tree.specs.View.{cells_view, program_view};
     ghost use Rattle.scan_model.specs.Scans.{ranges_of};
     ghost use Rattle.scan_model.specs.Pairs.{IsPairInRange};
     ghost use Rattle.scan_replay.specs.Duos.{Compared, AreComparable};
     ghost use Rattle.scan_replay.specs.Machines.{room_of_program};
     ghost use Rattle.scan_replay.specs.States.{pair_of};
-    ghost use Rattle.st_tree.specs.contracts.typed.TypedStmt as stmt;
-    ghost use Rattle.st_tree.specs.contracts.typed.TypedExpr as expr;
+    ghost use Rattle.program_tree.specs.contracts.typed.TypedStmt as stmt;
+    ghost use Rattle.program_tree.specs.contracts.typed.TypedExpr as expr;
     ghost use Rattle.std.specs.Coded.{codes};
 
     ghost Value = { Compared };
@@ -140,7 +142,7 @@ impl<'p> Duo<'p> {
     pub fn related(&self) -> bool
         ensures { result ≡ is_pair_related self.now }
     {
-        all_hold(&self.relation.relates, &self.states)
+        all_of_them_hold(self.relation.relate_clauses(), &self.states)
     }
 
     /// Whether a candidate holds, by its number, from 0; a number without a candidate never does.

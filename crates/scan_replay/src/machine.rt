@@ -1,7 +1,7 @@
 // A machine that runs a program scan by scan.
 ghost use Rattle.std.specs.Prelude.{◌≡◌, ◌<◌, ◌↔◌, IsTrue, IfOk, pos, length, slice_index_or};
-ghost use Rattle.st_tree.specs.Cells.{inputs_of};
-ghost use Rattle.st_tree.specs.View.{program_view, cells_view};
+ghost use Rattle.program_tree.specs.Cells.{inputs_of};
+ghost use Rattle.program_tree.specs.View.{program_view, cells_view};
 ghost use Rattle.scan_model.specs.Scans.{ranges_of, initial, scanned};
 ghost use Rattle.scan_model.specs.InRange.{IsInRange, IsProgram};
 ghost use Rattle.scan_replay.specs.Machines.{fits_inputs, with_inputs};
@@ -9,8 +9,9 @@ ghost use Rattle.scan_replay.specs.Machines.{fits_inputs, with_inputs};
 use crate::cells::ranges_of;
 use crate::run::scan;
 use crate::states::{copy_over, put_all, row_fits, start, state_fits, value_at};
-use effects::add_room;
-use st_tree::{Program, Range};
+use interpreter::add_room;
+use plc_types::Range;
+use program_tree::Program;
 use std::alloc::{AllocError, Global};
 use std::marker::Model;
 
@@ -29,9 +30,9 @@ impl<'p> Model for Machine<'p> {
     ghost use Rattle.scan_replay.specs.Machines.{Running, room_of_program};
     ghost use Rattle.scan_model.specs.Scans.{ranges_of};
     ghost use Rattle.scan_model.specs.InRange.{IsInRange, IsProgram};
-    ghost use Rattle.st_tree.specs.Cells.{inputs_of};
-    ghost use Rattle.st_tree.specs.View.{program_view, cells_view};
-    ghost use Rattle.st_tree.specs.contracts.typed.TypedStmt as stmt;
+    ghost use Rattle.program_tree.specs.Cells.{inputs_of};
+    ghost use Rattle.program_tree.specs.View.{program_view, cells_view};
+    ghost use Rattle.program_tree.specs.contracts.typed.TypedStmt as stmt;
     ghost use Rattle.std.specs.Prelude.{◌≡◌, ◌≤◌, length};
     ghost use Rattle.std.specs.Coded.{codes};
 

@@ -1,8 +1,8 @@
 // A pair of states under a relation: rows of inputs, and clauses.
 ghost use Rattle.std.specs.Prelude.{◌≡◌, ◌≤◌, ◌++◌, IfOk, length};
-ghost use Rattle.st_tree.specs.View.{expr_view, exprs_view, cells_view, program_view};
+ghost use Rattle.program_tree.specs.View.{expr_view, exprs_view, cells_view, program_view};
 ghost use Rattle.scan_model.specs.Scans.{ranges_of};
-ghost use Rattle.scan_model.specs.Pairs.{Pair, start, scanned_both, range_of_line, fits_lines, loaded_one, loaded, holds, all_hold, candidates_view};
+ghost use Rattle.scan_model.specs.Pairs.{Pair, start, scanned_both, range_of_line, fits_lines, loaded_one, loaded, holds, all_hold, candidates_view, clauses_among};
 ghost use Rattle.scan_model.specs.Candidates.{candidate_holds};
 ghost use Rattle.scan_replay.specs.Machines.{room_of_program};
 ghost use Rattle.scan_replay.specs.States.{pair_of};
@@ -11,9 +11,10 @@ use crate::cells::{is_in_range, put};
 use crate::run::scan;
 use crate::states::{copy_over, reset, start};
 use crate::two_states::States;
-use effects::evaluate;
+use interpreter::evaluate;
+use plc_types::Range;
+use program_tree::{Program, TypedExpr};
 use scan_model::{Candidate, InputLine};
-use st_tree::{Program, Range, TypedExpr};
 use std::alloc::{AllocError, Global};
 
 /// Both programs as they begin.
@@ -122,6 +123,18 @@ pub fn all_hold(clauses: &[TypedExpr], states: &States) -> bool
 {
     for clause in clauses {
         if !holds(clause, states) {
+            return false;
+        }
+    }
+    true
+}
+
+/// Whether the clause of every candidate holds.
+pub fn all_of_them_hold(candidates: &[Candidate], states: &States) -> bool
+    ensures { result ≡ all_hold (clauses_among candidates.now) (pair_of states.now) }
+{
+    for candidate in candidates {
+        if !holds(&candidate.clause, states) {
             return false;
         }
     }

@@ -1,12 +1,13 @@
 // One scan.
 ghost use Rattle.std.specs.Prelude.{◌≡◌, ◌≤◌, length};
-ghost use Rattle.st_tree.specs.View.{cells_view, program_view};
+ghost use Rattle.program_tree.specs.View.{cells_view, program_view};
 ghost use Rattle.scan_model.specs.Scans.{ranges_of, scanned};
 ghost use Rattle.scan_replay.specs.Machines.{room_of_program};
 
 use crate::cells::put;
-use effects::{Scope, run_all};
-use st_tree::{Program, Range};
+use interpreter::{Scope, run_all};
+use plc_types::Range;
+use program_tree::Program;
 
 /// FAULT becomes FALSE, then the body runs. The ranges are those of the program's cells, and its calls and charts have room on the
 /// stack.

@@ -1,11 +1,11 @@
 // States and rows: their ranges, and how they are written.
 ghost use Rattle.std.specs.Prelude.{◌≡◌, ◌<◌, ◌↔◌, pos, length, slice_index_or, IsTrue, IfOk};
-ghost use Rattle.st_tree.specs.View.{cells_view};
+ghost use Rattle.program_tree.specs.View.{cells_view};
 ghost use Rattle.scan_model.specs.Scans.{ranges_of, initial};
 ghost use Rattle.scan_model.specs.InRange.{IsInRange, fits_places, put_at};
 
 use crate::cells::{is_in_range, put, range_at};
-use st_tree::Cell;
+use program_tree::Cell;
 use std::alloc::{AllocError, Global};
 
 /// The values that the cells begin with.

@@ -3,22 +3,22 @@ use Rattle.std.proofs.Common.{◌≡◌, ℕ, ◌+◌, ◌<◌, ◌≤◌, Bool,
 use Rattle.std.specs.Prelude.{replicate, slice_index_or, Option, None, Some}
 use Rattle.std.specs.List.{list_any}
 use Rattle.std.proofs.lemmas.List.{length-map, length-replicate, get_or-map}
-use Rattle.st_tree.specs.declared.elementary.Elementary.TheVariants.{Bool as Bit}
-use Rattle.st_tree.specs.declared.typed.Range.{Range}
-use Rattle.st_tree.specs.declared.typed.StepCells.{StepCells}
-use Rattle.st_tree.specs.declared.typed.Association.{Association}
-use Rattle.st_tree.specs.Types.{range_of}
-use Rattle.st_tree.specs.Tree.{Statements, Actions, action}
-use Rattle.effects.specs.Values.{State, Callees, number_of, is_truth}
-use Rattle.effects.specs.Charts.{Marking, is_on, marking_now, marking_before, sets, resets, asks, latch_is_on, next_latch, runs}
-use Rattle.effects.specs.Effects.{stored}
+use Rattle.plc_types.specs.declared.elementary.Elementary.TheVariants.{Bool as Bit}
+use Rattle.plc_types.specs.declared.range.Range.{Range}
+use Rattle.program_tree.specs.declared.typed.StepCells.{StepCells}
+use Rattle.program_tree.specs.declared.typed.Association.{Association}
+use Rattle.plc_types.specs.Types.{range_of}
+use Rattle.program_tree.specs.Tree.{Statements, Actions, action}
+use Rattle.meaning.specs.Values.{State, Callees, number_of, is_truth}
+use Rattle.meaning.specs.Charts.{Marking, is_on, marking_now, marking_before, sets, resets, asks, latch_is_on, next_latch, runs}
+use Rattle.meaning.specs.Effects.{stored}
 use Rattle.scan_model.specs.InRange.{IsInRange}
 use Rattle.flat_form.specs.FlatCharts.{no_step, active_at, before_at, latch_test, latch_start, runs_test}
 use Rattle.flat_form.specs.WellTyped.{AreFlags, NameSteps, latch_places}
-use Rattle.flat_form.proofs.Shown.{held}
-use Rattle.flat_form.proofs.ChartStores.{held_bit}
-use Rattle.flat_form.proofs.ChartTests.{IsTest, IsTest-cell, IsTest-latch, IsTest-runs}
-use Rattle.flat_form.proofs.ChartMoves.{now-at, was-at, IsFlag, flag_value}
+use Rattle.flat_laws.proofs.Shown.{held}
+use Rattle.flat_laws.proofs.ChartStores.{held_bit}
+use Rattle.flat_laws.proofs.ChartTests.{IsTest, IsTest-cell, IsTest-latch, IsTest-runs}
+use Rattle.flat_laws.proofs.ChartMoves.{now-at, was-at, IsFlag, flag_value}
 use Rattle.sfc_lowering.specs.Shifts.{shifted_step, shifted_steps, shifted_latch}
 use Rattle.sfc_lowering.specs.LoweredCharts.{in_place}
 use Rattle.sfc_lowering.specs.LoweredScans.{with_more}

@@ -1,11 +1,11 @@
 -- What statements become has no chart.
 use Rattle.std.proofs.Common.{ℕ, zero, suc, ◌+◌, List, [], ◌∷◌, ◌++◌, map}
 use Rattle.std.specs.Prelude.{Option, None, Some, slice_index_or}
-use Rattle.st_tree.specs.declared.typed.StepCells.{StepCells}
-use Rattle.st_tree.specs.declared.typed.Association.{Association}
-use Rattle.st_tree.specs.Tree.{TransitionData, Statement, assign, run, choice, cases, repeat, chart, Statements, no_statements, statement, Choices, no_choices, choose, Entries, no_entries, entry, Actions, no_actions, action, CalledData, block, function}
-use Rattle.st_tree.specs.View.{statements_of}
-use Rattle.effects.specs.Calls.{nothing}
+use Rattle.program_tree.specs.declared.typed.StepCells.{StepCells}
+use Rattle.program_tree.specs.declared.typed.Association.{Association}
+use Rattle.program_tree.specs.Tree.{TransitionData, Statement, assign, run, choice, cases, repeat, chart, Statements, no_statements, statement, Choices, no_choices, choose, Entries, no_entries, entry, Actions, no_actions, action, CalledData, block, function}
+use Rattle.program_tree.specs.View.{statements_of}
+use Rattle.meaning.specs.Calls.{nothing}
 use Rattle.flat_form.specs.FlatCharts.{runs_test, of_associated}
 use Rattle.sfc_lowering.specs.Shifts.{shifted_steps, shifted_latch}
 use Rattle.sfc_lowering.specs.LoweredCharts.{in_place, only_where, latch_statements, cleared, flag_left, flag_entered, flagged, all_tried, marks, moves}
@@ -71,7 +71,7 @@ mutual
   statement-chartless flags more (assign target e) = (tt, tt)
   statement-chartless flags more (run b offset) = (tt, tt)
   statement-chartless flags more (choice arms other) = ((choices-chartless flags more arms, all-chartless flags more other), tt)
-  statement-chartless flags more (cases e es other) = ((entries-chartless flags more es, all-chartless flags more other), tt)
+  statement-chartless flags more (cases kind e es other) = ((entries-chartless flags more es, all-chartless flags more other), tt)
   statement-chartless flags more (repeat turns body) = (all-chartless flags more body, tt)
   statement-chartless flags more (chart steps actions ts) =
       let cells = shifted_steps more steps in

@@ -1,7 +1,7 @@
 -- The scratch variables of one more step are cleared.
 use Rattle.std.proofs.Common.{◌≡◌, ℕ, zero, suc, ◌+◌, ◌<◌, List, [], ◌∷◌, ◌++◌, length, drop, pos, refl, arith, append_assoc}
-use Rattle.st_tree.specs.declared.typed.StepCells.{StepCells}
-use Rattle.st_tree.specs.Tree.{number, Statement, assign}
+use Rattle.program_tree.specs.declared.typed.StepCells.{StepCells}
+use Rattle.program_tree.specs.Tree.{number, Statement, assign}
 use Rattle.sfc_lowering.specs.LoweredCharts.{cleared}
 
 left-cleared : (steps : List StepCells) (i k : ℕ) → i < length steps

@@ -1,12 +1,12 @@
 -- Expressions of a POU whose own cells stand further on: they are worth what they were, and meet the same faults.
 use Rattle.std.proofs.Common.{◌≡◌, ℕ, ◌+◌, ◌<◌, Bool, ◌||◌, List, ◌∷◌, length, ℤ, refl, ap, ◌∙◌, arith}
-use Rattle.st_tree.specs.declared.typed.Range.{Range}
-use Rattle.st_tree.specs.Tree.{Expression, number, cell, unary, chain, call, answer, Operands, no_operands, operand, Expressions, no_expressions, expression}
-use Rattle.effects.specs.Values.{State, Callees, unary_applied, applied, called, answer_in, fault_in, divides_by_zero, value_of, value_on, values_of, faults, any_faults, one_faults}
+use Rattle.plc_types.specs.declared.range.Range.{Range}
+use Rattle.program_tree.specs.Tree.{Expression, number, cell, unary, chain, call, answer, Operands, no_operands, operand, Expressions, no_expressions, expression}
+use Rattle.meaning.specs.Values.{State, Callees, unary_applied, applied, called, answer_in, fault_in, divides_by_zero, value_of, value_on, values_of, faults, any_faults, one_faults}
 use Rattle.flat_form.specs.Frames.{FrameData}
 use Rattle.flat_form.specs.Calls.{arity}
 use Rattle.flat_form.specs.WellTyped.{IsTypedValue, AreTypedOperands, AreTypedValues, AreTypedInputs}
-use Rattle.flat_form.proofs.Shown.{held}
+use Rattle.flat_laws.proofs.Shown.{held}
 use Rattle.sfc_lowering.specs.Shifts.{shifted, shifted_operands, all_shifted}
 
 -- FUNCTIONs end alike, with so many inputs as they may be called with

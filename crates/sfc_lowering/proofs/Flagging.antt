@@ -3,19 +3,19 @@
 use Rattle.std.proofs.Common.{◌≡◌, ◌≢◌, ℕ, zero, suc, ◌+◌, ◌*◌, ◌<◌, ◌≤◌, Bool, true, false, List, [], ◌∷◌, ◌++◌, length, map, ℤ, pos, refl, sym, ap, subst, ◌∙◌, arith, rules, tests}
 use Rattle.std.specs.Prelude.{◌==◌, slice_set, if◌then◌else◌}
 use Rattle.std.proofs.lemmas.List.{length-set, get_or-set_same, get_or-set_other}
-use Rattle.st_tree.specs.declared.typed.Range.{Range}
-use Rattle.st_tree.specs.declared.typed.StepCells.{StepCells}
-use Rattle.st_tree.specs.Tree.{Expression, number, Statement, assign}
-use Rattle.st_tree.specs.View.{statements_of}
-use Rattle.effects.specs.Values.{State, Callees, number_of, is_truth, value_of, faults}
-use Rattle.effects.specs.Charts.{Marking, is_on}
-use Rattle.effects.specs.Flags.{with_steps}
-use Rattle.effects.specs.Effects.{with_fault, effect_of, effect_of_all}
+use Rattle.plc_types.specs.declared.range.Range.{Range}
+use Rattle.program_tree.specs.declared.typed.StepCells.{StepCells}
+use Rattle.program_tree.specs.Tree.{Expression, number, Statement, assign}
+use Rattle.program_tree.specs.View.{statements_of}
+use Rattle.meaning.specs.Values.{State, Callees, number_of, is_truth, value_of, faults}
+use Rattle.meaning.specs.Charts.{Marking, is_on}
+use Rattle.meaning.specs.Flags.{with_steps}
+use Rattle.meaning.specs.Effects.{with_fault, effect_of, effect_of_all}
 use Rattle.flat_form.specs.FlatCharts.{left_flag, come_flag}
 use Rattle.flat_form.specs.WellTyped.{AreSteps}
-use Rattle.flat_form.proofs.Shown.{held}
-use Rattle.flat_form.proofs.LabelLemmas.{is_truth-number_of}
-use Rattle.flat_form.proofs.ChartMoves.{Flags}
+use Rattle.flat_laws.proofs.Shown.{held}
+use Rattle.flat_laws.proofs.LabelLemmas.{is_truth-number_of}
+use Rattle.flat_laws.proofs.ChartMoves.{Flags}
 use Rattle.sfc_lowering.specs.Shifts.{shifted_steps}
 use Rattle.sfc_lowering.specs.LoweredCharts.{only_where, cleared, flag_left, flag_entered, flagged}
 use Rattle.sfc_lowering.specs.LoweredScans.{with_more}

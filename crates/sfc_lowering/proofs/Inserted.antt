@@ -3,11 +3,11 @@ use Rattle.std.proofs.Common.{◌≡◌, ℕ, zero, suc, ◌+◌, ◌-◌, ◌<�
 use Rattle.std.specs.Prelude.{slice_set, slice_index_or, if◌then◌else◌, replicate}
 use Rattle.std.proofs.lemmas.List.{length-append, length-set, length-replicate, get_or-append-add, get_or_past, get_or_append_left, get_or-replicate, set-append_left, set-append_right, set_past, drop_at}
 use Rattle.std.proofs.Math.Seq.{take-append-add, drop-append-add}
-use Rattle.st_tree.specs.declared.elementary.Elementary.TheVariants.{Bool as truth}
-use Rattle.st_tree.specs.declared.typed.Range.{Range}
-use Rattle.st_tree.specs.Types.{range_of, in_range}
-use Rattle.effects.specs.Values.{State, number_of}
-use Rattle.effects.specs.Effects.{range_at, with_fault, stored}
+use Rattle.plc_types.specs.declared.elementary.Elementary.TheVariants.{Bool as truth}
+use Rattle.plc_types.specs.declared.range.Range.{Range}
+use Rattle.plc_types.specs.Types.{range_of, in_range}
+use Rattle.meaning.specs.Values.{State, number_of}
+use Rattle.meaning.specs.Effects.{range_at, with_fault, stored}
 use Rattle.sfc_lowering.specs.LoweredScans.{with_more, without}
 
 pub length-with_more : {A : Type 0} (c : ℕ) (z s : List A) → length (with_more c z s) ≡ length z + length s

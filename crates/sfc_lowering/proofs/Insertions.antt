@@ -2,14 +2,14 @@
 use Rattle.std.proofs.Common.{◌≡◌, ℕ, zero, suc, ◌+◌, ◌<◌, ◌≤◌, Bool, true, false, ◌||◌, List, ◌∷◌, length, take, drop, min, ℤ, pos, ◌+ℤ◌, refl, ap, ◌∙◌, arith}
 use Rattle.std.specs.Prelude.{◌==◌, slice_index_or, if◌then◌else◌, replicate}
 use Rattle.std.proofs.lemmas.List.{length-append, length-replicate, length-take, length-drop}
-use Rattle.st_tree.specs.declared.elementary.Elementary.TheVariants.{Bool as truth}
-use Rattle.st_tree.specs.declared.typed.Range.{Range}
-use Rattle.st_tree.specs.Types.{range_of}
-use Rattle.st_tree.specs.Tree.{Expression, number, cell, unary, chain, call, answer, Operands, no_operands, operand, Expressions, no_expressions, expression, Statement, assign, run, choice, cases, repeat, chart, Statements, no_statements, statement, Choices, no_choices, choose, Entries, no_entries, entry, CalledData, block, function}
-use Rattle.effects.specs.Values.{State, Callees, unary_applied, applied, called, answer_in, fault_in, divides_by_zero, is_truth, value_of, value_on, values_of, faults, any_faults, one_faults}
-use Rattle.effects.specs.Effects.{with_fault, stored, is_labelled, effect_of_turns, effect_of, effect_of_all, effect_of_choices, effect_of_entries}
-use Rattle.effects.specs.Calls.{nothing}
-use Rattle.flat_form.proofs.ChartStores.{length-with_fault}
+use Rattle.plc_types.specs.declared.elementary.Elementary.TheVariants.{Bool as truth}
+use Rattle.plc_types.specs.declared.range.Range.{Range}
+use Rattle.plc_types.specs.Types.{range_of}
+use Rattle.program_tree.specs.Tree.{Expression, number, cell, unary, chain, call, answer, Operands, no_operands, operand, Expressions, no_expressions, expression, Statement, assign, run, choice, cases, repeat, chart, Statements, no_statements, statement, Choices, no_choices, choose, Entries, no_entries, entry, CalledData, block, function}
+use Rattle.meaning.specs.Values.{State, Callees, unary_applied, applied, called, answer_in, fault_in, divides_by_zero, is_truth, value_of, value_on, values_of, faults, any_faults, one_faults}
+use Rattle.meaning.specs.Effects.{with_fault, stored, is_labelled, effect_of_turns, effect_of, effect_of_all, effect_of_choices, effect_of_entries}
+use Rattle.meaning.specs.Calls.{nothing}
+use Rattle.flat_laws.proofs.ChartStores.{length-with_fault}
 use Rattle.sfc_lowering.specs.LoweredLists.{IsWithoutChart, AreWithoutChart, ChoicesAreWithoutChart, EntriesAreWithoutChart}
 use Rattle.sfc_lowering.specs.LoweredPrograms.{CalledIsWithoutChart, CalledAreWithoutChart}
 use Rattle.sfc_lowering.specs.LoweredScans.{with_more, without, over_scratch, over_scratch_at, lowered_run_of, lowered_callees_of}
@@ -102,7 +102,7 @@ module _ (callees : Callees) (each : Inserts callees) (c m : ℕ) (zr rs : List 
     statement-match (run b offset) free s t h = each b c m zr rs z (base + offset) (q + offset) first (omega arith) room room_rs long (omega arith) s t h
     statement-match (choice arms other) free s t h =
         choices-match arms free.0 (effect_of_all callees rs base other) (effect_of_all callees (with_more c zr rs) q other) (λ x y g. all-match other free.1 x y g) s t h
-    statement-match (cases e es other) free s t h =
+    statement-match (cases kind e es other) free s t h =
         rw (value-same e s t h, fault-same e s t h)
         (entries-match (value_of callees base e s) es free.0 (effect_of_all callees rs base other) (effect_of_all callees (with_more c zr rs) q other) (λ x y g. all-match other free.1 x y g) _ _ (Matches-faulted (faults callees base e s) s t h))
     statement-match (repeat turns body) free s t h =

@@ -3,13 +3,13 @@ use Rattle.std.proofs.Common.{◌≡◌, ℕ, zero, suc, ◌+◌, ◌<◌, ◌�
 use Rattle.std.proofs.lemmas.Bool.{and_parts}
 use Rattle.std.specs.Prelude.{◌==◌, slice_set, slice_index_or, if◌then◌else◌, replicate}
 use Rattle.std.proofs.lemmas.List.{length-map, length-replicate}
-use Rattle.st_tree.specs.declared.elementary.Elementary.TheVariants.{Bool as truth}
-use Rattle.st_tree.specs.declared.typed.Range.{Range}
-use Rattle.st_tree.specs.Types.{range_of}
-use Rattle.st_tree.specs.Tree.{assign, run, choice, cases, repeat, chart, Statements, no_statements, statement, CalledData, block, function, CellData}
-use Rattle.effects.specs.Values.{State, Callees}
-use Rattle.effects.specs.Effects.{effect_of_all}
-use Rattle.effects.specs.Calls.{given, nothing, run_of, ends_of, callees_of}
+use Rattle.plc_types.specs.declared.elementary.Elementary.TheVariants.{Bool as truth}
+use Rattle.plc_types.specs.declared.range.Range.{Range}
+use Rattle.plc_types.specs.Types.{range_of}
+use Rattle.program_tree.specs.Tree.{assign, run, choice, cases, repeat, chart, Statements, no_statements, statement, CalledData, block, function, CellData}
+use Rattle.meaning.specs.Values.{State, Callees}
+use Rattle.meaning.specs.Effects.{effect_of_all}
+use Rattle.meaning.specs.Calls.{given, nothing, run_of, ends_of, callees_of}
 use Rattle.scan_model.specs.Scans.{ranges_of}
 use Rattle.scan_model.specs.InRange.{IsInRange, BeginsWithFault}
 use Rattle.scan_model.proofs.Keeping.{HoldsFault, holds_fault, IsInRange-length, cleared as fault_cleared, kept_by_store, kept_by_calls}
@@ -17,10 +17,10 @@ use Rattle.flat_form.specs.Frames.{frame_of, frames_of, function_body}
 use Rattle.flat_form.specs.Pous.{block_body}
 use Rattle.flat_form.specs.Idle.{is_idle_all, idle_of}
 use Rattle.flat_form.specs.WellTyped.{each_tested, AreTyped, extents_of, Choice, tested_in, FrameFits, MayRunOf, MayCallOf}
-use Rattle.flat_form.proofs.Claims.{RunsKeep, RunsLeave}
+use Rattle.flat_laws.proofs.Claims.{RunsKeep, RunsLeave}
 use Rattle.flat_form.proofs.IdleLemmas.{idle_body-effect}
-use Rattle.flat_form.proofs.KeptMeaning.{frame-fault}
-use Rattle.flat_form.proofs.Leaving.{runs-leave}
+use Rattle.flat_laws.proofs.KeptMeaning.{frame-fault}
+use Rattle.flat_laws.proofs.Leaving.{runs-leave}
 use Rattle.sfc_lowering.specs.LoweredLists.{flags_in_all, lowered_body}
 use Rattle.sfc_lowering.specs.LoweredPrograms.{flags_of_called, lowered_called}
 use Rattle.sfc_lowering.specs.LoweredScans.{with_more, without, over_scratch, lowered_run_of, lowered_ends_of, lowered_callees_of}
@@ -53,7 +53,7 @@ module _ (idle : ℕ → Bool) (callees : Callees) (each : (b base : ℕ) (rs : 
       let holds = and_parts (idle b) (is_idle_all idle ts) h in
       ap (effect_of_all callees rs base (lowered_body flags more ts)) (each b (base + (offset + more)) rs s holds.0) ∙ idle_all-lowered flags more base ts rs s holds.1
   idle_all-lowered flags more base (statement (choice arms other) ts) rs s h = cc
-  idle_all-lowered flags more base (statement (cases e es other) ts) rs s h = cc
+  idle_all-lowered flags more base (statement (cases kind e es other) ts) rs s h = cc
   idle_all-lowered flags more base (statement (repeat turns body) ts) rs s h = cc
   idle_all-lowered flags more base (statement (chart _ _ _) ts) rs s h = cc
 

@@ -1,22 +1,22 @@
 -- The latches of a lowered chart become what those of the chart become.
 use Rattle.std.proofs.Common.{◌≡◌, ℕ, zero, suc, ◌+◌, ◌<◌, ◌≤◌, Bool, true, List, [], ◌∷◌, length, ℤ, refl, ap, ◌∙◌, arith}
 use Rattle.std.specs.Prelude.{slice_index_or, None, Some}
-use Rattle.st_tree.specs.declared.typed.Range.{Range}
-use Rattle.st_tree.specs.declared.typed.StepCells.{StepCells}
-use Rattle.st_tree.specs.Types.{in_range}
-use Rattle.st_tree.specs.Tree.{Expression, assign, chart, TransitionData, Actions, no_actions, action}
-use Rattle.st_tree.specs.View.{statements_of}
-use Rattle.effects.specs.Values.{State, Callees, number_of, faults}
-use Rattle.effects.specs.Charts.{Marking, marking_now, marking_before, next_latch}
-use Rattle.effects.specs.Effects.{range_at, with_fault, stored, all_latched, effect_of, effect_of_all}
+use Rattle.plc_types.specs.declared.range.Range.{Range}
+use Rattle.program_tree.specs.declared.typed.StepCells.{StepCells}
+use Rattle.plc_types.specs.Types.{in_range}
+use Rattle.program_tree.specs.Tree.{Expression, assign, chart, TransitionData, Actions, no_actions, action}
+use Rattle.program_tree.specs.View.{statements_of}
+use Rattle.meaning.specs.Values.{State, Callees, number_of, faults}
+use Rattle.meaning.specs.Charts.{Marking, marking_now, marking_before, next_latch}
+use Rattle.meaning.specs.Effects.{range_at, with_fault, stored, all_latched, effect_of, effect_of_all}
 use Rattle.scan_model.specs.InRange.{IsInRange}
 use Rattle.scan_model.proofs.Keeping.{IsInRange-length, IsInRange-set}
 use Rattle.flat_form.specs.Frames.{FrameData}
 use Rattle.flat_form.specs.FlatCharts.{no_step, latch_test}
 use Rattle.flat_form.specs.WellTyped.{AreFlags, AreRisingFrom, NameSteps, latch_places, chart_places, extent_of_bodies, AreTypedActions, IsTyped}
-use Rattle.flat_form.proofs.Shown.{held}
-use Rattle.flat_form.proofs.ChartStores.{stored-other, fits_bit}
-use Rattle.flat_form.proofs.ChartMoves.{IsFlag, active_flag}
+use Rattle.flat_laws.proofs.Shown.{held}
+use Rattle.flat_laws.proofs.ChartStores.{stored-other, fits_bit}
+use Rattle.flat_laws.proofs.ChartMoves.{IsFlag, active_flag}
 use Rattle.sfc_lowering.specs.Shifts.{shifted_steps}
 use Rattle.sfc_lowering.specs.LoweredCharts.{in_place}
 use Rattle.sfc_lowering.specs.LoweredLists.{latches}

@@ -2,24 +2,24 @@
 use Rattle.std.proofs.Common.{◌≡◌, ℕ, suc, ◌+◌, ◌*◌, ◌<◌, ◌≤◌, Bool, true, false, not, ◌&&◌, ◌||◌, List, [], ◌∷◌, length, drop, ℤ, pos, refl, sym, ap, subst, ◌∙◌, arith, zero-add}
 use Rattle.std.specs.Prelude.{slice_index_or, if◌then◌else◌}
 use Rattle.std.specs.List.{list_any}
-use Rattle.st_tree.specs.declared.typed.Range.{Range}
-use Rattle.st_tree.specs.declared.typed.StepCells.{StepCells}
-use Rattle.st_tree.specs.Tree.{Statement, Expression, cell, assign, chart, TransitionData, Actions}
-use Rattle.st_tree.specs.View.{statements_of}
-use Rattle.effects.specs.Values.{State, Callees, number_of, is_truth, value_of, faults}
-use Rattle.effects.specs.Charts.{Marking, is_on, marking_now, evaluated, fired, holds_in, faults_in, is_next}
-use Rattle.effects.specs.Flags.{no_steps, with_steps, may_leave, left_with, come_with, left_after, come_after, fault_after, is_next_from}
-use Rattle.effects.specs.Effects.{with_fault, stored, marked, effect_of_transitions, effect_of, effect_of_all}
-use Rattle.effects.proofs.Firing.{on-none, length-none, left-same, come-same, fault-same}
+use Rattle.plc_types.specs.declared.range.Range.{Range}
+use Rattle.program_tree.specs.declared.typed.StepCells.{StepCells}
+use Rattle.program_tree.specs.Tree.{Statement, Expression, cell, assign, chart, TransitionData, Actions}
+use Rattle.program_tree.specs.View.{statements_of}
+use Rattle.meaning.specs.Values.{State, Callees, number_of, is_truth, value_of, faults}
+use Rattle.meaning.specs.Charts.{Marking, is_on, marking_now, evaluated, fired, holds_in, faults_in, is_next}
+use Rattle.meaning.specs.Flags.{no_steps, with_steps, may_leave, left_with, come_with, left_after, come_after, fault_after, is_next_from}
+use Rattle.meaning.specs.Effects.{with_fault, stored, marked, effect_of_transitions, effect_of, effect_of_all}
+use Rattle.meaning.proofs.Firing.{on-none, length-none, left-same, come-same, fault-same}
 use Rattle.scan_model.specs.InRange.{IsInRange}
 use Rattle.scan_model.proofs.Keeping.{IsInRange-length, HoldsFault, fault_added}
 use Rattle.flat_form.specs.Frames.{FrameData}
 use Rattle.flat_form.specs.FlatCharts.{no_step, negated, left_flag, come_flag, ready_test}
 use Rattle.flat_form.specs.WellTyped.{AreFlags, AreRisingFrom, AreSteps, chart_places, extent_of_bodies, IsTypedValue, AreTypedTransitions, IsTyped}
-use Rattle.flat_form.proofs.Shown.{held}
-use Rattle.flat_form.proofs.ChartStores.{with_fault-both, length-with_fault, held-with_fault, stored-other}
-use Rattle.flat_form.proofs.ChartTests.{IsTest-cell, IsTest-not, IsTest-and, IsTest-or, IsTest-ready}
-use Rattle.flat_form.proofs.ChartMoves.{value-agree, faults-agree, Flags, length-now, now-at, IsFlag, active_flag, flag_value}
+use Rattle.flat_laws.proofs.Shown.{held}
+use Rattle.flat_laws.proofs.ChartStores.{with_fault-both, length-with_fault, held-with_fault, stored-other}
+use Rattle.flat_laws.proofs.ChartTests.{IsTest-cell, IsTest-not, IsTest-and, IsTest-or, IsTest-ready}
+use Rattle.flat_laws.proofs.ChartMoves.{value-agree, faults-agree, Flags, length-now, now-at, IsFlag, active_flag, flag_value}
 use Rattle.sfc_lowering.specs.Shifts.{shifted, shifted_steps}
 use Rattle.sfc_lowering.specs.LoweredCharts.{in_place, only_where, cleared, flagged, tried, all_tried, stays_or_comes, marks, moves}
 use Rattle.sfc_lowering.specs.LoweredScans.{with_more}

@@ -2,19 +2,19 @@
 use Rattle.std.proofs.Common.{◌≡◌, ℕ, ◌+◌, Bool, false, List, [], ◌∷◌, ◌++◌, map, drop, refl, sym, ap, ◌∙◌, pos, ℤ, zero-add}
 use Rattle.std.specs.Prelude.{Option, None, Some}
 use Rattle.std.proofs.lemmas.List.{get_or-drop}
-use Rattle.st_tree.specs.declared.token.Operator.{Operator}
-use Rattle.st_tree.specs.declared.token.Operator.TheVariants.{Or, And}
-use Rattle.st_tree.specs.declared.typed.StepCells.{StepCells}
-use Rattle.st_tree.specs.declared.typed.Association.{Association}
-use Rattle.st_tree.specs.declared.typed.Qualifier.{Qualifier}
-use Rattle.st_tree.specs.declared.typed.Qualifier.TheVariants.{NonStored, Set, Reset, Pulse, FallingPulse}
-use Rattle.st_tree.specs.Tree.{Expression, number, cell, unary, chain, call, answer, Operands, no_operands, operand}
-use Rattle.effects.specs.Values.{State, Callees, no_callees, number_of, value_of, value_on, faults, any_faults, applied}
-use Rattle.effects.specs.Charts.{is_set, is_reset}
+use Rattle.plc_types.specs.declared.operator.Operator.{Operator}
+use Rattle.plc_types.specs.declared.operator.Operator.TheVariants.{Or, And}
+use Rattle.program_tree.specs.declared.typed.StepCells.{StepCells}
+use Rattle.program_tree.specs.declared.typed.Association.{Association}
+use Rattle.program_tree.specs.declared.typed.Qualifier.{Qualifier}
+use Rattle.program_tree.specs.declared.typed.Qualifier.TheVariants.{NonStored, Set, Reset, Pulse, FallingPulse}
+use Rattle.program_tree.specs.Tree.{Expression, number, cell, unary, chain, call, answer, Operands, no_operands, operand}
+use Rattle.meaning.specs.Values.{State, Callees, no_callees, number_of, value_of, value_on, faults, any_faults, applied}
+use Rattle.meaning.specs.Charts.{is_set, is_reset}
 use Rattle.flat_form.specs.Owners.{OwnerData}
 use Rattle.flat_form.specs.FlatCharts.{operands_by, joined_by, active_at, before_at, steps_that, unless_reset, latch_test, asking, terms, latch_start, runs_test, ready_term, ready_test}
-use Rattle.flat_form.proofs.Shown.{held}
-use Rattle.flat_form.proofs.ChartTests.{IsTest}
+use Rattle.flat_laws.proofs.Shown.{held}
+use Rattle.flat_laws.proofs.ChartTests.{IsTest}
 
 -- ---- expressions without calls
 
@@ -102,7 +102,7 @@ unless-plain e (r ∷ rs) g h = (g, (joined-plain Or r rs h.0 h.1, tt))
 module _ (owner : OwnerData) (base : ℕ) (steps : List StepCells) where
   pub latch-plain : (place : ℕ) (links : List Association) → IsPlain (latch_test owner base steps place links)
   latch-plain place links =
-      unless-plain _ (map (active_at owner base steps) (steps_that is_reset links)) (joined-plain Or (cell (owner.place_at (base + place))) (map (active_at owner base steps) (steps_that is_set links)) tt
+      unless-plain _ (map (active_at owner base steps) (steps_that is_reset links)) (joined-plain Or (cell (owner (base + place))) (map (active_at owner base steps) (steps_that is_set links)) tt
       (AllPlain-map (active_at owner base steps) (λ i. tt) (steps_that is_set links))) (AllPlain-map (active_at owner base steps) (λ i. tt) (steps_that is_reset links))
 
   asking-plain : (q : Qualifier) (a b : Expression) → IsPlain a → IsPlain b → AllPlain (asking q a b)

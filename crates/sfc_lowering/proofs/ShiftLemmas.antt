@@ -1,10 +1,10 @@
 -- One more operand, and one more expression, whose cells stand further on.
 use Rattle.std.proofs.Common.{◌≡◌, ℕ, List, [], ◌∷◌, ◌++◌}
-use Rattle.st_tree.specs.declared.elementary.Elementary.{Elementary}
-use Rattle.st_tree.specs.declared.token.Operator.{Operator}
-use Rattle.st_tree.specs.Tree.{Expression, Operands, operand, Expressions, expression}
-use Rattle.st_tree.specs.View.{OperandData}
-use Rattle.fb_inline.proofs.CallLemmas.{with_operands, with_expressions, with_operands-push, with_expressions-push}
+use Rattle.plc_types.specs.declared.elementary.Elementary.{Elementary}
+use Rattle.plc_types.specs.declared.operator.Operator.{Operator}
+use Rattle.program_tree.specs.Tree.{Expression, Operands, operand, Expressions, expression}
+use Rattle.program_tree.specs.View.{OperandData}
+use Rattle.flat_form.proofs.OperandLemmas.{with_operands, with_expressions, with_operands-push, with_expressions-push}
 use Rattle.sfc_lowering.specs.Shifts.{shifted, shifted_operands, all_shifted}
 
 pub more-operands : (more : ℕ) (o : Operator) (kind : Elementary) (e there : Expression) (rest : Operands) (d : OperandData) (ds pushed : List OperandData)

@@ -1,11 +1,11 @@
 -- Arms and entries before others, and one more of each.
-use Rattle.std.proofs.Common.{◌≡◌, ℕ, zero, suc, ◌+◌, ◌<◌, ◌≤◌, List, [], ◌∷◌, ◌++◌, length, map, drop, get_or, refl, ap, arith}
-use Rattle.st_tree.specs.declared.typed.TypedLabel.{TypedLabel}
-use Rattle.st_tree.specs.declared.typed.TypedArm.{TypedArm, out-TypedArm}
-use Rattle.st_tree.specs.declared.typed.TypedEntry.{TypedEntry, out-TypedEntry}
-use Rattle.st_tree.specs.declared.typed.TypedStmt.TheFolds.{fold_out-TypedArm, fold_out-TypedEntry}
-use Rattle.st_tree.specs.Tree.{Expression, Statement, Statements, Choices, no_choices, choose, Entries, no_entries, entry}
-use Rattle.st_tree.specs.View.{ActionData, ChoiceData, EntryData, stmt_step, action_step, arm_step, entry_step, statements_of, choices_of, entries_of, expr_view, stmts_view, arm_view, entry_view, choices_view, entries_view}
+use Rattle.std.proofs.Common.{◌≡◌, ℕ, zero, suc, ◌+◌, ◌<◌, ◌≤◌, List, [], ◌∷◌, ◌++◌, length, drop, get_or, refl, ap, arith}
+use Rattle.program_tree.specs.declared.typed.TypedLabel.{TypedLabel}
+use Rattle.program_tree.specs.declared.typed.TypedArm.{TypedArm, out-TypedArm}
+use Rattle.program_tree.specs.declared.typed.TypedEntry.{TypedEntry, out-TypedEntry}
+use Rattle.program_tree.specs.declared.typed.TypedStmt.TheFolds.{fold_out-TypedArm, fold_out-TypedEntry}
+use Rattle.program_tree.specs.Tree.{Expression, Statement, Statements, Choices, no_choices, choose, Entries, no_entries, entry}
+use Rattle.program_tree.specs.View.{ActionData, ChoiceData, EntryData, stmt_step, action_step, arm_step, entry_step, statements_of, choices_of, entries_of, expr_view, stmts_view, arm_view, entry_view, choices_view, entries_view}
 use Rattle.sfc_lowering.specs.Shifts.{shifted}
 use Rattle.sfc_lowering.specs.LoweredLists.{lowered_all, lowered_choices, lowered_entries}
 

@@ -3,26 +3,26 @@ use Rattle.std.proofs.Common.{◌≡◌, ℕ, zero, suc, ◌+◌, ◌*◌, ◌<�
 use Rattle.std.specs.Prelude.{slice_index_or, if◌then◌else◌, replicate, Option, None, Some}
 use Rattle.std.proofs.lemmas.List.{length-replicate}
 use Rattle.std.proofs.Math.Nat.{le-max_left, le-max_right}
-use Rattle.st_tree.specs.declared.elementary.Elementary.TheVariants.{Bool as truth}
-use Rattle.st_tree.specs.declared.typed.Range.{Range}
-use Rattle.st_tree.specs.declared.typed.StepCells.{StepCells}
-use Rattle.st_tree.specs.declared.typed.Association.{Association}
-use Rattle.st_tree.specs.Types.{range_of}
-use Rattle.st_tree.specs.Tree.{Expression, TransitionData, Statement, assign, run, choice, cases, repeat, chart, Statements, no_statements, statement, Choices, no_choices, choose, Entries, no_entries, entry, Actions, no_actions, action}
-use Rattle.st_tree.specs.View.{statements_of}
-use Rattle.effects.specs.Values.{State, Callees, is_truth, value_of, faults}
-use Rattle.effects.specs.Charts.{Marking, marking_now, marking_before, runs}
-use Rattle.effects.specs.Effects.{with_fault, stored, is_labelled, effect_of_turns, all_latched, effect_of, effect_of_all, effect_of_choices, effect_of_entries, effect_of_actions, effect_of_transitions}
+use Rattle.plc_types.specs.declared.elementary.Elementary.TheVariants.{Bool as truth}
+use Rattle.plc_types.specs.declared.range.Range.{Range}
+use Rattle.program_tree.specs.declared.typed.StepCells.{StepCells}
+use Rattle.program_tree.specs.declared.typed.Association.{Association}
+use Rattle.plc_types.specs.Types.{range_of}
+use Rattle.program_tree.specs.Tree.{Expression, TransitionData, Statement, assign, run, choice, cases, repeat, chart, Statements, no_statements, statement, Choices, no_choices, choose, Entries, no_entries, entry, Actions, no_actions, action}
+use Rattle.program_tree.specs.View.{statements_of}
+use Rattle.meaning.specs.Values.{State, Callees, is_truth, value_of, faults}
+use Rattle.meaning.specs.Charts.{Marking, marking_now, marking_before, runs}
+use Rattle.meaning.specs.Effects.{with_fault, stored, is_labelled, effect_of_turns, all_latched, effect_of, effect_of_all, effect_of_choices, effect_of_entries, effect_of_actions, effect_of_transitions}
 use Rattle.scan_model.specs.InRange.{IsInRange}
 use Rattle.scan_model.proofs.Keeping.{HoldsFault, IsInRange-length, fault_added, kept_by_store, kept_by_latches, kept_by_marks}
 use Rattle.flat_form.specs.Frames.{FrameData}
 use Rattle.flat_form.specs.FlatCharts.{no_step, runs_test}
 use Rattle.flat_form.specs.WellTyped.{IsTypedValue, IsTyped, AreTyped, AreTypedChoices, AreTypedEntries, AreTypedActions, AreTypedTransitions, AreFlags, AreRisingFrom, NameSteps, latch_places, chart_places, extent_of_all, extent_of_bodies}
-use Rattle.flat_form.proofs.Shown.{held}
-use Rattle.flat_form.proofs.Claims.{RunsKeep, RunsLeave}
-use Rattle.flat_form.proofs.ChartStores.{stored-other, held-with_fault}
-use Rattle.flat_form.proofs.ChartMoves.{IsFlag, active_flag, before_flag}
-use Rattle.flat_form.proofs.Leaving.{all-leave}
+use Rattle.flat_laws.proofs.Shown.{held}
+use Rattle.flat_laws.proofs.Claims.{RunsKeep, RunsLeave}
+use Rattle.flat_laws.proofs.ChartStores.{stored-other, held-with_fault}
+use Rattle.flat_laws.proofs.ChartMoves.{IsFlag, active_flag, before_flag}
+use Rattle.flat_laws.proofs.Leaving.{all-leave}
 use Rattle.flat_form.proofs.Owed.{with_turns}
 use Rattle.sfc_lowering.specs.Shifts.{shifted, shifted_steps, shifted_latch}
 use Rattle.sfc_lowering.specs.LoweredCharts.{in_place, only_where, moves}
@@ -247,7 +247,7 @@ module _ (frames : ℕ → FrameData) (MayCall MayRun : ℕ → ℕ → Type 0) 
         let p = le-max_left (flags_in_choices arms) (flags_in_all other) in
         let q = le-max_right (flags_in_choices arms) (flags_in_all other) in
         choices_extend arms typed.0 (omega arith) (effect_of_all callees rs base other) (effect_of_all new_callees (ranges_with c k rs) base (statements_of (lowered_all flags k other))) (λ x y g. all_extend other typed.1 (omega arith) x y g) s t h
-    statement_extends (cases e es other) typed few s t h =
+    statement_extends (cases kind e es other) typed few s t h =
         let p = le-max_left (flags_in_entries es) (flags_in_all other) in
         let q = le-max_right (flags_in_entries es) (flags_in_all other) in
         rw (value_at e typed.0 s t h, fault_at e typed.0 s t h)

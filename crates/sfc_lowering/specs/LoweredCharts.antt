@@ -1,19 +1,19 @@
 -- What a chart becomes (IEC 61131-3, 2.6), but for the statements of its actions. Two scratch variables for each step, the first of them
 -- all at a place k of the POU, keep whether a transition left the step, and whether one entered it. The tests are those of the flat form.
 use Rattle.std.specs.Prelude.{ℕ, ◌+◌, List, [], ◌∷◌, ◌++◌, map, pos, Option, None, Some}
-use Rattle.st_tree.specs.declared.elementary.Elementary.TheVariants.{Bool}
-use Rattle.st_tree.specs.declared.token.Operator.TheVariants.{Or}
-use Rattle.st_tree.specs.declared.typed.StepCells.{StepCells}
-use Rattle.st_tree.specs.declared.typed.Association.{Association}
-use Rattle.st_tree.specs.Tree.{Expression, number, cell, chain, no_operands, operand, TransitionData, Statement, assign, choice, no_statements, no_choices, choose, Actions, no_actions, action}
-use Rattle.st_tree.specs.View.{statements_of}
+use Rattle.plc_types.specs.declared.elementary.Elementary.TheVariants.{Bool}
+use Rattle.plc_types.specs.declared.operator.Operator.TheVariants.{Or}
+use Rattle.program_tree.specs.declared.typed.StepCells.{StepCells}
+use Rattle.program_tree.specs.declared.typed.Association.{Association}
+use Rattle.program_tree.specs.Tree.{Expression, number, cell, chain, no_operands, operand, TransitionData, Statement, assign, choice, no_statements, no_choices, choose}
+use Rattle.program_tree.specs.View.{statements_of}
 use Rattle.flat_form.specs.Owners.{OwnerData, program_owner}
 use Rattle.flat_form.specs.FlatCharts.{negated, both, latch_test, left_flag, come_flag, ready_test}
 use Rattle.sfc_lowering.specs.Shifts.{shifted}
 
 -- a POU's cells and scratch variables stand in their places
 abbrev pub in_place : OwnerData
-in_place = program_owner []
+in_place = program_owner
 
 -- an IF without ELSE
 abbrev pub only_where : Expression → List Statement → Statement

@@ -1,8 +1,8 @@
 -- Statements without charts: each chart is replaced by assignments and IFs, wherever it stands.
 use Rattle.std.specs.Prelude.{ℕ, ◌+◌, ◌*◌, max, List, [], ◌∷◌, ◌++◌, length}
-use Rattle.st_tree.specs.declared.typed.StepCells.{StepCells}
-use Rattle.st_tree.specs.Tree.{Statement, assign, run, choice, cases, repeat, chart, Statements, no_statements, statement, Choices, no_choices, choose, Entries, no_entries, entry, Actions, no_actions, action}
-use Rattle.st_tree.specs.View.{statements_of}
+use Rattle.program_tree.specs.declared.typed.StepCells.{StepCells}
+use Rattle.program_tree.specs.Tree.{Statement, assign, run, choice, cases, repeat, chart, Statements, no_statements, statement, Choices, no_choices, choose, Entries, no_entries, entry, Actions, no_actions, action}
+use Rattle.program_tree.specs.View.{statements_of}
 use Rattle.flat_form.specs.FlatCharts.{runs_test, of_associated}
 use Rattle.sfc_lowering.specs.Shifts.{shifted, shifted_turns, shifted_steps, shifted_latch}
 use Rattle.sfc_lowering.specs.LoweredCharts.{in_place, only_where, latch_statements, moves}
@@ -14,7 +14,7 @@ abbrev mutual
   flags_in (assign target e) = 0
   flags_in (run b offset) = 0
   flags_in (choice arms other) = max (flags_in_choices arms) (flags_in_all other)
-  flags_in (cases e es other) = max (flags_in_entries es) (flags_in_all other)
+  flags_in (cases kind e es other) = max (flags_in_entries es) (flags_in_all other)
   flags_in (repeat turns body) = flags_in_all body
   flags_in (chart steps actions ts) = max (2 * length steps) (flags_in_actions actions)
 
@@ -45,7 +45,7 @@ abbrev mutual
   lowered flags more (assign target e) = assign (target + more) (shifted more e) ∷ []
   lowered flags more (run b offset) = run b (offset + more) ∷ []
   lowered flags more (choice arms other) = choice (lowered_choices flags more arms) (statements_of (lowered_all flags more other)) ∷ []
-  lowered flags more (cases e es other) = cases (shifted more e) (lowered_entries flags more es) (statements_of (lowered_all flags more other)) ∷ []
+  lowered flags more (cases kind e es other) = cases kind (shifted more e) (lowered_entries flags more es) (statements_of (lowered_all flags more other)) ∷ []
   lowered flags more (repeat turns body) = repeat (shifted_turns more turns) (statements_of (lowered_all flags more body)) ∷ []
   lowered flags more (chart steps actions ts) =
       latches (shifted_steps more steps) more actions
@@ -80,7 +80,7 @@ abbrev mutual
   IsWithoutChart (assign target e) = Unit {0}
   IsWithoutChart (run b offset) = Unit {0}
   IsWithoutChart (choice arms other) = ChoicesAreWithoutChart arms × AreWithoutChart other
-  IsWithoutChart (cases e es other) = EntriesAreWithoutChart es × AreWithoutChart other
+  IsWithoutChart (cases kind e es other) = EntriesAreWithoutChart es × AreWithoutChart other
   IsWithoutChart (repeat turns body) = AreWithoutChart body
   IsWithoutChart (chart _ _ _) = ⊥
 

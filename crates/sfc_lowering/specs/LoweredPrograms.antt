@@ -1,6 +1,6 @@
 -- Programs without charts, whose POUs may have scratch variables.
 use Rattle.std.specs.Prelude.{ℕ, List, [], ◌∷◌, map}
-use Rattle.st_tree.specs.Tree.{Statements, CalledData, block, function, ProgramData}
+use Rattle.program_tree.specs.Tree.{CalledData, block, function, ProgramData}
 use Rattle.sfc_lowering.specs.LoweredLists.{flags_in_all, lowered_body, AreWithoutChart}
 
 -- A program, how many scratch variables each POU has that it may call, by its number, and how many it has itself. Those of a

@@ -1,12 +1,12 @@
 -- One scan of a program whose POUs have scratch variables.
-use Rattle.std.specs.Prelude.{ℕ, zero, suc, ◌+◌, ◌==◌, List, [], ◌∷◌, ◌++◌, take, drop, length, replicate, min, ℤ, pos, slice_set, slice_index_or, if◌then◌else◌}
-use Rattle.st_tree.specs.declared.elementary.Elementary.TheVariants.{Bool}
-use Rattle.st_tree.specs.declared.typed.Range.{Range}
-use Rattle.st_tree.specs.Types.{range_of}
-use Rattle.st_tree.specs.Tree.{Statements, CalledData, block, function}
-use Rattle.effects.specs.Values.{State, Callees, no_callees}
-use Rattle.effects.specs.Effects.{effect_of_all}
-use Rattle.effects.specs.Calls.{given, nothing}
+use Rattle.std.specs.Prelude.{ℕ, zero, suc, ◌+◌, ◌==◌, List, [], ◌++◌, take, drop, length, replicate, min, ℤ, pos, slice_set, slice_index_or, if◌then◌else◌}
+use Rattle.plc_types.specs.declared.elementary.Elementary.TheVariants.{Bool}
+use Rattle.plc_types.specs.declared.range.Range.{Range}
+use Rattle.plc_types.specs.Types.{range_of}
+use Rattle.program_tree.specs.Tree.{CalledData, block, function}
+use Rattle.meaning.specs.Values.{State, Callees, no_callees}
+use Rattle.meaning.specs.Effects.{effect_of_all}
+use Rattle.meaning.specs.Calls.{given, nothing}
 use Rattle.scan_model.specs.Scans.{ranges_of}
 use Rattle.sfc_lowering.specs.LoweredPrograms.{LoweredData}
 

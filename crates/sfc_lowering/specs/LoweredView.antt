@@ -1,5 +1,5 @@
 -- The data that a lowered program stands for.
-use Rattle.st_tree.specs.View.{program_view}
+use Rattle.program_tree.specs.View.{program_view}
 use Rattle.sfc_lowering.specs.declared.program.Lowered.{Lowered}
 use Rattle.sfc_lowering.specs.LoweredPrograms.{LoweredData}
 

@@ -1,7 +1,7 @@
 -- What lowering keeps.
 use Rattle.std.specs.Prelude.{◌≡◌}
-use Rattle.st_tree.specs.Tree.{ProgramData}
-use Rattle.effects.specs.Values.{State}
+use Rattle.program_tree.specs.Tree.{ProgramData}
+use Rattle.meaning.specs.Values.{State}
 use Rattle.scan_model.specs.Scans.{ranges_of, scanned}
 use Rattle.scan_model.specs.InRange.{IsInRange, IsProgram}
 use Rattle.flat_form.specs.WellTyped.{IsWellTyped}

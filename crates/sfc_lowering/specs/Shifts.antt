@@ -1,8 +1,8 @@
 -- Expressions, FORs and steps whose cells stand so many places further on.
 use Rattle.std.specs.Prelude.{ℕ, ◌+◌, List, map, Option, None, Some}
-use Rattle.st_tree.specs.declared.typed.Turns.{Turns}
-use Rattle.st_tree.specs.declared.typed.StepCells.{StepCells}
-use Rattle.st_tree.specs.Tree.{Expression, number, cell, unary, chain, call, answer, Operands, no_operands, operand, Expressions, no_expressions, expression}
+use Rattle.program_tree.specs.declared.typed.Turns.{Turns}
+use Rattle.program_tree.specs.declared.typed.StepCells.{StepCells}
+use Rattle.program_tree.specs.Tree.{Expression, number, cell, unary, chain, call, answer, Operands, no_operands, operand, Expressions, no_expressions, expression}
 
 abbrev mutual
   pub shifted : ℕ → Expression → Expression

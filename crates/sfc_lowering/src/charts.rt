@@ -1,7 +1,7 @@
 // What a chart becomes, but for the statements of its actions: its latches, its transitions and the marking of its steps.
 ghost use Rattle.std.specs.Prelude.{◌≡◌, ◌+◌, ◌++◌, ◌∷◌, [], map, IfOk, OnOk};
-ghost use Rattle.st_tree.specs.Tree.{assign, cell};
-ghost use Rattle.st_tree.specs.View.{stmt_view, action_view, actions_view, transition_view, transitions_view};
+ghost use Rattle.program_tree.specs.Tree.{assign, cell};
+ghost use Rattle.program_tree.specs.View.{stmt_view, action_view, actions_view, transition_view, transitions_view};
 ghost use Rattle.sfc_lowering.specs.Shifts.{shifted_latch};
 ghost use Rattle.sfc_lowering.specs.LoweredCharts.{latch_statements, cleared, flag_left, flag_entered, flagged, tried, all_tried, stays_or_comes, marks, moves};
 ghost use Rattle.sfc_lowering.specs.LoweredLists.{latches};
@@ -9,11 +9,9 @@ ghost use Rattle.sfc_lowering.specs.LoweredLists.{latches};
 use crate::puts::{put_assign, put_number, put_only_where};
 use crate::shifts::{shift_expr, shift_latch, shift_place};
 use crate::tests_in_place::{latch_in_place, ready_in_place};
-use fb_inline::{joined, left_flag, without};
-use st_tree::{
-    Association, Elementary, Operator, StepCells, TypedAction, TypedExpr, TypedStmt,
-    TypedTransition,
-};
+use flat_charts::{joined, left_flag, without};
+use plc_types::{Elementary, Operator};
+use program_tree::{Association, StepCells, TypedAction, TypedExpr, TypedStmt, TypedTransition};
 use std::alloc::{AllocError, Global};
 
 /// Sets the latches of actions, whose places stand so many further on; those of the steps do already.

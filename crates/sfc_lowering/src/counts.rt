@@ -1,10 +1,10 @@
 // How many scratch variables statements want. A number that is no usize, which no chart wants, has no place in memory.
 ghost use Rattle.std.specs.Prelude.{◌≡◌, ◌*◌, length, map, IfOk};
-ghost use Rattle.st_tree.specs.View.{stmt_view, stmts_view, choices_view, entries_view, actions_view, called_view, all_called_view};
+ghost use Rattle.program_tree.specs.View.{stmt_view, stmts_view, choices_view, entries_view, actions_view, called_view, all_called_view};
 ghost use Rattle.sfc_lowering.specs.LoweredLists.{flags_in, flags_in_all, flags_in_choices, flags_in_entries, flags_in_actions};
 ghost use Rattle.sfc_lowering.specs.LoweredPrograms.{flags_of_called};
 
-use st_tree::{Called, StepCells, TypedAction, TypedArm, TypedEntry, TypedStmt};
+use program_tree::{Called, StepCells, TypedAction, TypedArm, TypedEntry, TypedStmt};
 use std::alloc::{AllocError, Global};
 
 /// How many scratch variables the POUs want that a program may call, by their numbers.
@@ -54,7 +54,7 @@ fn flags_in(stmt: &TypedStmt) -> Result<usize, AllocError>
             let second = flags_in_all(other)?;
             Ok(first.max(second))
         }
-        TypedStmt::Case(_, entries, other) => {
+        TypedStmt::Case(_, _, entries, other) => {
             let first = flags_in_entries(entries)?;
             let second = flags_in_all(other)?;
             Ok(first.max(second))

@@ -1,6 +1,6 @@
 // Programs without charts.
 ghost use Rattle.std.specs.Prelude.{◌≡◌, map, IfOk};
-ghost use Rattle.st_tree.specs.View.{stmts_view, called_view, all_called_view, program_view};
+ghost use Rattle.program_tree.specs.View.{stmts_view, called_view, all_called_view, program_view};
 ghost use Rattle.scan_model.specs.InRange.{IsProgram};
 ghost use Rattle.flat_form.specs.WellTyped.{IsWellTyped};
 ghost use Rattle.sfc_lowering.specs.LoweredLists.{flags_in_all, lowered_body};
@@ -10,7 +10,7 @@ ghost use Rattle.sfc_lowering.specs.LoweredView.{lowered_view};
 
 use crate::counts::{flags_in_all, flags_of_all_called};
 use crate::statements::lower_all;
-use st_tree::{Called, Program, TypedStmt};
+use program_tree::{Called, Program, TypedStmt};
 use std::alloc::{AllocError, Global};
 
 /// A program without charts (IEC 61131-3, 2.6): its POUs have scratch variables in place of them, so many for each POU that it may

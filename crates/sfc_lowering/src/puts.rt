@@ -1,10 +1,10 @@
 // One more statement, arm or entry.
 ghost use Rattle.std.specs.Prelude.{◌≡◌, ◌++◌, ◌∷◌, [], map, OnOk};
-ghost use Rattle.st_tree.specs.Tree.{assign, number};
-ghost use Rattle.st_tree.specs.View.{expr_view, stmt_view, stmts_view, arm_view, entry_view};
+ghost use Rattle.program_tree.specs.Tree.{assign, number};
+ghost use Rattle.program_tree.specs.View.{expr_view, stmt_view, stmts_view, arm_view, entry_view};
 ghost use Rattle.sfc_lowering.specs.LoweredCharts.{only_where};
 
-use st_tree::{TypedArm, TypedEntry, TypedExpr, TypedLabel, TypedStmt};
+use program_tree::{TypedArm, TypedEntry, TypedExpr, TypedLabel, TypedStmt};
 use std::alloc::{AllocError, Global};
 
 /// One more statement.

@@ -1,10 +1,10 @@
 // Expressions, FORs and steps whose cells stand so many places further on. A place that is no usize, which no cell of a program has, has
 // no place in memory.
 ghost use Rattle.std.specs.Prelude.{◌≡◌, ◌+◌, IfOk};
-ghost use Rattle.st_tree.specs.View.{expr_view, operands_view, arguments_view};
+ghost use Rattle.program_tree.specs.View.{expr_view, operands_view, arguments_view};
 ghost use Rattle.sfc_lowering.specs.Shifts.{shifted, shifted_operands, all_shifted, shifted_turns, shifted_step, shifted_steps, shifted_latch};
 
-use st_tree::{Operand, StepCells, Turns, TypedExpr};
+use program_tree::{Operand, StepCells, Turns, TypedExpr};
 use std::alloc::{AllocError, Global};
 
 /// The place so many places further on.

@@ -1,7 +1,7 @@
 // Statements without charts.
 ghost use Rattle.std.specs.Prelude.{◌≡◌, ◌+◌, ◌++◌, ◌∷◌, [], map, IfOk, OnOk};
-ghost use Rattle.st_tree.specs.Tree.{assign, run};
-ghost use Rattle.st_tree.specs.View.{expr_view, stmt_view, stmts_view, choices_view, entries_view, actions_view};
+ghost use Rattle.program_tree.specs.Tree.{assign, run};
+ghost use Rattle.program_tree.specs.View.{expr_view, stmt_view, stmts_view, choices_view, entries_view, actions_view};
 ghost use Rattle.sfc_lowering.specs.Shifts.{shifted};
 ghost use Rattle.sfc_lowering.specs.LoweredLists.{lowered, lowered_all, lowered_choices, lowered_entries, lowered_actions};
 
@@ -9,7 +9,7 @@ use crate::charts::{put_latches, put_moves};
 use crate::puts::{put, put_arm, put_assign, put_entry, put_only_where};
 use crate::shifts::{shift_expr, shift_latch, shift_place, shift_steps, shift_turns};
 use crate::tests_in_place::runs_in_place;
-use st_tree::{StepCells, TypedAction, TypedArm, TypedEntry, TypedExpr, TypedStmt};
+use program_tree::{StepCells, TypedAction, TypedArm, TypedEntry, TypedExpr, TypedStmt};
 use std::alloc::{AllocError, Global};
 
 /// The body of a POU without charts: its scratch variables begin at a place, and its own cells stand so many places further on.
@@ -47,11 +47,11 @@ fn put_lowered(
             let other = lower_all(other, flags, more, alloc)?;
             put(out, TypedStmt::If(arms, other))
         }
-        TypedStmt::Case(selector, entries, other) => {
+        TypedStmt::Case(kind, selector, entries, other) => {
             let selector = shift_expr(selector, more, alloc)?;
             let entries = lower_entries(entries, flags, more, alloc)?;
             let other = lower_all(other, flags, more, alloc)?;
-            put(out, TypedStmt::Case(selector, entries, other))
+            put(out, TypedStmt::Case(*kind, selector, entries, other))
         }
         TypedStmt::For(turns, body) => {
             let turns = shift_turns(*turns, more)?;

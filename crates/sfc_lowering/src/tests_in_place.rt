@@ -1,22 +1,22 @@
 // Tests of a chart whose cells stand in their places.
 ghost use Rattle.std.specs.Prelude.{◌≡◌, IfOk};
-ghost use Rattle.st_tree.specs.View.{expr_view};
+ghost use Rattle.program_tree.specs.View.{expr_view};
 ghost use Rattle.flat_form.specs.FlatCharts.{latch_test, runs_test, ready_test};
-ghost use Rattle.fb_inline.specs.Views.{owner_view};
+ghost use Rattle.flat_charts.specs.Views.{owner_view};
 ghost use Rattle.sfc_lowering.specs.LoweredCharts.{in_place};
 
-use fb_inline::{FlatScope, Owner, latch_test, ready_test, runs_test};
-use st_tree::{Association, StepCells, TypedExpr};
+use flat_charts::{FlatScope, Owner, latch_test, ready_test, runs_test};
+use program_tree::{Association, StepCells, TypedExpr};
 use std::alloc::{AllocError, Global};
 
 // A scope of tests alone, over a program's cells.
-fn scope_in_place<'a>() -> FlatScope<'a>
+fn scope_in_place<'a>() -> FlatScope<'a, 'a>
     ensures owner { owner_view result.owner ≡ in_place }
     ensures base { result.base ≡ 0 }
 {
     FlatScope {
         cells: 0,
-        owner: Owner::Program(&[]),
+        owner: Owner::Program,
         base: 0,
         called: &[],
         idle: &[],

@@ -2,9 +2,9 @@
 use Rattle.std.proofs.Common.{◌≡◌, ℕ, ◌+◌, List, [], ◌∷◌, ◌++◌, length, if◌then◌else◌, sym, ap, ◌∙◌, add-zero, zero-add, arith}
 use Rattle.std.proofs.lemmas.List.{append_assoc, append-nil}
 use Rattle.std.specs.Str.{bytes_eq}
-use Rattle.st_tree.specs.declared.typed.Association.{Association}
-use Rattle.st_tree.specs.Syntax.{StepActionData, ChartStepData}
-use Rattle.st_names.specs.ChartWords.{qualifier_of}
+use Rattle.program_tree.specs.declared.typed.Association.{Association}
+use Rattle.source_tree.specs.Syntax.{StepActionData, ChartStepData}
+use Rattle.naming.specs.ChartWords.{qualifier_of}
 use Rattle.sfc_shape.specs.Shapes.{association_with, associated, associated_from}
 
 abbrev own : List ℕ → ℕ → StepActionData → List Association

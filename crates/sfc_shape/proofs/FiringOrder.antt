@@ -3,7 +3,7 @@ use Rattle.std.proofs.Common.{◌≡◌, List, [], ◌∷◌, map, Bool, true, f
 use Rattle.std.specs.Cmp.{IsStrictWeakOrder}
 use Rattle.std.specs.List.Sorted.{IsSortedBy, IsStableBy}
 use Rattle.std.proofs.lemmas.Bool.Decides.{nat_tests}
-use Rattle.st_tree.specs.Syntax.{PriorityData, ChartTransitionData}
+use Rattle.source_tree.specs.Syntax.{PriorityData, ChartTransitionData}
 use Rattle.sfc_shape.specs.Shapes.{comes_first, placed, in_firing_order}
 use Rattle.sfc_shape.proofs.StableOrder.{place, order, stable_is_order}
 

@@ -6,7 +6,7 @@ use Rattle.std.specs.Str.{bytes_eq}
 use Rattle.std.specs.Option.{unwrap_or}
 use Rattle.std.specs.Cmp.Lexicographic.{bytes_decides}
 use Rattle.std.proofs.lemmas.Map.Text.{hash_map_updates_text}
-use Rattle.st_tree.specs.Syntax.{ChartStepData}
+use Rattle.source_tree.specs.Syntax.{ChartStepData}
 use Rattle.sfc_shape.specs.Shapes.{step_number}
 use Rattle.sfc_shape.specs.ShapeView.{number_found}
 

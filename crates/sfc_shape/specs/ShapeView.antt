@@ -4,12 +4,12 @@ use Rattle.std.specs.Str.{bytes_eq}
 use Rattle.std.specs.HashMap.{HashMap, get_by_text}
 use Rattle.std.specs.declared.alloc.Global.{Global}
 use denote.Ref.{Bor}
-use Rattle.st_tree.specs.declared.syntax.ChartStep.{ChartStep}
-use Rattle.st_tree.specs.declared.syntax.ChartTransition.{ChartTransition}
-use Rattle.st_tree.specs.declared.syntax.ChartAction.{ChartAction}
-use Rattle.st_tree.specs.declared.typed.Association.{Association}
-use Rattle.st_tree.specs.Syntax.{ChartStepData, ChartTransitionData, ChartActionData}
-use Rattle.st_tree.specs.SyntaxView.{chart_step_view, chart_transition_view, chart_action_view}
+use Rattle.source_tree.specs.declared.syntax.ChartStep.{ChartStep}
+use Rattle.source_tree.specs.declared.syntax.ChartTransition.{ChartTransition}
+use Rattle.source_tree.specs.declared.syntax.ChartAction.{ChartAction}
+use Rattle.program_tree.specs.declared.typed.Association.{Association}
+use Rattle.source_tree.specs.Syntax.{ChartStepData, ChartTransitionData, ChartActionData}
+use Rattle.source_tree.specs.SyntaxView.{chart_step_view, chart_transition_view, chart_action_view}
 
 abbrev pub seen_steps : List (Bor ChartStep) → List ChartStepData
 seen_steps ss = map (λ s. chart_step_view s.now) ss

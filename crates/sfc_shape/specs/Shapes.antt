@@ -2,11 +2,11 @@
 -- its transitions fire.
 use Rattle.std.specs.Prelude.{ℕ, ◌+◌, nat_lt, List, [], ◌∷◌, ◌++◌, map, Bool, true, false, Option, Some, None, if◌then◌else◌}
 use Rattle.std.specs.Str.{bytes_eq}
-use Rattle.st_tree.specs.declared.typed.Qualifier.{Qualifier}
-use Rattle.st_tree.specs.declared.typed.Association.{Association}
-use Rattle.st_tree.specs.Syntax.{StepActionData, ChartStepData, StepsData, PriorityData, ChartTransitionData, ChartActionData, PartData, step_part, transition_part, action_part}
-use Rattle.st_names.specs.Broken.{steps_in}
-use Rattle.st_names.specs.ChartWords.{qualifier_of}
+use Rattle.program_tree.specs.declared.typed.Qualifier.{Qualifier}
+use Rattle.program_tree.specs.declared.typed.Association.{Association}
+use Rattle.source_tree.specs.Syntax.{StepActionData, ChartStepData, StepsData, PriorityData, ChartTransitionData, ChartActionData, PartData, step_part, transition_part, action_part}
+use Rattle.naming.specs.Broken.{steps_in}
+use Rattle.naming.specs.ChartWords.{qualifier_of}
 
 -- the steps, the transitions and the actions of a chart, in the order of the text
 abbrev pub steps_of : List PartData → List ChartStepData

@@ -1,14 +1,15 @@
 // The associations of a chart's actions with its steps.
 ghost use Rattle.std.specs.Prelude.{◌≡◌, ℕ, ◌++◌, [], ◌∷◌, List, IfOk, OnOk, if◌then◌else◌};
 ghost use Rattle.std.specs.Str.{bytes_eq};
-ghost use Rattle.st_tree.specs.SyntaxView.{step_action_view, step_actions_view};
-ghost use Rattle.st_names.specs.ChartWords.{qualifier_of};
+ghost use Rattle.source_tree.specs.SyntaxView.{step_action_view, step_actions_view};
+ghost use Rattle.naming.specs.ChartWords.{qualifier_of};
 ghost use Rattle.sfc_shape.specs.Shapes.{association_with, associated, associated_from};
 ghost use Rattle.sfc_shape.specs.ShapeView.{seen_steps, listed};
 
 use indexmap::IndexMap;
-use st_names::qualifier;
-use st_tree::{Association, ChartStep, Qualifier, StepAction};
+use naming::qualifier;
+use program_tree::{Association, Qualifier};
+use source_tree::{ChartStep, StepAction};
 use std::alloc::{AllocError, Global};
 
 /// The associations of actions, by the action's name.

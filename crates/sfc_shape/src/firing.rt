@@ -1,11 +1,11 @@
 // The order in which the transitions of a chart fire.
 ghost use Rattle.std.specs.Prelude.{◌≡◌, OnOk, option_map};
 ghost use Rattle.std.specs.Ordering.{is_lt};
-ghost use Rattle.st_tree.specs.SyntaxView.{priority_view};
+ghost use Rattle.source_tree.specs.SyntaxView.{priority_view};
 ghost use Rattle.sfc_shape.specs.Shapes.{comes_first, in_firing_order};
 ghost use Rattle.sfc_shape.specs.ShapeView.{seen_transitions};
 
-use st_tree::{ChartTransition, Priority};
+use source_tree::{ChartTransition, Priority};
 use std::alloc::AllocError;
 use std::cmp::Ordering;
 

@@ -4,7 +4,7 @@ ghost use Rattle.std.specs.HashMap.{get_by_text};
 ghost use Rattle.sfc_shape.specs.ShapeView.{seen_steps, number_found};
 
 use indexmap::IndexMap;
-use st_tree::ChartStep;
+use source_tree::ChartStep;
 use std::alloc::{AllocError, Global};
 
 /// The numbers of steps, by name.

@@ -1,10 +1,10 @@
 // The steps, the transitions and the actions of a chart, in the order of the text.
 ghost use Rattle.std.specs.Prelude.{◌≡◌, IfOk};
-ghost use Rattle.st_tree.specs.SyntaxView.{parts_view};
+ghost use Rattle.source_tree.specs.SyntaxView.{parts_view};
 ghost use Rattle.sfc_shape.specs.Shapes.{steps_of, transitions_of, actions_of};
 ghost use Rattle.sfc_shape.specs.ShapeView.{seen_steps, seen_transitions, seen_actions};
 
-use st_tree::{ChartAction, ChartPart, ChartStep, ChartTransition};
+use source_tree::{ChartAction, ChartPart, ChartStep, ChartTransition};
 use std::alloc::{AllocError, Global};
 
 /// The steps of a chart.

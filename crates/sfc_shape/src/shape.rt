@@ -1,7 +1,7 @@
 // The shape of a chart.
 ghost use Rattle.std.specs.Prelude.{◌≡◌, ℕ, List, IfOk};
 ghost use Rattle.std.specs.HashMap.{get_by_text};
-ghost use Rattle.st_tree.specs.SyntaxView.{parts_view};
+ghost use Rattle.source_tree.specs.SyntaxView.{parts_view};
 ghost use Rattle.sfc_shape.specs.Shapes.{steps_of, transitions_of, actions_of, associations_of, in_firing_order};
 ghost use Rattle.sfc_shape.specs.ShapeView.{seen_steps, seen_transitions, seen_actions, number_found, listed};
 
@@ -9,7 +9,8 @@ use crate::associations::{Associations, associations, associations_at};
 use crate::firing::put_in_firing_order;
 use crate::numbers::{Numbers, number_at, numbers};
 use crate::parts::{actions, steps, transitions};
-use st_tree::{Association, Chart, ChartAction, ChartStep, ChartTransition, Name, Steps};
+use program_tree::Association;
+use source_tree::{Chart, ChartAction, ChartStep, ChartTransition, Name, Steps};
 use std::alloc::{AllocError, Global};
 
 /// A chart by its steps and its actions in the order of the text, and its transitions in the order in which they fire.
@@ -51,7 +52,7 @@ pub fn shape_of(alloc: Global, chart: &Chart) -> Result<Shape<'_>, AllocError>
 
 impl Shape<'_> {
     ghost use Rattle.std.specs.Prelude.{◌++◌, OnOk, map};
-    ghost use Rattle.st_tree.specs.SyntaxView.{name_view, names_view, steps_view};
+    ghost use Rattle.source_tree.specs.SyntaxView.{name_view, names_view, steps_view};
     ghost use Rattle.sfc_shape.specs.Shapes.{step_number, step_numbers};
     ghost use Rattle.sfc_shape.specs.PartsView.{parts_in};
 

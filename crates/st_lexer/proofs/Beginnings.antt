@@ -4,8 +4,8 @@ use Rattle.std.specs.Prelude.{slice_index, IfSome}
 use Rattle.std.specs.List.{prefix_len}
 use Rattle.std.proofs.lemmas.List.{take-append-drop, length-take-le}
 use Rattle.std.proofs.Math.Seq.{take-append_seam, drop-append_seam}
-use Rattle.st_tree.specs.declared.token.Kind.TheVariants.{Word, Number, Sign}
-use Rattle.st_tree.specs.Tokens.{Piece, gap, token, slice_of, is_formed, is_gap_piece, opens_comment, is_block_opening, is_line_opening, is_in_line, Begins}
+use Rattle.source_tree.specs.declared.token.Kind.TheVariants.{Word, Number, Sign}
+use Rattle.source_tree.specs.Tokens.{Piece, gap, token, slice_of, is_formed, is_gap_piece, opens_comment, is_block_opening, is_line_opening, is_in_line, Begins}
 use Rattle.st_lexer.specs.declared.front.Front.{Front}
 use Rattle.st_lexer.specs.declared.front.Front.TheVariants.{Gap, Token}
 use Rattle.st_lexer.specs.Fronts.{front_of, plain_front, closed_len, size_of}

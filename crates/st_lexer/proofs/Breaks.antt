@@ -3,11 +3,11 @@ use Rattle.std.proofs.Common.{◌≡◌, ℕ, ◌+◌, ◌<◌, ◌≤◌, List,
 use Rattle.std.specs.Prelude.{All}
 use Rattle.std.proofs.lemmas.List.Elements.{All-same, All-push}
 use Rattle.std.proofs.lemmas.List.{length-take-le}
-use Rattle.st_tree.specs.declared.token.Kind.{Kind}
-use Rattle.st_tree.specs.Tokens.{Lexeme, token, slice_of, mark_len}
-use Rattle.st_tree.specs.declared.rule.Rule.{Rule}
-use Rattle.st_lexer.specs.declared.fault.LexFault.{LexFault}
-use Rattle.st_lexer.specs.declared.fault.LexFault.TheVariants.{Refused}
+use Rattle.source_tree.specs.declared.token.Kind.{Kind}
+use Rattle.source_tree.specs.Tokens.{Lexeme, token, slice_of, mark_len}
+use Rattle.rules.specs.declared.rule.Rule.{Rule}
+use Rattle.rules.specs.declared.fault.Fault.{Fault}
+use Rattle.rules.specs.declared.fault.Fault.TheVariants.{Refused}
 use Rattle.st_lexer.specs.Lexing.{IsRightFault}
 use Rattle.st_lexer.specs.declared.front.Front.{Front}
 use Rattle.st_lexer.specs.declared.front.Front.TheVariants.{Token}
@@ -102,12 +102,9 @@ read_broken text at rest f rule h broken k = read_first text at rest (proper (pi
 pub token_says : (kind : Kind) (n : ℕ) (rest slice : List ℕ) (o p : Option Rule) → slice ≡ take n rest → o ≡ piece_rule (token kind slice) → o ≡ p → broken_rule (proper (piece_at (Token kind n) rest)) ≡ p
 token_says kind n rest slice o p e h k = ap (λ s. piece_rule (token kind s)) (sym e) ∙ sym h ∙ k
 
-pub slice_says : (kind : Kind) (s slice : List ℕ) (o p : Option Rule) → s ≡ slice → o ≡ piece_rule (token kind slice) → o ≡ p → piece_rule (token kind s) ≡ p
-slice_says kind s slice o p e h k = ap (λ s. piece_rule (token kind s)) e ∙ sym h ∙ k
-
 pub kept_push : (tokens tokens' : List Lexeme) (l : Lexeme) → tokens' ≡ tokens ++ l ∷ [] → piece_rule (token l.kind l.slice) ≡ None → All KeepsRules tokens → All KeepsRules tokens'
 kept_push tokens tokens' l e k h = All-same KeepsRules tokens' (tokens ++ l ∷ []) e (All-push KeepsRules tokens l h k)
 
 -- a refusal of the first rule is right
-pub right_fault : (text : List ℕ) (rule told : Rule) (at : ℕ) (fault : LexFault) → fault ≡ Refused (record { rule = told; at = at }) → told ≡ rule → IsFirst text rule at → IsRightFault text fault
+pub right_fault : (text : List ℕ) (rule told : Rule) (at : ℕ) (fault : Fault) → fault ≡ Refused (record { rule = told; at = at }) → told ≡ rule → IsFirst text rule at → IsRightFault text fault
 right_fault text rule told at fault e f h = subst (IsRightFault text) (sym e) (subst (λ r. IsFirst text r at) (sym f) h)

@@ -5,7 +5,7 @@ use Rattle.std.specs.Prelude.{option_map, ◌==◌, nat_lt, if◌then◌else◌}
 use Rattle.std.proofs.Math.Nat.{mul-le-mul_left}
 use Rattle.std.proofs.lemmas.Bool.{cases_lt}
 use Rattle.std.proofs.lemmas.Bool.Decides.{nat_tests}
-use Rattle.st_tree.specs.Numbers.{digit, is_digit_of, are_digits, value_after, based}
+use Rattle.source_tree.specs.Numbers.{digit, is_digit_of, are_digits, value_after, based}
 
 -- the value of digits behind a value; a digit must come next where the test is true
 unfoldable pub digits : ℕ → ℕ → Bool → List ℕ → Option ℕ

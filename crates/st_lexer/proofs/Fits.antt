@@ -3,7 +3,7 @@ use Rattle.std.proofs.Common.{◌≡◌, ℕ, zero, suc, ◌+◌, ◌<◌, ◌�
 use Rattle.std.specs.List.{list_all, prefix_len}
 use Rattle.std.proofs.lemmas.Bool.Decides.{nat_tests}
 use Rattle.std.proofs.lemmas.Bool.{and_parts}
-use Rattle.st_tree.specs.Tokens.{is_closing, ends_closed}
+use Rattle.source_tree.specs.Tokens.{is_closing, ends_closed}
 use Rattle.st_lexer.specs.Fronts.{closed_len}
 
 -- bytes of a class go on at least as far as a front that has no other bytes

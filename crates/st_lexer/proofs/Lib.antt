@@ -5,6 +5,7 @@ pub mod Beginnings
 pub mod Spellings
 pub mod Cuts
 pub mod Breaks
+pub mod Blanks
 pub mod Letters
 pub mod Digits
 pub mod Cases

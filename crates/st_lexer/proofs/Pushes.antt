@@ -1,9 +1,9 @@
 -- One more token.
 use Rattle.std.proofs.Common.{◌≡◌, ℕ, ◌+◌, ◌<◌, ◌≤◌, List, [], ◌∷◌, ◌++◌, All, sym, subst, arith}
 use Rattle.std.proofs.lemmas.List.Elements.{All-same, All-push}
-use Rattle.st_tree.specs.declared.token.Tok.{Tok}
-use Rattle.st_tree.specs.Terminals.{IsClassified}
-use Rattle.st_tree.specs.Places.{ArePlaced}
+use Rattle.source_tree.specs.declared.token.Tok.{Tok}
+use Rattle.source_tree.specs.Terminals.{IsClassified}
+use Rattle.source_tree.specs.Places.{ArePlaced}
 
 pub classified_push : (tokens tokens' : List Tok) (t : Tok) → tokens' ≡ tokens ++ t ∷ [] → IsClassified t → All IsClassified tokens → All IsClassified tokens'
 classified_push tokens tokens' t e k h = All-same IsClassified tokens' (tokens ++ t ∷ []) e (All-push IsClassified tokens t h k)

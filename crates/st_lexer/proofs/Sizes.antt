@@ -4,9 +4,9 @@ use Rattle.std.specs.Prelude.{slice_index, IfSome}
 use Rattle.std.specs.List.{prefix_len}
 use Rattle.std.proofs.lemmas.List.Sums.{prefix_len-le-length}
 use Rattle.std.proofs.lemmas.Bool.Decides.{nat_tests}
-use Rattle.st_tree.specs.declared.token.Kind.TheVariants.{Sign}
-use Rattle.st_tree.specs.Bytes.{is_word_byte, is_number_byte, is_letter, is_digit, is_sign, is_sign_pair, is_blank}
-use Rattle.st_tree.specs.Tokens.{is_block_opening, is_line_opening, is_in_line}
+use Rattle.source_tree.specs.declared.token.Kind.TheVariants.{Sign}
+use Rattle.source_tree.specs.Bytes.{is_word_byte, is_number_byte, is_letter, is_digit, is_sign, is_sign_pair, is_blank}
+use Rattle.source_tree.specs.Tokens.{is_block_opening, is_line_opening, is_in_line}
 use Rattle.st_lexer.specs.declared.front.Front.{Front}
 use Rattle.st_lexer.specs.declared.front.Front.TheVariants.{Gap, Token}
 use Rattle.st_lexer.specs.Fronts.{closed_len, front_of, plain_front, size_of}

@@ -1,8 +1,8 @@
 -- How the pieces of a text go on.
 use Rattle.std.proofs.Common.{◌≡◌, ℕ, ◌+◌, List, [], ◌∷◌, ◌++◌, length, take, drop, refl, sym, ap, ◌∙◌, subst, append_assoc, append-nil, arith}
 use Rattle.std.proofs.lemmas.List.{length-take-le}
-use Rattle.st_tree.specs.declared.token.Kind.{Kind}
-use Rattle.st_tree.specs.Tokens.{Piece, gap, token, Lexeme, Begins, AreJoined, lexemes, Spells, mark_len}
+use Rattle.source_tree.specs.declared.token.Kind.{Kind}
+use Rattle.source_tree.specs.Tokens.{Piece, gap, token, Lexeme, Begins, AreJoined, lexemes, Spells, mark_len}
 use Rattle.st_lexer.specs.declared.front.Front.TheVariants.{Gap, Token}
 use Rattle.st_lexer.specs.Fronts.{front_of}
 use Rattle.st_lexer.proofs.Beginnings.{IsFront, begins, begins_once, no_front}

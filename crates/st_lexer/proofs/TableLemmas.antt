@@ -1,14 +1,14 @@
--- What a table says of a text is what its entries of the text's length say.
-use Rattle.std.proofs.Common.{◌≡◌, ℕ, ◌<◌, ◌≤◌, List, [], ◌∷◌, length, true, false, cond, ◌==◌, refl, ap, arith}
+-- What a table says of a text is what its entries that begin as the text say.
+use Rattle.std.proofs.Common.{◌≡◌, ℕ, ◌<◌, ◌≤◌, List, [], ◌∷◌, length, get_or, true, false, cond, ◌==◌, refl, ap, arith}
 use Rattle.std.specs.Prelude.{bytes_eq, nat_le}
 use Rattle.std.specs.List.{list_all}
 use Rattle.std.proofs.lemmas.Bool.Decides.{nat_tests}
 use Rattle.std.proofs.lemmas.Slice.Eq.{bytes_eq-Decides}
 use Rattle.std.proofs.lemmas.Bool.{and_parts}
-use Rattle.st_tree.specs.declared.token.Terminal.{Terminal}
-use Rattle.st_tree.specs.declared.token.Terminal.TheVariants.{LeftOut}
-use Rattle.st_tree.specs.Terminals.{Entry, entry_or, signs}
-use Rattle.st_lexer.specs.Tables.{of_length}
+use Rattle.source_tree.specs.declared.token.Terminal.{Terminal}
+use Rattle.source_tree.specs.declared.token.Terminal.TheVariants.{LeftOut}
+use Rattle.source_tree.specs.Terminals.{Entry, entry_or, signs}
+use Rattle.st_lexer.specs.Tables.{beginning_with}
 
 unlike : (s t : List ℕ) → (length t == length s) ≡ false → bytes_eq s t ≡ false
 unlike s t h =
@@ -17,12 +17,19 @@ unlike s t h =
       | false ↦ λ e. refl
     ] refl
 
-pub entry_or-of_length : (other : Terminal) (es : List Entry) (text : List ℕ) → entry_or other (of_length (length text) es) text ≡ entry_or other es text
-entry_or-of_length other [] text = refl
-entry_or-of_length other (e ∷ es) text =
-    elim (length e.0 == length text) as (λ x. (length e.0 == length text) ≡ x → entry_or other (cond x (e ∷ of_length (length text) es) (of_length (length text) es)) text ≡ cond (bytes_eq text e.0) e.1 (entry_or other es text)) [
-      | true ↦ λ h. ap (λ r. cond (bytes_eq text e.0) e.1 r) (entry_or-of_length other es text)
-      | false ↦ λ h. rw (unlike text e.0 h) (entry_or-of_length other es text)
+apart : (s t : List ℕ) → (get_or t 0 0 == get_or s 0 0) ≡ false → bytes_eq s t ≡ false
+apart s t h =
+    elim (bytes_eq s t) as (λ x. bytes_eq s t ≡ x → x ≡ false) [
+      | true ↦ λ e. (let same : s ≡ t = (bytes_eq-Decides s t).0 e in let first : get_or s 0 0 ≡ get_or t 0 0 = ap (λ (x : List ℕ). get_or x 0 0) same in grind (arith, nat_tests))
+      | false ↦ λ e. refl
+    ] refl
+
+pub entry_or-beginning_with : (other : Terminal) (es : List Entry) (text : List ℕ) → entry_or other (beginning_with (get_or text 0 0) es) text ≡ entry_or other es text
+entry_or-beginning_with other [] text = refl
+entry_or-beginning_with other (e ∷ es) text =
+    elim (get_or e.0 0 0 == get_or text 0 0) as (λ x. (get_or e.0 0 0 == get_or text 0 0) ≡ x → entry_or other (cond x (e ∷ beginning_with (get_or text 0 0) es) (beginning_with (get_or text 0 0) es)) text ≡ cond (bytes_eq text e.0) e.1 (entry_or other es text)) [
+      | true ↦ λ h. ap (λ r. cond (bytes_eq text e.0) e.1 r) (entry_or-beginning_with other es text)
+      | false ↦ λ h. rw (apart text e.0 h) (entry_or-beginning_with other es text)
     ] refl
 
 -- no sign is empty, and none has more than two characters

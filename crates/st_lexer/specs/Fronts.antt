@@ -1,11 +1,11 @@
 -- What stands at the front of a text: a gap or a token, and its size.
 use Rattle.std.specs.Prelude.{ℕ, ◌+◌, List, [], ◌∷◌, drop, slice_index, Option, Some, None, option_map, if◌then◌else◌}
 use Rattle.std.specs.List.{prefix_len}
-use Rattle.st_tree.specs.declared.token.Kind.TheVariants.{Word, Number, Sign}
-use Rattle.st_tree.specs.Bytes.{is_blank, is_letter, is_digit, is_word_byte, is_number_byte, is_sign, is_sign_pair}
-use Rattle.st_tree.specs.Tokens.{is_block_opening, is_line_opening, is_closing, is_in_line}
-use Rattle.st_tree.specs.declared.rule.Rule.{Rule}
-use Rattle.st_tree.specs.declared.rule.Rule.TheVariants.{StrayByte, OpenComment}
+use Rattle.source_tree.specs.declared.token.Kind.TheVariants.{Word, Number, Sign}
+use Rattle.source_tree.specs.Bytes.{is_blank, is_letter, is_digit, is_word_byte, is_number_byte, is_sign, is_sign_pair}
+use Rattle.source_tree.specs.Tokens.{is_block_opening, is_line_opening, is_closing, is_in_line}
+use Rattle.rules.specs.declared.rule.Rule.{Rule}
+use Rattle.rules.specs.declared.rule.Rule.TheVariants.{StrayByte, OpenComment}
 use Rattle.st_lexer.specs.Parts.{opens_block}
 use Rattle.st_lexer.specs.declared.front.Front.{Front}
 use Rattle.st_lexer.specs.declared.front.Front.TheVariants.{Gap, Token}

@@ -1,10 +1,10 @@
 -- A text as parts, all of it, and the rules that they break.
 use Rattle.std.specs.Prelude.{◌≡◌, ◌<◌, ℕ, ◌+◌, ◌^◌, ◌⊎◌, nat_le, nat_lt, List, [], ◌∷◌, drop, length, slice_index, Bool, true, false, Option, Some, None, if◌then◌else◌}
-use Rattle.st_tree.specs.declared.token.Kind.TheVariants.{Word, Number, Sign}
-use Rattle.st_tree.specs.Tokens.{Lexeme, Piece, gap, token, slice_of, Begins, is_block_opening, mark_len}
-use Rattle.st_tree.specs.declared.rule.Rule.{Rule}
-use Rattle.st_tree.specs.declared.rule.Rule.TheVariants.{StrayByte, OpenComment, NumberForm, NumberSize, WordLength}
-use Rattle.st_tree.specs.Numbers.{value_of}
+use Rattle.source_tree.specs.declared.token.Kind.TheVariants.{Word, Number, Sign}
+use Rattle.source_tree.specs.Tokens.{Lexeme, Piece, gap, token, slice_of, Begins, is_block_opening, mark_len}
+use Rattle.rules.specs.declared.rule.Rule.{Rule}
+use Rattle.rules.specs.declared.rule.Rule.TheVariants.{StrayByte, OpenComment, NumberForm, NumberSize, WordLength}
+use Rattle.source_tree.specs.Numbers.{value_of}
 
 -- a part of a text: a gap or a token; a byte that begins neither; or a comment that is not closed
 pub data Part : Type 0 where

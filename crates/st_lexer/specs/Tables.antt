@@ -1,14 +1,14 @@
 -- Tables of words.
-use Rattle.std.specs.Prelude.{ℕ, List, length, map, filter, ◌==◌}
+use Rattle.std.specs.Prelude.{ℕ, List, slice_index, map, filter, ◌==◌}
 use Rattle.std.specs.Borrow.{Bor}
-use Rattle.st_tree.specs.declared.token.Terminal.{Terminal}
-use Rattle.st_tree.specs.SyntaxView.{upper}
-use Rattle.st_tree.specs.Terminals.{Entry}
+use Rattle.source_tree.specs.declared.token.Terminal.{Terminal}
+use Rattle.source_tree.specs.SyntaxView.{upper}
+use Rattle.source_tree.specs.Terminals.{Entry}
 
 -- the entries of a table in memory, in upper case
 abbrev pub entries_of : List (Bor (List ℕ) × Terminal) → List Entry
 entries_of es = map (λ e. (upper e.0.now, e.1)) es
 
--- the entries whose texts have a length
-abbrev pub of_length : ℕ → List Entry → List Entry
-of_length n es = filter (λ e. length e.0 == n) es
+-- the entries whose texts begin with a character
+abbrev pub beginning_with : ℕ → List Entry → List Entry
+beginning_with b es = filter (λ e. slice_index e.0 0 == b) es

@@ -1,8 +1,8 @@
 // Classes of bytes, and how far they go on.
 ghost use Rattle.std.specs.Prelude.{◌≡◌, ◌<◌, ◌≤◌, ◌+◌, length, slice_index, IfSome};
 ghost use Rattle.std.specs.List.{prefix_len};
-ghost use Rattle.st_tree.specs.Bytes.{is_letter, is_word_byte, is_number_byte, is_blank, is_sign, is_sign_pair};
-ghost use Rattle.st_tree.specs.Tokens.{is_in_line, mark_len};
+ghost use Rattle.source_tree.specs.Bytes.{is_letter, is_word_byte, is_number_byte, is_blank, is_sign, is_sign_pair};
+ghost use Rattle.source_tree.specs.Tokens.{is_in_line, mark_len};
 ghost use Rattle.st_lexer.specs.Fronts.{closed_len};
 
 pub fn is_letter(b: u8) -> bool
@@ -49,6 +49,14 @@ pub fn byte_at(bytes: &[u8], place: usize) -> u8
     ensures { result ≡ slice_index bytes.now place }
 {
     bytes.get(place).copied().unwrap_or(0)
+}
+
+/// How many blanks stand at the front.
+pub fn blank_len(bytes: &[u8]) -> usize
+    ensures len { result ≡ prefix_len is_blank bytes.now }
+    ensures within { result ≤ length bytes.now }
+{
+    bytes.iter().take_while(|b| is_blank(**b)).count()
 }
 
 /// How many bytes at the front may go on a word.

@@ -1,11 +1,14 @@
 // What stands at the front of a text.
-ghost use Rattle.std.specs.Prelude.{◌≡◌, ◌<◌, ◌≤◌, ◌+◌, length, IfSome};
+ghost use Rattle.std.specs.Prelude.{◌≡◌, ◌<◌, ◌≤◌, ◌+◌, length, drop, IfSome};
+ghost use Rattle.std.specs.List.{prefix_len};
+ghost use Rattle.source_tree.specs.Bytes.{is_blank};
 ghost use Rattle.st_lexer.specs.Fronts.{front_of, plain_front, size_of};
 
 use crate::classes::{
-    byte_at, closed_len, is_blank, is_letter, is_sign, is_sign_pair, line_len, number_len, word_len,
+    blank_len, byte_at, closed_len, is_blank, is_letter, is_sign, is_sign_pair, line_len,
+    number_len, word_len,
 };
-use st_tree::Kind;
+use source_tree::Kind;
 
 /// A gap or a token, with its size in bytes.
 #[derive(Clone, Copy)]
@@ -47,4 +50,14 @@ pub fn front_of(text: &[u8]) -> Option<Front>
     } else {
         plain_front(*first, rest)
     }
+}
+
+/// How many bytes a gap of a size at the front of a text takes, with the blanks behind it.
+pub fn gap_len(text: &[u8], size: usize) -> usize
+    requires { size ≤ length text.now }
+    ensures len { result ≡ size + prefix_len is_blank (drop size text.now) }
+    ensures within { result ≤ length text.now }
+{
+    let (_, behind) = text.split_at(size);
+    size + blank_len(behind)
 }

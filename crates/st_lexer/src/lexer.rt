@@ -1,18 +1,18 @@
 // From the bytes of a text to its tokens.
 ghost use Rattle.std.specs.Prelude.{◌≡◌, List, length, true, All, IfOk, IfErr};
-ghost use Rattle.st_tree.specs.Tokens.{Lexeme, Spells, token, is_formed};
-ghost use Rattle.st_tree.specs.Terminals.{IsClassified};
-ghost use Rattle.st_tree.specs.Places.{ArePlaced};
+ghost use Rattle.source_tree.specs.Tokens.{Lexeme, Spells, token, is_formed};
+ghost use Rattle.source_tree.specs.Terminals.{IsClassified};
+ghost use Rattle.source_tree.specs.Places.{ArePlaced};
 ghost use Rattle.st_lexer.specs.Parts.{Part, IsCut, KeepsRules, IsSound};
 ghost use Rattle.st_lexer.specs.Lexing.{lexemes_of, IsRightFault};
-ghost use Rattle.st_lexer.specs.declared.fault.LexFault.TheVariants.{Refused};
+ghost use Rattle.rules.specs.declared.fault.Fault.TheVariants.{Refused};
 
+use crate::broken_rules::stuck_rule;
 use crate::classes::mark_len;
-use crate::fault::LexFault;
-use crate::front::{Front, front_of};
-use crate::rules::{stuck_rule, token_rule};
+use crate::front::{Front, front_of, gap_len};
 use crate::terminals::terminal;
-use st_tree::{Kind, Refusal, Rule, Tok};
+use rules::{Fault, Refusal, Rule};
+use source_tree::{Kind, Tok};
 use std::alloc::Global;
 use std::str;
 
@@ -21,21 +21,18 @@ fn token_text<'a>(kind: Kind, slice: &'a [u8]) -> &'a str
     requires { is_formed (token kind slice.now) ≡ true }
     ensures { result.now ≡ slice.now }
 {
-    match str::from_utf8(slice) {
-        Ok(text) => text,
-        Err(_) => unreachable!(),
-    }
+    unsafe { str::from_utf8_unchecked(slice) }
 }
 
-fn refused(rule: Rule, at: usize) -> LexFault
+fn refused(rule: Rule, at: usize) -> Fault
     ensures { result ≡ Refused (record { rule = rule; at = at }) }
 {
-    LexFault::Refused(Refusal { rule, at })
+    Fault::Refused(Refusal { rule, at })
 }
 
 /// The tokens that a text spells, in the order of the text, each with what it is for the grammar; or the first rule that it breaks. A text is
 /// bytes and need not be UTF-8; a UTF-8 mark may stand before it (IEC 61131-3, 2.1).
-pub fn lex(alloc: Global, text: &[u8]) -> Result<Vec<Tok<'_>>, LexFault>
+pub fn lex(alloc: Global, text: &[u8]) -> Result<Vec<Tok<'_>>, Fault>
     ensures spelled { IfOk result (λ v. Spells text.now (lexemes_of v.items)) }
     ensures kept { IfOk result (λ v. All KeepsRules (lexemes_of v.items)) }
     ensures sound { IfOk result (λ v. IsSound text.now) }
@@ -50,17 +47,18 @@ pub fn lex(alloc: Global, text: &[u8]) -> Result<Vec<Tok<'_>>, LexFault>
         match front_of(rest) {
             None => return Err(refused(stuck_rule(rest), at)),
             Some(Front::Gap(size)) => {
+                let size = gap_len(rest, size);
                 let (_, behind) = rest.split_at(size);
                 at += size;
                 rest = behind;
             }
             Some(Front::Token(kind, size)) => {
                 let (slice, behind) = rest.split_at(size);
-                if let Some(rule) = token_rule(kind, slice) {
-                    return Err(refused(rule, at));
-                }
                 let slice = token_text(kind, slice);
-                let terminal = terminal(kind, slice);
+                let terminal = match terminal(kind, slice) {
+                    Ok(terminal) => terminal,
+                    Err(rule) => return Err(refused(rule, at)),
+                };
                 tokens.push(Tok {
                     kind,
                     slice,

@@ -1,8 +1,9 @@
 // The values of numbers.
-ghost use Rattle.std.specs.Prelude.{◌≡◌, ◌≤◌, ◌^◌, min, option_map};
-ghost use Rattle.st_tree.specs.Numbers.{digit, based, value_of, in_64_bits};
+ghost use Rattle.std.specs.Prelude.{◌≡◌, ◌≤◌, ◌+◌, ◌*◌, ◌^◌, min, option_map, unwrap_or, IfOk, IfErr, OnOk};
+ghost use Rattle.source_tree.specs.Numbers.{digit, based, value_of, in_64_bits};
+ghost use Rattle.st_lexer.specs.Parts.{number_rule};
 
-const LIMIT: u128 = 1 << 64;
+use rules::Rule;
 
 fn digit(b: u8) -> u8
     ensures { result ≡ digit b }
@@ -15,13 +16,23 @@ fn digit(b: u8) -> u8
     }
 }
 
-// The value of digits of a base, cut at 2^64.
-fn digits(base: u8, text: &[u8]) -> Option<u128>
+// A value with one digit more behind it; None stands for 2^64 or more.
+fn with_digit(value: Option<u64>, base: u8, digit: u8) -> Option<u64>
+    requires { 1 ≤ base }
+    ensures { unwrap_or result (2 ^ 64) ≡ min (unwrap_or value (2 ^ 64) * base + digit) (2 ^ 64) }
+{
+    value?
+        .checked_mul(u64::from(base))?
+        .checked_add(u64::from(digit))
+}
+
+// The value of digits of a base, where they are of their form; None stands for 2^64 or more.
+fn digits(base: u8, text: &[u8]) -> Option<Option<u64>>
     requires low { 2 ≤ base }
     requires high { base ≤ 16 }
-    ensures { result ≡ option_map (λ v. min v (2 ^ 64)) (based base text.now) }
+    ensures { option_map (λ v. unwrap_or v (2 ^ 64)) result ≡ option_map (λ v. min v (2 ^ 64)) (based base text.now) }
 {
-    let mut value = 0u128;
+    let mut value = Some(0);
     let mut needed = true;
     for b in text {
         if *b == b'_' {
@@ -34,17 +45,17 @@ fn digits(base: u8, text: &[u8]) -> Option<u128>
             if digit >= base {
                 return None;
             }
-            value = (value * u128::from(base) + u128::from(digit)).min(LIMIT);
+            value = with_digit(value, base, digit);
             needed = false;
         }
     }
     if needed { None } else { Some(value) }
 }
 
-/// The value of a number, cut at 2^64.
-#[tactic(auto, unfolding(st_tree::specs::Numbers::value_of))]
-pub fn cut_value(text: &[u8]) -> Option<u128>
-    ensures { result ≡ option_map (λ v. min v (2 ^ 64)) (value_of text.now) }
+// The value of a number, where it has a form; None stands for 2^64 or more.
+#[tactic(auto, unfolding(source_tree::specs::Numbers::value_of))]
+fn cut_value(text: &[u8]) -> Option<Option<u64>>
+    ensures { option_map (λ v. unwrap_or v (2 ^ 64)) result ≡ option_map (λ v. min v (2 ^ 64)) (value_of text.now) }
 {
     if text.starts_with(b"2#") {
         digits(2, &text[2..])
@@ -57,9 +68,15 @@ pub fn cut_value(text: &[u8]) -> Option<u128>
     }
 }
 
-/// The value of a number token's slice: none where it has no form, or is above 2^64 - 1.
-pub fn number_value(slice: &str) -> Option<u64>
-    ensures { result ≡ in_64_bits (value_of slice.now) }
+/// The value of a number token's slice, or the rule that it breaks.
+pub fn number(slice: &[u8]) -> Result<u64, Rule>
+    ensures value { IfOk result (λ v. in_64_bits (value_of slice.now) ≡ Some v) }
+    ensures kept { OnOk result (number_rule (value_of slice.now) ≡ None) }
+    ensures broken { IfErr result (λ r. number_rule (value_of slice.now) ≡ Some r) }
 {
-    u64::try_from(cut_value(slice.as_bytes())?).ok()
+    match cut_value(slice) {
+        None => Err(Rule::NumberForm),
+        Some(None) => Err(Rule::NumberSize),
+        Some(Some(value)) => Ok(value),
+    }
 }

@@ -1,13 +1,19 @@
 // What tokens are for the grammar.
-ghost use Rattle.std.specs.Prelude.{◌≡◌, [], ◌∷◌};
-ghost use Rattle.st_tree.specs.declared.token.Terminal.TheVariants.{LeftOut};
-ghost use Rattle.st_tree.specs.Terminals.{entry_or, signs, terminal_of};
+ghost use Rattle.std.specs.Prelude.{◌≡◌, [], ◌∷◌, IfOk, IfErr, OnOk};
+ghost use Rattle.source_tree.specs.declared.token.Terminal.TheVariants.{LeftOut};
+ghost use Rattle.source_tree.specs.Terminals.{entry_or, signs, terminal_of};
+ghost use Rattle.source_tree.specs.Tokens.{token};
+ghost use Rattle.st_lexer.specs.Parts.{piece_rule};
 
-use crate::numbers::number_value;
+use crate::numbers::number;
 use crate::words::word_terminal;
-use st_tree::{Kind, Mark, Operator, Terminal};
+use plc_types::Operator;
+use rules::Rule;
+use source_tree::{Kind, Mark, Terminal};
 
-#[tactic(auto, unfolding(st_tree::specs::Terminals::signs))]
+const LONGEST_WORD: usize = 64;
+
+#[tactic(auto, unfolding(source_tree::specs::Terminals::signs))]
 fn sign_of_one(b: u8) -> Terminal
     ensures { result ≡ entry_or LeftOut signs (b ∷ []) }
 {
@@ -31,7 +37,7 @@ fn sign_of_one(b: u8) -> Terminal
     }
 }
 
-#[tactic(auto, unfolding(st_tree::specs::Terminals::signs))]
+#[tactic(auto, unfolding(source_tree::specs::Terminals::signs))]
 fn sign_of_two(b: u8, c: u8) -> Terminal
     ensures { result ≡ entry_or LeftOut signs (b ∷ c ∷ []) }
 {
@@ -56,14 +62,17 @@ fn sign_terminal(slice: &[u8]) -> Terminal
     }
 }
 
-/// What a token of a kind and a slice is.
-#[tactic(auto, unfolding(st_tree::specs::Terminals::terminal_of))]
-pub fn terminal(kind: Kind, slice: &str) -> Terminal
-    ensures { result ≡ terminal_of kind slice.now }
+/// What a token of a kind and a slice is, or the rule that it breaks.
+#[tactic(auto, unfolding(source_tree::specs::Terminals::terminal_of))]
+pub fn terminal(kind: Kind, slice: &str) -> Result<Terminal, Rule>
+    ensures value { IfOk result (λ t. t ≡ terminal_of kind slice.now) }
+    ensures kept { OnOk result (piece_rule (token kind slice.now) ≡ None) }
+    ensures broken { IfErr result (λ r. piece_rule (token kind slice.now) ≡ Some r) }
 {
     match kind {
-        Kind::Word => word_terminal(slice),
-        Kind::Number => Terminal::Number(number_value(slice).unwrap_or(0)),
-        Kind::Sign => sign_terminal(slice.as_bytes()),
+        Kind::Word if slice.len() > LONGEST_WORD => Err(Rule::WordLength),
+        Kind::Word => Ok(word_terminal(slice)),
+        Kind::Number => Ok(Terminal::Number(number(slice.as_bytes())?)),
+        Kind::Sign => Ok(sign_terminal(slice.as_bytes())),
     }
 }

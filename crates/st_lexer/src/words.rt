@@ -1,156 +1,171 @@
-// Words by their length, in upper case, and what they are for the grammar.
-ghost use Rattle.std.specs.Prelude.{◌≡◌, bytes_eq};
-ghost use Rattle.st_tree.specs.declared.token.Terminal.TheVariants.{Name};
-ghost use Rattle.st_tree.specs.SyntaxView.{upper};
-ghost use Rattle.st_tree.specs.Terminals.{entry_or, words};
-ghost use Rattle.st_lexer.specs.Tables.{entries_of, of_length};
+// Words by their first letter, in upper case, and what they are for the grammar.
+ghost use Rattle.std.specs.Prelude.{◌≡◌, bytes_eq, slice_index};
+ghost use Rattle.source_tree.specs.declared.token.Terminal.TheVariants.{Name};
+ghost use Rattle.source_tree.specs.SyntaxView.{upper};
+ghost use Rattle.source_tree.specs.Terminals.{entry_or, words};
+ghost use Rattle.st_lexer.specs.Tables.{entries_of, beginning_with};
 
-use st_tree::{Elementary, Mark, Operator, PartWord, Terminal};
+use crate::classes::byte_at;
+use plc_types::{Elementary, Operator};
+use source_tree::{Mark, PartWord, Terminal};
 
-static WORDS_OF_2: [(&str, Terminal); 8] = [
-    ("IF", Terminal::Mark(Mark::If)),
-    ("OF", Terminal::Mark(Mark::Of)),
-    ("TO", Terminal::Mark(Mark::To)),
-    ("BY", Terminal::Mark(Mark::By)),
-    ("DO", Terminal::Mark(Mark::Do)),
-    ("OR", Terminal::Operator(Operator::Or)),
-    ("DT", Terminal::LeftOut),
+static WORDS_A: [(&str, Terminal); 4] = [
+    ("ACTION", Terminal::Part(PartWord::Action)),
+    ("AND", Terminal::Operator(Operator::And)),
+    ("ARRAY", Terminal::LeftOut),
     ("AT", Terminal::LeftOut),
 ];
 
-static WORDS_OF_3: [(&str, Terminal); 8] = [
-    ("VAR", Terminal::Mark(Mark::Var)),
-    ("AND", Terminal::Operator(Operator::And)),
-    ("XOR", Terminal::Operator(Operator::Xor)),
-    ("MOD", Terminal::Operator(Operator::Mod)),
-    ("NOT", Terminal::Not),
-    ("FOR", Terminal::For),
-    ("INT", Terminal::Type(Elementary::Int)),
-    ("TOD", Terminal::LeftOut),
-];
-
-static WORDS_OF_4: [(&str, Terminal); 19] = [
-    ("TYPE", Terminal::Mark(Mark::Type)),
-    ("THEN", Terminal::Mark(Mark::Then)),
-    ("ELSE", Terminal::Mark(Mark::Else)),
-    ("CASE", Terminal::Mark(Mark::Case)),
-    ("FROM", Terminal::Mark(Mark::From)),
-    ("STEP", Terminal::Part(PartWord::Step)),
-    ("TRUE", Terminal::Truth(true)),
+static WORDS_B: [(&str, Terminal); 3] = [
+    ("BY", Terminal::Mark(Mark::By)),
     ("BOOL", Terminal::Type(Elementary::Bool)),
-    ("SINT", Terminal::Type(Elementary::Sint)),
-    ("DINT", Terminal::Type(Elementary::Dint)),
-    ("UINT", Terminal::Type(Elementary::Uint)),
     ("BYTE", Terminal::Type(Elementary::Byte)),
-    ("WORD", Terminal::Type(Elementary::Word)),
-    ("REAL", Terminal::LeftOut),
-    ("DATE", Terminal::LeftOut),
-    ("TIME", Terminal::LeftOut),
-    ("LINT", Terminal::LeftOut),
-    ("EXIT", Terminal::LeftOut),
-    ("TASK", Terminal::LeftOut),
 ];
 
-static WORDS_OF_5: [(&str, Terminal); 10] = [
-    ("ELSIF", Terminal::Mark(Mark::Elsif)),
-    ("FALSE", Terminal::Truth(false)),
-    ("USINT", Terminal::Type(Elementary::Usint)),
-    ("UDINT", Terminal::Type(Elementary::Udint)),
-    ("DWORD", Terminal::Type(Elementary::Dword)),
-    ("LREAL", Terminal::LeftOut),
-    ("ULINT", Terminal::LeftOut),
-    ("LWORD", Terminal::LeftOut),
-    ("ARRAY", Terminal::LeftOut),
-    ("WHILE", Terminal::LeftOut),
-];
-
-static WORDS_OF_6: [(&str, Terminal); 9] = [
-    ("END_IF", Terminal::Mark(Mark::EndIf)),
-    ("ACTION", Terminal::Part(PartWord::Action)),
-    ("STRING", Terminal::LeftOut),
-    ("STRUCT", Terminal::LeftOut),
-    ("REPEAT", Terminal::LeftOut),
-    ("RETURN", Terminal::LeftOut),
-    ("RETAIN", Terminal::LeftOut),
-    ("R_EDGE", Terminal::LeftOut),
-    ("F_EDGE", Terminal::LeftOut),
-];
-
-static WORDS_OF_7: [(&str, Terminal); 4] = [
-    ("PROGRAM", Terminal::Mark(Mark::Program)),
-    ("END_VAR", Terminal::Mark(Mark::EndVar)),
-    ("END_FOR", Terminal::Mark(Mark::EndFor)),
-    ("WSTRING", Terminal::LeftOut),
-];
-
-static WORDS_OF_8: [(&str, Terminal); 7] = [
-    ("END_TYPE", Terminal::Mark(Mark::EndType)),
-    ("FUNCTION", Terminal::Mark(Mark::Function)),
-    ("VAR_TEMP", Terminal::Mark(Mark::VarTemp)),
+static WORDS_C: [(&str, Terminal); 3] = [
     ("CONSTANT", Terminal::Mark(Mark::Constant)),
-    ("END_CASE", Terminal::Mark(Mark::EndCase)),
-    ("END_STEP", Terminal::Mark(Mark::EndStep)),
-    ("RESOURCE", Terminal::LeftOut),
-];
-
-static WORDS_OF_9: [(&str, Terminal); 1] = [("VAR_INPUT", Terminal::Mark(Mark::VarInput))];
-
-static WORDS_OF_10: [(&str, Terminal); 8] = [
-    ("VAR_OUTPUT", Terminal::Mark(Mark::VarOutput)),
-    ("END_ACTION", Terminal::Mark(Mark::EndAction)),
-    ("TRANSITION", Terminal::Part(PartWord::Transition)),
-    ("VAR_IN_OUT", Terminal::LeftOut),
-    ("VAR_ACCESS", Terminal::LeftOut),
-    ("VAR_GLOBAL", Terminal::LeftOut),
-    ("VAR_CONFIG", Terminal::LeftOut),
-    ("NON_RETAIN", Terminal::LeftOut),
-];
-
-static WORDS_OF_11: [(&str, Terminal); 2] = [
-    ("END_PROGRAM", Terminal::Mark(Mark::EndProgram)),
-    ("TIME_OF_DAY", Terminal::LeftOut),
-];
-
-static WORDS_OF_12: [(&str, Terminal); 3] = [
-    ("END_FUNCTION", Terminal::Mark(Mark::EndFunction)),
-    ("INITIAL_STEP", Terminal::Part(PartWord::InitialStep)),
-    ("VAR_EXTERNAL", Terminal::LeftOut),
-];
-
-static WORDS_OF_13: [(&str, Terminal); 2] = [
-    ("DATE_AND_TIME", Terminal::LeftOut),
+    ("CASE", Terminal::Mark(Mark::Case)),
     ("CONFIGURATION", Terminal::LeftOut),
 ];
 
-static WORDS_OF_14: [(&str, Terminal); 2] = [
-    ("FUNCTION_BLOCK", Terminal::Mark(Mark::FunctionBlock)),
-    ("END_TRANSITION", Terminal::Mark(Mark::EndTransition)),
+static WORDS_D: [(&str, Terminal); 6] = [
+    ("DO", Terminal::Mark(Mark::Do)),
+    ("DINT", Terminal::Type(Elementary::Dint)),
+    ("DWORD", Terminal::Type(Elementary::Dword)),
+    ("DATE", Terminal::LeftOut),
+    ("DATE_AND_TIME", Terminal::LeftOut),
+    ("DT", Terminal::LeftOut),
 ];
 
-static WORDS_OF_18: [(&str, Terminal); 1] = [(
-    "END_FUNCTION_BLOCK",
-    Terminal::Mark(Mark::EndFunctionBlock),
-)];
+static WORDS_E: [(&str, Terminal); 14] = [
+    ("END_TYPE", Terminal::Mark(Mark::EndType)),
+    ("END_PROGRAM", Terminal::Mark(Mark::EndProgram)),
+    ("END_FUNCTION", Terminal::Mark(Mark::EndFunction)),
+    ("END_FUNCTION_BLOCK", Terminal::Mark(Mark::EndFunctionBlock)),
+    ("END_VAR", Terminal::Mark(Mark::EndVar)),
+    ("ELSIF", Terminal::Mark(Mark::Elsif)),
+    ("ELSE", Terminal::Mark(Mark::Else)),
+    ("END_IF", Terminal::Mark(Mark::EndIf)),
+    ("END_CASE", Terminal::Mark(Mark::EndCase)),
+    ("END_FOR", Terminal::Mark(Mark::EndFor)),
+    ("END_STEP", Terminal::Mark(Mark::EndStep)),
+    ("END_TRANSITION", Terminal::Mark(Mark::EndTransition)),
+    ("END_ACTION", Terminal::Mark(Mark::EndAction)),
+    ("EXIT", Terminal::LeftOut),
+];
 
-#[tactic(auto, unfolding(st_tree::specs::Terminals::words))]
-fn words_of(len: usize) -> &'static [(&'static str, Terminal)]
-    ensures { entries_of result.now ≡ of_length len words }
+static WORDS_F: [(&str, Terminal); 6] = [
+    ("FUNCTION", Terminal::Mark(Mark::Function)),
+    ("FUNCTION_BLOCK", Terminal::Mark(Mark::FunctionBlock)),
+    ("FROM", Terminal::Mark(Mark::From)),
+    ("FOR", Terminal::For),
+    ("FALSE", Terminal::Truth(false)),
+    ("F_EDGE", Terminal::LeftOut),
+];
+
+static WORDS_I: [(&str, Terminal); 3] = [
+    ("IF", Terminal::Mark(Mark::If)),
+    ("INITIAL_STEP", Terminal::Part(PartWord::InitialStep)),
+    ("INT", Terminal::Type(Elementary::Int)),
+];
+
+static WORDS_L: [(&str, Terminal); 3] = [
+    ("LREAL", Terminal::LeftOut),
+    ("LINT", Terminal::LeftOut),
+    ("LWORD", Terminal::LeftOut),
+];
+
+static WORDS_M: [(&str, Terminal); 1] = [("MOD", Terminal::Operator(Operator::Mod))];
+
+static WORDS_N: [(&str, Terminal); 2] = [("NOT", Terminal::Not), ("NON_RETAIN", Terminal::LeftOut)];
+
+static WORDS_O: [(&str, Terminal); 2] = [
+    ("OF", Terminal::Mark(Mark::Of)),
+    ("OR", Terminal::Operator(Operator::Or)),
+];
+
+static WORDS_P: [(&str, Terminal); 1] = [("PROGRAM", Terminal::Mark(Mark::Program))];
+
+static WORDS_R: [(&str, Terminal); 6] = [
+    ("REAL", Terminal::LeftOut),
+    ("REPEAT", Terminal::LeftOut),
+    ("RETURN", Terminal::LeftOut),
+    ("RETAIN", Terminal::LeftOut),
+    ("RESOURCE", Terminal::LeftOut),
+    ("R_EDGE", Terminal::LeftOut),
+];
+
+static WORDS_S: [(&str, Terminal); 4] = [
+    ("STEP", Terminal::Part(PartWord::Step)),
+    ("SINT", Terminal::Type(Elementary::Sint)),
+    ("STRING", Terminal::LeftOut),
+    ("STRUCT", Terminal::LeftOut),
+];
+
+static WORDS_T: [(&str, Terminal); 9] = [
+    ("TYPE", Terminal::Mark(Mark::Type)),
+    ("THEN", Terminal::Mark(Mark::Then)),
+    ("TO", Terminal::Mark(Mark::To)),
+    ("TRANSITION", Terminal::Part(PartWord::Transition)),
+    ("TRUE", Terminal::Truth(true)),
+    ("TIME", Terminal::LeftOut),
+    ("TIME_OF_DAY", Terminal::LeftOut),
+    ("TOD", Terminal::LeftOut),
+    ("TASK", Terminal::LeftOut),
+];
+
+static WORDS_U: [(&str, Terminal); 4] = [
+    ("USINT", Terminal::Type(Elementary::Usint)),
+    ("UINT", Terminal::Type(Elementary::Uint)),
+    ("UDINT", Terminal::Type(Elementary::Udint)),
+    ("ULINT", Terminal::LeftOut),
+];
+
+static WORDS_V: [(&str, Terminal); 9] = [
+    ("VAR", Terminal::Mark(Mark::Var)),
+    ("VAR_INPUT", Terminal::Mark(Mark::VarInput)),
+    ("VAR_OUTPUT", Terminal::Mark(Mark::VarOutput)),
+    ("VAR_TEMP", Terminal::Mark(Mark::VarTemp)),
+    ("VAR_IN_OUT", Terminal::LeftOut),
+    ("VAR_EXTERNAL", Terminal::LeftOut),
+    ("VAR_ACCESS", Terminal::LeftOut),
+    ("VAR_GLOBAL", Terminal::LeftOut),
+    ("VAR_CONFIG", Terminal::LeftOut),
+];
+
+static WORDS_W: [(&str, Terminal); 3] = [
+    ("WORD", Terminal::Type(Elementary::Word)),
+    ("WSTRING", Terminal::LeftOut),
+    ("WHILE", Terminal::LeftOut),
+];
+
+static WORDS_X: [(&str, Terminal); 1] = [("XOR", Terminal::Operator(Operator::Xor))];
+
+// The words that begin with a letter, which stands in upper case.
+#[tactic(auto, unfolding(source_tree::specs::Terminals::words))]
+fn words_with(letter: u8) -> &'static [(&'static str, Terminal)]
+    ensures { entries_of result.now ≡ beginning_with letter words }
 {
-    match len {
-        2 => &WORDS_OF_2,
-        3 => &WORDS_OF_3,
-        4 => &WORDS_OF_4,
-        5 => &WORDS_OF_5,
-        6 => &WORDS_OF_6,
-        7 => &WORDS_OF_7,
-        8 => &WORDS_OF_8,
-        9 => &WORDS_OF_9,
-        10 => &WORDS_OF_10,
-        11 => &WORDS_OF_11,
-        12 => &WORDS_OF_12,
-        13 => &WORDS_OF_13,
-        14 => &WORDS_OF_14,
-        18 => &WORDS_OF_18,
+    match letter {
+        b'A' => &WORDS_A,
+        b'B' => &WORDS_B,
+        b'C' => &WORDS_C,
+        b'D' => &WORDS_D,
+        b'E' => &WORDS_E,
+        b'F' => &WORDS_F,
+        b'I' => &WORDS_I,
+        b'L' => &WORDS_L,
+        b'M' => &WORDS_M,
+        b'N' => &WORDS_N,
+        b'O' => &WORDS_O,
+        b'P' => &WORDS_P,
+        b'R' => &WORDS_R,
+        b'S' => &WORDS_S,
+        b'T' => &WORDS_T,
+        b'U' => &WORDS_U,
+        b'V' => &WORDS_V,
+        b'W' => &WORDS_W,
+        b'X' => &WORDS_X,
         _ => &[],
     }
 }
@@ -172,9 +187,16 @@ fn entry_or_name(table: &[(&str, Terminal)], text: &str) -> Terminal
     Terminal::Name
 }
 
+// The first letter of a text, in upper case, or 0 where it has none.
+fn first_letter(text: &str) -> u8
+    ensures { result ≡ slice_index (upper text.now) 0 }
+{
+    byte_at(text.as_bytes(), 0).to_ascii_uppercase()
+}
+
 /// What a word is, in whatever case it stands.
 pub fn word_terminal(text: &str) -> Terminal
     ensures { result ≡ entry_or Name words (upper text.now) }
 {
-    entry_or_name(words_of(text.len()), text)
+    entry_or_name(words_with(first_letter(text)), text)
 }

@@ -1,22 +1,23 @@
 -- What is kept of a file.
-use Rattle.std.proofs.Common.{◌≡◌, ◌<◌, ◌+◌, ℕ, zero, suc, List, [], ◌∷◌, length, map, Bool, true, false, Option, Some, None, option_map, count_by, get_or, if◌then◌else◌, refl, sym, ap, ◌∙◌, arith}
+use Rattle.std.proofs.Common.{◌≡◌, ◌<◌, ◌+◌, ℕ, zero, suc, List, [], ◌∷◌, length, map, Bool, true, false, Option, Some, None, option_map, count_by, get_or, if◌then◌else◌, refl, sym, ap, ◌∙◌, arith, Vec, Global}
 use Rattle.std.specs.HashMap.{get_by_text}
 use Rattle.std.specs.List.{slice_get, position_from}
 use Rattle.std.specs.Option.{option_and_then}
 use Rattle.std.proofs.lemmas.List.{length-map}
 use Rattle.std.proofs.lemmas.Option.{slice_get-map, slice_get_read, slice_get_within, slice_get-get_or}
-use Rattle.st_tree.specs.declared.syntax.Item.{Item}
-use Rattle.st_tree.specs.SyntaxView.{item_view, items_view}
-use Rattle.st_tree.specs.Syntax.{PouData, ItemData, types, pou, FileData}
-use Rattle.st_names.specs.declared.names_of_pou.NamesOfPou.{NamesOfPou}
-use Rattle.st_names.specs.declared.slots.Slot.{Slot}
+use Rattle.call_order.specs.Uses.{graph_of, uses_at}
+use Rattle.source_tree.specs.declared.syntax.Item.{Item}
+use Rattle.source_tree.specs.SyntaxView.{item_view, items_view}
+use Rattle.source_tree.specs.Syntax.{PouData, ItemData, types, pou, FileData}
+use Rattle.pou_scope.specs.declared.pou_names.NamesOfPou.{NamesOfPou}
+use Rattle.naming.specs.declared.slot.Slot.{Slot}
 use Rattle.st_names.specs.Bound.{bound_of, bound_named, places_from}
 use Rattle.st_names.specs.BoundBy.{bound_by}
-use Rattle.st_names.specs.FileScope.{pous_of, pou_at, is_program}
-use Rattle.st_names.specs.NamesView.{scope_named, scopes_named}
-use Rattle.st_names.specs.Scopes.{Variable, PouScope, scope_of, variables_in_pou, is_doubled_among}
-use Rattle.st_names.specs.Slots.{found, slot_of, slot_named}
-use Rattle.st_names.proofs.CountLemmas.{count-cons}
+use Rattle.naming.specs.FileScope.{pous_of, pou_at, is_program}
+use Rattle.pou_scope.specs.NamesView.{scope_named, scopes_named}
+use Rattle.naming.specs.Scopes.{Variable, PouScope, scope_of, variables_in_pou, is_doubled_among}
+use Rattle.naming.specs.Slots.{found, slot_of, slot_named}
+use Rattle.naming.proofs.CountLemmas.{count-cons}
 
 abbrev pub pou_item : PouData → ItemData
 pou_item p = pou p
@@ -105,3 +106,14 @@ reads_pou f its ps number view places below =
       is = λ x at. some_is (item_view x) (pou_item r.pou)
           (sym (slice_get-map item_view its place ∙ ap (option_map item_view) (slice_get_read its (length its) place x refl within at)) ∙ ap (λ is. slice_get is place) view ∙ there);
     }
+
+-- what the POU of a number uses
+pub uses_there : (us : List (Vec ℕ Global)) (k : ℕ) (v : Vec ℕ Global) → slice_get us k ≡ Some v → uses_at (graph_of us) k ≡ v.items
+uses_there [] k v e = absurd (let h : ⊥ = cc in h)
+uses_there (u ∷ us) zero v e = let same : u ≡ v = cc in ap (λ (w : Vec ℕ Global). w.items) same
+uses_there (u ∷ us) (suc k) v e = uses_there us k v e
+
+pub uses_past : (us : List (Vec ℕ Global)) (k : ℕ) → slice_get us k ≡ None → uses_at (graph_of us) k ≡ []
+uses_past [] k e = refl
+uses_past (u ∷ us) zero e = absurd (let h : ⊥ = cc in h)
+uses_past (u ∷ us) (suc k) e = uses_past us k e

@@ -1,16 +1,16 @@
 -- What the names of a POU are bound to, and what a file's answer is.
 use Rattle.std.specs.Prelude.{◌≡◌, ℕ, ◌+◌, List, [], ◌∷◌, Bool, Option, Some, option_map}
 use Rattle.std.specs.List.{list_all, position_from}
-use Rattle.st_tree.specs.Rules.{IsFirst}
-use Rattle.st_tree.specs.Syntax.{PouData, types, pou, FileData}
+use Rattle.rules.specs.Rules.{IsFirst}
+use Rattle.source_tree.specs.Syntax.{PouData, types, pou, FileData}
 use Rattle.st_names.specs.declared.bound.Bound.{Bound}
-use Rattle.st_names.specs.declared.fault.NameFault.{NameFault}
-use Rattle.st_names.specs.declared.fault.NameFault.TheVariants.{Refused, Memory}
-use Rattle.st_names.specs.Broken.{is_program_pou}
-use Rattle.st_names.specs.Circles.{IsBroken}
-use Rattle.st_names.specs.FileScope.{pous_of}
-use Rattle.st_names.specs.Scopes.{Variable, variables_in_pou, is_typed}
-use Rattle.st_names.specs.Slots.{found}
+use Rattle.rules.specs.declared.fault.Fault.{Fault}
+use Rattle.rules.specs.declared.fault.Fault.TheVariants.{Refused, Memory}
+use Rattle.naming.specs.Broken.{is_program_pou}
+use Rattle.naming.specs.Circles.{IsBroken}
+use Rattle.naming.specs.FileScope.{pous_of}
+use Rattle.naming.specs.Scopes.{Variable, variables_in_pou, is_typed}
+use Rattle.naming.specs.Slots.{found}
 
 abbrev pub bound_of : ℕ × Variable → Bound
 bound_of f = record { number = f.0; role = f.1.role }
@@ -37,6 +37,6 @@ places_from number (types ds ∷ is) = places_from (number + 1) is
 places_from number (pou p ∷ is) = number ∷ places_from (number + 1) is
 
 -- a file is refused by the first rule on names that it breaks
-abbrev pub IsFaultOf : FileData → NameFault → Type 0
+abbrev pub IsFaultOf : FileData → Fault → Type 0
 IsFaultOf f (Refused r) = IsFirst (IsBroken f) r
 IsFaultOf f Memory = Unit {0}

@@ -1,6 +1,6 @@
 -- What a slot binds its name to.
 use Rattle.st_names.specs.declared.bound.Bound.{Bound}
-use Rattle.st_names.specs.declared.slots.Slot.{Slot}
+use Rattle.naming.specs.declared.slot.Slot.{Slot}
 
 abbrev pub bound_by : Slot → Bound
 bound_by s = record { number = s.number; role = s.role }

@@ -1,17 +1,15 @@
 // A file whose names are bound.
 ghost use Rattle.std.specs.Prelude.{◌≡◌, ◌<◌, Some, length, count_by, option_map};
-ghost use Rattle.st_tree.specs.SyntaxView.{file_view};
+ghost use Rattle.source_tree.specs.SyntaxView.{file_view};
 ghost use Rattle.st_names.specs.Bindings.{AreBindings};
 ghost use Rattle.st_names.specs.BoundBy.{bound_by};
-ghost use Rattle.st_names.specs.Broken.{is_program_pou};
-ghost use Rattle.st_names.specs.FileScope.{pous_of};
+ghost use Rattle.naming.specs.Broken.{is_program_pou};
+ghost use Rattle.naming.specs.FileScope.{pous_of};
 
-use crate::ends::end_at;
-use crate::role::Role;
-use crate::slots::{Slot, Slots, slot_at};
-use crate::standing::Standing;
-use crate::table::{Table, standing_at};
-use st_tree::{Item, Pou, SourceFile};
+use file_scope::{Table, end_at, standing_at};
+use naming::{Role, Slot, Standing};
+use pou_scope::{Slots, slot_at};
+use source_tree::{Item, Pou, SourceFile};
 
 /// A variable that a name is bound to: its number in declared order, from 1, and what it is for.
 #[derive(Clone, Copy, Debug, PartialEq, Eq)]
@@ -20,12 +18,13 @@ pub struct Bound {
     pub role: Role,
 }
 
-/// The slots of each POU, the places of POUs among the items of a file, their order, the number of the PROGRAM, the table of
-/// all names, and where types lead to.
+/// The slots of each POU, the places of POUs among the items of a file, which POUs each uses, their order, the number of the
+/// PROGRAM, the table of all names, and where types lead to.
 #[derive(Drop)]
 pub struct Bindings {
     pub slots: Vec<Slots>,
     pub places: Vec<usize>,
+    pub uses: Vec<Vec<usize>>,
     pub order: Vec<usize>,
     pub program: Option<usize>,
     pub table: Table,
@@ -56,17 +55,17 @@ fn bound_by(slot: Option<Slot>) -> Option<Bound>
 
 impl Resolved {
     ghost use Rattle.std.specs.Prelude.{option_and_then};
-    ghost use Rattle.call_order.specs.Uses.{order_of};
-    ghost use Rattle.st_tree.specs.SyntaxView.{pou_view};
+    ghost use Rattle.call_order.specs.Uses.{uses_at, order_of};
+    ghost use Rattle.source_tree.specs.SyntaxView.{pou_view};
     ghost use Rattle.st_names.specs.Bound.{bound_named, program_number};
-    ghost use Rattle.st_names.specs.Circles.{uses_of};
-    ghost use Rattle.st_names.specs.FileScope.{pou_at, standing};
-    ghost use Rattle.st_names.specs.Scopes.{scope_of, variables_in_pou};
-    ghost use Rattle.st_names.specs.Slots.{slot_named};
-    ghost use Rattle.st_names.specs.Types.{end_of};
+    ghost use Rattle.naming.specs.Circles.{uses_of};
+    ghost use Rattle.naming.specs.FileScope.{pou_at, standing};
+    ghost use Rattle.naming.specs.Scopes.{scope_of, variables_in_pou};
+    ghost use Rattle.naming.specs.Slots.{slot_named};
+    ghost use Rattle.naming.specs.Types.{end_of};
 
     /// A file that has one PROGRAM, with its bindings.
-    pub(crate) fn new(file: SourceFile, bindings: Bindings) -> Resolved
+    pub fn new(file: SourceFile, bindings: Bindings) -> Resolved
         requires one { count_by is_program_pou (pous_of (file_view file)) ≡ 1 }
         requires bound { AreBindings (file_view file) bindings }
         ensures { file_view result.file ≡ file_view file }
@@ -109,6 +108,16 @@ impl Resolved {
         ensures { result.now ≡ order_of (uses_of (file_view self.now.file)) }
     {
         &self.bindings.order
+    }
+
+    /// The POUs that the POU of a number uses, in constant time.
+    pub fn uses(&self, number: usize) -> &[usize]
+        ensures { result.now ≡ uses_at (uses_of (file_view self.now.file)) number }
+    {
+        match self.bindings.uses.as_slice().get(number) {
+            None => &[],
+            Some(uses) => uses,
+        }
     }
 
     // The slot of a name in the POU of a number.

@@ -1,24 +1,21 @@
 // What the POUs of a file break, and which they use.
 ghost use Rattle.std.specs.Prelude.{◌≡◌, ◌++◌, OnOk, IfOk, map};
 ghost use Rattle.call_order.specs.Uses.{graph_of};
-ghost use Rattle.st_tree.specs.Rules.{earlier, first_in};
-ghost use Rattle.st_tree.specs.SyntaxView.{body_view, file_view};
-ghost use Rattle.st_names.specs.Broken.{in_pou_scope, in_pou, in_pous};
-ghost use Rattle.st_names.specs.Circles.{blocks_used, calls_in_body, uses_of};
-ghost use Rattle.st_names.specs.FileScope.{pous_of};
-ghost use Rattle.st_names.specs.NamesView.{file_in, pou_in, pous_named, scopes_named};
-ghost use Rattle.st_names.specs.Outcomes.{outcome_of};
-ghost use Rattle.st_names.specs.Scopes.{scope_of};
-ghost use Rattle.st_names.specs.ScopeView.{pous_view};
+ghost use Rattle.rules.specs.Rules.{earlier, first_in};
+ghost use Rattle.source_tree.specs.SyntaxView.{body_view, file_view};
+ghost use Rattle.naming.specs.Broken.{in_pou_scope, in_pou, in_pous};
+ghost use Rattle.naming.specs.Circles.{blocks_used, calls_in_body, uses_of};
+ghost use Rattle.naming.specs.FileScope.{pous_of};
+ghost use Rattle.pou_scope.specs.NamesView.{file_in, pou_in, pous_named, scopes_named};
+ghost use Rattle.rules.specs.Outcomes.{outcome_of};
+ghost use Rattle.naming.specs.Scopes.{scope_of};
+ghost use Rattle.naming.specs.ScopeView.{pous_view};
 
-use crate::body::walk_body;
-use crate::calls::append_in_body;
-use crate::declarations::{append_blocks, walk_declarations};
-use crate::file_scope::FileScope;
-use crate::names_of_pou::{Names, NamesOfPou, names_of_pou};
-use crate::outcome::Outcome;
-use crate::scope::Scope;
-use st_tree::{Pou, Refusal};
+use file_scope::FileScope;
+use name_uses::{Scope, append_in_body, walk_body};
+use pou_scope::{Names, NamesOfPou, append_blocks, names_of_pou, walk_declarations};
+use rules::{Outcome, Refusal};
+use source_tree::Pou;
 use std::alloc::{AllocError, Global};
 
 /// Which POUs of a file are whole, and which POUs each uses.

@@ -3,31 +3,30 @@ ghost use Rattle.std.specs.Prelude.{◌≡◌, ◌++◌, [], OnOk, IfOk, IfErr, 
 ghost use Rattle.std.specs.HashMap.{get_by_text};
 ghost use Rattle.std.specs.List.{slice_get, position_from};
 ghost use Rattle.call_order.specs.Uses.{graph_of, order_of, Reaches};
-ghost use Rattle.st_tree.specs.Rules.{first_in};
-ghost use Rattle.st_tree.specs.SyntaxView.{items_view, pou_view, file_view};
+ghost use Rattle.rules.specs.Rules.{first_in};
+ghost use Rattle.source_tree.specs.SyntaxView.{items_view, pou_view, file_view};
 ghost use Rattle.st_names.specs.Bindings.{AreBindings};
 ghost use Rattle.st_names.specs.Bound.{are_pous_typed, places_from, program_number, IsFaultOf};
-ghost use Rattle.st_names.specs.Broken.{is_program_pou, in_pou, not_one, names_twice, broken_names};
-ghost use Rattle.st_names.specs.Circles.{uses_of, IsBroken};
-ghost use Rattle.st_names.specs.FileScope.{types_of, pous_of, names_of, pou_at};
-ghost use Rattle.st_names.specs.FirstOf.{IsFirstOf};
-ghost use Rattle.st_names.specs.NamesView.{pous_named, scopes_named};
-ghost use Rattle.st_names.specs.Scopes.{scope_of};
-ghost use Rattle.st_names.specs.ScopeView.{types_view, pous_view};
-ghost use Rattle.st_names.specs.Slots.{slot_named};
-ghost use Rattle.st_names.specs.Types.{are_whole_types};
+ghost use Rattle.naming.specs.Broken.{is_program_pou, in_pou, not_one, names_twice, broken_names};
+ghost use Rattle.naming.specs.Circles.{uses_of, IsBroken};
+ghost use Rattle.naming.specs.FileScope.{types_of, pous_of, names_of, pou_at};
+ghost use Rattle.naming.specs.FirstOf.{IsFirstOf};
+ghost use Rattle.pou_scope.specs.NamesView.{pous_named, scopes_named};
+ghost use Rattle.naming.specs.Scopes.{scope_of};
+ghost use Rattle.naming.specs.ScopeView.{types_view, pous_view};
+ghost use Rattle.naming.specs.Slots.{slot_named};
+ghost use Rattle.naming.specs.Types.{are_whole_types};
 
 use crate::bound::{Bindings, Resolved};
 use crate::circles::walk_circles;
-use crate::fault::NameFault;
-use crate::file_scope::{FileScope, file_scope};
 use crate::judged::{Judged, all_names, judge_pous};
-use crate::names::{Declarations, list_declarations};
-use crate::names_of_pou::NamesOfPou;
-use crate::slots::Slots;
-use crate::type_declarations::{walk_results, walk_types};
 use call_order::order;
-use st_tree::{Item, Pou, PouKind, Refusal, Rule, SourceFile};
+use file_scope::{
+    Declarations, FileScope, file_scope, list_declarations, walk_results, walk_types,
+};
+use pou_scope::{NamesOfPou, Slots};
+use rules::{Fault, Refusal, Rule};
+use source_tree::{Item, Pou, PouKind, SourceFile};
 use std::alloc::{AllocError, Global};
 
 // Whether a POU is a PROGRAM.
@@ -149,11 +148,13 @@ fn bindings_of(
     scope: FileScope<'_>,
     slots: Vec<Slots>,
     places: Vec<usize>,
+    uses: Vec<Vec<usize>>,
     order: Vec<usize>,
     program: Option<usize>,
 ) -> Bindings
     requires slots { (number : ℕ) → (text : List ℕ) → option_and_then (λ s. get_by_text s text) (slice_get slots.items number) ≡ option_and_then (λ p. slot_named (scope_of p) text) (pou_at (file_view scope.types.names.file.now) number) }
     requires places { places.items ≡ places_from 0 (file_view scope.types.names.file.now) }
+    requires uses { graph_of uses.items ≡ uses_of (file_view scope.types.names.file.now) }
     requires order { order.items ≡ order_of (uses_of (file_view scope.types.names.file.now)) }
     requires program { program ≡ program_number (file_view scope.types.names.file.now) }
     ensures { AreBindings (file_view scope.entry.types.names.file.now) result }
@@ -163,6 +164,7 @@ fn bindings_of(
     Bindings {
         slots,
         places,
+        uses,
         order,
         program,
         table: names.table,
@@ -184,11 +186,12 @@ fn walk_file(alloc: Global, file: &SourceFile) -> Result<(Option<Refusal>, Bindi
     let program = program_number(&list.pous);
     let slots = all_slots(alloc, all)?;
     let places = places(alloc, &file.items)?;
-    Ok((first, bindings_of(scope, slots, places, numbers, program)))
+    let bindings = bindings_of(scope, slots, places, judged.uses, numbers, program);
+    Ok((first, bindings))
 }
 
 /// The POUs of a file with every name bound, or the first rule on names that the file breaks.
-pub fn resolve(alloc: Global, file: SourceFile) -> Result<Resolved, NameFault>
+pub fn resolve(alloc: Global, file: SourceFile) -> Result<Resolved, Fault>
     ensures refused { IfErr result (IsFaultOf (file_view file)) }
     ensures kept { OnOk result (broken_names (file_view file) ≡ []) }
     ensures ordered { OnOk result (length (order_of (uses_of (file_view file))) ≡ length (pous_of (file_view file))) }
@@ -199,12 +202,7 @@ pub fn resolve(alloc: Global, file: SourceFile) -> Result<Resolved, NameFault>
 {
     let (first, bindings) = walk_file(alloc, &file)?;
     match first {
-        Some(refusal) => Err(NameFault::Refused(refusal)),
-        None => {
-            if bindings.order.as_slice().len() != bindings.places.as_slice().len() {
-                return Err(NameFault::Memory);
-            }
-            Ok(Resolved::new(file, bindings))
-        }
+        Some(refusal) => Err(Fault::Refused(refusal)),
+        None => Ok(Resolved::new(file, bindings)),
     }
 }

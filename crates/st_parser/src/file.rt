@@ -1,26 +1,25 @@
 // Whole files (IEC 61131-3, 2.5 and annex B).
 ghost use Rattle.std.specs.Prelude.{◌≡◌, [], length, option_map, IfOk, IfErr};
-ghost use Rattle.st_tree.specs.SyntaxView as view;
-ghost use Rattle.st_tree.specs.SyntaxView.{file_view};
-ghost use Rattle.st_tree.specs.Syntax.{FileData};
-ghost use Rattle.st_tree.specs.Prints.{print_file};
-ghost use Rattle.st_tree.specs.Levels.{IsFileLevelled};
-ghost use Rattle.st_parser.specs.Files as spec;
-ghost use Rattle.st_parser.specs.Files.{GivesFile};
-ghost use Rattle.st_parser.specs.WholeFile.{IsFile, IsFileFault};
-ghost use Rattle.st_parser.specs.Reading.{Begins, Gives, ahead};
+ghost use Rattle.source_tree.specs.SyntaxView as view;
+ghost use Rattle.source_tree.specs.SyntaxView.{file_view};
+ghost use Rattle.source_tree.specs.Syntax.{FileData};
+ghost use Rattle.source_tree.specs.Prints.{print_file};
+ghost use Rattle.source_tree.specs.Levels.{IsFileLevelled};
+ghost use Rattle.grammar.specs.Files as spec;
+ghost use Rattle.grammar.specs.Files.{GivesFile};
+ghost use Rattle.grammar.specs.WholeFile.{IsFile, IsFileFault};
+ghost use Rattle.grammar.specs.Reading.{Begins, Gives, ahead};
 
-use crate::cursor::{after, token};
-use crate::fault::Stop;
-use crate::nesting::first_fault;
-use crate::parse::DEPTH;
-use crate::pou::pou_begun;
-use crate::types::types;
-use st_tree::{Item, Mark, ParseFault, SourceFile, Tok};
+use file_reader::{pou_begun, types};
+use grammar::{DEPTH, Stop};
+use rules::Fault;
+use source_tree::{Item, Mark, SourceFile, Tok};
+use st_reader::{after, token};
 use std::alloc::Global;
+use token_rules::first_fault;
 
 /// What the word at a place begins, types or a POU, or None where it begins neither.
-#[tactic(auto, unfolding(crate::specs::Files::item))]
+#[tactic(auto, unfolding(grammar::specs::Files::item))]
 fn item(
     alloc: Global,
     toks: &[Tok<'_>],
@@ -60,7 +59,7 @@ fn items(
 }
 
 /// All the tokens as a file, or why reading stopped.
-#[tactic(auto, unfolding(crate::specs::Files::file))]
+#[tactic(auto, unfolding(grammar::specs::Files::file))]
 fn whole(alloc: Global, toks: &[Tok<'_>], end: usize) -> Result<SourceFile, Stop>
     ensures { GivesFile result (spec.file (length toks.now) DEPTH (ahead toks.now 0)) }
 {
@@ -76,12 +75,12 @@ fn whole(alloc: Global, toks: &[Tok<'_>], end: usize) -> Result<SourceFile, Stop
 /// # Errors
 ///
 /// X1 and G2 come first, by place; then G1, at the first token with which no file goes on, else at `end`.
-pub fn parse_file(alloc: Global, toks: &[Tok<'_>], end: usize) -> Result<SourceFile, ParseFault>
+pub fn parse_file(alloc: Global, toks: &[Tok<'_>], end: usize) -> Result<SourceFile, Fault>
     ensures read { IfOk result (λ f. IsFile toks.now (file_view f)) }
     ensures refused { IfErr result (IsFileFault toks.now) }
 {
     if let Some(refusal) = first_fault(toks) {
-        return Err(ParseFault::Refused(refusal));
+        return Err(Fault::Refused(refusal));
     }
     Ok(whole(alloc, toks, end)?)
 }

@@ -1,29 +1,28 @@
 // The bodies of POUs, judged and typed.
 ghost use Rattle.std.specs.Prelude.{◌≡◌, map, IfOk};
-ghost use Rattle.st_tree.specs.SyntaxView.{body_view, pou_view};
-ghost use Rattle.st_tree.specs.View.{stmt_view, stmts_view};
-ghost use Rattle.st_names.specs.FileScope.{pous_of};
-ghost use Rattle.st_names.specs.ScopeView.{variable_view, variables_view};
-ghost use Rattle.st_types.specs.Bodies.{file_in};
-ghost use Rattle.st_types.specs.Beginnings.{beginning, beginnings};
-ghost use Rattle.st_types.specs.Outcomes.{outcome_of, pous_outcome};
-ghost use Rattle.st_types.specs.Pous.{judged_body, judged_pou};
-ghost use Rattle.st_types.specs.TypedPrograms.{begun, typed_body, pou_body};
+ghost use Rattle.source_tree.specs.SyntaxView.{body_view, pou_view};
+ghost use Rattle.program_tree.specs.View.{stmt_view, stmts_view};
+ghost use Rattle.naming.specs.FileScope.{pous_of};
+ghost use Rattle.naming.specs.ScopeView.{variable_view, variables_view};
+ghost use Rattle.decl_types.specs.Bodies.{file_in};
+ghost use Rattle.pou_cells.specs.Placed.{HasNoSizes, HasSizes};
+ghost use Rattle.typing.specs.Beginnings.{beginning, beginnings};
+ghost use Rattle.rules.specs.Outcomes.{outcome_of};
+ghost use Rattle.typing.specs.Outcomes.{pous_outcome};
+ghost use Rattle.typing.specs.Pous.{judged_body, judged_pou};
+ghost use Rattle.typing.specs.TypedPrograms.{begun, typed_body, pou_body};
 
 use crate::charts::{judge_parts, type_chart};
-use crate::domains::Domains;
-use crate::outcome::Outcome;
-use crate::places::{Next, first_place, first_places, places_behind};
-use crate::pou_scope::PouScope;
-use crate::pous::Pous;
-use crate::roles::is_temporary;
-use crate::scope::Scope;
-use crate::statements::judge_stmts;
-use crate::typed_statements::type_stmts;
-use crate::variables::{initial_of, judge_variables};
-use st_names::{Declared, declared_variables};
-use st_tree::{Body, Pou, TypedExpr, TypedStmt};
+use decl_types::{Domains, initial_of, judge_variables};
+use naming::Declared;
+use pou_cells::{PouScope, Pous, first_place, first_places, is_temporary, places_behind};
+use pou_scope::declared_variables;
+use program_tree::{TypedExpr, TypedStmt};
+use rules::Outcome;
+use source_tree::{Body, Pou};
 use std::alloc::{AllocError, Global};
+use stmt_types::{judge_stmts, type_stmts};
+use typing::{Next, Scope};
 
 // What a body breaks.
 fn judge_body<S: Scope>(alloc: Global, scope: &S, body: &Body) -> Result<Outcome, AllocError>
@@ -36,17 +35,18 @@ fn judge_body<S: Scope>(alloc: Global, scope: &S, body: &Body) -> Result<Outcome
 }
 
 // What the POU of a number breaks.
-#[tactic(auto, using(crate::proofs::Judging::judging))]
+#[tactic(auto, using(typing_laws::proofs::Judging::judging))]
 fn judge_pou(
     alloc: Global,
     pous: &Pous<'_>,
     number: usize,
     pou: &Pou,
 ) -> Result<Outcome, AllocError>
+    requires { HasNoSizes pous.now }
     ensures { IfOk result (λ o. o ≡ outcome_of (judged_pou (file_in pous.now.domains) number (pou_view pou.now))) }
 {
     let variables = declared_variables(alloc, pou)?;
-    let declared = judge_variables(alloc, &pous.domains, Outcome::sound(), &variables)?;
+    let declared = judge_variables(alloc, &pous.domains, Outcome::ok(), &variables)?;
     let scope = PouScope { pous, number };
     let body = judge_body(alloc, &scope, &pou.body)?;
     Ok(declared.also(body))
@@ -58,6 +58,7 @@ pub(crate) fn judge_pous(
     pous: &Pous<'_>,
     so_far: Outcome,
 ) -> Result<Outcome, AllocError>
+    requires { HasNoSizes pous.now }
     ensures { IfOk result (λ o. o ≡ pous_outcome (file_in pous.now.domains) 0 so_far (pous_of (file_in pous.now.domains))) }
 {
     let names = pous.domains.types.names;
@@ -88,6 +89,7 @@ fn beginnings(
     first: Next,
     variables: &[Declared<'_>],
 ) -> Result<Vec<TypedStmt>, AllocError>
+    requires { HasSizes pous.now }
     ensures { IfOk result (λ list. map stmt_view list.items ≡ beginnings (file_in pous.now.domains) first (variables_view variables.now)) }
 {
     let names = pous.domains.types.names;
@@ -125,6 +127,7 @@ fn begin_body<S: Scope>(
     variables: &[Declared<'_>],
     body: &Body,
 ) -> Result<Vec<TypedStmt>, AllocError>
+    requires { HasSizes pous.now }
     ensures { IfOk result (λ list. stmts_view list.items ≡ begun (file_in pous.now.domains) first (variables_view variables.now) (typed_body (S.means scope.now) (body_view body.now))) }
 {
     let mut list = beginnings(alloc, pous, first, variables)?;
@@ -134,12 +137,13 @@ fn begin_body<S: Scope>(
 }
 
 /// The typed statements of the body of the POU of a number, behind those that it begins with.
-pub(crate) fn pou_body(
+pub fn pou_body(
     alloc: Global,
     pous: &Pous<'_>,
     number: usize,
     pou: &Pou,
 ) -> Result<Vec<TypedStmt>, AllocError>
+    requires { HasSizes pous.now }
     ensures { IfOk result (λ list. stmts_view list.items ≡ pou_body (file_in pous.now.domains) number (pou_view pou.now)) }
 {
     let variables = declared_variables(alloc, pou)?;

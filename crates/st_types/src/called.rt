@@ -1,21 +1,25 @@
-// The POUs that may be called, typed.
+// The POUs that are reached and may be called, typed.
 ghost use Rattle.std.specs.Prelude.{◌≡◌, map, IfOk};
-ghost use Rattle.st_tree.specs.SyntaxView.{pou_view};
-ghost use Rattle.st_tree.specs.View.{cells_view, called_view, all_called_view};
-ghost use Rattle.st_names.specs.FileScope.{pou_at};
-ghost use Rattle.st_types.specs.Bodies.{file_in};
-ghost use Rattle.st_types.specs.TypedPrograms.{frame_cells, type_of_cell, called_of, called_if, called_by};
+ghost use Rattle.source_tree.specs.SyntaxView.{pou_view};
+ghost use Rattle.program_tree.specs.View.{cells_view, called_view, all_called_view};
+ghost use Rattle.naming.specs.FileScope.{pou_at};
+ghost use Rattle.decl_types.specs.Bodies.{file_in};
+ghost use Rattle.pou_cells.specs.Placed.{HasSizes};
+ghost use Rattle.typing.specs.TypedPrograms.{frame_cells, type_of_cell, called_of, called_if, called_by};
 
-use crate::blocks::pou_at;
 use crate::bodies::pou_body;
 use crate::cells::cells_behind_fault;
-use crate::pous::Pous;
-use st_names::declared_variables;
-use st_tree::{Called, Cell, CellType, Frame, Pou, PouKind, Range};
+use decl_types::pou_at;
+use plc_types::Range;
+use pou_cells::Pous;
+use pou_scope::declared_variables;
+use program_tree::{Called, Cell, CellType, Frame};
+use source_tree::{Pou, PouKind};
 use std::alloc::{AllocError, Global};
 
 // The cells of a FUNCTION's call.
 fn frame_cells(alloc: Global, pous: &Pous<'_>, pou: &Pou) -> Result<Vec<Cell>, AllocError>
+    requires { HasSizes pous.now }
     ensures { IfOk result (λ list. cells_view list.items ≡ frame_cells (file_in pous.now.domains) (pou_view pou.now)) }
 {
     let variables = declared_variables(alloc, pou)?;
@@ -57,6 +61,7 @@ fn starts_of(alloc: Global, cells: &[Cell]) -> Result<Vec<i64>, AllocError>
 
 // The POU of a number.
 fn called_of(alloc: Global, pous: &Pous<'_>, number: usize, pou: &Pou) -> Result<Called, AllocError>
+    requires { HasSizes pous.now }
     ensures { IfOk result (λ called. called_view called ≡ called_of (file_in pous.now.domains) number (pou_view pou.now).kind (pou_view pou.now)) }
 {
     let body = pou_body(alloc, pous, number, pou)?;
@@ -75,6 +80,7 @@ fn called_of(alloc: Global, pous: &Pous<'_>, number: usize, pou: &Pou) -> Result
 }
 
 fn called_if(alloc: Global, pous: &Pous<'_>, number: usize) -> Result<Called, AllocError>
+    requires { HasSizes pous.now }
     ensures { IfOk result (λ called. called_view called ≡ called_if (file_in pous.now.domains) number (pou_at (file_in pous.now.domains) number)) }
 {
     match pou_at(pous.domains.types.names, number) {
@@ -83,8 +89,9 @@ fn called_if(alloc: Global, pous: &Pous<'_>, number: usize) -> Result<Called, Al
     }
 }
 
-/// The POUs that may be called, each of which calls only those before it.
-pub(crate) fn called_by(alloc: Global, pous: &Pous<'_>) -> Result<Vec<Called>, AllocError>
+/// The POUs that are reached and may be called, each of which calls only those before it.
+pub fn called_by(alloc: Global, pous: &Pous<'_>) -> Result<Vec<Called>, AllocError>
+    requires { HasSizes pous.now }
     ensures { IfOk result (λ list. all_called_view list.items ≡ called_by (file_in pous.now.domains)) }
 {
     let mut list = Vec::new(alloc);

@@ -1,24 +1,26 @@
 // The cells of POUs, those of instances in their places.
 ghost use Rattle.std.specs.Prelude.{◌≡◌, ◌∷◌, ◌++◌, option_map, IfOk, OnOk};
 ghost use Rattle.std.specs.String.{string_bytes};
-ghost use Rattle.st_tree.specs.SyntaxView.{name_view, file_view};
-ghost use Rattle.st_tree.specs.View.{cell_view, cells_view, texts_view};
-ghost use Rattle.st_names.specs.Scopes.{block_of};
-ghost use Rattle.st_names.specs.ScopeView.{variable_view, variables_view};
-ghost use Rattle.st_types.specs.Bodies.{file_in};
-ghost use Rattle.st_types.specs.TypedPrograms.{path_of, path_behind, cell_for, flag_cell, cells_for, fault_cell, cells_of_variable, cells_of, block_cells, cells_in, is_without_cell, names_without_cell};
+ghost use Rattle.source_tree.specs.SyntaxView.{name_view, file_view};
+ghost use Rattle.program_tree.specs.View.{cell_view, cells_view, texts_view};
+ghost use Rattle.naming.specs.Scopes.{block_of};
+ghost use Rattle.naming.specs.ScopeView.{variable_view, variables_view};
+ghost use Rattle.decl_types.specs.Bodies.{file_in};
+ghost use Rattle.pou_cells.specs.Placed.{HasSizes};
+ghost use Rattle.typing.specs.TypedPrograms.{path_of, path_behind, cell_for, flag_cell, cells_for, fault_cell, cells_of_variable, cells_of, block_cells, cells_in, is_without_cell, names_without_cell};
 
-use crate::blocks::{block_of, pou_at};
-use crate::domains::Domains;
-use crate::kinds::bool_type;
-use crate::numbers::range;
-use crate::order::in_order;
-use crate::places::size_among;
-use crate::pous::Pous;
-use crate::roles::{active_first, has_cell, is_constant, is_step, is_stored_action, part_in};
-use crate::variables::{domain_of, initial_of};
-use st_names::{Declared, Resolved, declared_variables};
-use st_tree::{Cell, Elementary, Name, Part};
+use decl_types::{Domains, block_of, domain_of, initial_of, pou_at};
+use expr_types::{bool_type, range};
+use naming::Declared;
+use plc_types::Elementary;
+use pou_cells::{
+    Pous, active_first, has_cell, in_order, is_constant, is_step, is_stored_action, part_in,
+    size_among,
+};
+use pou_scope::declared_variables;
+use program_tree::{Cell, Part};
+use source_tree::Name;
+use st_names::Resolved;
 use std::alloc::{AllocError, Global};
 
 // The path of a cell behind what stands before it, where paths are wanted.
@@ -126,7 +128,7 @@ fn write_cells_for(
 }
 
 /// The cell of FAULT.
-pub(crate) fn fault_cell(alloc: Global) -> Result<Cell, AllocError>
+pub fn fault_cell(alloc: Global) -> Result<Cell, AllocError>
     ensures { IfOk result (λ cell. cell_view cell ≡ fault_cell) }
 {
     Ok(Cell {
@@ -149,6 +151,7 @@ fn write_block(
     block: usize,
     list: &mut Vec<Cell>,
 ) -> Result<(), AllocError>
+    requires { HasSizes pous.now }
     ensures { OnOk result (cells_view list.new.items ≡ cells_view list.old.items ++ block_cells (file_in pous.now.domains) depth (option_map (λ b. b.now) before.entry) block) }
 {
     if depth == 0 {
@@ -175,6 +178,7 @@ fn write_variables(
     variables: &[Declared<'_>],
     list: &mut Vec<Cell>,
 ) -> Result<(), AllocError>
+    requires { HasSizes pous.now }
     ensures { OnOk result (cells_view list.new.items ≡ cells_view list.old.items ++ cells_of (file_in pous.now.domains) (block_cells (file_in pous.now.domains) depth) inside (option_map (λ b. b.now) before.entry) (variables_view variables.now)) }
 {
     for variable in variables.iter() {
@@ -196,6 +200,7 @@ fn write_variable(
     variable: &Declared<'_>,
     list: &mut Vec<Cell>,
 ) -> Result<(), AllocError>
+    requires { HasSizes pous.now }
     ensures { OnOk result (cells_view list.new.items ≡ cells_view list.old.items ++ cells_of_variable (file_in pous.now.domains) (block_cells (file_in pous.now.domains) depth) inside (option_map (λ b. b.now) before.entry) (variable_view variable.now) (block_of (file_in pous.now.domains) (variable_view variable.now))) }
 {
     let Some(block) = block_of(pous.domains.types.names, variable) else {
@@ -219,6 +224,7 @@ pub(crate) fn cells_behind_fault(
     of_function: bool,
     variables: &[Declared<'_>],
 ) -> Result<Vec<Cell>, AllocError>
+    requires { HasSizes pous.now }
     ensures { IfOk result (λ list. cells_view list.items ≡ fault_cell ∷ cells_in (file_in pous.now.domains) (option_map (λ b. b.now) before.entry) of_function (variables_view variables.now)) }
 {
     let mut list = Vec::new(alloc);
@@ -237,7 +243,7 @@ fn is_without_cell(names: &Resolved, variable: &Declared<'_>) -> bool
 }
 
 /// The names of the constants and instances of a program.
-pub(crate) fn names_without_cell(
+pub fn names_without_cell(
     alloc: Global,
     names: &Resolved,
     variables: &[Declared<'_>],

@@ -1,17 +1,16 @@
 // Where the charts of a POU and of its instances stand among its cells.
 ghost use Rattle.std.specs.Prelude.{◌≡◌, ◌++◌, IfOk, OnOk};
-ghost use Rattle.st_names.specs.Scopes.{block_of};
-ghost use Rattle.st_names.specs.ScopeView.{variable_view, variables_view};
-ghost use Rattle.st_types.specs.Bodies.{file_in};
-ghost use Rattle.st_types.specs.ChartPlaces.{steps_among, charts_of_variable, charts_of, block_charts, charts_in};
+ghost use Rattle.naming.specs.Scopes.{block_of};
+ghost use Rattle.naming.specs.ScopeView.{variable_view, variables_view};
+ghost use Rattle.decl_types.specs.Bodies.{file_in};
+ghost use Rattle.pou_cells.specs.Placed.{HasSizes};
+ghost use Rattle.typing.specs.ChartPlaces.{steps_among, charts_of_variable, charts_of, block_charts, charts_in};
 
-use crate::blocks::{block_of, pou_at};
-use crate::order::in_order;
-use crate::places::{cells_taken, size_among, sum};
-use crate::pous::Pous;
-use crate::roles::is_step;
-use st_names::{Declared, declared_variables};
-use st_tree::ChartCells;
+use decl_types::{block_of, pou_at};
+use naming::Declared;
+use pou_cells::{Pous, cells_taken, in_order, is_step, size_among, sum};
+use pou_scope::declared_variables;
+use program_tree::ChartCells;
 use std::alloc::{AllocError, Global};
 
 // How many of some names are steps.
@@ -37,6 +36,7 @@ fn write_block(
     block: usize,
     list: &mut Vec<ChartCells>,
 ) -> Result<(), AllocError>
+    requires { HasSizes pous.now }
     ensures { OnOk result (list.new.items ≡ list.old.items ++ block_charts (file_in pous.now.domains) depth place block) }
 {
     if depth == 0 {
@@ -62,6 +62,7 @@ fn write_charts(
     variables: &[Declared<'_>],
     list: &mut Vec<ChartCells>,
 ) -> Result<(), AllocError>
+    requires { HasSizes pous.now }
     ensures { OnOk result (list.new.items ≡ list.old.items ++ charts_of (file_in pous.now.domains) (block_charts (file_in pous.now.domains) depth) first (variables_view variables.now)) }
 {
     let mut place = first;
@@ -91,6 +92,7 @@ fn write_variable(
     variable: &Declared<'_>,
     list: &mut Vec<ChartCells>,
 ) -> Result<(), AllocError>
+    requires { HasSizes pous.now }
     ensures { OnOk result (list.new.items ≡ list.old.items ++ charts_of_variable (file_in pous.now.domains) (block_charts (file_in pous.now.domains) depth) place (block_of (file_in pous.now.domains) (variable_view variable.now))) }
 {
     let Some(block) = block_of(pous.domains.types.names, variable) else {
@@ -103,11 +105,12 @@ fn write_variable(
 }
 
 /// The charts of a PROGRAM and of its instances, in the order of their cells.
-pub(crate) fn charts_in(
+pub fn charts_in(
     alloc: Global,
     pous: &Pous<'_>,
     variables: &[Declared<'_>],
 ) -> Result<Vec<ChartCells>, AllocError>
+    requires { HasSizes pous.now }
     ensures { IfOk result (λ list. list.items ≡ charts_in (file_in pous.now.domains) (variables_view variables.now)) }
 {
     let mut list = Vec::new(alloc);

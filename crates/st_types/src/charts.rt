@@ -1,34 +1,29 @@
 // The charts of bodies, judged and typed (IEC 61131-3, 2.6).
 ghost use Rattle.std.specs.Prelude.{◌≡◌, ◌+◌, map, IfOk};
-ghost use Rattle.st_tree.specs.SyntaxView.{name_view, chart_step_view, chart_transition_view, chart_action_view, part_view, parts_view};
-ghost use Rattle.st_tree.specs.View.{stmt_view, action_view, transition_view};
+ghost use Rattle.source_tree.specs.SyntaxView.{name_view, chart_step_view, chart_transition_view, chart_action_view, part_view, parts_view};
+ghost use Rattle.program_tree.specs.View.{stmt_view, action_view, transition_view};
 ghost use Rattle.sfc_shape.specs.ShapeView.{seen_steps, seen_transitions, seen_actions};
 ghost use Rattle.sfc_shape.specs.PartsView.{parts_in};
-ghost use Rattle.st_types.specs.JudgedCharts.{judged_part, judged_parts};
-ghost use Rattle.st_types.specs.Outcomes.{outcome_of};
-ghost use Rattle.st_types.specs.TypedCharts.{step_cells, latch_place, latch_of, typed_action, typed_transition, typed_chart};
+ghost use Rattle.typing.specs.JudgedCharts.{judged_part, judged_parts};
+ghost use Rattle.rules.specs.Outcomes.{outcome_of};
+ghost use Rattle.typing.specs.TypedCharts.{step_cells, latch_place, latch_of, typed_action, typed_transition, typed_chart};
 
-use crate::alone::meaning_alone;
-use crate::expressions::judge_condition;
-use crate::outcome::Outcome;
-use crate::places::sum;
-use crate::scope::{Meaning, Place, Scope};
-use crate::statements::judge_stmts;
-use crate::typed_expressions::{cell_of, type_expr};
-use crate::typed_statements::type_stmts;
+use expr_types::{cell_of, judge_condition, meaning_alone, type_expr};
+use pou_cells::sum;
+use program_tree::{StepCells, TypedAction, TypedStmt, TypedTransition};
+use rules::{Outcome, Rule};
 use sfc_shape::{Shape, shape_of};
-use st_tree::{
-    Chart, ChartAction, ChartPart, ChartStep, ChartTransition, Rule, StepCells, TypedAction,
-    TypedStmt, TypedTransition,
-};
+use source_tree::{Chart, ChartAction, ChartPart, ChartStep, ChartTransition};
 use std::alloc::{AllocError, Global};
+use stmt_types::{judge_stmts, type_stmts};
+use typing::{Meaning, Place, Scope};
 
 // What a part of a chart breaks.
 fn judge_part<S: Scope>(alloc: Global, scope: &S, part: &ChartPart) -> Result<Outcome, AllocError>
     ensures { IfOk result (λ o. o ≡ outcome_of (judged_part (S.means scope.now) (part_view part.now))) }
 {
     match part {
-        ChartPart::Step(_) => Ok(Outcome::sound()),
+        ChartPart::Step(_) => Ok(Outcome::ok()),
         ChartPart::Transition(transition) => {
             judge_condition(alloc, scope, Rule::OperandType, &transition.condition)
         }
@@ -44,7 +39,7 @@ pub(crate) fn judge_parts<S: Scope>(
 ) -> Result<Outcome, AllocError>
     ensures { IfOk result (λ o. o ≡ outcome_of (judged_parts (S.means scope.now) (parts_view parts.now))) }
 {
-    let mut judged = Outcome::sound();
+    let mut judged = Outcome::ok();
     for part in parts {
         judged = judged.also(judge_part(alloc, scope, part)?);
     }

@@ -1,55 +1,41 @@
 // From a file whose names are bound to a typed program.
-ghost use Rattle.std.specs.Prelude.{◌≡◌, ℕ, [], true, Some, IfOk, IfErr, OnOk};
-ghost use Rattle.st_tree.specs.Rules.{first_in};
-ghost use Rattle.st_tree.specs.Syntax.{PouData};
-ghost use Rattle.st_tree.specs.SyntaxView.{pou_view, file_view};
-ghost use Rattle.st_tree.specs.View.{program_view};
+ghost use Rattle.std.specs.Prelude.{◌≡◌, ℕ, [], map, true, Some, IfOk, IfErr, OnOk};
+ghost use Rattle.rules.specs.Rules.{first_in};
+ghost use Rattle.source_tree.specs.Syntax.{PouData};
+ghost use Rattle.source_tree.specs.SyntaxView.{pou_view, file_view};
+ghost use Rattle.program_tree.specs.View.{program_view};
 ghost use Rattle.st_names.specs.Bound.{program_number};
-ghost use Rattle.st_names.specs.FileScope.{pou_at};
-ghost use Rattle.st_types.specs.Bodies.{file_in};
-ghost use Rattle.st_types.specs.Pous.{broken_types, has_room};
-ghost use Rattle.st_types.specs.TypedPrograms.{typed_program};
-ghost use Rattle.st_types.specs.Faults.{IsFaultOf};
-ghost use Rattle.st_types.specs.Ready.{IsReady};
+ghost use Rattle.naming.specs.FileScope.{pou_at};
+ghost use Rattle.decl_types.specs.Bodies.{file_in};
+ghost use Rattle.pou_cells.specs.Placed.{HasNoSizes, HasSizes};
+ghost use Rattle.pou_cells.specs.Placing.{capped};
+ghost use Rattle.typing.specs.Places.{sizes_of};
+ghost use Rattle.typing.specs.Pous.{broken_types, has_room};
+ghost use Rattle.typing.specs.TypedPrograms.{typed_program};
+ghost use Rattle.typing.specs.Faults.{IsFaultOf};
+ghost use Rattle.typing.specs.Ready.{IsReady};
 
 use crate::bodies::{judge_pous, pou_body};
 use crate::called::called_by;
 use crate::cells::{cells_behind_fault, names_without_cell};
 use crate::chart_places::charts_in;
-use crate::fault::TypeFault;
-use crate::judged_types::judge_types;
-use crate::places::count_of_cells;
-use crate::pous::Pous;
-use crate::type_texts::type_texts;
-use st_names::{Resolved, declared_variables};
-use st_tree::{Pou, Program, Refusal, Rule};
+use decl_types::{judge_types, type_texts};
+use pou_cells::{Pous, capped_sizes, has_room, placed};
+use pou_scope::declared_variables;
+use program_tree::Program;
+use rules::{Fault, Refusal, Rule};
+use source_tree::Pou;
+use st_names::Resolved;
 use std::alloc::{AllocError, Global};
-
-/// How many cells a program has at most.
-const MOST_CELLS: usize = 4096;
 
 // What a file breaks first.
 fn judge_file(alloc: Global, pous: &Pous<'_>) -> Result<Option<Refusal>, AllocError>
+    requires { HasNoSizes pous.now }
     ensures { IfOk result (λ first. first ≡ first_in (broken_types (file_in pous.now.domains))) }
 {
     let types = judge_types(alloc, &pous.domains)?;
     let judged = judge_pous(alloc, pous, types)?;
     Ok(judged.first)
-}
-
-// M2: whether the PROGRAM has at most so many cells, FAULT and those of its instances among them.
-fn has_room(
-    alloc: Global,
-    pous: &Pous<'_>,
-    number: usize,
-    program: &Pou,
-) -> Result<bool, AllocError>
-    requires { pou_at (file_in pous.now.domains) number ≡ Some (pou_view program.now) }
-    ensures { IfOk result (λ room. room ≡ has_room (file_in pous.now.domains) number) }
-{
-    let variables = declared_variables(alloc, program)?;
-    let count = count_of_cells(pous.domains.types.names, &pous.sizes, &variables)?;
-    Ok(count < MOST_CELLS)
 }
 
 // The typed program of a PROGRAM.
@@ -59,6 +45,7 @@ fn type_program(
     number: usize,
     program: &Pou,
 ) -> Result<Program, AllocError>
+    requires { HasSizes pous.now }
     ensures { IfOk result (λ p. program_view p ≡ typed_program (file_in pous.now.domains) number (pou_view program.now)) }
 {
     let variables = declared_variables(alloc, program)?;
@@ -73,31 +60,26 @@ fn type_program(
     })
 }
 
-// The typed program of a PROGRAM, or the first rule on types that is broken.
-fn check_pous(
-    alloc: Global,
-    pous: &Pous<'_>,
-    number: usize,
-    program: &Pou,
-) -> Result<Program, TypeFault>
-    requires { pou_at (file_in pous.now.domains) number ≡ Some (pou_view program.now) }
+// The sizes of a file's POUs, or the first rule on types that is broken, and where none is, M2.
+fn test_pous(alloc: Global, pous: &Pous<'_>, number: usize) -> Result<Vec<usize>, Fault>
+    requires { HasNoSizes pous.now }
     ensures refused { IfErr result (IsFaultOf (file_in pous.now.domains) number) }
     ensures kept { OnOk result (broken_types (file_in pous.now.domains) ≡ []) }
     ensures room { OnOk result (has_room (file_in pous.now.domains) number ≡ true) }
-    ensures typed { IfOk result (λ p. program_view p ≡ typed_program (file_in pous.now.domains) number (pou_view program.now)) }
+    ensures sizes { IfOk result (λ sizes. sizes.items ≡ map capped (sizes_of (file_in pous.now.domains))) }
 {
     if let Some(refusal) = judge_file(alloc, pous)? {
-        return Err(TypeFault::Refused(refusal));
+        return Err(Fault::Refused(refusal));
     }
-    let room = has_room(alloc, pous, number, program)?;
+    let sizes = capped_sizes(alloc, pous)?;
+    let room = has_room(pous, &sizes, number);
     if !room {
-        return Err(TypeFault::Refused(Refusal {
+        return Err(Fault::Refused(Refusal {
             rule: Rule::TooManyCells,
             at: 0,
         }));
     }
-    let typed = type_program(alloc, pous, number, program)?;
-    Ok(typed)
+    Ok(sizes)
 }
 
 // The typed program of the POU of a number, or the first rule on types that is broken.
@@ -106,20 +88,22 @@ fn check_program(
     names: &Resolved,
     number: usize,
     program: &Pou,
-) -> Result<Program, TypeFault>
-    requires { pou_at (file_view names.now.file) number ≡ Some (pou_view program.now) }
+) -> Result<Program, Fault>
     ensures refused { IfErr result (IsFaultOf (file_view names.now.file) number) }
     ensures kept { OnOk result (broken_types (file_view names.now.file) ≡ []) }
     ensures room { OnOk result (has_room (file_view names.now.file) number ≡ true) }
     ensures typed { IfOk result (λ p. program_view p ≡ typed_program (file_view names.now.file) number (pou_view program.now)) }
 {
-    let pous = Pous::new(alloc, names)?;
-    check_pous(alloc, &pous, number, program)
+    let told = Pous::new(alloc, names)?;
+    let sizes = test_pous(alloc, &told, number)?;
+    let pous = placed(alloc, told, sizes)?;
+    let typed = type_program(alloc, &pous, number, program)?;
+    Ok(typed)
 }
 
 /// The typed program of a file's one PROGRAM, whose names are bound (IEC 61131-3, 3.3), or the first rule on types that
 /// the file breaks, and where it breaks none but the PROGRAM has too many cells, M2. Fails too where memory runs out.
-pub fn check(alloc: Global, names: Resolved) -> Result<Program, TypeFault>
+pub fn check(alloc: Global, names: Resolved) -> Result<Program, Fault>
     ensures refused { IfErr result (λ e. (number : ℕ) → program_number (file_view names.file) ≡ Some number → IsFaultOf (file_view names.file) number e) }
     ensures kept { OnOk result (broken_types (file_view names.file) ≡ []) }
     ensures room { OnOk result ((number : ℕ) → program_number (file_view names.file) ≡ Some number → has_room (file_view names.file) number ≡ true) }

@@ -3,7 +3,7 @@ use Rattle.std.proofs.Common.{◌≡◌, ℕ, zero, suc, ◌<◌, ◌+◌, Bool,
 use Rattle.std.specs.Prelude.{nat_lt, if◌then◌else◌}
 use Rattle.std.proofs.lemmas.Bool.{lt-ltb, and_from, and_parts}
 use Rattle.std.proofs.lemmas.Bool.Decides.{same_from_decides}
-use Rattle.st_tree.specs.Tree.{ProgramData}
+use Rattle.program_tree.specs.Tree.{ProgramData}
 use Rattle.scan_model.specs.InRange.{Row}
 use Rattle.scan_model.specs.Pairs.{RelationData, Pair, start, after_row}
 use Rattle.scan_model.specs.Verdicts.{CandidateSet, count_of, size_below, Meets, IsKept, IsGreatest}

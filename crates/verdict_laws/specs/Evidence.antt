@@ -1,6 +1,6 @@
 -- What shows a verdict: sets with every candidate that is kept, and pairs from which a row leads out of a set or out of the relation.
 use Rattle.std.specs.Prelude.{◌≡◌, ◌<◌, ℕ, Bool, true, false, ◌&&◌, nat_lt}
-use Rattle.st_tree.specs.Tree.{ProgramData}
+use Rattle.program_tree.specs.Tree.{ProgramData}
 use Rattle.scan_model.specs.InRange.{Row}
 use Rattle.scan_model.specs.Pairs.{RelationData, Pair, IsPairInRange, start, holds, is_allowed, is_related, after_row}
 use Rattle.scan_model.specs.Candidates.{candidates_of, clause_at}

@@ -131,6 +131,17 @@ length-row a i l n h =
     let low = take (length a - i) a in
     omega (arith, length-append (zeros i) (bitwise_of And low (replicate (length low) l) n).word, length-replicate i false_lit, length-bitwise And low (replicate (length low) l) n (sym (length-replicate (length low) l)), length-take (length a - i) a)
 
+length-mul_from : (a : List Lit) (i : ℕ) (b sum : List Lit) (n : Netlist) → length sum ≡ length a → i + length b ≡ length a → length (mul_from a i b sum n).word ≡ length a
+length-mul_from a i [] sum n e f = e
+length-mul_from a i (b ∷ bs) sum n e f =
+    let row = row_of a i b n in
+    let long = length-row a i b n (omega arith) in
+    let s = add_of sum row.word false_lit row.net in
+    length-mul_from a (i + 1) bs s.word s.net (length-add sum row.word false_lit row.net (e ∙ sym long) ∙ e) (omega arith)
+
+pub length-mul : (a b : List Lit) (n : Netlist) → length a ≡ length b → length (mul_of a b n).word ≡ length a
+length-mul a b n e = length-mul_from a 0 b (zeros (length a)) n (length-replicate (length a) false_lit) (omega arith)
+
 pub Gives-mul_from : (rho : ℕ → Bool) (a : List Lit) (i : ℕ) (b sum : List Lit) (n : Netlist) → length sum ≡ length a → i + length b ≡ length a → IsModel rho (mul_from a i b sum n).net → Gives rho n (mul_from a i b sum n) (length a) ((number rho sum + 2 ^ i * number rho a * number rho b) % 2 ^ length a)
 Gives-mul_from rho a i [] sum n e f m = record {
   model = m;

@@ -344,6 +344,10 @@ length-masked : (b : List Lit) (r : MadeWord) → length (masked_of b r).word �
 unfolding masked_of
 length-masked b r = length-bitwise And (replicate (length r.word) (negation (is_zero_of b r.net).lit)) r.word (is_zero_of b r.net).net (length-replicate (length r.word) _) ∙ length-replicate (length r.word) _
 
+pub length-division : (p : Part) (s : Bool) (a b : List Lit) (n : Netlist) → length a ≡ length b → length (division_of p s a b n).word ≡ length a
+unfolding division_of
+length-division p s a b n e = length-masked b (ratio_of p s a b n) ∙ length-ratio p s a b n e
+
 by_divisor : (rho : ℕ → Bool) (p : Part) (s t : Bool) (a b : List Lit) (n : Netlist) → nat_eq (number rho b) 0 ≡ t → length a ≡ length b → IsModel rho (masked_of b (ratio_of p s a b n)).net
     → DiffersByMultiple (pos (2 ^ length a)) (divided p (value s rho a) (value s rho b)) (pos (number rho (masked_of b (ratio_of p s a b n)).word))
 by_divisor rho p s true a b n t e m =

@@ -1,24 +1,24 @@
-use Rattle.std.proofs.Common.{◌≡◌, ℕ, ◌+◌, ◌*◌, ◌++◌, ap, refl, arith, length, length-append, drop, map, sym, ◌∙◌, true}
+use Rattle.std.proofs.Common.{◌≡◌, ◌+◌, ◌*◌, ◌++◌, ap, refl, arith, length, length-append, drop, map, sym, ◌∙◌, true}
 use Rattle.std.proofs.lemmas.Int.{ints}
-use Rattle.st_tree.specs.declared.typed.Operand.{out-Operand}
-use Rattle.st_tree.specs.Tree.{Expression, Operands, operand, Expressions, Choices}
-use Rattle.st_tree.specs.View.{OperandData, expr_view, operand_view, operands_view, arguments_view, stmts_view, entries_view, arm_view, choices_view, actions_view, transitions_view, called_view, all_called_view}
-use Rattle.effects.proofs.Sizes.{operand_nodes, all_nodes, body_nodes, choice_nodes, called_nodes}
-use Rattle.effects.proofs.Callees.{at-number, weight-call}
+use Rattle.program_tree.specs.declared.typed.Operand.{out-Operand}
+use Rattle.program_tree.specs.Tree.{Expression, Operands, operand, Expressions, Choices}
+use Rattle.program_tree.specs.View.{OperandData, expr_view, operand_view, operands_view, arguments_view, stmts_view, entries_view, arm_view, choices_view, actions_view, transitions_view, called_view, all_called_view}
+use Rattle.meaning.proofs.Sizes.{operand_nodes, all_nodes, body_nodes, choice_nodes, called_nodes}
+use Rattle.meaning.proofs.Callees.{at-number, weight-call}
 use Rattle.flat_core.specs.FlatView.{flats_view, flat_arms_view}
-use Rattle.flat_form.specs.Frames.{FrameData}
-use Rattle.fb_inline.specs.Views.{frame_view}
-use Rattle.fb_inline.specs.Views.{owner_view}
-use Rattle.flat_form.specs.Kinds.{kind_of}
+use Rattle.flat_charts.specs.Views.{frame_view}
+use Rattle.flat_charts.specs.Views.{owner_view}
 use Rattle.flat_form.specs.Calls.{operand_scratch, all_scratch, input_scratch, input_places, moved_operands, all_moved, operands_before, all_before, inputs_before}
 use Rattle.flat_form.specs.FlatLists.{scratch_of_all, scratch_of_choices, flat_of_all, flat_choices}
-use Rattle.fb_inline.specs.Views.{bodies_here}
+use Rattle.flat_charts.specs.Views.{bodies_here}
 use Rattle.flat_form.specs.Idle.{idle_in}
+use Rattle.flat_form.proofs.FrameLemmas.{arity-length}
 use Rattle.flat_form.proofs.IdleTables.{idle-first}
-use Rattle.fb_inline.proofs.CallLemmas.{operand_view-out, with_operands, with_expressions, with_operands-none, with_expressions-none, arity-length, left-operands, left-expressions, no-operands-left, no-expressions-left, more-operands, more-expressions, more-operands-before, more-before, more-operand-scratch, more-scratch, more-input-scratch, more-input-places, more-inputs-before, call-value, call-made, call-listed, pushed-operands, pushed-expressions}
+use Rattle.flat_form.proofs.OperandLemmas.{operand_view-out, with_operands, with_expressions, with_operands-none, with_expressions-none, left-operands, left-expressions, no-operands-left, no-expressions-left, pushed-operands, pushed-expressions}
+use Rattle.fb_inline.proofs.CallLemmas.{more-operands, more-expressions, more-operands-before, more-before, more-operand-scratch, more-scratch, more-input-scratch, more-input-places, more-inputs-before, call-value, call-made, call-listed}
 use Rattle.fb_inline.proofs.ChartLemmas.{chart-listed}
 use Rattle.fb_inline.proofs.CaseLemmas.{left-choices, more-choices, more-choices-scratch, case-made, case-listed}
-use Rattle.fb_inline.proofs.PouLemmas.{weight_here, list-ran, scratch-ran, list-none, scratch-none, list-over, scratch-over, list-idle, scratch-idle, call-ran, call-ran-scratch, frame-known, frames-here}
+use Rattle.fb_inline.proofs.PouLemmas.{weight_here, list-ran, scratch-ran, list-none, scratch-none, list-over, scratch-over, list-idle, scratch-idle, call-ran, call-ran-scratch, frame-known}
 use Rattle.fb_inline.proofs.TurnLemmas.{unrolled-turn, repeated-turn}
 use Rattle.fb_inline.proofs.+flatten.Goals as goal
 
@@ -117,7 +117,7 @@ calls::flatten_answer-flatten_all-requires t c =
     let is = at-number ps c.args.function c.index-scope-function.result _ (omega arith) (ap called_view c.in-Function.is) in
     let w = weight-call (all_called_view ps) c.args.function c.args.scope.now.below c.if-function-scope.true in
     let m = ap called_nodes is in
-    let b = ap (λ l. body_nodes (stmts_view l)) c.deref-in-Function-2.ensures.value in
+    let b = ap (λ l. body_nodes (stmts_view l)) c.deref-in-Function.ensures.value in
     let d : weight_here c.args.scope.now + 2 * all_nodes (arguments_view c.args.inputs.now) + 1 ≡ t = c.decreases in
     (omega arith, record { called = omega arith; idle = idle-first c.args.scope.now.idle.now (all_called_view ps) c.args.function c.args.scope.now.below (omega arith) c.requires.known.idle })
 
@@ -134,7 +134,7 @@ calls::flatten_answer-returns-in-Function-clause-list t c =
     let scope = c.args.scope.now in
     let ps = scope.called.now in
     let is = at-number ps c.args.function c.index-scope-function.result _ (omega arith) (ap called_view c.in-Function.is) in
-    let ran = call-ran (all_called_view ps) c.args.function scope.below c.in_ok-answer.answer _ _ _ _ _ _ _ _ c.if-function-scope.true is c.deref.ensures.value c.deref-in-Function.ensures.value (ap stmts_view c.deref-in-Function-2.ensures.value) c.in_ok-flatten_all.ensures.list in
+    let ran = call-ran (all_called_view ps) c.args.function scope.below c.in_ok-answer.answer _ _ _ _ _ _ _ c.if-function-scope.true is c.deref.ensures.value (ap stmts_view c.deref-in-Function.ensures.value) c.in_ok-flatten_all.ensures.list in
     call-listed (bodies_here scope) c.args.function (length c.args.inputs.now) scope.cells (frame_view c.in-Function.frame) (arguments_view c.args.inputs.now) (frame-known (all_called_view ps) c.args.function scope.below _ is) (sym (arity-length c.args.inputs.now))
     _ _ _ c.in_ok-places.ensures.scratch c.in_ok-put_others.ensures.scratch (owner_view scope.owner) scope.base c.in_ok-answer.answer _ _ _ _ _ _ _ _ c.in_ok-answer.ensures.scratch c.in_ok-answer.ensures.place
     c.in_ok-places.ensures.places c.in_ok-put_others.ensures.places c.in_ok-places.ensures.list c.in_ok-put_others.ensures.list c.in_ok-answer.ensures.list ran
@@ -144,7 +144,7 @@ calls::flatten_answer-returns-in-Function-clause-scratch t c =
     let scope = c.args.scope.now in
     let ps = scope.called.now in
     let is = at-number ps c.args.function c.index-scope-function.result _ (omega arith) (ap called_view c.in-Function.is) in
-    let ran = call-ran-scratch (all_called_view ps) c.args.function scope.below _ _ _ _ _ c.if-function-scope.true is c.deref.ensures.value (ap stmts_view c.deref-in-Function-2.ensures.value) c.in_ok-flatten_all.ensures.scratch in
+    let ran = call-ran-scratch (all_called_view ps) c.args.function scope.below _ _ _ _ c.if-function-scope.true is (ap stmts_view c.deref-in-Function.ensures.value) c.in_ok-flatten_all.ensures.scratch in
     call-made (bodies_here scope) c.args.function (length c.args.inputs.now) scope.cells (frame_view c.in-Function.frame) (arguments_view c.args.inputs.now) (frame-known (all_called_view ps) c.args.function scope.below _ is) (sym (arity-length c.args.inputs.now))
     _ _ _ c.in_ok-places.ensures.scratch c.in_ok-put_others.ensures.scratch _ _ c.in_ok-answer.ensures.scratch ran
 
@@ -163,16 +163,14 @@ statements::flatten_arms-loop-arm-preserved t c =
       list = more-choices bodies owner scope.base scope.cells (arm_view item) rest made _ c.in_ok-flatten_arm.ensures.scratch _ _ c.in_ok-flatten_arm.ensures.list
           ∙ ap (λ (arms : Choices). flat_arms_view c.loop-arm.out.items ++ flat_choices bodies owner scope.base arms k) (sym left) ∙ c.loop-arm.invariant.list;
       scratch = more-choices-scratch bodies owner scope.base scope.cells (arm_view item) rest made _ c.in_ok-flatten_arm.ensures.scratch
-          ∙ ap (λ (arms : Choices). made ++ scratch_of_choices bodies owner.kinds scope.base arms) (sym left) ∙ c.loop-arm.invariant.scratch;
+          ∙ ap (λ (arms : Choices). made ++ scratch_of_choices bodies arms) (sym left) ∙ c.loop-arm.invariant.scratch;
       weighs = omega (arith, ap choice_nodes left, c.loop-arm.invariant.weighs);
     }
 
 pub statements::flatten_case-returns-clause-list : goal.statements::flatten_case-returns-clause-list
 statements::flatten_case-returns-clause-list t c =
     let scope = c.args.scope.now in
-    let owner = owner_view scope.owner in
-    let kind = c.in_ok-kind.ensures ∙ ap (λ (frames : ℕ → FrameData). kind_of frames owner.kinds scope.base (expr_view c.args.selector.now)) (sym (frames-here (all_called_view scope.called.now) scope.below)) in
-    case-listed (bodies_here scope) (owner_view scope.owner) scope.base scope.cells (expr_view c.args.selector.now) (entries_view c.args.entries.now) (stmts_view c.args.other.now) c.in_ok-kind.kind kind
+    case-listed (bodies_here scope) (owner_view scope.owner) scope.base scope.cells (expr_view c.args.selector.now) (entries_view c.args.entries.now) (stmts_view c.args.other.now) c.args.kind
     c.args.scratch.now.items _ _ _ _ c.in_ok-value.ensures.scratch c.in_ok-place.ensures.scratch c.in_ok-flatten_entries.ensures.scratch c.in_ok-flatten_all.ensures.scratch
     _ _ _ _ _ c.in_ok-place.place _ _ _ _ c.in_ok-value.ensures.value c.in_ok-value.ensures.list c.in_ok-place.ensures.place c.in_ok-place.ensures.list (ap flat_arms_view c.new-flat_arms.ensures.items) c.in_ok-flatten_entries.ensures.list
     (ap flats_view c.new-rest.ensures.items) c.in_ok-flatten_all.ensures.list c.in_ok-put_if.ensures
@@ -180,15 +178,13 @@ statements::flatten_case-returns-clause-list t c =
 pub statements::flatten_case-returns-clause-scratch : goal.statements::flatten_case-returns-clause-scratch
 statements::flatten_case-returns-clause-scratch t c =
     let scope = c.args.scope.now in
-    let owner = owner_view scope.owner in
-    let kind = c.in_ok-kind.ensures ∙ ap (λ (frames : ℕ → FrameData). kind_of frames owner.kinds scope.base (expr_view c.args.selector.now)) (sym (frames-here (all_called_view scope.called.now) scope.below)) in
-    case-made (bodies_here scope) (owner_view scope.owner) scope.base scope.cells (expr_view c.args.selector.now) (entries_view c.args.entries.now) (stmts_view c.args.other.now) c.in_ok-kind.kind kind
+    case-made (bodies_here scope) (owner_view scope.owner) scope.base scope.cells (expr_view c.args.selector.now) (entries_view c.args.entries.now) (stmts_view c.args.other.now) c.args.kind
     c.args.scratch.now.items _ _ _ _ c.in_ok-value.ensures.scratch c.in_ok-place.ensures.scratch c.in_ok-flatten_entries.ensures.scratch c.in_ok-flatten_all.ensures.scratch
 
 pub statements::unroll-loop-preserved : goal.statements::unroll-loop-preserved
 statements::unroll-loop-preserved t c =
     let scope = c.args.scope.now in
-    let made = scratch_of_all (bodies_here scope) (owner_view scope.owner).kinds scope.base (stmts_view c.args.body.now) in
+    let made = scratch_of_all (bodies_here scope) (stmts_view c.args.body.now) in
     let longer : length c.flatten_all.new.scratch.items ≡ length c.loop.scratch.items + length made = ap length c.in_ok-flatten_all.ensures.scratch ∙ length-append c.loop.scratch.items made in
     record {
       list = unrolled-turn _ _ _ _ _ c.args.turns.step _ (flat_of_all (bodies_here scope) (owner_view scope.owner) scope.base (stmts_view c.args.body.now)) _ _ _ _ _ c.loop-test.true (omega (arith, ints, c.in_ok-value.ensures)) (omega arith) c.in_ok-put_number.ensures c.in_ok-flatten_all.ensures.list ∙ c.loop.invariant.list;
@@ -217,7 +213,7 @@ statements::flatten_block-returns-in_ok-flatten_all-clause-scratch t c =
     let scope = c.args.scope.now in
     let ps = scope.called.now in
     let is = at-number ps c.args.block c.index-scope-block.result _ (omega arith) (ap called_view c.in-Block.is) in
-    scratch-ran (all_called_view ps) (owner_view scope.owner).kinds c.args.block scope.below (scope.base + c.args.offset) _ _ _ _ _ c.if-block-scope.true is (ap stmts_view c.deref.ensures.value) c.in_ok-base.ensures c.in_ok-flatten_all.ensures.scratch
+    scratch-ran (all_called_view ps) c.args.block scope.below _ _ _ _ c.if-block-scope.true is (ap stmts_view c.deref.ensures.value) c.in_ok-flatten_all.ensures.scratch
 
 pub statements::flatten_block-returns-then-is_idle_block-clause-list : goal.statements::flatten_block-returns-then-is_idle_block-clause-list
 statements::flatten_block-returns-then-is_idle_block-clause-list t c =
@@ -229,7 +225,7 @@ pub statements::flatten_block-returns-then-is_idle_block-clause-scratch : goal.s
 statements::flatten_block-returns-then-is_idle_block-clause-scratch t c =
     let scope = c.args.scope.now in
     let told : idle_in scope.idle.now c.args.block ≡ true = sym c.is_idle_block.ensures ∙ c.if-is_idle_block.true in
-    scratch-idle (all_called_view scope.called.now) (owner_view scope.owner).kinds scope.idle.now c.args.block scope.below _ _ c.requires.known.idle c.if-block-scope.true told
+    scratch-idle (all_called_view scope.called.now) scope.idle.now c.args.block scope.below _ c.requires.known.idle c.if-block-scope.true told
 
 pub statements::flatten_block-returns-in_default-clause-list : goal.statements::flatten_block-returns-in_default-clause-list
 statements::flatten_block-returns-in_default-clause-list t c =
@@ -243,7 +239,7 @@ statements::flatten_block-returns-in_default-clause-scratch t c =
     let scope = c.args.scope.now in
     let ps = scope.called.now in
     let is = at-number ps c.args.block c.index-scope-block.result _ (omega arith) (ap called_view c.in_default.is) in
-    scratch-none (all_called_view ps) (owner_view scope.owner).kinds c.args.block scope.below _ _ _ c.if-block-scope.true is refl
+    scratch-none (all_called_view ps) c.args.block scope.below _ _ c.if-block-scope.true is refl
 
 pub statements::flatten_block-returns-else-block-scope-clause-list : goal.statements::flatten_block-returns-else-block-scope-clause-list
 statements::flatten_block-returns-else-block-scope-clause-list t c =
@@ -253,7 +249,7 @@ statements::flatten_block-returns-else-block-scope-clause-list t c =
 pub statements::flatten_block-returns-else-block-scope-clause-scratch : goal.statements::flatten_block-returns-else-block-scope-clause-scratch
 statements::flatten_block-returns-else-block-scope-clause-scratch t c =
     let scope = c.args.scope.now in
-    scratch-over (all_called_view scope.called.now) (owner_view scope.owner).kinds c.args.block scope.below _ _ c.if-block-scope.false
+    scratch-over (all_called_view scope.called.now) c.args.block scope.below _ c.if-block-scope.false
 
 pub charts::flatten_chart-returns-clause-list : goal.charts::flatten_chart-returns-clause-list
 charts::flatten_chart-returns-clause-list t c =

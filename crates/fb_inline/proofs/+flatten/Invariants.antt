@@ -1,14 +1,14 @@
 use Rattle.std.proofs.Common.{◌≡◌, ◌+◌, ◌-◌, ◌*◌, ◌≤◌, ◌++◌, length, drop, map}
-use Rattle.st_tree.specs.View.{expr_view, operand_view, operands_view, arguments_view, stmt_view, stmts_view, arm_view, choices_view, entries_view, action_view, actions_view, transition_view, transitions_view}
+use Rattle.program_tree.specs.View.{expr_view, operand_view, operands_view, arguments_view, stmt_view, stmts_view, arm_view, choices_view, entries_view, action_view, actions_view, transition_view, transitions_view}
 use Rattle.flat_core.specs.FlatView.{flats_view, flat_arms_view}
-use Rattle.effects.proofs.Sizes.{nodes, operand_nodes, all_nodes, statement_nodes, body_nodes, choice_nodes, entry_nodes, action_nodes, transition_nodes}
-use Rattle.fb_inline.specs.Views.{frame_view}
-use Rattle.fb_inline.specs.Views.{owner_view}
+use Rattle.meaning.proofs.Sizes.{nodes, operand_nodes, all_nodes, statement_nodes, body_nodes, choice_nodes, entry_nodes, action_nodes, transition_nodes}
+use Rattle.flat_charts.specs.Views.{frame_view}
+use Rattle.flat_charts.specs.Views.{owner_view}
 use Rattle.flat_form.specs.Calls.{operand_scratch, all_scratch, input_scratch, moved_operands, all_moved, operands_before, all_before, inputs_before, input_places}
 use Rattle.flat_form.specs.FlatCharts.{scratch_of_transitions, flat_transitions}
 use Rattle.flat_form.specs.FlatLists.{scratch_of_all, scratch_of_choices, scratch_of_entries, scratch_of_actions, repeated, flat_of_all, flat_choices, flat_entries, flat_actions, unrolled}
-use Rattle.fb_inline.specs.Views.{bodies_here}
-use Rattle.fb_inline.proofs.CallLemmas.{with_operands, with_expressions}
+use Rattle.flat_charts.specs.Views.{bodies_here}
+use Rattle.flat_form.proofs.OperandLemmas.{with_operands, with_expressions}
 use Rattle.fb_inline.proofs.PouLemmas.{weight_here}
 use Rattle.fb_inline.proofs.+flatten.Given as goal
 
@@ -52,8 +52,8 @@ abbrev pub invariant-statements::flatten_all-loop-stmt : goal.invariant-statemen
 invariant-statements::flatten_all-loop-stmt l = record {
   list : flats_view l.out.items ++ flat_of_all (bodies_here l.scope) (owner_view l.scope.owner) l.scope.base (stmts_view (drop l.stmt-index l.list)) (l.scope.cells + length l.scratch.items)
       ≡ flats_view l.initial.out.items ++ flat_of_all (bodies_here l.scope) (owner_view l.scope.owner) l.scope.base (stmts_view l.list) (l.scope.cells + length l.initial.scratch.items);
-  scratch : l.scratch.items ++ scratch_of_all (bodies_here l.scope) (owner_view l.scope.owner).kinds l.scope.base (stmts_view (drop l.stmt-index l.list))
-      ≡ l.initial.scratch.items ++ scratch_of_all (bodies_here l.scope) (owner_view l.scope.owner).kinds l.scope.base (stmts_view l.list);
+  scratch : l.scratch.items ++ scratch_of_all (bodies_here l.scope) (stmts_view (drop l.stmt-index l.list))
+      ≡ l.initial.scratch.items ++ scratch_of_all (bodies_here l.scope) (stmts_view l.list);
   weighs : body_nodes (stmts_view (drop l.stmt-index l.list)) ≤ body_nodes (stmts_view l.list);
 }
 
@@ -61,8 +61,8 @@ abbrev pub invariant-statements::flatten_arms-loop-arm : goal.invariant-statemen
 invariant-statements::flatten_arms-loop-arm l = record {
   list : flat_arms_view l.out.items ++ flat_choices (bodies_here l.scope) (owner_view l.scope.owner) l.scope.base (choices_view (drop l.arm-index l.arms)) (l.scope.cells + length l.scratch.items)
       ≡ flat_arms_view l.initial.out.items ++ flat_choices (bodies_here l.scope) (owner_view l.scope.owner) l.scope.base (choices_view l.arms) (l.scope.cells + length l.initial.scratch.items);
-  scratch : l.scratch.items ++ scratch_of_choices (bodies_here l.scope) (owner_view l.scope.owner).kinds l.scope.base (choices_view (drop l.arm-index l.arms))
-      ≡ l.initial.scratch.items ++ scratch_of_choices (bodies_here l.scope) (owner_view l.scope.owner).kinds l.scope.base (choices_view l.arms);
+  scratch : l.scratch.items ++ scratch_of_choices (bodies_here l.scope) (choices_view (drop l.arm-index l.arms))
+      ≡ l.initial.scratch.items ++ scratch_of_choices (bodies_here l.scope) (choices_view l.arms);
   weighs : choice_nodes (choices_view (drop l.arm-index l.arms)) ≤ choice_nodes (choices_view l.arms);
 }
 
@@ -70,27 +70,27 @@ abbrev pub invariant-statements::flatten_entries-loop-entry : goal.invariant-sta
 invariant-statements::flatten_entries-loop-entry l = record {
   list : flat_arms_view l.out.items ++ flat_entries (bodies_here l.scope) (owner_view l.scope.owner) l.scope.base l.kind l.place (entries_view (drop l.entry-index l.entries)) (l.scope.cells + length l.scratch.items)
       ≡ flat_arms_view l.initial.out.items ++ flat_entries (bodies_here l.scope) (owner_view l.scope.owner) l.scope.base l.kind l.place (entries_view l.entries) (l.scope.cells + length l.initial.scratch.items);
-  scratch : l.scratch.items ++ scratch_of_entries (bodies_here l.scope) (owner_view l.scope.owner).kinds l.scope.base (entries_view (drop l.entry-index l.entries))
-      ≡ l.initial.scratch.items ++ scratch_of_entries (bodies_here l.scope) (owner_view l.scope.owner).kinds l.scope.base (entries_view l.entries);
+  scratch : l.scratch.items ++ scratch_of_entries (bodies_here l.scope) (entries_view (drop l.entry-index l.entries))
+      ≡ l.initial.scratch.items ++ scratch_of_entries (bodies_here l.scope) (entries_view l.entries);
   weighs : entry_nodes (entries_view (drop l.entry-index l.entries)) ≤ entry_nodes (entries_view l.entries);
 }
 
 abbrev pub invariant-statements::unroll-loop : goal.invariant-statements::unroll-loop
 invariant-statements::unroll-loop l = record {
   list : flats_view l.out.items
-      ++ unrolled (l.turns.count - l.counter) l.control l.value l.turns.step (length (scratch_of_all (bodies_here l.scope) (owner_view l.scope.owner).kinds l.scope.base (stmts_view l.body))) (flat_of_all (bodies_here l.scope) (owner_view l.scope.owner) l.scope.base (stmts_view l.body)) (l.scope.cells + length l.scratch.items)
+      ++ unrolled (l.turns.count - l.counter) l.control l.value l.turns.step (length (scratch_of_all (bodies_here l.scope) (stmts_view l.body))) (flat_of_all (bodies_here l.scope) (owner_view l.scope.owner) l.scope.base (stmts_view l.body)) (l.scope.cells + length l.scratch.items)
       ≡ flats_view l.initial.out.items
-      ++ unrolled l.turns.count l.control l.turns.first l.turns.step (length (scratch_of_all (bodies_here l.scope) (owner_view l.scope.owner).kinds l.scope.base (stmts_view l.body))) (flat_of_all (bodies_here l.scope) (owner_view l.scope.owner) l.scope.base (stmts_view l.body)) (l.scope.cells + length l.initial.scratch.items);
-  scratch : l.scratch.items ++ repeated (l.turns.count - l.counter) (scratch_of_all (bodies_here l.scope) (owner_view l.scope.owner).kinds l.scope.base (stmts_view l.body))
-      ≡ l.initial.scratch.items ++ repeated l.turns.count (scratch_of_all (bodies_here l.scope) (owner_view l.scope.owner).kinds l.scope.base (stmts_view l.body));
+      ++ unrolled l.turns.count l.control l.turns.first l.turns.step (length (scratch_of_all (bodies_here l.scope) (stmts_view l.body))) (flat_of_all (bodies_here l.scope) (owner_view l.scope.owner) l.scope.base (stmts_view l.body)) (l.scope.cells + length l.initial.scratch.items);
+  scratch : l.scratch.items ++ repeated (l.turns.count - l.counter) (scratch_of_all (bodies_here l.scope) (stmts_view l.body))
+      ≡ l.initial.scratch.items ++ repeated l.turns.count (scratch_of_all (bodies_here l.scope) (stmts_view l.body));
 }
 
 abbrev pub invariant-charts::flatten_actions-loop-action : goal.invariant-charts::flatten_actions-loop-action
 invariant-charts::flatten_actions-loop-action l = record {
   list : flats_view l.out.items ++ flat_actions (bodies_here l.scope) (owner_view l.scope.owner) l.scope.base l.steps (actions_view (drop l.action-index l.actions)) (l.scope.cells + length l.scratch.items)
       ≡ flats_view l.initial.out.items ++ flat_actions (bodies_here l.scope) (owner_view l.scope.owner) l.scope.base l.steps (actions_view l.actions) (l.scope.cells + length l.initial.scratch.items);
-  scratch : l.scratch.items ++ scratch_of_actions (bodies_here l.scope) (owner_view l.scope.owner).kinds l.scope.base (actions_view (drop l.action-index l.actions))
-      ≡ l.initial.scratch.items ++ scratch_of_actions (bodies_here l.scope) (owner_view l.scope.owner).kinds l.scope.base (actions_view l.actions);
+  scratch : l.scratch.items ++ scratch_of_actions (bodies_here l.scope) (actions_view (drop l.action-index l.actions))
+      ≡ l.initial.scratch.items ++ scratch_of_actions (bodies_here l.scope) (actions_view l.actions);
   weighs : action_nodes (actions_view (drop l.action-index l.actions)) ≤ action_nodes (actions_view l.actions);
 }
 

@@ -1,16 +1,17 @@
 use Rattle.std.proofs.Common.{◌≡◌, ℕ, ◌+◌, ◌*◌, ◌<◌, arith, ap, sym, subst, refl, ◌∙◌, length, true, false}
-use Rattle.st_tree.specs.View.{arguments_view, stmts_view, actions_view, called_view, all_called_view}
-use Rattle.st_tree.specs.Tree.{answer, CalledData}
-use Rattle.effects.proofs.Sizes.{all_nodes, body_nodes, called_nodes}
-use Rattle.effects.proofs.Callees.{at-number, weight-call}
+use Rattle.program_tree.specs.View.{arguments_view, stmts_view, actions_view, called_view, all_called_view}
+use Rattle.program_tree.specs.Tree.{answer, CalledData}
+use Rattle.meaning.proofs.Sizes.{all_nodes, body_nodes, called_nodes}
+use Rattle.meaning.proofs.Callees.{at-number, weight-call}
 use Rattle.flat_form.specs.Frames.{frame_of}
 use Rattle.flat_form.specs.WellTyped.{extent_of_bodies, AreRisingFrom, chart_places, FrameFits}
 use Rattle.flat_form.specs.Idle.{idle_in, idle_of}
+use Rattle.flat_form.proofs.FrameLemmas.{arity-length}
 use Rattle.flat_form.proofs.IdleTables.{idle-first, told-idle}
 use Rattle.flat_form.proofs.MayRun.{may-run-idle, may-run-unknown}
 use Rattle.flat_typing.specs.Scopes.{frame_view, tested_by, IsTypedValueIn, AreTypedInputsIn, MayRunHere}
 use Rattle.flat_typing.proofs.ExtentLemmas.{extents-same}
-use Rattle.flat_typing.proofs.PouLemmas.{weight_here, may-run-body, may-call-body, arity-length}
+use Rattle.flat_typing.proofs.PouLemmas.{weight_here, may-run-body, may-call-body}
 use Rattle.flat_typing.proofs.Owing.{run-owes-body, call-owes-fit, call-owes-body, call-unknown, block-not-called}
 use Rattle.flat_typing.proofs.Refuting.{refuted-up}
 use Rattle.flat_typing.proofs.+typing.Goals as goal

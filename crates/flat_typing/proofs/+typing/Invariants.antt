@@ -1,6 +1,6 @@
 use Rattle.std.proofs.Common.{◌≡◌, ◌+◌, ◌*◌, ◌≤◌, drop}
-use Rattle.st_tree.specs.View.{expr_view, operands_view, arguments_view, stmt_view, stmts_view, choices_view, entries_view, action_view, actions_view, transitions_view}
-use Rattle.effects.proofs.Sizes.{nodes, operand_nodes, all_nodes, transition_nodes, statement_nodes, body_nodes, choice_nodes, entry_nodes, action_nodes}
+use Rattle.program_tree.specs.View.{expr_view, operands_view, arguments_view, stmt_view, stmts_view, choices_view, entries_view, action_view, actions_view, transitions_view}
+use Rattle.meaning.proofs.Sizes.{nodes, operand_nodes, all_nodes, transition_nodes, statement_nodes, body_nodes, choice_nodes, entry_nodes, action_nodes}
 use Rattle.flat_typing.specs.Scopes.{frame_view, AreTypedOperandsIn, AreTypedValuesIn, AreTypedInputsIn, AreTypedIn, AreTypedChoicesIn, AreTypedEntriesIn, AreTypedActionsIn, AreTypedTransitionsIn}
 use Rattle.flat_typing.proofs.PouLemmas.{weight_here}
 use Rattle.flat_typing.proofs.+typing.Given as goal

@@ -1,7 +1,7 @@
 use Rattle.std.proofs.Common.{◌≡◌, ◌++◌, drop}
-use Rattle.st_tree.specs.View.{actions_view}
+use Rattle.program_tree.specs.View.{actions_view}
 use Rattle.flat_core.specs.FlatView.{flats_view}
-use Rattle.fb_inline.specs.Views.{owner_view}
+use Rattle.flat_charts.specs.Views.{owner_view}
 use Rattle.flat_form.specs.FlatCharts.{latch_list}
 use Rattle.fb_inline.proofs.chart_lists.put_latches.Given as goal
 

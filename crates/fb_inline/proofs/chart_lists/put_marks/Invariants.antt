@@ -1,6 +1,6 @@
 use Rattle.std.proofs.Common.{◌≡◌, ◌++◌, drop}
 use Rattle.flat_core.specs.FlatView.{flats_view}
-use Rattle.fb_inline.specs.Views.{owner_view}
+use Rattle.flat_charts.specs.Views.{owner_view}
 use Rattle.flat_form.specs.FlatCharts.{mark_list}
 use Rattle.fb_inline.proofs.chart_lists.put_marks.Given as goal
 

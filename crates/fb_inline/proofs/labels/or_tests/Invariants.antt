@@ -1,5 +1,5 @@
 use Rattle.std.proofs.Common.{◌≡◌, map, take}
-use Rattle.st_tree.specs.View.{operand_view}
+use Rattle.program_tree.specs.View.{operand_view}
 use Rattle.flat_form.specs.FlatLists.{or_test}
 use Rattle.fb_inline.proofs.labels.or_tests.Given as goal
 

@@ -1,5 +1,5 @@
 use Rattle.std.proofs.Common.{◌≡◌, take}
-use Rattle.st_tree.specs.View.{cells_view}
+use Rattle.program_tree.specs.View.{cells_view}
 use Rattle.fb_inline.proofs.program.copy_cells.Given as goal
 
 abbrev pub invariant-loop-cell : goal.invariant-loop-cell

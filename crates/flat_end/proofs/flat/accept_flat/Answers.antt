@@ -1,4 +1,4 @@
-use Rattle.st_tree.specs.View.{program_view}
+use Rattle.program_tree.specs.View.{program_view}
 use Rattle.flat_end.specs.FlatTexts.HasNoFlatForm.{by_program, by_size}
 use Rattle.flat_end.proofs.flat.accept_flat.Goals as goal
 

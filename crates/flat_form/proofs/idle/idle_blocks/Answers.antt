@@ -1,6 +1,6 @@
 use Rattle.std.proofs.Common.{◌∷◌, [], length, length-append, arith, ap, sym, ◌∙◌}
-use Rattle.st_tree.specs.View.{called_view, all_called_view}
-use Rattle.effects.proofs.Callees.{at-number}
+use Rattle.program_tree.specs.View.{called_view, all_called_view}
+use Rattle.meaning.proofs.Callees.{at-number}
 use Rattle.flat_form.specs.Pous.{block_body}
 use Rattle.flat_form.proofs.IdleTables.{idle-more}
 use Rattle.flat_form.proofs.idle.idle_blocks.Goals as goal

@@ -1,5 +1,5 @@
 use Rattle.std.proofs.Common.{◌≡◌, drop}
-use Rattle.st_tree.specs.View.{stmts_view}
+use Rattle.program_tree.specs.View.{stmts_view}
 use Rattle.flat_form.specs.Idle.{is_idle_all, idle_in}
 use Rattle.flat_form.proofs.idle.is_idle_all.Given as goal
 

@@ -1,5 +1,5 @@
 use Rattle.std.proofs.Common.{drop}
-use Rattle.st_tree.specs.View.{cells_view}
+use Rattle.program_tree.specs.View.{cells_view}
 use Rattle.scan_model.specs.Scans.{ranges_of, initial}
 use Rattle.scan_model.specs.InRange.{IsInRange}
 use Rattle.flat_typing.proofs.cells.start_in_range.Given as goal

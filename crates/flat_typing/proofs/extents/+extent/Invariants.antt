@@ -1,5 +1,5 @@
 use Rattle.std.proofs.Common.{◌≡◌, max, drop}
-use Rattle.st_tree.specs.View.{stmts_view, choices_view, entries_view, actions_view}
+use Rattle.program_tree.specs.View.{stmts_view, choices_view, entries_view, actions_view}
 use Rattle.flat_form.specs.WellTyped.{extent_of_all, extent_of_choices, extent_of_entries, extent_of_actions}
 use Rattle.flat_typing.specs.Extents.{extent_in}
 use Rattle.flat_typing.proofs.extents.+extent.Given as goal

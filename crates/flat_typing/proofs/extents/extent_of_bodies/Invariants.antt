@@ -1,5 +1,5 @@
 use Rattle.std.proofs.Common.{◌≡◌, max, drop}
-use Rattle.st_tree.specs.View.{actions_view}
+use Rattle.program_tree.specs.View.{actions_view}
 use Rattle.flat_form.specs.WellTyped.{extent_of_bodies}
 use Rattle.flat_typing.specs.Extents.{extent_in}
 use Rattle.flat_typing.proofs.extents.extent_of_bodies.Given as goal

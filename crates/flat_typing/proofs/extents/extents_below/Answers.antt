@@ -1,5 +1,5 @@
 use Rattle.std.proofs.Common.{arith}
-use Rattle.st_tree.specs.View.{all_called_view}
+use Rattle.program_tree.specs.View.{all_called_view}
 use Rattle.flat_typing.proofs.ExtentLemmas.{first-extents}
 use Rattle.flat_typing.proofs.extents.extents_below.Goals as goal
 

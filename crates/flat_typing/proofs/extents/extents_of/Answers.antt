@@ -1,6 +1,6 @@
 use Rattle.std.proofs.Common.{◌∷◌, [], length, length-append, arith, ap, sym, refl, ◌∙◌}
-use Rattle.st_tree.specs.View.{called_view, all_called_view}
-use Rattle.effects.proofs.Callees.{at-number}
+use Rattle.program_tree.specs.View.{called_view, all_called_view}
+use Rattle.meaning.proofs.Callees.{at-number}
 use Rattle.flat_form.specs.Pous.{block_body}
 use Rattle.flat_typing.proofs.ExtentLemmas.{extents-more}
 use Rattle.flat_typing.proofs.extents.extents_of.Goals as goal

@@ -1,5 +1,5 @@
 use Rattle.std.proofs.Common.{◌≡◌, length}
-use Rattle.st_tree.specs.View.{all_called_view}
+use Rattle.program_tree.specs.View.{all_called_view}
 use Rattle.flat_typing.proofs.ExtentLemmas.{AreFirst}
 use Rattle.flat_typing.proofs.extents.extents_of.Given as goal
 

@@ -1,5 +1,5 @@
 use Rattle.std.proofs.Common.{drop}
-use Rattle.st_tree.specs.View.{actions_view}
+use Rattle.program_tree.specs.View.{actions_view}
 use Rattle.flat_form.specs.WellTyped.{latch_places, chart_places}
 use Rattle.flat_typing.specs.Scopes.{ArePlacesIn}
 use Rattle.flat_typing.proofs.marks.are_places.Given as goal

@@ -1,7 +1,7 @@
 use Rattle.std.proofs.Common.{◌≡◌, List, ap, sym, subst, ◌∙◌}
-use Rattle.st_tree.specs.declared.typed.Range.{Range}
-use Rattle.st_tree.specs.Tree.{Statements, CellData, CalledData}
-use Rattle.st_tree.specs.View.{cells_view, stmts_view, all_called_view, program_view}
+use Rattle.plc_types.specs.declared.range.Range.{Range}
+use Rattle.program_tree.specs.Tree.{Statements, CellData, CalledData}
+use Rattle.program_tree.specs.View.{cells_view, stmts_view, all_called_view, program_view}
 use Rattle.scan_model.specs.Scans.{ranges_of, initial}
 use Rattle.scan_model.specs.InRange.{BeginsWithFault, IsInRange, IsProgram}
 use Rattle.flat_form.specs.WellTyped.{IsWellTyped}

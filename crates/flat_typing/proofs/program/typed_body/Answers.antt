@@ -1,6 +1,6 @@
 use Rattle.std.proofs.Common.{◌≡◌, ℕ, length, arith, ap, sym, subst, ◌∙◌}
 use Rattle.std.proofs.lemmas.List.{length-map}
-use Rattle.st_tree.specs.View.{called_view, stmts_view, all_called_view}
+use Rattle.program_tree.specs.View.{called_view, stmts_view, all_called_view}
 use Rattle.flat_form.specs.Frames.{frames_of}
 use Rattle.flat_form.specs.WellTyped.{AreTyped, MayCallOf, MayRunOf, extents_of, each_tested}
 use Rattle.flat_form.proofs.IdleTables.{idle-whole}

@@ -1,8 +1,8 @@
 use Rattle.std.proofs.Common.{◌≡◌, ◌<◌, ◌≤◌, ℕ, List, [], ◌∷◌, length, false, refl, arith}
-use Rattle.st_tree.specs.declared.function.Function.TheVariants as functions
-use Rattle.st_tree.specs.declared.typed.Range.{Range}
-use Rattle.st_tree.specs.declared.typed.TypedExpr.{TypedExpr}
-use Rattle.st_tree.specs.View.{arguments_view}
+use Rattle.plc_types.specs.declared.function.Function.TheVariants as functions
+use Rattle.plc_types.specs.declared.range.Range.{Range}
+use Rattle.program_tree.specs.declared.typed.TypedExpr.{TypedExpr}
+use Rattle.program_tree.specs.View.{arguments_view}
 use Rattle.flat_form.specs.Frames.{FrameData}
 use Rattle.flat_form.specs.WellTyped.{chosen_stay, each_stays}
 use Rattle.flat_typing.proofs.stays.+stays.Goals as goal

@@ -1,5 +1,5 @@
 use Rattle.std.proofs.Common.{◌≡◌, drop}
-use Rattle.st_tree.specs.View.{operands_view}
+use Rattle.program_tree.specs.View.{operands_view}
 use Rattle.flat_form.specs.WellTyped.{last_stays}
 use Rattle.flat_typing.proofs.stays.last_stays.Given as goal
 

@@ -1,13 +1,14 @@
 use Rattle.std.proofs.Common.{◌≡◌, ℕ, [], sym, subst}
 use Rattle.std.proofs.lemmas.Result.{err_from_is_err_and}
 use Rattle.call_order.specs.Uses.{Reaches}
-use Rattle.st_tree.specs.Syntax.{FileData}
-use Rattle.st_tree.specs.SyntaxView.{file_view}
-use Rattle.st_tree.specs.View.{program_view}
-use Rattle.st_names.specs.Broken.{broken_names}
-use Rattle.st_names.specs.Circles.{uses_of}
+use Rattle.source_tree.specs.Syntax.{FileData}
+use Rattle.source_tree.specs.SyntaxView.{file_view}
+use Rattle.program_tree.specs.View.{program_view}
+use Rattle.naming.specs.Broken.{broken_names}
+use Rattle.naming.specs.Circles.{uses_of}
 use Rattle.front_end.specs.Texts.{HasFile, AreNamesSound}
 use Rattle.front_end.proofs.OnePou.{one_pou}
+use Rattle.front_end.proofs.Ready.{program_of_ready}
 use Rattle.front_end.proofs.Passes.{tree_first, names_refused, sound_names, types_refused, program_of}
 use Rattle.front_end.proofs.accept.accept_text.Goals as goal
 
@@ -41,3 +42,6 @@ returns-clause-program c =
     let one = one_pou f none in
     program_of c.args.text.now f one.number one.pou (program_view c.in_ok-check.field-0) (subst (HasFile c.args.text.now) same c.in_ok-file.ensures.file) (sound_names f none acyclic) one.one
     c.in_ok-check.ensures.kept c.in_ok-check.ensures.room c.in_ok-check.ensures.typed
+
+pub returns-clause-fit : goal.returns-clause-fit
+returns-clause-fit c = program_of_ready (program_view c.in_ok-check.field-0) c.in_ok-check.ensures.ready

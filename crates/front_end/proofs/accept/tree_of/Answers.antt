@@ -1,7 +1,7 @@
 use Rattle.std.proofs.Common.{subst}
 use Rattle.std.proofs.lemmas.Result.{err_from_is_err_and}
-use Rattle.st_tree.specs.SyntaxView.{file_view}
-use Rattle.st_parser.specs.WholeFile.{IsFile, IsFileFault}
+use Rattle.source_tree.specs.SyntaxView.{file_view}
+use Rattle.grammar.specs.WholeFile.{IsFile, IsFileFault}
 use Rattle.front_end.proofs.Passes.{tree_found, tree_refused}
 use Rattle.front_end.proofs.accept.tree_of.Goals as goal
 

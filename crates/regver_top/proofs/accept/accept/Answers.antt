@@ -1,11 +1,10 @@
 use Rattle.std.proofs.Common.{◌≡◌, ◌∙◌, subst, length}
 use Rattle.std.proofs.lemmas.Result.{err_from_is_err_and}
-use Rattle.st_tree.specs.View.{program_view}
+use Rattle.program_tree.specs.View.{program_view}
 use Rattle.scan_model.specs.Pairs.{relation_view}
 use Rattle.regver_top.specs.declared.refusal.Source.TheVariants.{Trace}
 use Rattle.regver_top.specs.Accepting.{IsNoTrace}
 use Rattle.regver_top.specs.Accepted.{IfRefusedOf}
-use Rattle.relation_file.proofs.Ready.{program_of_ready}
 use Rattle.regver_top.proofs.Refusals.{at_old, at_new, at_relation, at_trace}
 use Rattle.regver_top.proofs.accept.accept.Goals as goal
 
@@ -35,7 +34,7 @@ returns-in_err-rows-clause-refused c = λ t kept.
 
 pub returns-clause-comparable : goal.returns-clause-comparable
 returns-clause-comparable c = record {
-  old_is_program = program_of_ready (program_view c.in_ok-old.old) c.in_ok-old.ensures.ready;
-  new_is_program = program_of_ready (program_view c.in_ok-new.new) c.in_ok-new.ensures.ready;
+  old_is_program = c.in_ok-old.ensures.fit;
+  new_is_program = c.in_ok-new.ensures.fit;
   belongs = c.in_ok-relation.ensures.belongs;
 }

@@ -1,5 +1,5 @@
 use Rattle.std.proofs.Common.{◌≡◌}
-use Rattle.st_tree.specs.View.{program_view}
+use Rattle.program_tree.specs.View.{program_view}
 use Rattle.scan_model.specs.Pairs.{relation_view}
 use Rattle.regver_top.specs.Held.{rows_of}
 use Rattle.regver_top.specs.Outcomes.{outcome_of}

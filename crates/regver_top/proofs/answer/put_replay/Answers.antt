@@ -1,6 +1,6 @@
 use Rattle.std.proofs.Common.{◌≡◌, refl, subst, List, Vec, ℤ}
 use Rattle.std.specs.declared.alloc.Global.{Global}
-use Rattle.st_tree.specs.View.{program_view}
+use Rattle.program_tree.specs.View.{program_view}
 use Rattle.scan_model.specs.Pairs.{relation_view}
 use Rattle.regver_top.specs.Held.{rows_of}
 use Rattle.regver_top.specs.Lines.{ending_line}

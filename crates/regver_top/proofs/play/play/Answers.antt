@@ -1,5 +1,5 @@
 use Rattle.std.proofs.Common.{arith}
-use Rattle.regver_top.proofs.PlayLemmas.{are_related, are_still, step_run, row_related, row_unrelated, row_part, on_err, nothing_put}
+use Rattle.regver_top.proofs.PlayLemmas.{are_related, are_still, step_run, row_related, row_unrelated, row_part, row_refused, on_err, nothing_put}
 use Rattle.regver_top.proofs.play.play.Goals as goal
 
 pub returns-in_err-put_scan-clause-part : goal.returns-in_err-put_scan-clause-part
@@ -7,6 +7,11 @@ returns-in_err-put_scan-clause-part g c =
     let run = step_run c.args.old.now c.args.new.now c.args.relation.now _ _ _ c.loop-done.done c.loop-done.duo c.allowed.new.self c.step.new.self c.args.rows.now c.index-rows-done.result c.deref.result.now c.deref-in-loop-done.result.now c.allowed.result
     c.loop-done.invariant.same c.loop-done.invariant.played c.loop-done-test.true c.index-rows-done.is c.deref.ensures.value c.deref-in-loop-done.ensures.value c.allowed.ensures.allowed c.if-not-allowed.false c.allowed.ensures.unchanged c.step.ensures.pair in
     on_err c.from_residual-in_err-put_scan.result _ (row_part _ _ _ _ _ _ _ _ _ _ run c.in_err-put_scan.ensures.part)
+
+pub returns-then-not-allowed-clause-whole : goal.returns-then-not-allowed-clause-whole
+returns-then-not-allowed-clause-whole g c =
+    row_refused c.args.old.now c.args.new.now c.args.relation.now _ _ _ c.loop-done.done c.loop-done.duo c.args.rows.now c.index-rows-done.result c.deref.result.now c.allowed.result
+    c.loop-done.invariant.same c.loop-done.invariant.played c.loop-done-test.true c.index-rows-done.is c.deref.ensures.value c.allowed.ensures.allowed c.if-not-allowed.true
 
 pub returns-then-not-related-clause-whole : goal.returns-then-not-related-clause-whole
 returns-then-not-related-clause-whole g c =

@@ -1,13 +1,13 @@
 use Rattle.std.proofs.Common.{◌≡◌, ap, sym, ◌∙◌, subst}
 use Rattle.std.specs.Prelude.{IfOk}
-use Rattle.st_tree.specs.Rules.{first_in}
-use Rattle.st_tree.specs.SyntaxView.{tree_view}
-use Rattle.st_types.specs.Judged.{judged_clause}
-use Rattle.st_types.specs.Typing.{Scope}
+use Rattle.rules.specs.Rules.{first_in}
+use Rattle.source_tree.specs.SyntaxView.{tree_view}
+use Rattle.typing.specs.Judged.{judged_clause}
+use Rattle.typing.specs.Typing.{Scope}
 use Rattle.relation_lines.specs.declared.line.Content.{Content}
 use Rattle.relation_lines.specs.View.{content_view}
 use Rattle.relation_file.specs.Broken.{broken_content}
-use Rattle.relation_file.specs.PairView.{old_of, new_of}
+use Rattle.candidates.specs.PairView.{old_of, new_of}
 use Rattle.relation_file.proofs.broken.clause_refusal.Goals as goal
 
 pub returns-in-Clause : goal.returns-in-Clause

@@ -1,12 +1,12 @@
 use Rattle.std.proofs.Common.{◌+◌, drop, ap, sym, ◌∙◌, arith}
 use Rattle.std.proofs.lemmas.List.{at_drop_all}
-use Rattle.st_tree.specs.Rules.{earlier, first_in}
-use Rattle.st_tree.proofs.Refusals.{earlier-none}
-use Rattle.st_names.proofs.Steps.{view-drop}
+use Rattle.rules.specs.Rules.{earlier, first_in}
+use Rattle.rules.proofs.Refusals.{earlier-none}
+use Rattle.naming.proofs.Steps.{view-drop}
 use Rattle.relation_file.proofs.Steps.{before_rest}
 use Rattle.relation_lines.specs.View.{line_view, lines_view, content_view}
 use Rattle.relation_file.specs.Broken.{broken_content, broken_clauses}
-use Rattle.relation_file.specs.PairView.{old_of, new_of}
+use Rattle.candidates.specs.PairView.{old_of, new_of}
 use Rattle.relation_file.proofs.broken.first_of_clauses.Goals as goal
 
 pub loop-line-preserved : goal.loop-line-preserved

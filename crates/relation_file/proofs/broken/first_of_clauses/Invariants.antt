@@ -1,8 +1,8 @@
 use Rattle.std.proofs.Common.{◌≡◌, drop}
-use Rattle.st_tree.specs.Rules.{earlier, first_in}
+use Rattle.rules.specs.Rules.{earlier, first_in}
 use Rattle.relation_lines.specs.View.{lines_view}
 use Rattle.relation_file.specs.Broken.{broken_clauses}
-use Rattle.relation_file.specs.PairView.{old_of, new_of}
+use Rattle.candidates.specs.PairView.{old_of, new_of}
 use Rattle.relation_file.proofs.broken.first_of_clauses.Given as goal
 
 abbrev pub invariant-loop-line : goal.invariant-loop-line

@@ -1,11 +1,11 @@
 use Rattle.std.proofs.Common.{◌+◌, [], ◌∷◌, drop, ap, sym, ◌∙◌, refl, arith}
 use Rattle.std.proofs.lemmas.List.{at_drop_all}
-use Rattle.st_tree.specs.Rules.{earlier, first_in}
-use Rattle.st_names.proofs.Steps.{view-drop}
+use Rattle.rules.specs.Rules.{earlier, first_in}
+use Rattle.naming.proofs.Steps.{view-drop}
 use Rattle.relation_file.proofs.Steps.{before_rest}
 use Rattle.relation_lines.specs.View.{line_view, lines_view}
 use Rattle.relation_file.specs.Broken.{broken_line, broken_behind}
-use Rattle.relation_file.specs.PairView.{old_of, new_of}
+use Rattle.candidates.specs.PairView.{old_of, new_of}
 use Rattle.relation_file.proofs.broken.first_of_lines.Goals as goal
 
 pub loop-line-init : goal.loop-line-init

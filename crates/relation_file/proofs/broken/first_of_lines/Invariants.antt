@@ -1,9 +1,9 @@
 use Rattle.std.proofs.Common.{◌≡◌, List, drop}
-use Rattle.st_tree.specs.Rules.{earlier, first_in}
+use Rattle.rules.specs.Rules.{earlier, first_in}
 use Rattle.relation_lines.specs.Lines.{LineData}
 use Rattle.relation_lines.specs.View.{lines_view}
 use Rattle.relation_file.specs.Broken.{broken_behind, broken_lines}
-use Rattle.relation_file.specs.PairView.{old_of, new_of}
+use Rattle.candidates.specs.PairView.{old_of, new_of}
 use Rattle.relation_file.specs.Seen.{Recalls}
 use Rattle.relation_file.proofs.broken.first_of_lines.Given as goal
 

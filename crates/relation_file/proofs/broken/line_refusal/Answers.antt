@@ -1,10 +1,10 @@
 use Rattle.std.proofs.Common.{not, ap, ◌∙◌}
-use Rattle.st_tree.specs.declared.rule.Rule.TheVariants.{LineOrder}
-use Rattle.st_tree.specs.Rules.{first_in}
+use Rattle.rules.specs.declared.rule.Rule.TheVariants.{LineOrder}
+use Rattle.rules.specs.Rules.{first_in}
 use Rattle.relation_lines.specs.View.{content_view}
 use Rattle.relation_file.specs.Broken.{broken_parts}
 use Rattle.relation_file.specs.Order.{is_out_of_order}
-use Rattle.relation_file.specs.PairView.{old_of, new_of}
+use Rattle.candidates.specs.PairView.{old_of, new_of}
 use Rattle.relation_file.specs.Refusals.{unless}
 use Rattle.relation_file.proofs.FirstLemmas.{own_behind}
 use Rattle.relation_file.proofs.broken.line_refusal.Goals as goal

@@ -1,11 +1,12 @@
 use Rattle.std.proofs.Common.{◌&&◌, ℕ, List, Bool, ap, ◌∙◌}
-use Rattle.st_tree.specs.declared.rule.Rule.TheVariants.{LineOrder, InputCount}
-use Rattle.st_tree.specs.Rules.{first_in}
+use Rattle.rules.specs.declared.rule.Rule.TheVariants.{LineOrder, InputCount}
+use Rattle.rules.specs.Rules.{first_in}
 use Rattle.scan_model.specs.declared.side.Side.TheVariants as sides
 use Rattle.indexmap.specs.IndexSet.{contains_text}
 use Rattle.relation_file.specs.Broken.{missing_kinds, missing_inputs}
-use Rattle.relation_file.specs.Inputs.{is_among, names_in, all_listed}
-use Rattle.relation_file.specs.PairView.{old_of, new_of}
+use Rattle.candidates.specs.ByPath.{is_among}
+use Rattle.relation_file.specs.Inputs.{names_in, all_listed}
+use Rattle.candidates.specs.PairView.{old_of, new_of}
 use Rattle.relation_file.specs.Refusals.{unless}
 use Rattle.relation_file.proofs.FirstLemmas.{both_first}
 use Rattle.relation_file.proofs.broken.missing.Goals as goal

@@ -1,6 +1,6 @@
 use Rattle.std.proofs.Common.{◌+◌, drop, arith}
-use Rattle.st_tree.specs.View.{cell_view, cells_view}
-use Rattle.st_names.proofs.Steps.{view-drop}
+use Rattle.program_tree.specs.View.{cell_view, cells_view}
+use Rattle.naming.proofs.Steps.{view-drop}
 use Rattle.indexmap.specs.IndexSet.{contains_text}
 use Rattle.relation_file.specs.Inputs.{is_listed}
 use Rattle.relation_file.proofs.LineLemmas.{all_failed, all_left}

@@ -1,5 +1,5 @@
 use Rattle.std.proofs.Common.{◌≡◌, drop}
-use Rattle.st_tree.specs.View.{cells_view}
+use Rattle.program_tree.specs.View.{cells_view}
 use Rattle.indexmap.specs.IndexSet.{contains_text}
 use Rattle.relation_file.specs.Inputs.{all_listed}
 use Rattle.relation_file.proofs.inputs.all_listed.Given as goal

@@ -1,10 +1,11 @@
 use Rattle.std.proofs.Common.{ℕ, List, Bool, ap, ◌∙◌}
-use Rattle.st_tree.specs.Rules.{first_in}
-use Rattle.st_tree.specs.SyntaxView.{name_view}
+use Rattle.rules.specs.Rules.{first_in}
+use Rattle.source_tree.specs.SyntaxView.{name_view}
 use Rattle.scan_model.specs.declared.side.Side.TheVariants as sides
 use Rattle.indexmap.specs.IndexSet.{contains_text}
-use Rattle.relation_file.specs.Inputs.{is_among, names_in, cell_named, broken_at_cell}
-use Rattle.relation_file.specs.PairView.{old_of, new_of}
+use Rattle.candidates.specs.ByPath.{is_among, cell_named}
+use Rattle.relation_file.specs.Inputs.{names_in, broken_at_cell}
+use Rattle.candidates.specs.PairView.{old_of, new_of}
 use Rattle.relation_file.proofs.inputs.name_refusal.Goals as goal
 
 pub returns-in-Old : goal.returns-in-Old

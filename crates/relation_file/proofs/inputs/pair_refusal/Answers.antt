@@ -1,12 +1,13 @@
 use Rattle.std.proofs.Common.{◌++◌, ℕ, List, ap, ◌∙◌}
-use Rattle.st_tree.specs.declared.rule.Rule.TheVariants.{InputsDiffer}
-use Rattle.st_tree.specs.Rules.{first_in}
-use Rattle.st_tree.specs.SyntaxView.{name_view}
-use Rattle.st_tree.specs.Enumerations.{paired_type}
+use Rattle.rules.specs.declared.rule.Rule.TheVariants.{InputsDiffer}
+use Rattle.rules.specs.Rules.{first_in}
+use Rattle.source_tree.specs.SyntaxView.{name_view}
+use Rattle.plc_types.specs.Enumerations.{paired_type}
 use Rattle.scan_model.specs.declared.side.Side.TheVariants as sides
 use Rattle.relation_file.specs.Broken.{broken_name}
-use Rattle.relation_file.specs.Inputs.{cell_named, are_alike}
-use Rattle.relation_file.specs.PairView.{old_of, new_of}
+use Rattle.candidates.specs.ByPath.{cell_named}
+use Rattle.relation_file.specs.Inputs.{are_alike}
+use Rattle.candidates.specs.PairView.{old_of, new_of}
 use Rattle.relation_file.specs.Refusals.{unless}
 use Rattle.relation_file.proofs.FirstLemmas.{own_behind, both_first}
 use Rattle.relation_file.proofs.inputs.pair_refusal.Goals as goal

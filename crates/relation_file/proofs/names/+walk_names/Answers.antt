@@ -1,15 +1,15 @@
 use Rattle.std.proofs.Common.{◌≡◌, List, ◌+◌, ◌∷◌, ◌++◌, option_map, drop, map, ap, sym, ◌∙◌, arith}
-use Rattle.st_tree.specs.declared.syntax.Expr.{Expr}
-use Rattle.st_tree.specs.declared.syntax.Link.{Link}
-use Rattle.st_tree.specs.declared.syntax.Argument.{Argument}
-use Rattle.st_tree.specs.declared.syntax.Expr.TheVariants.{rolls-Chain, rolls-Call}
-use Rattle.st_tree.specs.declared.syntax.Expr.TheFolds.{fold-roll-Expr}
-use Rattle.st_tree.specs.Syntax.{Tree, chain, call}
-use Rattle.st_tree.specs.Rules.{earlier, first_in}
-use Rattle.st_tree.specs.SyntaxView.{LinkData, ArgumentData, expr_step, argument_step, link_step, name_view, tree_view, link_view, links_view, links_of, argument_view, arguments_view, arguments_of}
-use Rattle.st_names.specs.Library.{is_library}
-use Rattle.st_names.proofs.Outs.{link_view-out, argument_view-out}
-use Rattle.st_names.proofs.Steps.{view-drop}
+use Rattle.source_tree.specs.declared.syntax.Expr.{Expr}
+use Rattle.source_tree.specs.declared.syntax.Link.{Link}
+use Rattle.source_tree.specs.declared.syntax.Argument.{Argument}
+use Rattle.source_tree.specs.declared.syntax.Expr.TheVariants.{rolls-Chain, rolls-Call}
+use Rattle.source_tree.specs.declared.syntax.Expr.TheFolds.{fold-roll-Expr}
+use Rattle.source_tree.specs.Syntax.{Tree, chain, call}
+use Rattle.rules.specs.Rules.{earlier, first_in}
+use Rattle.source_tree.specs.SyntaxView.{LinkData, ArgumentData, expr_step, argument_step, link_step, name_view, tree_view, link_view, links_view, links_of, argument_view, arguments_view, arguments_of}
+use Rattle.naming.specs.Library.{is_library}
+use Rattle.naming.proofs.Outs.{link_view-out, argument_view-out}
+use Rattle.naming.proofs.Steps.{view-drop}
 use Rattle.relation_file.proofs.Steps.{then_on, before_rest}
 use Rattle.relation_file.specs.Clauses.{broken_called, broken_argument, broken_names, broken_links, broken_arguments}
 use Rattle.relation_file.proofs.names.+walk_names.Goals as goal

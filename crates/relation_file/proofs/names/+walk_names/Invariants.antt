@@ -1,6 +1,6 @@
 use Rattle.std.proofs.Common.{◌≡◌, drop}
-use Rattle.st_tree.specs.Rules.{earlier, first_in}
-use Rattle.st_tree.specs.SyntaxView.{links_view, arguments_view}
+use Rattle.rules.specs.Rules.{earlier, first_in}
+use Rattle.source_tree.specs.SyntaxView.{links_view, arguments_view}
 use Rattle.relation_file.specs.Clauses.{broken_links, broken_arguments}
 use Rattle.relation_file.proofs.names.+walk_names.Given as goal
 

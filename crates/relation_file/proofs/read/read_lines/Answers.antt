@@ -1,8 +1,9 @@
 use Rattle.std.proofs.lemmas.Result.{err_from_is_err_and}
-use Rattle.st_tree.specs.View.{program_view}
+use Rattle.program_tree.specs.View.{program_view}
 use Rattle.scan_model.specs.Pairs.{relation_view}
 use Rattle.relation_lines.specs.View.{lines_view}
 use Rattle.relation_file.proofs.BelongsLemmas.{relation_belongs}
+use Rattle.relation_file.proofs.WellFormedLemmas.{relation_well_formed}
 use Rattle.relation_file.proofs.PassLemmas.{rules_refused}
 use Rattle.relation_file.proofs.read.read_lines.Goals as goal
 
@@ -19,6 +20,14 @@ returns-clause-belongs c =
     let stated = rw (c.in_ok-pair.ensures.0, c.in_ok-pair.ensures.1, c.deref.ensures.value) at is in
     let kept = rw (c.in_ok-pair.ensures.0, c.in_ok-pair.ensures.1, c.deref.ensures.value) at sound in
     relation_belongs (program_view c.args.old.now) (program_view c.args.new.now) c.args.end (lines_view c.in_ok-lines.lines.items) (relation_view c.in_ok-relation.relation) kept stated
+
+pub returns-clause-well_formed : goal.returns-clause-well_formed
+returns-clause-well_formed c =
+    let is = c.in_ok-relation.ensures.stated in
+    let sound = c.in_ok-relation.ensures.sound in
+    let stated = rw (c.in_ok-pair.ensures.0, c.in_ok-pair.ensures.1, c.deref.ensures.value) at is in
+    let kept = rw (c.in_ok-pair.ensures.0, c.in_ok-pair.ensures.1, c.deref.ensures.value) at sound in
+    relation_well_formed (program_view c.args.old.now) (program_view c.args.new.now) c.args.end (lines_view c.in_ok-lines.lines.items) (relation_view c.in_ok-relation.relation) kept stated
 
 pub returns-clause-read : goal.returns-clause-read
 returns-clause-read c =

@@ -1,8 +1,8 @@
 use Rattle.std.proofs.Common.{inl, inr, sym, ◌∙◌}
 use Rattle.relation_lines.specs.View.{lines_view}
-use Rattle.st_tree.proofs.Refusals.{none_is_left, first_in-IsFirst}
+use Rattle.rules.proofs.Refusals.{none_is_left, first_in-IsFirst}
 use Rattle.relation_file.specs.Broken.{broken_lines, broken_clauses}
-use Rattle.relation_file.specs.PairView.{old_of, new_of}
+use Rattle.candidates.specs.PairView.{old_of, new_of}
 use Rattle.relation_file.proofs.read.relation_in.Goals as goal
 
 pub returns-in-Some-clause-refused : goal.returns-in-Some-clause-refused

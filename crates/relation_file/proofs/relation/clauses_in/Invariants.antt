@@ -1,7 +1,7 @@
 use Rattle.std.proofs.Common.{◌≡◌, ◌++◌, drop, map}
-use Rattle.st_tree.specs.View.{expr_view}
+use Rattle.program_tree.specs.View.{expr_view}
 use Rattle.relation_lines.specs.View.{lines_view}
-use Rattle.relation_file.specs.PairView.{old_of, new_of}
+use Rattle.candidates.specs.PairView.{old_of, new_of}
 use Rattle.relation_file.specs.Relations.{clauses_in}
 use Rattle.relation_file.proofs.relation.clauses_in.Given as goal
 

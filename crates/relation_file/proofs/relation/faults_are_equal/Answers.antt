@@ -1,5 +1,5 @@
 use Rattle.std.proofs.Common.{◌+◌, drop, arith}
-use Rattle.st_names.proofs.Steps.{view-drop}
+use Rattle.naming.proofs.Steps.{view-drop}
 use Rattle.relation_lines.specs.View.{line_view, lines_view}
 use Rattle.relation_file.specs.Relations.{asks_equal_faults}
 use Rattle.relation_file.proofs.LineLemmas.{any_found, any_left}

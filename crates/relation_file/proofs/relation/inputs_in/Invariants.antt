@@ -1,6 +1,6 @@
 use Rattle.std.proofs.Common.{◌≡◌, ◌++◌, drop}
 use Rattle.relation_lines.specs.View.{lines_view}
-use Rattle.relation_file.specs.PairView.{old_of, new_of}
+use Rattle.candidates.specs.PairView.{old_of, new_of}
 use Rattle.relation_file.specs.Relations.{inputs_in}
 use Rattle.relation_file.proofs.relation.inputs_in.Given as goal
 

@@ -1,8 +1,8 @@
 use Rattle.std.proofs.Common.{rules, arith, length}
 use Rattle.std.proofs.lemmas.Grind.{common_steps}
 use Rattle.std.proofs.lemmas.List.{map_push}
-use Rattle.st_parser.specs.Reading.{ahead}
-use Rattle.st_parser.proofs.Turns.{one_more, no_more}
+use Rattle.grammar.specs.Reading.{ahead}
+use Rattle.grammar.proofs.Turns.{one_more, no_more}
 use Rattle.relation_lines.specs.View.{lines_view}
 use Rattle.relation_lines.specs.Reading.{lines}
 use Rattle.relation_lines.proofs.parse.lines.Goals as goal

@@ -1,5 +1,5 @@
 use Rattle.std.proofs.Common.{◌≡◌, ◌-◌, length, []}
-use Rattle.st_parser.specs.Reading.{ahead}
+use Rattle.grammar.specs.Reading.{ahead}
 use Rattle.relation_lines.specs.View.{lines_view}
 use Rattle.relation_lines.specs.Reading.{lines}
 use Rattle.relation_lines.proofs.parse.lines.Given as goal

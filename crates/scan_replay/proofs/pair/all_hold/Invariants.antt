@@ -1,5 +1,5 @@
 use Rattle.std.proofs.Common.{◌≡◌, drop}
-use Rattle.st_tree.specs.View.{exprs_view}
+use Rattle.program_tree.specs.View.{exprs_view}
 use Rattle.scan_model.specs.Pairs.{all_hold}
 use Rattle.scan_replay.specs.States.{pair_of}
 use Rattle.scan_replay.proofs.pair.all_hold.Given as goal

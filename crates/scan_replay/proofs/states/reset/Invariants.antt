@@ -1,5 +1,5 @@
 use Rattle.std.proofs.Common.{◌≡◌, length, take}
-use Rattle.st_tree.specs.View.{cells_view}
+use Rattle.program_tree.specs.View.{cells_view}
 use Rattle.scan_model.specs.Scans.{initial}
 use Rattle.scan_replay.proofs.states.reset.Given as goal
 

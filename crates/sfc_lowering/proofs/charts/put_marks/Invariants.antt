@@ -1,5 +1,5 @@
 use Rattle.std.proofs.Common.{◌≡◌, ◌++◌, drop, map}
-use Rattle.st_tree.specs.View.{stmt_view}
+use Rattle.program_tree.specs.View.{stmt_view}
 use Rattle.sfc_lowering.specs.LoweredCharts.{marks}
 use Rattle.sfc_lowering.proofs.charts.put_marks.Given as goal
 

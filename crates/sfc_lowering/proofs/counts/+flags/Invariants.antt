@@ -1,5 +1,5 @@
 use Rattle.std.proofs.Common.{◌≡◌, max, drop}
-use Rattle.st_tree.specs.View.{stmts_view, choices_view, entries_view, actions_view}
+use Rattle.program_tree.specs.View.{stmts_view, choices_view, entries_view, actions_view}
 use Rattle.sfc_lowering.specs.LoweredLists.{flags_in_all, flags_in_choices, flags_in_entries, flags_in_actions}
 use Rattle.sfc_lowering.proofs.counts.+flags.Given as goal
 

@@ -1,5 +1,5 @@
 use Rattle.std.proofs.Common.{ap, subst, sym}
-use Rattle.st_tree.specs.View.{program_view}
+use Rattle.program_tree.specs.View.{program_view}
 use Rattle.sfc_lowering.specs.LoweredPrograms.{LoweredData, IsChartless}
 use Rattle.sfc_lowering.specs.LoweringLaws.{ScansTheSame}
 use Rattle.sfc_lowering.proofs.Chartless.{lowering_leaves_no_chart}

@@ -1,5 +1,5 @@
 use Rattle.std.proofs.Common.{◌≡◌, map, take}
-use Rattle.st_tree.specs.View.{all_called_view}
+use Rattle.program_tree.specs.View.{all_called_view}
 use Rattle.sfc_lowering.specs.LoweredPrograms.{lowered_called}
 use Rattle.sfc_lowering.proofs.program.lower_all_called.Given as goal
 

@@ -1,8 +1,8 @@
-use Rattle.std.proofs.Common.{◌≡◌, ◌+◌, ap, map, drop, sym, ◌∙◌}
-use Rattle.st_tree.specs.declared.typed.Operand.{out-Operand}
-use Rattle.st_tree.specs.Tree.{Expression, Operands, operand, Expressions}
-use Rattle.st_tree.specs.View.{OperandData, expr_view, operand_view, operands_view, arguments_view}
-use Rattle.fb_inline.proofs.CallLemmas.{operand_view-out, with_operands, with_expressions, with_operands-none, with_expressions-none, left-operands, left-expressions, no-operands-left, no-expressions-left, pushed-operands, pushed-expressions}
+use Rattle.std.proofs.Common.{◌+◌, ap, map, drop, sym, ◌∙◌}
+use Rattle.program_tree.specs.declared.typed.Operand.{out-Operand}
+use Rattle.program_tree.specs.Tree.{Operands, operand, Expressions}
+use Rattle.program_tree.specs.View.{OperandData, expr_view, operand_view, operands_view, arguments_view}
+use Rattle.flat_form.proofs.OperandLemmas.{operand_view-out, with_operands, with_expressions, with_operands-none, with_expressions-none, left-operands, left-expressions, no-operands-left, no-expressions-left, pushed-operands, pushed-expressions}
 use Rattle.sfc_lowering.specs.Shifts.{shifted_operands, all_shifted}
 use Rattle.sfc_lowering.proofs.ShiftLemmas.{more-operands, more-expressions}
 use Rattle.sfc_lowering.proofs.shifts.+shift.Goals as goal

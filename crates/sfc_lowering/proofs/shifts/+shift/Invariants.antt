@@ -1,6 +1,6 @@
 use Rattle.std.proofs.Common.{◌≡◌, drop, map}
-use Rattle.st_tree.specs.View.{expr_view, operand_view, operands_view, arguments_view}
-use Rattle.fb_inline.proofs.CallLemmas.{with_operands, with_expressions}
+use Rattle.program_tree.specs.View.{expr_view, operand_view, operands_view, arguments_view}
+use Rattle.flat_form.proofs.OperandLemmas.{with_operands, with_expressions}
 use Rattle.sfc_lowering.specs.Shifts.{shifted_operands, all_shifted}
 use Rattle.sfc_lowering.proofs.shifts.+shift.Given as goal
 

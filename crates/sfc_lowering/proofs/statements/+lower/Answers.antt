@@ -1,9 +1,9 @@
-use Rattle.std.proofs.Common.{◌≡◌, ◌+◌, List, ap, map, drop, sym, ◌∙◌}
-use Rattle.st_tree.specs.declared.typed.TypedStmt.{TypedStmt}
-use Rattle.st_tree.specs.declared.typed.TypedArm.{out-TypedArm}
-use Rattle.st_tree.specs.declared.typed.TypedEntry.{out-TypedEntry}
-use Rattle.st_tree.specs.Tree.{Choices, choose, Entries, entry}
-use Rattle.st_tree.specs.View.{ChoiceData, EntryData, statements_of, expr_view, stmts_view, arm_view, choices_view, entry_view, entries_view}
+use Rattle.std.proofs.Common.{◌+◌, List, ap, map, drop, sym, ◌∙◌}
+use Rattle.program_tree.specs.declared.typed.TypedStmt.{TypedStmt}
+use Rattle.program_tree.specs.declared.typed.TypedArm.{out-TypedArm}
+use Rattle.program_tree.specs.declared.typed.TypedEntry.{out-TypedEntry}
+use Rattle.program_tree.specs.Tree.{Choices, choose, Entries, entry}
+use Rattle.program_tree.specs.View.{ChoiceData, EntryData, statements_of, expr_view, stmts_view, arm_view, choices_view, entry_view, entries_view}
 use Rattle.sfc_lowering.specs.LoweredLists.{lowered_all, lowered_choices, lowered_entries}
 use Rattle.sfc_lowering.proofs.StatementLemmas.{arm_view-out, entry_view-out, with_choices, with_entries, with_choices-none, with_entries-none, left-choices, left-entries, no-choices-left, no-entries-left, more-choices, more-entries}
 use Rattle.sfc_lowering.proofs.statements.+lower.Goals as goal

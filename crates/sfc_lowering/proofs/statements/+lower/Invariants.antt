@@ -1,5 +1,5 @@
 use Rattle.std.proofs.Common.{◌≡◌, ◌++◌, drop, map}
-use Rattle.st_tree.specs.View.{stmt_view, stmts_view, arm_view, choices_view, entry_view, entries_view, actions_view}
+use Rattle.program_tree.specs.View.{stmt_view, stmts_view, arm_view, choices_view, entry_view, entries_view, actions_view}
 use Rattle.sfc_lowering.specs.LoweredLists.{lowered_all, lowered_choices, lowered_entries, lowered_actions}
 use Rattle.sfc_lowering.proofs.StatementLemmas.{with_choices, with_entries}
 use Rattle.sfc_lowering.proofs.statements.+lower.Given as goal

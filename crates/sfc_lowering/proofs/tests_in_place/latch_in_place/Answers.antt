@@ -1,7 +1,7 @@
 use Rattle.std.proofs.Common.{◌≡◌, subst, IfOk}
-use Rattle.st_tree.specs.Tree.{Expression}
-use Rattle.st_tree.specs.View.{expr_view}
-use Rattle.fb_inline.specs.Views.{owner_view}
+use Rattle.program_tree.specs.Tree.{Expression}
+use Rattle.program_tree.specs.View.{expr_view}
+use Rattle.flat_charts.specs.Views.{owner_view}
 use Rattle.flat_form.specs.FlatCharts.{latch_test}
 use Rattle.sfc_lowering.specs.LoweredCharts.{in_place}
 use Rattle.sfc_lowering.proofs.tests_in_place.latch_in_place.Goals as goal

@@ -1,5 +1,5 @@
 use Rattle.std.proofs.Common.{take, arith}
-use Rattle.st_tree.specs.SyntaxView.{step_action_view, step_actions_view}
+use Rattle.source_tree.specs.SyntaxView.{step_action_view, step_actions_view}
 use Rattle.sfc_shape.specs.ShapeView.{listed}
 use Rattle.sfc_shape.proofs.Steps.{view-take}
 use Rattle.sfc_shape.proofs.AssociationSteps.{associated-push}

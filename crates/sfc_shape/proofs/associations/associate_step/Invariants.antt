@@ -1,5 +1,5 @@
 use Rattle.std.proofs.Common.{◌≡◌, ◌++◌, ℕ, List, take}
-use Rattle.st_tree.specs.SyntaxView.{step_actions_view}
+use Rattle.source_tree.specs.SyntaxView.{step_actions_view}
 use Rattle.sfc_shape.specs.Shapes.{associated}
 use Rattle.sfc_shape.specs.ShapeView.{listed}
 use Rattle.sfc_shape.proofs.associations.associate_step.Given as goal

@@ -1,6 +1,6 @@
 use Rattle.std.proofs.Common.{◌≡◌, ◌++◌, ◌∙◌, ap, take, length, arith, length-take-le}
 use Rattle.std.proofs.lemmas.List.{length-map}
-use Rattle.st_tree.specs.SyntaxView.{chart_step_view, step_actions_view}
+use Rattle.source_tree.specs.SyntaxView.{chart_step_view, step_actions_view}
 use Rattle.sfc_shape.specs.Shapes.{associated}
 use Rattle.sfc_shape.specs.ShapeView.{seen_steps, listed}
 use Rattle.sfc_shape.proofs.Steps.{view-take}

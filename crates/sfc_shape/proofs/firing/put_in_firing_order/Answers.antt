@@ -1,8 +1,8 @@
 use Rattle.std.proofs.Common.{rules, Bor}
 use Rattle.std.proofs.lemmas.List.Sorted.{answers_always}
-use Rattle.st_tree.specs.declared.syntax.ChartTransition.{ChartTransition}
-use Rattle.st_tree.specs.Syntax.{ChartTransitionData}
-use Rattle.st_tree.specs.SyntaxView.{chart_transition_view}
+use Rattle.source_tree.specs.declared.syntax.ChartTransition.{ChartTransition}
+use Rattle.source_tree.specs.Syntax.{ChartTransitionData}
+use Rattle.source_tree.specs.SyntaxView.{chart_transition_view}
 use Rattle.sfc_shape.proofs.FiringOrder.{fires_first, by_priority, sorted_fires}
 use Rattle.sfc_shape.proofs.firing.put_in_firing_order.Goals as goal
 

@@ -3,7 +3,7 @@ use Rattle.std.proofs.lemmas.List.{length-map}
 use Rattle.std.proofs.lemmas.Grind.{common_steps}
 use Rattle.std.specs.String.{string_bytes}
 use Rattle.std.specs.HashMap.{get_by_text}
-use Rattle.st_tree.specs.SyntaxView.{chart_step_view}
+use Rattle.source_tree.specs.SyntaxView.{chart_step_view}
 use Rattle.sfc_shape.specs.ShapeView.{seen_steps}
 use Rattle.sfc_shape.proofs.Steps.{view-take}
 use Rattle.sfc_shape.proofs.NumberSteps.{is_none-found, known-push, unknown-push}

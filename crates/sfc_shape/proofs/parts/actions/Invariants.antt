@@ -1,5 +1,5 @@
 use Rattle.std.proofs.Common.{◌≡◌, ◌++◌, drop}
-use Rattle.st_tree.specs.SyntaxView.{parts_view}
+use Rattle.source_tree.specs.SyntaxView.{parts_view}
 use Rattle.sfc_shape.specs.Shapes.{actions_of}
 use Rattle.sfc_shape.specs.ShapeView.{seen_actions}
 use Rattle.sfc_shape.proofs.parts.actions.Given as goal

@@ -1,5 +1,5 @@
 use Rattle.std.proofs.Common.{◌≡◌, ◌++◌, drop}
-use Rattle.st_tree.specs.SyntaxView.{parts_view}
+use Rattle.source_tree.specs.SyntaxView.{parts_view}
 use Rattle.sfc_shape.specs.Shapes.{steps_of}
 use Rattle.sfc_shape.specs.ShapeView.{seen_steps}
 use Rattle.sfc_shape.proofs.parts.steps.Given as goal

@@ -1,5 +1,5 @@
 use Rattle.std.proofs.Common.{◌≡◌, ◌++◌, drop}
-use Rattle.st_tree.specs.SyntaxView.{parts_view}
+use Rattle.source_tree.specs.SyntaxView.{parts_view}
 use Rattle.sfc_shape.specs.Shapes.{transitions_of}
 use Rattle.sfc_shape.specs.ShapeView.{seen_transitions}
 use Rattle.sfc_shape.proofs.parts.transitions.Given as goal

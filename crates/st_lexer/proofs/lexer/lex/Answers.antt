@@ -1,15 +1,16 @@
 use Rattle.std.proofs.Common.{◌≡◌, ◌<◌, length, refl, ap, ◌∙◌, sym, None, arith}
 use Rattle.std.proofs.lemmas.List.Elements.{All-nil}
 use Rattle.std.proofs.lemmas.Grind.{common_steps}
-use Rattle.st_tree.specs.Terminals.{IsClassified}
+use Rattle.source_tree.specs.Terminals.{IsClassified}
 use Rattle.st_lexer.specs.Parts.{KeepsRules}
 use Rattle.std.proofs.lemmas.Bool.Decides.{nat_tests}
 use Rattle.std.proofs.lemmas.List.{map-append}
 use Rattle.st_lexer.specs.declared.front.Front.TheVariants.{Gap, Token}
 use Rattle.st_lexer.specs.Lexing.{lexeme_of, lexemes_of}
 use Rattle.st_lexer.proofs.Beginnings.{IsFront, front_formed}
-use Rattle.st_lexer.proofs.Spellings.{lexed_start, lexed_gap_at, lexed_token_at, lexed_end}
-use Rattle.st_lexer.proofs.Breaks.{read_start, read_front, read_broken, read_stuck, read_end, token_says, slice_says, kept_push, right_fault}
+use Rattle.st_lexer.proofs.Blanks.{read_gap, lexed_blanks}
+use Rattle.st_lexer.proofs.Spellings.{lexed_start, lexed_token_at, lexed_end}
+use Rattle.st_lexer.proofs.Breaks.{read_start, read_front, read_broken, read_stuck, read_end, token_says, kept_push, right_fault}
 use Rattle.st_lexer.proofs.Pushes.{classified_push, placed_on, placed_push}
 use Rattle.st_lexer.proofs.lexer.lex.Goals as goal
 
@@ -39,20 +40,21 @@ loop-rest-preserved-in-Some-Gap c =
     let f : IsFront c.loop-rest.rest.now (Gap c.in-Some-Gap.size) = record { front = (cc); some = size.0; within = size.1 } in
     record {
       place = omega arith;
-      read = read_front _ _ _ (Gap c.in-Some-Gap.size) _ f c.split_at-in-Some-Gap.ensures.back refl c.loop-rest.invariant.read;
+      read = read_gap _ _ c.in-Some-Gap.size c.gap_len-size.result _ _ f c.gap_len-size.ensures.len c.split_at-in-Some-Gap.ensures.back c.loop-rest.invariant.read;
       kept = c.loop-rest.invariant.kept;
       classified = c.loop-rest.invariant.classified;
       placed = placed_on 0 _ _ _ (omega arith) c.loop-rest.invariant.placed;
-      lexed = lexed_gap_at _ _ c.in-Some-Gap.size _ _ _ f c.split_at-in-Some-Gap.ensures.back c.loop-rest.invariant.lexed;
+      lexed = lexed_blanks _ _ c.in-Some-Gap.size c.gap_len-size.result _ _ _ f c.gap_len-size.ensures.len c.split_at-in-Some-Gap.ensures.back c.loop-rest.invariant.lexed;
     }
 
-pub returns-in-Some-clause-refused : goal.returns-in-Some-clause-refused
-returns-in-Some-clause-refused c =
+pub returns-in-Err-clause-refused : goal.returns-in-Err-clause-refused
+returns-in-Err-clause-refused c =
     let size = rw c.in-Some-Token.field-0-is at c.in-Some-Token.ensures.size in
     let f : IsFront c.loop-rest.rest.now (Token c.in-Some-Token.kind c.in-Some-Token.size) = record { front = (cc); some = size.0; within = size.1 } in
-    let says = token_says c.in-Some-Token.kind c.in-Some-Token.size c.loop-rest.rest.now _ _ _ c.split_at-in-Some-Token.ensures.front c.token_rule.ensures c.in-Some.is in
-    let first = read_broken c.args.text.now c.loop-rest.at c.loop-rest.rest.now _ c.in-Some.rule f says c.loop-rest.invariant.read in
-    right_fault c.args.text.now _ _ c.loop-rest.at _ c.refused-in-Some.ensures refl first
+    let slice = c.token_text-slice.ensures ∙ c.split_at-in-Some-Token.ensures.front in
+    let says = token_says c.in-Some-Token.kind c.in-Some-Token.size c.loop-rest.rest.now _ _ _ slice refl c.in-Err.ensures.broken in
+    let first = read_broken c.args.text.now c.loop-rest.at c.loop-rest.rest.now _ c.in-Err.rule f says c.loop-rest.invariant.read in
+    right_fault c.args.text.now _ _ c.loop-rest.at _ c.refused-in-Err.ensures refl first
 
 pub loop-rest-preserved : goal.loop-rest-preserved
 loop-rest-preserved c =
@@ -60,14 +62,13 @@ loop-rest-preserved c =
     let f : IsFront c.loop-rest.rest.now (Token c.in-Some-Token.kind c.in-Some-Token.size) = record { front = (cc); some = size.0; within = size.1 } in
     let slice = c.token_text-slice.ensures ∙ c.split_at-in-Some-Token.ensures.front in
     let items = ap lexemes_of c.in_ok-push-in-Some-Token.ensures.items ∙ map-append lexeme_of c.loop-rest.tokens.items _ in
-    let none : c.token_rule.result ≡ None = first_of (cc, grind (arith, common_steps)) in
-    let says = token_says c.in-Some-Token.kind c.in-Some-Token.size c.loop-rest.rest.now _ _ _ c.split_at-in-Some-Token.ensures.front c.token_rule.ensures none in
-    let kept = slice_says c.in-Some-Token.kind _ _ _ _ c.token_text-slice.ensures c.token_rule.ensures none in
+    let none = c.in-Ok.ensures.kept in
+    let says = token_says c.in-Some-Token.kind c.in-Some-Token.size c.loop-rest.rest.now _ _ None slice refl none in
     record {
       place = omega arith;
       read = read_front _ _ _ (Token c.in-Some-Token.kind c.in-Some-Token.size) _ f c.split_at-in-Some-Token.ensures.back says c.loop-rest.invariant.read;
-      kept = kept_push _ _ _ items kept c.loop-rest.invariant.kept;
-      classified = classified_push _ _ _ c.in_ok-push-in-Some-Token.ensures.items c.terminal-terminal.ensures c.loop-rest.invariant.classified;
+      kept = kept_push _ _ _ items none c.loop-rest.invariant.kept;
+      classified = classified_push _ _ _ c.in_ok-push-in-Some-Token.ensures.items c.in-Ok.ensures.value c.loop-rest.invariant.classified;
       placed = placed_push _ _ _ _ c.in_ok-push-in-Some-Token.ensures.items (omega (arith, f.some)) c.loop-rest.invariant.placed;
       lexed = lexed_token_at _ _ c.in-Some-Token.size c.in-Some-Token.kind _ _ _ _ _ f c.split_at-in-Some-Token.ensures.back slice items c.loop-rest.invariant.lexed;
     }

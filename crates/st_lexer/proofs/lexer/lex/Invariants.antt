@@ -1,6 +1,6 @@
 use Rattle.std.proofs.Common.{◌≡◌, ◌+◌, length, All}
-use Rattle.st_tree.specs.Terminals.{IsClassified}
-use Rattle.st_tree.specs.Places.{ArePlaced}
+use Rattle.source_tree.specs.Terminals.{IsClassified}
+use Rattle.source_tree.specs.Places.{ArePlaced}
 use Rattle.st_lexer.specs.Parts.{KeepsRules}
 use Rattle.st_lexer.specs.Lexing.{lexemes_of}
 use Rattle.st_lexer.proofs.Spellings.{IsLexed}

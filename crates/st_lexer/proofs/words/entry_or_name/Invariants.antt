@@ -1,7 +1,7 @@
 use Rattle.std.proofs.Common.{◌≡◌, drop}
-use Rattle.st_tree.specs.declared.token.Terminal.TheVariants.{Name}
-use Rattle.st_tree.specs.Terminals.{entry_or}
-use Rattle.st_tree.specs.SyntaxView.{upper}
+use Rattle.source_tree.specs.declared.token.Terminal.TheVariants.{Name}
+use Rattle.source_tree.specs.Terminals.{entry_or}
+use Rattle.source_tree.specs.SyntaxView.{upper}
 use Rattle.st_lexer.specs.Tables.{entries_of}
 use Rattle.st_lexer.proofs.words.entry_or_name.Given as goal
 

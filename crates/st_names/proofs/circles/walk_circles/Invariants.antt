@@ -1,5 +1,5 @@
-use Rattle.st_tree.specs.SyntaxView.{file_view}
-use Rattle.st_names.proofs.CircleLemmas.{AreCircles}
+use Rattle.source_tree.specs.SyntaxView.{file_view}
+use Rattle.naming.proofs.CircleLemmas.{AreCircles}
 use Rattle.st_names.proofs.circles.walk_circles.Given as goal
 
 abbrev pub invariant-loop-number : goal.invariant-loop-number

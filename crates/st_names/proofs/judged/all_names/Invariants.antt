@@ -1,7 +1,7 @@
 use Rattle.std.proofs.Common.{◌≡◌, ◌++◌, drop, map}
-use Rattle.st_names.specs.NamesView.{pous_named, scopes_named}
-use Rattle.st_names.specs.Scopes.{scope_of}
-use Rattle.st_names.specs.ScopeView.{pous_view}
+use Rattle.pou_scope.specs.NamesView.{pous_named, scopes_named}
+use Rattle.naming.specs.Scopes.{scope_of}
+use Rattle.naming.specs.ScopeView.{pous_view}
 use Rattle.st_names.proofs.judged.all_names.Given as goal
 
 abbrev pub invariant-loop-pou : goal.invariant-loop-pou

@@ -1,6 +1,6 @@
-use Rattle.st_tree.specs.SyntaxView.{body_view}
-use Rattle.st_names.specs.NamesView.{file_in, pou_in}
-use Rattle.st_names.proofs.JudgedLemmas.{pou_judged}
+use Rattle.source_tree.specs.SyntaxView.{body_view}
+use Rattle.pou_scope.specs.NamesView.{file_in, pou_in}
+use Rattle.pou_scope.proofs.JudgedLemmas.{pou_judged}
 use Rattle.st_names.proofs.judged.judge_pou.Goals as goal
 
 pub returns-clause-judged : goal.returns-clause-judged

@@ -1,18 +1,19 @@
 use Rattle.std.proofs.Common.{◌≡◌, List, ℕ, Bool, ◌<◌, ◌+◌, ◌∷◌, [], ◌++◌, length, map, drop, ap, sym, ◌∙◌, arith}
 use Rattle.std.proofs.lemmas.List.{map-append}
 use Rattle.call_order.specs.Uses.{graph_of}
-use Rattle.st_tree.specs.Rules.{earlier, first_in}
-use Rattle.st_tree.specs.Syntax.{PouData}
-use Rattle.st_tree.specs.SyntaxView.{body_view, pou_view, file_view}
-use Rattle.st_names.specs.Broken.{in_pou_scope, in_pou, in_pous}
-use Rattle.st_names.specs.Circles.{uses_in}
-use Rattle.st_names.specs.FileScope.{pous_of}
-use Rattle.st_names.specs.NamesView.{scope_named, pous_named}
-use Rattle.st_names.specs.Outcomes.{outcome_of}
-use Rattle.st_names.specs.Scopes.{scope_of}
-use Rattle.st_names.proofs.JudgedLemmas.{are_names, scope_at, uses_is}
-use Rattle.st_names.proofs.ListLemmas.{then_more}
-use Rattle.st_names.proofs.Steps.{view-drop, outcome_first, outcome_whole, first_before}
+use Rattle.rules.specs.Rules.{earlier, first_in}
+use Rattle.source_tree.specs.Syntax.{PouData}
+use Rattle.source_tree.specs.SyntaxView.{body_view, pou_view, file_view}
+use Rattle.naming.specs.Broken.{in_pou_scope, in_pou, in_pous}
+use Rattle.naming.specs.Circles.{uses_in}
+use Rattle.naming.specs.FileScope.{pous_of}
+use Rattle.pou_scope.specs.NamesView.{scope_named, pous_named}
+use Rattle.rules.specs.Outcomes.{outcome_of}
+use Rattle.naming.specs.Scopes.{scope_of}
+use Rattle.pou_scope.proofs.JudgedLemmas.{are_names, scope_at, uses_is}
+use Rattle.naming.proofs.ListLemmas.{then_more}
+use Rattle.rules.proofs.Outcomes.{outcome_first, outcome_whole, first_before}
+use Rattle.naming.proofs.Steps.{view-drop}
 use Rattle.st_names.proofs.judged.judge_pous.Goals as goal
 
 pub invariant_of-judge_pou : goal.invariant_of-judge_pou
@@ -29,11 +30,11 @@ loop-own-preserved c =
     let below : i < length all = omega arith in
     let same : scope_named x ≡ scope_of p = scope_at all (pous_of f) i x c.requires.pous c.requires.scopes below c.own-item.is in
     let left = view-drop (λ n. pou_view n.pou.now) all i x below c.own-item.is in
-    let ok = c.in_ok-outcome.ensures in
-    let judged = ok.judged ∙ ap (λ q. outcome_of (in_pou_scope f q (body_view x.pou.now.body))) same in
+    let given = c.in_ok-outcome.ensures in
+    let judged = given.judged ∙ ap (λ q. outcome_of (in_pou_scope f q (body_view x.pou.now.body))) same in
     let known = c.loop-own.invariant in
     let whole = outcome_whole (in_pou f p) c.in_ok-outcome.outcome judged in
-    let uses = uses_is f p (scope_named x) c.in_ok-outcome.uses.items same ok.uses in
+    let uses = uses_is f p (scope_named x) c.in_ok-outcome.uses.items same given.uses in
     let marks = c.loop-own.wholes.items in
     let graph = c.loop-own.all_uses.items in
     record {

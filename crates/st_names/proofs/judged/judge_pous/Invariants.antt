@@ -1,10 +1,10 @@
 use Rattle.std.proofs.Common.{◌≡◌, ◌++◌, drop, map}
 use Rattle.call_order.specs.Uses.{graph_of}
-use Rattle.st_tree.specs.Rules.{earlier, first_in}
-use Rattle.st_tree.specs.SyntaxView.{file_view}
-use Rattle.st_names.specs.Broken.{in_pou, in_pous}
-use Rattle.st_names.specs.Circles.{uses_in}
-use Rattle.st_names.specs.NamesView.{pous_named}
+use Rattle.rules.specs.Rules.{earlier, first_in}
+use Rattle.source_tree.specs.SyntaxView.{file_view}
+use Rattle.naming.specs.Broken.{in_pou, in_pous}
+use Rattle.naming.specs.Circles.{uses_in}
+use Rattle.pou_scope.specs.NamesView.{pous_named}
 use Rattle.st_names.proofs.judged.judge_pous.Given as goal
 
 abbrev pub invariant-loop-own : goal.invariant-loop-own

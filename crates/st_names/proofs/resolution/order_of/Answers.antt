@@ -2,11 +2,11 @@ use Rattle.std.proofs.Common.{◌≡◌, ℕ, List, length, map, ap, sym, ◌∙
 use Rattle.std.proofs.lemmas.List.{length-map}
 use Rattle.call_order.specs.Uses.{graph_of, order_of}
 use Rattle.call_order.proofs.Orders.{none_reaches}
-use Rattle.st_tree.specs.SyntaxView.{pou_view, file_view}
-use Rattle.st_names.specs.Circles.{uses_in, uses_of, IsBroken}
-use Rattle.st_names.specs.FileScope.{pous_of}
-use Rattle.st_names.specs.FirstOf.{IsFirstOf}
-use Rattle.st_names.proofs.CircleLemmas.{without_circles}
+use Rattle.source_tree.specs.SyntaxView.{pou_view, file_view}
+use Rattle.naming.specs.Circles.{uses_in, uses_of, IsBroken}
+use Rattle.naming.specs.FileScope.{pous_of}
+use Rattle.naming.specs.FirstOf.{IsFirstOf}
+use Rattle.naming.proofs.CircleLemmas.{without_circles}
 use Rattle.st_names.proofs.resolution.order_of.Goals.{then-as_slice-pous+in_ok-walk_circles, else-as_slice-pous}
 use Rattle.st_names.proofs.resolution.order_of.Goals as goal
 

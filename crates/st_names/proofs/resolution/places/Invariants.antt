@@ -1,5 +1,5 @@
 use Rattle.std.proofs.Common.{◌≡◌, ◌++◌, drop}
-use Rattle.st_tree.specs.SyntaxView.{items_view}
+use Rattle.source_tree.specs.SyntaxView.{items_view}
 use Rattle.st_names.specs.Bound.{places_from}
 use Rattle.st_names.proofs.resolution.places.Given as goal
 

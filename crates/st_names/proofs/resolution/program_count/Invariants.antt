@@ -1,6 +1,6 @@
 use Rattle.std.proofs.Common.{◌≡◌, ◌≤◌, take, count_by}
-use Rattle.st_names.specs.Broken.{is_program_pou}
-use Rattle.st_names.specs.ScopeView.{pous_view}
+use Rattle.naming.specs.Broken.{is_program_pou}
+use Rattle.naming.specs.ScopeView.{pous_view}
 use Rattle.st_names.proofs.resolution.program_count.Given as goal
 
 abbrev pub invariant-loop-pou : goal.invariant-loop-pou

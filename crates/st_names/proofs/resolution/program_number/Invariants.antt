@@ -1,7 +1,7 @@
 use Rattle.std.proofs.Common.{◌≡◌, drop}
 use Rattle.std.specs.List.{position_from}
-use Rattle.st_names.specs.Broken.{is_program_pou}
-use Rattle.st_names.specs.ScopeView.{pous_view}
+use Rattle.naming.specs.Broken.{is_program_pou}
+use Rattle.naming.specs.ScopeView.{pous_view}
 use Rattle.st_names.proofs.resolution.program_number.Given as goal
 
 abbrev pub invariant-loop-number : goal.invariant-loop-number

@@ -1,10 +1,10 @@
 use Rattle.std.proofs.Common.{rules, arith, length}
 use Rattle.std.proofs.lemmas.Grind.{common_steps}
 use Rattle.std.proofs.lemmas.List.{map_push}
-use Rattle.st_tree.specs.SyntaxView.{items_view}
-use Rattle.st_parser.specs.Reading.{ahead}
-use Rattle.st_parser.specs.Files.{items}
-use Rattle.st_parser.proofs.Turns.{one_more, no_more}
+use Rattle.source_tree.specs.SyntaxView.{items_view}
+use Rattle.grammar.specs.Reading.{ahead}
+use Rattle.grammar.specs.Files.{items}
+use Rattle.grammar.proofs.Turns.{one_more, no_more}
 use Rattle.st_parser.proofs.file.items.Goals as goal
 
 pub returns-in_default : goal.returns-in_default

@@ -1,7 +1,7 @@
 use Rattle.std.proofs.Common.{◌≡◌, ◌-◌, length, []}
-use Rattle.st_tree.specs.SyntaxView.{items_view}
-use Rattle.st_parser.specs.Reading.{ahead}
-use Rattle.st_parser.specs.Files.{items}
+use Rattle.source_tree.specs.SyntaxView.{items_view}
+use Rattle.grammar.specs.Reading.{ahead}
+use Rattle.grammar.specs.Files.{items}
 use Rattle.st_parser.proofs.file.items.Given as goal
 
 abbrev pub invariant-loop-turn : goal.invariant-loop-turn

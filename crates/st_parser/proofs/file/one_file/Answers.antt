@@ -1,4 +1,4 @@
-use Rattle.st_parser.proofs.FileWhole as whole
+use Rattle.file_laws.proofs.FileWhole as whole
 use Rattle.st_parser.proofs.file.one_file.Goals as goal
 
 pub returns : goal.returns

@@ -1,6 +1,6 @@
 use Rattle.std.proofs.lemmas.Result.{err_from_is_err_and}
-use Rattle.st_tree.specs.SyntaxView.{file_view}
-use Rattle.st_parser.proofs.FileWhole.{file_found, file_fault}
+use Rattle.source_tree.specs.SyntaxView.{file_view}
+use Rattle.file_laws.proofs.FileWhole.{file_found, file_fault}
 use Rattle.st_parser.proofs.file.parse_file.Goals as goal
 
 pub returns-in_err-whole-clause-refused : goal.returns-in_err-whole-clause-refused

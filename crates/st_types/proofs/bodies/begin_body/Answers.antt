@@ -1,11 +1,11 @@
 use Rattle.std.proofs.Common.{◌≡◌, List, ◌++◌, map, ap, ◌∙◌}
 use Rattle.std.proofs.lemmas.List.{map-append}
-use Rattle.st_tree.specs.Tree.{Statement}
-use Rattle.st_tree.specs.View.{stmt_view, stmts_view, statements_of}
-use Rattle.st_names.specs.ScopeView.{variables_view}
-use Rattle.st_types.specs.Bodies.{file_in}
-use Rattle.st_types.specs.TypedPrograms.{begun}
-use Rattle.st_types.proofs.BeginningLemmas.{begun-list}
+use Rattle.program_tree.specs.Tree.{Statement}
+use Rattle.program_tree.specs.View.{stmt_view, stmts_view, statements_of}
+use Rattle.naming.specs.ScopeView.{variables_view}
+use Rattle.decl_types.specs.Bodies.{file_in}
+use Rattle.typing.specs.TypedPrograms.{begun}
+use Rattle.typing_laws.proofs.BeginningLemmas.{begun-list}
 use Rattle.st_types.proofs.bodies.begin_body.Goals as goal
 
 pub returns : goal.returns

@@ -1,8 +1,8 @@
 use Rattle.std.proofs.Common.{◌≡◌, ◌++◌, map, drop}
-use Rattle.st_tree.specs.View.{stmt_view}
-use Rattle.st_names.specs.ScopeView.{variables_view}
-use Rattle.st_types.specs.Bodies.{file_in}
-use Rattle.st_types.specs.Beginnings.{beginnings}
+use Rattle.program_tree.specs.View.{stmt_view}
+use Rattle.naming.specs.ScopeView.{variables_view}
+use Rattle.decl_types.specs.Bodies.{file_in}
+use Rattle.typing.specs.Beginnings.{beginnings}
 use Rattle.st_types.proofs.bodies.beginnings.Given as goal
 
 abbrev pub invariant-loop-variable : goal.invariant-loop-variable

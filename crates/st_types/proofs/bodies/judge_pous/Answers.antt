@@ -1,10 +1,11 @@
 use Rattle.std.proofs.Common.{◌≡◌, ◌+◌, ◌∷◌, ap, sym, ◌∙◌, drop}
-use Rattle.st_tree.specs.SyntaxView.{pou_view}
-use Rattle.st_names.specs.FileScope.{pous_of}
-use Rattle.st_types.specs.declared.outcome.Outcome.{Outcome}
-use Rattle.st_types.specs.Bodies.{file_in}
-use Rattle.st_types.specs.Outcomes.{both, pous_outcome}
-use Rattle.st_types.proofs.TableLemmas.{drop_at}
+use Rattle.source_tree.specs.SyntaxView.{pou_view}
+use Rattle.naming.specs.FileScope.{pous_of}
+use Rattle.rules.specs.declared.outcome.Outcome.{Outcome}
+use Rattle.decl_types.specs.Bodies.{file_in}
+use Rattle.rules.specs.Outcomes.{both}
+use Rattle.typing.specs.Outcomes.{pous_outcome}
+use Rattle.pou_cells.proofs.TableLemmas.{drop_at}
 use Rattle.st_types.proofs.bodies.judge_pous.Goals as goal
 
 pub loop-number-preserved : goal.loop-number-preserved

@@ -1,7 +1,7 @@
 use Rattle.std.proofs.Common.{◌≡◌, drop}
-use Rattle.st_types.specs.Bodies.{file_in}
-use Rattle.st_names.specs.FileScope.{pous_of}
-use Rattle.st_types.specs.Outcomes.{pous_outcome}
+use Rattle.decl_types.specs.Bodies.{file_in}
+use Rattle.naming.specs.FileScope.{pous_of}
+use Rattle.typing.specs.Outcomes.{pous_outcome}
 use Rattle.st_types.proofs.bodies.judge_pous.Given as goal
 
 abbrev pub invariant-loop-number : goal.invariant-loop-number

@@ -1,8 +1,8 @@
 use Rattle.std.proofs.Common.{◌≡◌, ◌++◌, map, drop}
-use Rattle.st_names.specs.FileScope.{pou_at}
-use Rattle.st_tree.specs.View.{all_called_view}
-use Rattle.st_types.specs.Bodies.{file_in}
-use Rattle.st_types.specs.TypedPrograms.{called_if}
+use Rattle.naming.specs.FileScope.{pou_at}
+use Rattle.program_tree.specs.View.{all_called_view}
+use Rattle.decl_types.specs.Bodies.{file_in}
+use Rattle.typing.specs.TypedPrograms.{called_if}
 use Rattle.st_types.proofs.called.called_by.Given as goal
 
 abbrev pub invariant-loop-number : goal.invariant-loop-number

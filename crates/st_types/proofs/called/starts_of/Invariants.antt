@@ -1,5 +1,5 @@
 use Rattle.std.proofs.Common.{◌≡◌, ◌++◌, map, drop}
-use Rattle.st_tree.specs.View.{cells_view}
+use Rattle.program_tree.specs.View.{cells_view}
 use Rattle.st_types.proofs.called.starts_of.Given as goal
 
 abbrev pub invariant-loop-cell : goal.invariant-loop-cell

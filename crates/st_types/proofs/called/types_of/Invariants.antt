@@ -1,6 +1,6 @@
 use Rattle.std.proofs.Common.{◌≡◌, ◌++◌, map, drop}
-use Rattle.st_tree.specs.View.{cells_view}
-use Rattle.st_types.specs.TypedPrograms.{type_of_cell}
+use Rattle.program_tree.specs.View.{cells_view}
+use Rattle.typing.specs.TypedPrograms.{type_of_cell}
 use Rattle.st_types.proofs.called.types_of.Given as goal
 
 abbrev pub invariant-loop-cell : goal.invariant-loop-cell

@@ -1,9 +1,9 @@
 use Rattle.std.proofs.Common.{◌≡◌, ◌+◌, ◌*◌, ◌++◌, drop}
 use Rattle.std.specs.Prelude.{option_map}
-use Rattle.st_tree.specs.View.{cells_view}
-use Rattle.st_names.specs.ScopeView.{variables_view}
-use Rattle.st_types.specs.Bodies.{file_in}
-use Rattle.st_types.specs.TypedPrograms.{block_cells, cells_of}
+use Rattle.program_tree.specs.View.{cells_view}
+use Rattle.naming.specs.ScopeView.{variables_view}
+use Rattle.decl_types.specs.Bodies.{file_in}
+use Rattle.typing.specs.TypedPrograms.{block_cells, cells_of}
 use Rattle.st_types.proofs.cells.+write_cells.Given as goal
 
 abbrev pub invariant-write_variables-loop-variable : goal.invariant-write_variables-loop-variable

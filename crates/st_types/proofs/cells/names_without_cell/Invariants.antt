@@ -1,8 +1,8 @@
 use Rattle.std.proofs.Common.{◌≡◌, ◌++◌, drop}
-use Rattle.st_tree.specs.View.{texts_view}
-use Rattle.st_names.specs.ScopeView.{variables_view}
-use Rattle.st_tree.specs.SyntaxView.{file_view}
-use Rattle.st_types.specs.TypedPrograms.{names_without_cell}
+use Rattle.program_tree.specs.View.{texts_view}
+use Rattle.naming.specs.ScopeView.{variables_view}
+use Rattle.source_tree.specs.SyntaxView.{file_view}
+use Rattle.typing.specs.TypedPrograms.{names_without_cell}
 use Rattle.st_types.proofs.cells.names_without_cell.Given as goal
 
 abbrev pub invariant-loop-variable : goal.invariant-loop-variable

@@ -1,7 +1,7 @@
 use Rattle.std.proofs.Common.{◌≡◌, ◌+◌, ◌*◌, ◌++◌, drop}
-use Rattle.st_names.specs.ScopeView.{variables_view}
-use Rattle.st_types.specs.Bodies.{file_in}
-use Rattle.st_types.specs.ChartPlaces.{block_charts, charts_of}
+use Rattle.naming.specs.ScopeView.{variables_view}
+use Rattle.decl_types.specs.Bodies.{file_in}
+use Rattle.typing.specs.ChartPlaces.{block_charts, charts_of}
 use Rattle.st_types.proofs.chart_places.+write_charts.Given as goal
 
 abbrev pub invariant-write_charts-loop-index : goal.invariant-write_charts-loop-index

@@ -1,6 +1,6 @@
 use Rattle.std.proofs.Common.{◌≡◌, ◌+◌, ◌≤◌, drop}
-use Rattle.st_names.specs.ScopeView.{variables_view}
-use Rattle.st_types.specs.ChartPlaces.{steps_among}
+use Rattle.naming.specs.ScopeView.{variables_view}
+use Rattle.typing.specs.ChartPlaces.{steps_among}
 use Rattle.st_types.proofs.chart_places.steps_among.Given as goal
 
 abbrev pub invariant-loop-variable : goal.invariant-loop-variable

@@ -1,9 +1,9 @@
 use Rattle.std.proofs.Common.{◌≡◌, List, [], drop, ap, sym, ◌∙◌, arith}
 use Rattle.std.proofs.lemmas.Grind.{common_steps}
-use Rattle.st_tree.specs.declared.syntax.ChartPart.{ChartPart}
-use Rattle.st_tree.specs.SyntaxView.{parts_view}
-use Rattle.st_types.specs.ChartOutcomes.{parts_outcome}
-use Rattle.st_types.proofs.ChartLemmas.{parts_judged}
+use Rattle.source_tree.specs.declared.syntax.ChartPart.{ChartPart}
+use Rattle.source_tree.specs.SyntaxView.{parts_view}
+use Rattle.typing.specs.ChartOutcomes.{parts_outcome}
+use Rattle.typing_laws.proofs.ChartLemmas.{parts_judged}
 use Rattle.st_types.proofs.charts.judge_parts.Goals as goal
 
 pub returns : goal.returns

@@ -1,8 +1,8 @@
 use Rattle.std.proofs.Common.{◌≡◌, take, map}
-use Rattle.st_tree.specs.View.{action_view}
+use Rattle.program_tree.specs.View.{action_view}
 use Rattle.sfc_shape.specs.ShapeView.{seen_actions}
 use Rattle.sfc_shape.specs.PartsView.{parts_in}
-use Rattle.st_types.specs.TypedCharts.{typed_action}
+use Rattle.typing.specs.TypedCharts.{typed_action}
 use Rattle.st_types.proofs.charts.type_actions.Given as goal
 
 abbrev pub invariant-loop-action : goal.invariant-loop-action

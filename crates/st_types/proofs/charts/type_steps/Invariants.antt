@@ -1,6 +1,6 @@
 use Rattle.std.proofs.Common.{◌≡◌, take, map}
 use Rattle.sfc_shape.specs.ShapeView.{seen_steps}
-use Rattle.st_types.specs.TypedCharts.{step_cells}
+use Rattle.typing.specs.TypedCharts.{step_cells}
 use Rattle.st_types.proofs.charts.type_steps.Given as goal
 
 abbrev pub invariant-loop-step : goal.invariant-loop-step

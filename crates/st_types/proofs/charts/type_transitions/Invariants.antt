@@ -1,8 +1,8 @@
 use Rattle.std.proofs.Common.{◌≡◌, take, map}
-use Rattle.st_tree.specs.View.{transition_view}
+use Rattle.program_tree.specs.View.{transition_view}
 use Rattle.sfc_shape.specs.ShapeView.{seen_transitions}
 use Rattle.sfc_shape.specs.PartsView.{parts_in}
-use Rattle.st_types.specs.TypedCharts.{typed_transition}
+use Rattle.typing.specs.TypedCharts.{typed_transition}
 use Rattle.st_types.proofs.charts.type_transitions.Given as goal
 
 abbrev pub invariant-loop-transition : goal.invariant-loop-transition

@@ -1,14 +1,14 @@
 use Rattle.std.proofs.Common.{◌≡◌, true}
-use Rattle.st_tree.specs.SyntaxView.{pou_view, file_view}
-use Rattle.st_tree.specs.View.{program_view}
+use Rattle.source_tree.specs.SyntaxView.{pou_view, file_view}
+use Rattle.program_tree.specs.View.{program_view}
 use Rattle.st_names.specs.Bound.{program_number}
-use Rattle.st_names.specs.Broken.{is_program_pou}
-use Rattle.st_names.specs.FileScope.{pous_of, pou_at}
-use Rattle.st_types.specs.Pous.{has_room}
-use Rattle.st_types.specs.Faults.{IsFaultOf}
-use Rattle.st_types.specs.TypedPrograms.{typed_program}
-use Rattle.st_types.proofs.OnlyPou.{err_each, ok_each, if_each, position_inside}
-use Rattle.st_types.proofs.ReadyLemmas.{ready_of}
+use Rattle.naming.specs.Broken.{is_program_pou}
+use Rattle.naming.specs.FileScope.{pous_of, pou_at}
+use Rattle.typing.specs.Pous.{has_room}
+use Rattle.typing.specs.Faults.{IsFaultOf}
+use Rattle.typing.specs.TypedPrograms.{typed_program}
+use Rattle.typing_laws.proofs.OnlyPou.{err_each, ok_each, if_each, position_inside}
+use Rattle.typing_laws.proofs.ReadyLemmas.{ready_of}
 use Rattle.st_types.proofs.program.check.Goals as goal
 
 pub returns-clause-refused : goal.returns-clause-refused

@@ -1,5 +1,5 @@
-use Rattle.st_types.specs.Bodies.{file_in}
-use Rattle.st_types.proofs.DeclaredLemmas.{first_of_file}
+use Rattle.decl_types.specs.Bodies.{file_in}
+use Rattle.typing_laws.proofs.DeclaredLemmas.{first_of_file}
 use Rattle.st_types.proofs.program.judge_file.Goals as goal
 
 pub returns : goal.returns

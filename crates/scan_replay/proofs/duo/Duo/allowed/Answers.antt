@@ -1,5 +1,5 @@
 use Rattle.std.proofs.Common.{◌≡◌, true, sym, subst, ◌∙◌}
-use Rattle.st_tree.specs.View.{program_view}
+use Rattle.program_tree.specs.View.{program_view}
 use Rattle.scan_model.specs.Pairs.{Pair, IsPairInRange, fits_lines, loaded}
 use Rattle.scan_model.proofs.Keeping.{IsPairInRange-loaded}
 use Rattle.scan_replay.specs.States.{pair_of}

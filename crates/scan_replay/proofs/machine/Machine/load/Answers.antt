@@ -1,6 +1,6 @@
 use Rattle.std.proofs.Common.{◌≡◌, true, sym, subst, arith}
-use Rattle.st_tree.specs.View.{program_view, cells_view}
-use Rattle.st_tree.specs.Cells.{inputs_of}
+use Rattle.program_tree.specs.View.{program_view, cells_view}
+use Rattle.program_tree.specs.Cells.{inputs_of}
 use Rattle.scan_model.specs.Scans.{ranges_of}
 use Rattle.scan_model.proofs.Keeping.{IsInRange-put_at}
 use Rattle.scan_replay.specs.Machines.{Running, fits_inputs, with_inputs}

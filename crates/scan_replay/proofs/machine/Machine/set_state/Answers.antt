@@ -1,5 +1,5 @@
 use Rattle.std.proofs.Common.{arith, ap, length, subst, sym}
-use Rattle.st_tree.specs.View.{cells_view}
+use Rattle.program_tree.specs.View.{cells_view}
 use Rattle.scan_model.specs.Scans.{ranges_of}
 use Rattle.scan_model.specs.InRange.{IsInRange}
 use Rattle.scan_model.proofs.Keeping.{IsInRange-length}

@@ -1,5 +1,5 @@
 use Rattle.std.proofs.Common.{◌≡◌, ◌++◌, take, map}
-use Rattle.st_tree.specs.SyntaxView.{names_view}
+use Rattle.source_tree.specs.SyntaxView.{names_view}
 use Rattle.sfc_shape.specs.Shapes.{steps_of, step_number}
 use Rattle.sfc_shape.specs.PartsView.{parts_in}
 use Rattle.sfc_shape.proofs.shape.Shape.append_numbers.Given as goal

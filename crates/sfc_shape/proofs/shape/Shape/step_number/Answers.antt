@@ -2,7 +2,7 @@ use Rattle.std.proofs.Common.{rules, ◌≡◌, ◌∙◌, ℕ, Option, length, 
 use Rattle.std.proofs.lemmas.List.{length-map}
 use Rattle.std.specs.String.{string_bytes}
 use Rattle.std.specs.HashMap.{get_by_text}
-use Rattle.st_tree.specs.SyntaxView.{chart_step_view}
+use Rattle.source_tree.specs.SyntaxView.{chart_step_view}
 use Rattle.sfc_shape.specs.Shapes.{steps_of}
 use Rattle.sfc_shape.specs.PartsView.{parts_in}
 use Rattle.sfc_shape.proofs.NumberSteps.{number_from}

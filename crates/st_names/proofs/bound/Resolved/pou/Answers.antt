@@ -1,7 +1,7 @@
 use Rattle.std.proofs.Common.{◌≡◌, ◌<◌, Some, length, get_or, List, ℕ, refl, ap, sym, ◌∙◌, arith}
-use Rattle.st_tree.specs.declared.syntax.Item.{Item}
-use Rattle.st_tree.specs.Syntax.{PouData, types, pou}
-use Rattle.st_tree.specs.SyntaxView.{item_view, type_declarations_view, pou_view, file_view}
+use Rattle.source_tree.specs.declared.syntax.Item.{Item}
+use Rattle.source_tree.specs.Syntax.{PouData, types, pou}
+use Rattle.source_tree.specs.SyntaxView.{item_view, type_declarations_view, pou_view, file_view}
 use Rattle.st_names.proofs.BindingLemmas.{reads_pou}
 use Rattle.st_names.proofs.bound.Resolved.pou.Goals as goal
 

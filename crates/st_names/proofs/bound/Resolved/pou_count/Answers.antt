@@ -1,5 +1,5 @@
 use Rattle.std.proofs.Common.{length, ap, ◌∙◌}
-use Rattle.st_tree.specs.SyntaxView.{file_view}
+use Rattle.source_tree.specs.SyntaxView.{file_view}
 use Rattle.st_names.proofs.BindingLemmas.{count_places}
 use Rattle.st_names.proofs.bound.Resolved.pou_count.Goals as goal
 

@@ -1,7 +1,7 @@
 use Rattle.std.proofs.Common.{◌≡◌, count_by, ap, sym, ◌∙◌, arith}
-use Rattle.st_tree.specs.SyntaxView.{file_view}
-use Rattle.st_names.specs.Broken.{is_program_pou}
-use Rattle.st_names.specs.FileScope.{pous_of}
+use Rattle.source_tree.specs.SyntaxView.{file_view}
+use Rattle.naming.specs.Broken.{is_program_pou}
+use Rattle.naming.specs.FileScope.{pous_of}
 use Rattle.st_names.proofs.BindingLemmas.{none_passes}
 use Rattle.st_names.proofs.bound.Resolved.program.Goals as goal
 

@@ -1,8 +1,8 @@
 use Rattle.std.proofs.Common.{ap, ◌∙◌}
-use Rattle.st_tree.specs.SyntaxView.{file_view}
-use Rattle.st_names.specs.Library.{is_library}
-use Rattle.st_names.specs.Table.{standing_by}
-use Rattle.st_names.proofs.TableLemmas.{standing-named}
+use Rattle.source_tree.specs.SyntaxView.{file_view}
+use Rattle.naming.specs.Library.{is_library}
+use Rattle.naming.specs.Table.{standing_by}
+use Rattle.naming.proofs.TableLemmas.{standing-named}
 use Rattle.st_names.proofs.bound.Resolved.standing.Goals as goal
 
 pub returns : goal.returns

@@ -1,7 +1,7 @@
 use Rattle.std.proofs.Common.{option_map, ap, ◌∙◌}
-use Rattle.st_tree.specs.SyntaxView.{file_view}
+use Rattle.source_tree.specs.SyntaxView.{file_view}
 use Rattle.st_names.specs.BoundBy.{bound_by}
-use Rattle.st_names.specs.FileScope.{pou_at}
+use Rattle.naming.specs.FileScope.{pou_at}
 use Rattle.st_names.proofs.BindingLemmas.{bound_slot}
 use Rattle.st_names.proofs.bound.Resolved.variable.Goals as goal
 

@@ -1,0 +1,5 @@
+pub mod PlacedLemmas
+pub mod PlaceLemmas
+pub mod CandidateLemmas
+pub mod PairLemmas
+pub mod ExclusiveLemmas

@@ -1,0 +1,4 @@
+pub mod ByPath
+pub mod Places
+pub mod PairView
+pub mod Candidates

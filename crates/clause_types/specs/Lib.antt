@@ -1,0 +1,2 @@
+pub mod PairedTypes
+pub mod Pairs

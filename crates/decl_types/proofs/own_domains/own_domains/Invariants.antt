@@ -1,0 +1,9 @@
+use Rattle.std.proofs.Common.{◌≡◌, ◌++◌, drop}
+use Rattle.naming.specs.FileScope.{types_of}
+use Rattle.naming.specs.ScopeView.{types_view}
+use Rattle.decl_types.specs.Bodies.{file_of}
+use Rattle.typing.specs.OwnDomains.{own_domains}
+use Rattle.decl_types.proofs.own_domains.own_domains.Given as goal
+
+abbrev pub invariant-loop-number : goal.invariant-loop-number
+invariant-loop-number l = l.list.items ++ own_domains (file_of l.file) l.number (types_view (drop l.number l.file.types.items)) ≡ own_domains (file_of l.file) 0 (types_of (file_of l.file))

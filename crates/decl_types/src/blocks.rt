@@ -1,0 +1,94 @@
+// The POUs of a file by their numbers, and the blocks of instances.
+ghost use Rattle.std.specs.Prelude.{◌≡◌, false, option_map, unwrap_or};
+ghost use Rattle.source_tree.specs.SyntaxView.{type_view, pou_view, file_view};
+ghost use Rattle.naming.specs.FileScope.{pou_at, standing, is_block, pou_number, block_number};
+ghost use Rattle.naming.specs.Scopes.{block_of, block_of_type};
+ghost use Rattle.naming.specs.ScopeView.{variable_view};
+ghost use Rattle.typing.specs.Members.{is_function, function_number};
+
+use naming::{Declared, Role, Standing};
+use source_tree::{Pou, PouKind, TypeName};
+use st_names::Resolved;
+
+/// The POU of a number, where there is one.
+pub fn pou_at(names: &Resolved, number: usize) -> Option<&Pou>
+    ensures { option_map (λ p. pou_view p.now) result ≡ pou_at (file_view names.now.file) number }
+{
+    if number < names.pou_count() {
+        Some(names.pou(number))
+    } else {
+        None
+    }
+}
+
+fn is_block(pou: Option<&Pou>) -> bool
+    ensures { result ≡ unwrap_or (option_map (λ p. is_block (pou_view p.now).kind) pou.entry) false }
+{
+    match pou {
+        None => false,
+        Some(pou) => matches!(pou.kind, PouKind::FunctionBlock),
+    }
+}
+
+fn is_function(pou: Option<&Pou>) -> bool
+    ensures { result ≡ unwrap_or (option_map (λ p. is_function (pou_view p.now).kind) pou.entry) false }
+{
+    match pou {
+        None => false,
+        Some(pou) => matches!(pou.kind, PouKind::Function(_)),
+    }
+}
+
+// The number of a POU that a name stands for.
+fn pou_number(standing: Option<Standing>) -> Option<usize>
+    ensures { result ≡ pou_number standing }
+{
+    match standing {
+        Some(Standing::Pou(number)) => Some(number),
+        _ => None,
+    }
+}
+
+// The FUNCTION_BLOCK that a name stands for, by its number.
+fn block_number(names: &Resolved, name: &str) -> Option<usize>
+    ensures { result ≡ block_number (file_view names.now.file) (standing (file_view names.now.file) name.now) }
+{
+    let number = pou_number(names.standing(name))?;
+    if is_block(pou_at(names, number)) {
+        Some(number)
+    } else {
+        None
+    }
+}
+
+/// The FUNCTION that a name stands for, by its number.
+pub fn function_number(names: &Resolved, name: &str) -> Option<usize>
+    ensures { result ≡ function_number (file_view names.now.file) (standing (file_view names.now.file) name.now) }
+{
+    let number = pou_number(names.standing(name))?;
+    if is_function(pou_at(names, number)) {
+        Some(number)
+    } else {
+        None
+    }
+}
+
+// The block of a type by name.
+fn block_of_type(names: &Resolved, kind: &TypeName) -> Option<usize>
+    ensures { result ≡ block_of_type (file_view names.now.file) (type_view kind.now) }
+{
+    match kind {
+        TypeName::Elementary(_, _) | TypeName::Subrange(_, _, _) => None,
+        TypeName::Named(name) => block_number(names, name.text.as_str()),
+    }
+}
+
+/// The block of a variable that is an instance, by its number.
+pub fn block_of(names: &Resolved, variable: &Declared<'_>) -> Option<usize>
+    ensures { result ≡ block_of (file_view names.now.file) (variable_view variable.now) }
+{
+    match variable.role {
+        Role::Local => block_of_type(names, variable.kind?),
+        _ => None,
+    }
+}

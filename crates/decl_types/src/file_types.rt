@@ -1,0 +1,97 @@
+// The types of a file, and what its names stand for as values.
+ghost use Rattle.std.specs.Prelude.{◌≡◌, ◌<◌, Some};
+ghost use Rattle.source_tree.specs.SyntaxView.{specification_view, file_view};
+ghost use Rattle.naming.specs.FileScope.{types_of};
+ghost use Rattle.naming.specs.ScopeView.{types_view};
+ghost use Rattle.typing.specs.Domains.{is_few, value_meaning};
+ghost use Rattle.typing.specs.OwnDomains.{count_of_values};
+
+use crate::elementary_domains::has_few;
+use expr_types::valued;
+use naming::Standing;
+use pou_scope::declared_types;
+use source_tree::{Name, Path, Specification, TypeDeclaration};
+use st_names::Resolved;
+use std::alloc::{AllocError, Global};
+use typing::{Instance, Meaning, Port, Scope, Signature};
+
+/// A file whose names are bound, and the types that it declares, by their numbers.
+#[derive(Drop)]
+pub struct FileTypes<'p> {
+    pub names: &'p Resolved,
+    pub types: Vec<&'p TypeDeclaration>,
+    ghost declared: { ∥ types_view types.items ≡ types_of (file_view names.now.file) ∥₁ },
+}
+
+// A value of the type of a number, by its own number.
+fn value_of_type(kind: usize, number: usize, specification: &Specification) -> Meaning
+    requires { number < count_of_values (specification_view specification.now) }
+    ensures { result ≡ value_meaning kind number (is_few (Some (specification_view specification.now))) }
+{
+    match specification {
+        Specification::Enumeration(_, _, others) => {
+            let whole = has_few(others);
+            valued(kind, number as i64, whole)
+        }
+        Specification::Type(_) => valued(kind, 0, false),
+    }
+}
+
+impl<'p> FileTypes<'p> {
+    ghost use Rattle.std.specs.Prelude.{◌≡◌, IfOk};
+    ghost use Rattle.source_tree.specs.SyntaxView.{file_view};
+    ghost use Rattle.naming.specs.FileScope.{standing};
+    ghost use Rattle.decl_types.specs.Bodies.{file_of};
+    ghost use Rattle.typing.specs.Domains.{value_at};
+
+    /// The types of a file.
+    pub fn new(alloc: Global, names: &'p Resolved) -> Result<FileTypes<'p>, AllocError>
+        ensures { IfOk result (λ s. file_of s ≡ file_view names.now.file) }
+    {
+        let types = declared_types(alloc, &names.file)?;
+        Ok(FileTypes { names, types })
+    }
+
+    /// What a name stands for as a value.
+    pub fn value_of(&self, name: &str) -> Option<Meaning>
+        ensures { result ≡ value_at (file_of self.now) (standing (file_of self.now) name.now) }
+    {
+        match self.names.standing(name) {
+            Some(Standing::Value(kind, number)) => {
+                let declaration = self.types.get(kind)?;
+                Some(value_of_type(kind, number, &declaration.specification))
+            }
+            _ => None,
+        }
+    }
+}
+
+impl Scope for FileTypes<'_> {
+    ghost use Rattle.decl_types.specs.Bodies.{values_in};
+
+    ghost means = { values_in };
+
+    fn meaning(&self, path: &Path) -> Option<Meaning> {
+        self.value_of(path.first.text.as_str())
+    }
+
+    fn value(&self, name: &Name) -> Option<Meaning> {
+        self.value_of(name.text.as_str())
+    }
+
+    fn signature(&self, _name: &str) -> Option<Signature> {
+        None
+    }
+
+    fn port(&self, _function: usize, _place: usize) -> Option<Port> {
+        None
+    }
+
+    fn input(&self, _function: usize, _name: &str) -> Option<usize> {
+        None
+    }
+
+    fn instance(&self, _name: &str) -> Option<Instance> {
+        None
+    }
+}

@@ -1,0 +1,82 @@
+// What types break where they are spelled.
+ghost use Rattle.std.specs.Prelude.{◌≡◌, IfOk, Bool, if◌then◌else◌};
+ghost use Rattle.source_tree.specs.SyntaxView.{name_view, type_view, specification_view};
+ghost use Rattle.naming.specs.FileScope.{types_of};
+ghost use Rattle.decl_types.specs.Bodies.{file_in};
+ghost use Rattle.typing.specs.Domains.{judged_type, judged_specification};
+ghost use Rattle.rules.specs.Judgements.{ok, suppressed};
+ghost use Rattle.rules.specs.Outcomes.{outcome_of};
+ghost use Rattle.typing.specs.Outcomes.{types_outcome};
+
+use crate::domains::Domains;
+use crate::elementary_domains::has_few;
+use crate::subranges::judge_subrange;
+use rules::{Outcome, Rule};
+use source_tree::{Name, Specification, TypeName};
+use std::alloc::{AllocError, Global};
+
+// A name is whole where its declaration is, and breaks no rule by itself.
+fn sound_or_silent(whole: bool) -> Outcome
+    ensures { result ≡ outcome_of (if whole then ok else suppressed) }
+{
+    if whole {
+        Outcome::ok()
+    } else {
+        Outcome::suppressed()
+    }
+}
+
+/// What a type breaks where it is spelled; a type by name is whole where its declaration is.
+pub(crate) fn judge_type(
+    alloc: Global,
+    domains: &Domains<'_>,
+    kind: &TypeName,
+) -> Result<Outcome, AllocError>
+    ensures { IfOk result (λ o. o ≡ outcome_of (judged_type (file_in domains.now) (type_view kind.now))) }
+{
+    match kind {
+        TypeName::Elementary(_, _) => Ok(Outcome::ok()),
+        TypeName::Subrange(kind, at, bounds) => {
+            judge_subrange(alloc, &domains.types, *kind, *at, bounds)
+        }
+        TypeName::Named(name) => Ok(sound_or_silent(domains.named(name.text.as_str()).whole)),
+    }
+}
+
+// M3: an enumeration has few values.
+fn judge_specification(
+    alloc: Global,
+    domains: &Domains<'_>,
+    name: &Name,
+    specification: &Specification,
+) -> Result<Outcome, AllocError>
+    ensures { IfOk result (λ o. o ≡ outcome_of (judged_specification (file_in domains.now) (name_view name.now) (specification_view specification.now))) }
+{
+    match specification {
+        Specification::Type(kind) => judge_type(alloc, domains, kind),
+        Specification::Enumeration(_, _, others) => {
+            if has_few(others) {
+                Ok(Outcome::ok())
+            } else {
+                Ok(Outcome::breaks(Rule::TooManyValues, name.at))
+            }
+        }
+    }
+}
+
+/// What the types of a file break.
+pub fn judge_types(alloc: Global, domains: &Domains<'_>) -> Result<Outcome, AllocError>
+    ensures { IfOk result (λ o. o ≡ types_outcome (file_in domains.now) (outcome_of ok) (types_of (file_in domains.now))) }
+{
+    let mut judged = Outcome::ok();
+    for declaration in domains.types.types.iter() {
+        let own = judge_specification(
+            alloc,
+            domains,
+            &declaration.name,
+            &declaration.specification,
+        )?;
+        judged = judged.also(own);
+    }
+    Ok(judged)
+}

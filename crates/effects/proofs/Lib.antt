@@ -1,8 +1,0 @@
-pub mod Calls
-pub mod Sizes
-pub mod Cases
-pub mod Loops
-pub mod Given
-pub mod Callees
-pub mod Firing
-pub mod InTurn

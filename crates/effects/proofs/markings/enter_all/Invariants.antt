@@ -1,6 +1,0 @@
-use Rattle.std.proofs.Common.{◌≡◌, drop}
-use Rattle.effects.specs.Flags.{with_steps}
-use Rattle.effects.proofs.markings.enter_all.Given as goal
-
-abbrev pub invariant-loop-step : goal.invariant-loop-step
-invariant-loop-step l = with_steps (drop l.step-index l.steps) l.marking ≡ with_steps l.steps l.initial.marking

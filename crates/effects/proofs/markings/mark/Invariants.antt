@@ -1,9 +1,0 @@
-use Rattle.std.proofs.Common.{◌≡◌, drop}
-use Rattle.effects.specs.Effects.{marked}
-use Rattle.effects.specs.Flags.{is_next_from}
-use Rattle.effects.proofs.markings.mark.Given as goal
-
-abbrev pub invariant-loop-i : goal.invariant-loop-i
-invariant-loop-i l =
-    marked l.scope.ranges.now l.scope.base l.now (is_next_from l.now l.left l.come) l.i (drop l.i l.steps) l.cells
-    ≡ marked l.scope.ranges.now l.scope.base l.now (is_next_from l.now l.left l.come) 0 l.steps l.initial.cells

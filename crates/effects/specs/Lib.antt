@@ -1,9 +1,0 @@
-pub mod Values
-pub mod Joined
-pub mod Charts
-pub mod Effects
-pub mod Calls
-pub mod Room
-pub mod Flags
-pub mod Scopes
-pub mod Laws

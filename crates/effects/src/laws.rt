@@ -1,8 +1,0 @@
-// Laws of the definitions.
-ghost use Rattle.effects.specs.Laws.{NoneFires, TransitionsFireInTurn};
-
-/// The law of the transitions of a chart: which of them fire is told by those before each. It does nothing.
-pub fn transitions_fire_in_turn()
-    ensures none { NoneFires }
-    ensures next { TransitionsFireInTurn }
-{}

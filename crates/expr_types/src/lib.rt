@@ -1,0 +1,23 @@
+// The types of expressions, the rules on them that are broken, and the typed expressions that they stand for.
+#![tactic(auto)]
+
+mod alone;
+mod amounts;
+mod answers;
+mod calls;
+mod enumeration_values;
+mod expressions;
+mod kinds;
+mod literals;
+mod numbers;
+mod parameters;
+mod typed_answers;
+mod typed_calls;
+mod typed_expressions;
+
+pub use alone::meaning_alone;
+pub use enumeration_values::{Values, find_meaning, find_value, valued, values};
+pub use expressions::{judge_condition, judge_expr, judge_meaning};
+pub use kinds::{bool_type, kind_at, or_dint, place_of, type_of};
+pub use numbers::range;
+pub use typed_expressions::{cell_of, constant_of, meaning_read, type_expr};

@@ -1,0 +1,12 @@
+pub mod TypesSound
+pub mod TypesAgain
+pub mod ChartStepsSound
+pub mod ChartSound
+pub mod ChartStepsAgain
+pub mod ChartAgain
+pub mod ChartNesting
+pub mod PouSound
+pub mod PouAgain
+pub mod FileSound
+pub mod FileAgain
+pub mod FileWhole

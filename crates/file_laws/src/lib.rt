@@ -1,0 +1,2 @@
+// Laws of the grammar for charts, POUs and files.
+#![tactic(auto)]

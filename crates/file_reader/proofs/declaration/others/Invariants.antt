@@ -1,0 +1,8 @@
+use Rattle.std.proofs.Common.{◌≡◌, ◌-◌, length, []}
+use Rattle.source_tree.specs.SyntaxView.{names_view}
+use Rattle.grammar.specs.Reading.{ahead}
+use Rattle.grammar.specs.Declarations.{others}
+use Rattle.file_reader.proofs.declaration.others.Given as goal
+
+abbrev pub invariant-loop-turn : goal.invariant-loop-turn
+invariant-loop-turn l = others (length l.toks) [] (ahead l.toks l.fn.at) ≡ others (l._turn-end - l._turn) (names_view l.names.items) (ahead l.toks l.at)

@@ -1,0 +1,32 @@
+use Rattle.std.proofs.Common.{rules, arith, length}
+use Rattle.std.proofs.lemmas.Grind.{common_steps}
+use Rattle.std.proofs.lemmas.List.{map_push}
+use Rattle.source_tree.specs.SyntaxView.{all_variables_view}
+use Rattle.grammar.specs.Reading.{ahead}
+use Rattle.grammar.specs.Declarations.{variables}
+use Rattle.grammar.proofs.Turns.{one_more, no_more}
+use Rattle.file_reader.proofs.declaration.variables.Goals as goal
+
+pub returns-in_default : goal.returns-in_default
+unfolding variables
+returns-in_default c =
+    let e = one_more (λ n. variables (length c.args.toks.now) c.args.of_function n (all_variables_view c.loop-turn.found.items) (ahead c.args.toks.now c.loop-turn.at)) _ c.loop-turn._turn c.loop-turn-test.true c.loop-turn.invariant in
+    first_of (search rules, grind (arith, common_steps))
+
+pub returns-in_err-declarations : goal.returns-in_err-declarations
+unfolding variables
+returns-in_err-declarations c =
+    let e = one_more (λ n. variables (length c.args.toks.now) c.args.of_function n (all_variables_view c.loop-turn.found.items) (ahead c.args.toks.now c.loop-turn.at)) _ c.loop-turn._turn c.loop-turn-test.true c.loop-turn.invariant in
+    first_of (search rules, grind (arith, common_steps))
+
+pub loop-turn-preserved : goal.loop-turn-preserved
+unfolding variables
+loop-turn-preserved c =
+    let e = one_more (λ n. variables (length c.args.toks.now) c.args.of_function n (all_variables_view c.loop-turn.found.items) (ahead c.args.toks.now c.loop-turn.at)) _ c.loop-turn._turn c.loop-turn-test.true c.loop-turn.invariant in
+    first_of (search rules, grind (arith, common_steps, map_push))
+
+pub returns : goal.returns
+unfolding variables
+returns c =
+    let e = no_more (λ n. variables (length c.args.toks.now) c.args.of_function n (all_variables_view c.loop-turn.found.items) (ahead c.args.toks.now c.loop-turn.at)) _ c.loop-turn._turn c.loop-turn-test.false c.loop-turn.invariant in
+    first_of (search rules, grind (arith, common_steps))

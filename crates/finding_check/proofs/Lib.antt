@@ -1,0 +1,3 @@
+pub mod HintLemmas
+pub mod RoomLemmas
+pub mod Standing

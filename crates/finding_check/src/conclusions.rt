@@ -1,0 +1,32 @@
+// Verdicts with the numbers of a set.
+ghost use Rattle.std.specs.Prelude.{◌≡◌};
+ghost use Rattle.queries.specs.Sets.{members};
+ghost use Rattle.pair_trial.specs.Trials.{setting_in};
+ghost use Rattle.judgement.specs.Tests.{related_by, open_by};
+ghost use Rattle.finding_check.specs.Rooms.{IsSmall};
+
+use finding_lines::Conclusion;
+use pair_trial::Trial;
+use queries::CandidateSet;
+
+/// RELATED by a set.
+pub fn related_by(trial: &Trial, set: &CandidateSet) -> Conclusion
+    requires { IsSmall (setting_in trial.now) }
+    ensures { result ≡ related_by (setting_in trial.now) (members set.now) }
+{
+    let candidates = trial.candidates();
+    Conclusion::Related(set.size(candidates) as i64, candidates as i64)
+}
+
+/// OPEN by a set.
+pub fn open_by(trial: &Trial, set: &CandidateSet) -> Conclusion
+    requires { IsSmall (setting_in trial.now) }
+    ensures { result ≡ open_by (setting_in trial.now) (members set.now) }
+{
+    let candidates = trial.candidates();
+    Conclusion::Open(
+        set.size(candidates) as i64,
+        candidates as i64,
+        trial.depth() as i64,
+    )
+}

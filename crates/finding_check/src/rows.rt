@@ -1,0 +1,97 @@
+// Rows: their tests in their order.
+ghost use Rattle.std.specs.Prelude.{◌≡◌, ◌+◌, ◌<◌, ◌≤◌};
+ghost use Rattle.scan_replay.specs.Duos.{with_pair};
+ghost use Rattle.queries.specs.Sets.{members};
+ghost use Rattle.pair_trial.specs.Trials.{setting_in};
+ghost use Rattle.judgement.specs.Tests.{drop_row, pair_row, scan_row};
+ghost use Rattle.finding_check.specs.Stages.{moved_of};
+ghost use Rattle.finding_check.specs.Rooms.{IsSmall};
+
+use crate::stage::{Moved, Stage};
+use finding_lines::Conclusion;
+use judgement::Reason;
+use pair_trial::{Trial, keep, meets};
+use queries::CandidateSet;
+
+/// A row that drops candidates.
+pub fn drop_row(
+    trial: &mut Trial,
+    mut set: CandidateSet,
+    old: &[i64],
+    new: &[i64],
+    row: &[i64],
+) -> Moved
+    ensures moved { moved_of result trial.new.pair ≡ drop_row (setting_in trial.old) (members set) (record { old = old.now; new = new.now }) row.now }
+    ensures kept { trial.new ≡ with_pair trial.new.pair trial.old }
+{
+    if !(trial.pair_fits(old, new) && trial.row_fits(row)) {
+        return Moved::Fails(Reason::B2);
+    }
+    trial.set_pair(old, new);
+    if !trial.allowed(row) {
+        return Moved::Fails(Reason::B3);
+    }
+    if !meets(trial, &set) {
+        return Moved::Fails(Reason::B4);
+    }
+    trial.step(row);
+    if meets(trial, &set) {
+        return Moved::Fails(Reason::B5);
+    }
+    keep(trial, &mut set);
+    Moved::Goes(Stage::Drops(set))
+}
+
+/// A row that leads out of the relation.
+pub fn pair_row(
+    trial: &mut Trial,
+    kept: CandidateSet,
+    old: &[i64],
+    new: &[i64],
+    row: &[i64],
+) -> Moved
+    ensures moved { moved_of result trial.new.pair ≡ pair_row (setting_in trial.old) (members kept) (record { old = old.now; new = new.now }) row.now }
+    ensures same { trial.new ≡ with_pair trial.new.pair trial.old }
+{
+    if !(trial.pair_fits(old, new) && trial.row_fits(row)) {
+        return Moved::Fails(Reason::B2);
+    }
+    trial.set_pair(old, new);
+    if !trial.allowed(row) {
+        return Moved::Fails(Reason::B3);
+    }
+    if !meets(trial, &kept) {
+        return Moved::Fails(Reason::B4);
+    }
+    trial.step(row);
+    if trial.related() {
+        return Moved::Fails(Reason::B8);
+    }
+    Moved::Goes(Stage::Deep(kept, 0))
+}
+
+/// A row of a break of so many scans, of which so many are to come behind it. The pair so far is that on trial.
+pub fn scan_row(trial: &mut Trial, scans: u64, more: u64, row: &[i64]) -> Moved
+    requires small { IsSmall (setting_in trial.old) }
+    requires deep { scans ≤ (setting_in trial.old).depth }
+    ensures moved { moved_of result trial.new.pair ≡ scan_row (setting_in trial.old) scans more trial.old.pair row.now }
+    ensures kept { trial.new ≡ with_pair trial.new.pair trial.old }
+{
+    if !trial.row_fits(row) {
+        return Moved::Fails(Reason::B2);
+    }
+    if !trial.allowed(row) {
+        return Moved::Fails(Reason::B3);
+    }
+    trial.step(row);
+    if more == 0 {
+        if trial.related() {
+            return Moved::Fails(Reason::B8);
+        }
+        return Moved::Goes(Stage::End(Conclusion::Different(scans as i64)));
+    }
+    if !trial.related() {
+        return Moved::Fails(Reason::B8);
+    }
+    Moved::Goes(Stage::Scans(scans, more - 1))
+}

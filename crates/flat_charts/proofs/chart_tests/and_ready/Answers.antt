@@ -1,0 +1,13 @@
+use Rattle.std.proofs.Common.{◌≡◌, ap, ◌∙◌, subst, IfOk}
+use Rattle.plc_types.specs.declared.operator.Operator.TheVariants.{And}
+use Rattle.program_tree.specs.Tree.{Operands}
+use Rattle.program_tree.specs.View.{expr_view, operands_of}
+use Rattle.flat_charts.specs.Views.{owner_view}
+use Rattle.flat_form.specs.FlatCharts.{joined_to, ready_term}
+use Rattle.flat_charts.proofs.JoinLemmas.{operands_by-map}
+use Rattle.flat_charts.proofs.chart_tests.and_ready.Goals as goal
+
+pub returns : goal.returns
+returns c =
+    let scope = c.args.scope.now in
+    subst (λ (os : Operands). IfOk c.joined_to.result (λ t. expr_view t ≡ joined_to (expr_view c.args.first) os)) (ap operands_of c.in_ok-others.ensures ∙ operands_by-map And (ready_term (owner_view scope.owner) scope.base c.args.steps.now c.args.flags) c.args.from.now) c.joined_to.ensures

@@ -1,0 +1,8 @@
+use Rattle.std.proofs.Common.{◌≡◌, ◌++◌, drop}
+use Rattle.meaning.specs.Charts.{is_set}
+use Rattle.flat_form.specs.FlatCharts.{steps_that}
+use Rattle.flat_charts.proofs.chart_tests.setting.Given as goal
+
+-- those so far with those that are left
+abbrev pub invariant-loop-association : goal.invariant-loop-association
+invariant-loop-association l = l.list.items ++ steps_that is_set (drop l.association-index l.associations) ≡ steps_that is_set l.associations

@@ -1,0 +1,12 @@
+// The tests of charts, as expressions over the cells and scratch cells of a flat program: of latches, of actions and of transitions.
+#![tactic(auto)]
+
+mod chart_tests;
+mod joins;
+mod places;
+mod scope;
+
+pub use chart_tests::{latch_test, left_flag, own_cell, ready_test, runs_test};
+pub use joins::{chain, joined, without};
+pub use places::{base_at, cell_at, place_at};
+pub use scope::{FlatScope, Owner};

@@ -1,0 +1,51 @@
+// Places of cells.
+ghost use Rattle.std.specs.Prelude.{◌≡◌, ◌+◌, ◌∷◌, slice_index_or, IfOk};
+ghost use Rattle.program_tree.specs.Tree.{cell};
+ghost use Rattle.program_tree.specs.View.{expr_view};
+ghost use Rattle.flat_charts.specs.Views.{owner_view};
+
+use crate::scope::{FlatScope, Owner};
+use program_tree::TypedExpr;
+use std::alloc::AllocError;
+
+/// Where a cell of a POU stands among the cells and scratch cells. A place that is no usize, which no cell of a program has, has
+/// no place in memory.
+pub fn place_at(scope: &FlatScope<'_, '_>, place: usize) -> Result<usize, AllocError>
+    ensures { IfOk result (λ there. there ≡ owner_view scope.now.owner (scope.now.base + place)) }
+{
+    let place = base_at(scope, place)?;
+    Ok(owner_place(&scope.owner, place))
+}
+
+/// The place among the owner's cells.
+pub fn base_at(scope: &FlatScope<'_, '_>, place: usize) -> Result<usize, AllocError>
+    ensures { IfOk result (λ there. there ≡ scope.now.base + place) }
+{
+    scope.base.checked_add(place).ok_or(AllocError)
+}
+
+fn owner_place(owner: &Owner<'_>, place: usize) -> usize
+    ensures { result ≡ owner_view owner.now place }
+{
+    match owner {
+        Owner::Program => place,
+        Owner::Call(answer, places) => call_place(*answer, places, place),
+    }
+}
+
+fn call_place(answer: usize, places: &[usize], place: usize) -> usize
+    ensures { result ≡ slice_index_or (0 ∷ answer ∷ places.now) place 0 }
+{
+    match place {
+        0 => 0,
+        1 => answer,
+        _ => places.get(place - 2).copied().unwrap_or(0),
+    }
+}
+
+/// The value of the cell at a place.
+pub fn cell_at(place: usize) -> TypedExpr
+    ensures { expr_view result ≡ cell place }
+{
+    TypedExpr::Cell(place)
+}

@@ -1,5 +1,0 @@
-use Rattle.flat_form.proofs.KeptRules.{flat_program-keeps_rules}
-use Rattle.flat_form.proofs.laws.flat_form_keeps_rules.Goals as goal
-
-pub returns : goal.returns
-returns c = flat_program-keeps_rules

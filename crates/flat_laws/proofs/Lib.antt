@@ -1,0 +1,16 @@
+pub mod Shown
+pub mod Sequences
+pub mod LabelLemmas
+pub mod TurnValues
+pub mod ActionRuns
+pub mod Claims
+pub mod Leaving
+pub mod Running
+pub mod Calling
+pub mod Evaluating
+pub mod ChartStores
+pub mod ChartTests
+pub mod ChartMoves
+pub mod RunningCharts
+pub mod KeptMeaning
+pub mod Joined

@@ -1,0 +1,3 @@
+pub mod RulesOfCalls
+pub mod RulesOfCharts
+pub mod KeptRules

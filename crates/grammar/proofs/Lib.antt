@@ -1,0 +1,5 @@
+pub mod Turns
+pub mod Ahead
+pub mod Links
+pub mod Arguments
+pub mod StatementLists

@@ -1,0 +1,15 @@
+pub mod Steps
+pub mod ArgumentsSound
+pub mod Sound
+pub mod Fronts
+pub mod ArgumentsAgain
+pub mod Again
+pub mod DeclarationSound
+pub mod DeclarationAgain
+pub mod Selections
+pub mod Iterations
+pub mod Connections
+pub mod StatementSound
+pub mod StatementAgain
+pub mod Nests
+pub mod Nested

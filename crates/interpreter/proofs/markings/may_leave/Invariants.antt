@@ -1,0 +1,6 @@
+use Rattle.std.proofs.Common.{◌≡◌, drop}
+use Rattle.meaning.specs.Flags.{may_leave}
+use Rattle.interpreter.proofs.markings.may_leave.Given as goal
+
+abbrev pub invariant-loop-step : goal.invariant-loop-step
+invariant-loop-step l = may_leave l.now l.left (drop l.step-index l.steps) ≡ may_leave l.now l.left l.steps

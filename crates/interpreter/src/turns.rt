@@ -1,0 +1,52 @@
+// The turns of a FOR.
+ghost use Rattle.std.specs.Prelude.{◌≡◌, ◌≤◌, ◌+◌, ◌*◌, ◌^◌, length, if◌then◌else◌, slice_set, pos};
+ghost use Rattle.plc_types.specs.Types.{in_range};
+ghost use Rattle.program_tree.specs.View.{stmts_view};
+ghost use Rattle.meaning.specs.Effects.{effect_of_turns, effect_of_all};
+ghost use Rattle.meaning.specs.Room.{markings_in_all};
+ghost use Rattle.interpreter.specs.Scopes.{callees_here, room_here};
+
+use crate::cells::{is_within, put, range_at};
+use crate::scope::Scope;
+use crate::statements::run_all;
+use plc_types::Range;
+use program_tree::{Turns, TypedStmt};
+
+/// Runs a body turn by turn, and leaves the control variable at the value that ends them. A value that is no i64 is in
+/// no cell's range.
+#[cycle(run)]
+pub fn run_turns(
+    body: &[TypedStmt],
+    turns: Turns,
+    scope: &Scope<'_>,
+    cells: &mut [i64],
+    stack: &mut [i64],
+)
+    requires known { scope.now.below ≤ length scope.now.called.now }
+    requires bound { scope.now.base + (scope.now.below + 1) * 2 ^ 64 ≤ 2 ^ 128 }
+    requires room { room_here scope.now + markings_in_all (stmts_view body.now) ≤ length stack.old }
+    ensures state { cells.new ≡ effect_of_turns scope.now.ranges.now turns.count (scope.now.base + turns.control) turns.first turns.step
+        (effect_of_all (callees_here scope.now) scope.now.ranges.now scope.now.base (stmts_view body.now)) cells.old }
+    ensures room { length stack.new ≡ length stack.old }
+{
+    let control = scope.base + turns.control as u128;
+    let range = range_at(scope.ranges, control);
+    let mut value = i128::from(turns.first);
+    for _ in 0..turns.count {
+        set_control(control, range, value, cells);
+        run_all(body, scope, cells, stack);
+        value += i128::from(turns.step);
+    }
+    set_control(control, range, value, cells);
+}
+
+// Gives the control variable a value where that is in its range; else that is a fault.
+fn set_control(control: u128, range: Range, value: i128, cells: &mut [i64])
+    ensures { cells.new ≡ (if in_range value range then slice_set cells.old control value else slice_set cells.old 0 (pos 1)) }
+{
+    if is_within(value, range) {
+        put(cells, control, value as i64);
+    } else {
+        put(cells, 0, 1);
+    }
+}

@@ -1,0 +1,5 @@
+pub mod MoveLemmas
+pub mod RunLemmas
+pub mod EndLemmas
+pub mod Judgements
+pub mod SpentLemmas

@@ -1,0 +1,69 @@
+-- Laws of judging.
+use Rattle.std.specs.Prelude.{◌≡◌, ℕ, ◌≤◌, ℤ, List, [], ◌∷◌, ◌++◌, map, length, Result, Ok, Err}
+use Rattle.clause_core.specs.Formula.{Formula}
+use Rattle.clause_core.specs.declared.log.Entry.{Entry}
+use Rattle.clause_core.specs.declared.log.Entry.TheVariants.{Derived}
+use Rattle.finding_lines.specs.declared.line.Asked.{Asked}
+use Rattle.finding_lines.specs.declared.line.Line.{Line}
+use Rattle.finding_lines.specs.declared.line.Line.TheVariants as lines
+use Rattle.finding_lines.specs.declared.line.Conclusion.{Conclusion}
+use Rattle.finding_lines.specs.declared.line.Conclusion.TheVariants.{Spent}
+use Rattle.finding_file.specs.Writing.{all_written}
+use Rattle.queries.specs.Comparisons.{Comparison, IsComparison}
+use Rattle.queries.specs.Settings.{Setting, setting_of}
+use Rattle.queries.specs.Questions.{QueryData, IsQueryOf}
+use Rattle.queries.specs.Meaning.{Means}
+use Rattle.judgement.specs.Steps.{step_of}
+use Rattle.judgement.specs.Places.{finished}
+use Rattle.judgement.specs.Findings.{Leads, IsJudged}
+use Rattle.judgement.specs.Shown.{asked_of, Spends}
+use Rattle.judgement.specs.declared.answers.Judged.{Judged}
+use Rattle.judgement.specs.declared.answers.Judged.TheVariants.{Valid}
+use Rattle.judgement.specs.declared.answers.JudgeErr.{JudgeErr}
+use Rattle.judgement.specs.declared.answers.JudgeErr.TheVariants.{Fault, Memory, M8}
+
+-- something is said: the file did not fail, and memory sufficed
+abbrev pub IsSaid : Result Judged JudgeErr → Type 0
+IsSaid (Ok judged) = Unit {0}
+IsSaid (Err M8) = Unit {0}
+IsSaid (Err Fault) = ⊥
+IsSaid (Err Memory) = ⊥
+
+-- one thing is said of a file
+abbrev pub OneJudgement : Type 0
+OneJudgement =
+    (s : Setting) (formula : QueryData → Formula) (limit : ℕ) (file : List ℕ) (a b : Result Judged JudgeErr) → IsJudged s formula limit file a → IsJudged s formula limit file b
+    → IsSaid a → IsSaid b → a ≡ b
+
+-- lines that all pass and lead behind an END line are a finding, as they are written
+abbrev pub WrittenIsValid : Type 0
+WrittenIsValid =
+    (s : Setting) (formula : QueryData → Formula) (limit : ℕ) (all : List Line) (verdict : Conclusion) → Leads s formula all (finished verdict)
+    → length (all_written all) ≤ limit → IsJudged s formula limit (all_written all) (Ok (Valid verdict))
+
+-- the numbers of a D line
+pub record StepNumbers : Type 0 where
+  pub literals : List ℤ
+  pub hints : List ℤ
+
+abbrev pub line_of : StepNumbers → Line
+line_of n = lines.Derived n.literals n.hints
+
+abbrev pub entry_of : StepNumbers → Entry
+entry_of n = Derived (step_of n.literals n.hints)
+
+-- A file ends with the log that spends a query: QUERY, exactly CONFLICTS D lines, and END.
+pub record HoldsSpentLog (c : Comparison) (formula : QueryData → Formula) (file : List ℕ) (conclusion : Conclusion) : Type 0 where
+  pub front : List Line
+  pub steps : List StepNumbers
+  pub query : QueryData
+  pub is_query : IsQueryOf c query
+  pub whole : file ≡ all_written (front ++ lines.Query (asked_of query) ∷ map line_of steps ++ lines.End conclusion ∷ [])
+  pub spends : Spends (formula query) c.relation.conflicts (map entry_of steps)
+
+-- where a finding is valid and its verdict SPENT, it holds the log
+abbrev pub SpentIsLogged : Type 0
+SpentIsLogged =
+    (c : Comparison) (formula : QueryData → Formula) → IsComparison c → ((query : QueryData) → IsQueryOf c query → Means c query (formula query))
+    → (limit : ℕ) (file : List ℕ) (asked : Asked) (count : ℤ) → IsJudged (setting_of c) formula limit file (Ok (Valid (Spent asked count)))
+    → HoldsSpentLog c formula file (Spent asked count)

@@ -1,0 +1,17 @@
+// The functions do nothing: their clauses are the laws.
+ghost use Rattle.judgement_laws.specs.Laws.{OneJudgement, WrittenIsValid, SpentIsLogged};
+
+/// One thing is said of a file.
+pub fn law_one_judgement()
+    ensures { OneJudgement }
+{}
+
+/// Lines that all pass and lead behind an END line are a valid finding, as they are written.
+pub fn law_written_is_valid()
+    ensures { WrittenIsValid }
+{}
+
+/// Where a finding is valid and its verdict SPENT, it ends with the log that spends the query.
+pub fn law_spent_is_logged()
+    ensures { SpentIsLogged }
+{}

@@ -1,0 +1,6 @@
+pub mod Sizes
+pub mod Cases
+pub mod Loops
+pub mod Callees
+pub mod Firing
+pub mod InTurn

@@ -1,0 +1,7 @@
+pub mod Values
+pub mod Charts
+pub mod Effects
+pub mod Calls
+pub mod Room
+pub mod Flags
+pub mod Laws

@@ -1,0 +1,16 @@
+use Rattle.std.proofs.Common.{◌≡◌, drop}
+use Rattle.source_tree.specs.SyntaxView.{links_view, arguments_view}
+use Rattle.naming.specs.Broken.{in_links, in_arguments}
+use Rattle.pou_scope.specs.NamesView.{file_in, pou_in}
+use Rattle.rules.specs.Outcomes.{outcome_of, both}
+use Rattle.name_uses.proofs.walk.+walk_expr.Given as goal
+
+abbrev pub invariant-walk_links-loop-link : goal.invariant-walk_links-loop-link
+invariant-walk_links-loop-link l =
+    both l.outcome (outcome_of (in_links (file_in l.scope.names) (pou_in l.scope.names) (links_view (drop l.link-index l.links))))
+    ≡ both l.fn.outcome (outcome_of (in_links (file_in l.scope.names) (pou_in l.scope.names) (links_view l.links)))
+
+abbrev pub invariant-walk_arguments-loop-argument : goal.invariant-walk_arguments-loop-argument
+invariant-walk_arguments-loop-argument l =
+    both l.outcome (outcome_of (in_arguments (file_in l.scope.names) (pou_in l.scope.names) l.callee (arguments_view (drop l.argument-index l.arguments))))
+    ≡ both l.fn.outcome (outcome_of (in_arguments (file_in l.scope.names) (pou_in l.scope.names) l.callee (arguments_view l.arguments)))

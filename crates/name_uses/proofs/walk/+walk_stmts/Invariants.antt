@@ -1,0 +1,21 @@
+use Rattle.std.proofs.Common.{◌≡◌, drop}
+use Rattle.source_tree.specs.SyntaxView.{stmts_view, arms_view, entries_view}
+use Rattle.naming.specs.Broken.{in_stmts, in_arms, in_entries}
+use Rattle.pou_scope.specs.NamesView.{file_in, pou_in}
+use Rattle.rules.specs.Outcomes.{outcome_of, both}
+use Rattle.name_uses.proofs.walk.+walk_stmts.Given as goal
+
+abbrev pub invariant-walk_arms-loop-arm : goal.invariant-walk_arms-loop-arm
+invariant-walk_arms-loop-arm l =
+    both l.outcome (outcome_of (in_arms (file_in l.scope.names) (pou_in l.scope.names) (arms_view (drop l.arm-index l.arms))))
+    ≡ both l.fn.outcome (outcome_of (in_arms (file_in l.scope.names) (pou_in l.scope.names) (arms_view l.arms)))
+
+abbrev pub invariant-walk_stmts-loop-stmt : goal.invariant-walk_stmts-loop-stmt
+invariant-walk_stmts-loop-stmt l =
+    both l.outcome (outcome_of (in_stmts (file_in l.scope.names) (pou_in l.scope.names) (stmts_view (drop l.stmt-index l.stmts))))
+    ≡ both l.fn.outcome (outcome_of (in_stmts (file_in l.scope.names) (pou_in l.scope.names) (stmts_view l.stmts)))
+
+abbrev pub invariant-walk_entries-loop-entry : goal.invariant-walk_entries-loop-entry
+invariant-walk_entries-loop-entry l =
+    both l.outcome (outcome_of (in_entries (file_in l.scope.names) (pou_in l.scope.names) (entries_view (drop l.entry-index l.entries))))
+    ≡ both l.fn.outcome (outcome_of (in_entries (file_in l.scope.names) (pou_in l.scope.names) (entries_view l.entries)))

@@ -1,0 +1,66 @@
+// The actions that a step names, and the words behind them.
+ghost use Rattle.std.specs.Prelude.{◌≡◌, option_map};
+ghost use Rattle.source_tree.specs.SyntaxView.{name_view, step_action_view, step_actions_view};
+ghost use Rattle.naming.specs.Broken.{action_by, in_word, in_association, in_associations};
+ghost use Rattle.pou_scope.specs.NamesView.{file_in, pou_in};
+ghost use Rattle.rules.specs.Outcomes.{outcome_of, both};
+
+use crate::scope::Scope;
+use file_scope::{unknown_action, unknown_qualifier};
+use naming::{Seen, qualifier, word_of};
+use rules::Outcome;
+use source_tree::{Name, StepAction};
+
+// The name of an action, of which this is known.
+fn action_by(seen: Option<Seen>, name: &Name) -> Outcome
+    ensures { result ≡ outcome_of (action_by seen (name_view name.now)) }
+{
+    match seen {
+        None => unknown_action(name),
+        Some(seen) => {
+            if !seen.whole {
+                return Outcome::suppressed();
+            }
+            if seen.role.is_action() {
+                Outcome::ok()
+            } else {
+                unknown_action(name)
+            }
+        }
+    }
+}
+
+// The word behind an action, where there is one.
+fn judged_word(word: Option<&Name>) -> Outcome
+    ensures { result ≡ outcome_of (in_word (option_map (λ n. name_view n.now) word.entry)) }
+{
+    match word {
+        Some(word) => {
+            if qualifier(word.text.as_str()).is_some() {
+                Outcome::ok()
+            } else {
+                unknown_qualifier(word)
+            }
+        }
+        None => Outcome::ok(),
+    }
+}
+
+// An action that a step names, and its word.
+#[tactic(auto, using(rules::proofs::Outcomes::outcome_also))]
+fn judged_association(scope: &Scope<'_, '_>, action: &StepAction) -> Outcome
+    ensures { result ≡ outcome_of (in_association (file_in scope.now.names) (pou_in scope.now.names) (step_action_view action.now)) }
+{
+    let known = action_by(scope.names.seen(&action.action), &action.action);
+    known.also(judged_word(word_of(&action.brackets)))
+}
+
+/// Keeps what the actions break that a step names.
+#[tactic(auto, using(rules::proofs::Outcomes::both_on, rules::proofs::Outcomes::both_ok))]
+pub fn walk_associations(scope: &Scope<'_, '_>, actions: &[StepAction], outcome: &mut Outcome)
+    ensures { outcome.new ≡ both outcome.old (outcome_of (in_associations (file_in scope.now.names) (pou_in scope.now.names) (step_actions_view actions.now))) }
+{
+    for action in actions {
+        *outcome = outcome.also(judged_association(scope, action));
+    }
+}

@@ -1,0 +1,31 @@
+// The names that bodies use.
+ghost use Rattle.std.specs.Prelude.{◌≡◌, OnOk};
+ghost use Rattle.source_tree.specs.SyntaxView.{body_view};
+ghost use Rattle.naming.specs.Broken.{in_body};
+ghost use Rattle.pou_scope.specs.NamesView.{file_in, pou_in};
+ghost use Rattle.rules.specs.Outcomes.{outcome_of, both};
+
+use crate::chart::judged_chart;
+use crate::scope::Scope;
+use crate::walk::walk_stmts;
+use rules::Outcome;
+use source_tree::Body;
+use std::alloc::{AllocError, Global};
+
+/// Keeps what a body breaks.
+pub fn walk_body(
+    alloc: Global,
+    scope: &Scope<'_, '_>,
+    body: &Body,
+    outcome: &mut Outcome,
+) -> Result<(), AllocError>
+    ensures { OnOk result (outcome.new ≡ both outcome.old (outcome_of (in_body (file_in scope.now.names) (pou_in scope.now.names) (body_view body.now)))) }
+{
+    match body {
+        Body::Statements(stmts) => walk_stmts(scope, stmts, outcome),
+        Body::Chart(chart) => {
+            *outcome = outcome.also(judged_chart(alloc, scope, &chart.parts)?);
+        }
+    }
+    Ok(())
+}

@@ -1,0 +1,269 @@
+// The names that the body of a POU may use, and what their uses break.
+ghost use Rattle.std.specs.Prelude.{◌≡◌, option_map, IfSome};
+ghost use Rattle.source_tree.specs.SyntaxView.{name_view, names_view, path_view, file_view, pou_view};
+ghost use Rattle.naming.specs.Broken.{member_by, in_member, in_members, in_flag, in_named, in_variable, in_outer, in_target, in_path, argument_by, in_argument_named, in_argument_name, in_called, in_enumerator, in_instance, instance_of, in_connected, alone};
+ghost use Rattle.naming.specs.FileScope.{pou_at, standing};
+ghost use Rattle.pou_scope.specs.NamesView.{file_in, pou_in, scope_named, AreNamesOf};
+ghost use Rattle.rules.specs.Outcomes.{outcome_of};
+ghost use Rattle.naming.specs.Scopes.{scope_of, seen_named};
+
+use file_scope::{misused, too_deep, unknown};
+use naming::{Callee, Seen, is_value};
+use pou_scope::{Names, NamesOfPou};
+use rules::Outcome;
+use source_tree::{Name, Path};
+
+/// The names of a POU, and those of all POUs of its file.
+#[derive(Clone, Copy)]
+pub struct Scope<'a, 'f> {
+    pub names: Names<'a, 'f>,
+    pub pous: &'a [NamesOfPou<'f>],
+    ghost all: { AreNamesOf (file_in names) pous.now },
+}
+
+// A member of a block, of whose name this is known.
+fn member_by(seen: Option<Seen>, name: &Name) -> Outcome
+    ensures { result ≡ outcome_of (member_by seen (name_view name.now)) }
+{
+    match seen {
+        None => unknown(name),
+        Some(seen) => {
+            if !seen.whole {
+                return Outcome::suppressed();
+            }
+            if seen.role.is_seen() {
+                Outcome::ok()
+            } else {
+                misused(name)
+            }
+        }
+    }
+}
+
+// The name of an argument, of which this is known in the FUNCTION.
+fn argument_by(seen: Option<Seen>, name: &Name) -> Outcome
+    ensures { result ≡ outcome_of (argument_by seen (name_view name.now)) }
+{
+    match seen {
+        None => unknown(name),
+        Some(seen) => {
+            if !seen.whole {
+                return Outcome::suppressed();
+            }
+            if seen.role.is_input() {
+                Outcome::ok()
+            } else {
+                misused(name)
+            }
+        }
+    }
+}
+
+// The names behind a step, of which `X` says whether it is active.
+fn flag(first: &Name, members: &[Name]) -> Outcome
+    ensures { result ≡ outcome_of (in_flag (name_view first.now) (names_view members.now)) }
+{
+    let Some((name, rest)) = members.split_first() else {
+        return misused(first);
+    };
+    if name.text.as_str() == "X" {
+        too_deep(rest)
+    } else {
+        unknown(name)
+    }
+}
+
+/// The block of an instance whose declaration breaks no rule.
+pub fn instance_of(seen: Option<Seen>) -> Option<usize>
+    ensures { result ≡ instance_of seen }
+{
+    match seen {
+        Some(seen) if seen.whole => seen.block,
+        _ => None,
+    }
+}
+
+impl Scope<'_, '_> {
+    // What is known of a name in the POU of a number.
+    fn seen_in(&self, number: usize, name: &Name) -> Option<Option<Seen>>
+        ensures { let f = file_in self.now.names in result ≡ option_map (λ p. seen_named f (scope_of p) (name_view name.now).text) (pou_at f number) }
+    {
+        match self.pous.get(number) {
+            Some(own) => {
+                let names = Names {
+                    file: self.names.file,
+                    own,
+                };
+                Some(names.seen(name))
+            }
+            None => None,
+        }
+    }
+
+    // A member of the block of a number.
+    fn member(&self, block: usize, name: &Name) -> Outcome
+        ensures { result ≡ outcome_of (in_member (file_in self.now.names) block (name_view name.now)) }
+    {
+        match self.seen_in(block, name) {
+            Some(seen) => member_by(seen, name),
+            None => Outcome::suppressed(),
+        }
+    }
+
+    // The names behind an instance of the block of a number.
+    fn members(&self, block: usize, first: &Name, members: &[Name]) -> Outcome
+        ensures { result ≡ outcome_of (in_members (file_in self.now.names) block (name_view first.now) (names_view members.now)) }
+    {
+        let Some((name, rest)) = members.split_first() else {
+            return misused(first);
+        };
+        let member = self.member(block, name);
+        if member.whole { too_deep(rest) } else { member }
+    }
+
+    // A path that begins with a name of the POU whose declaration breaks no rule.
+    fn named(&self, seen: Seen, first: &Name, members: &[Name]) -> Outcome
+        ensures { result ≡ outcome_of (in_named (file_in self.now.names) seen (record { first = name_view first.now; members = names_view members.now })) }
+    {
+        let role = seen.role;
+        if role.is_step() {
+            flag(first, members)
+        } else if role.is_action() || role.is_transition() {
+            misused(first)
+        } else {
+            match seen.block {
+                Some(block) => self.members(block, first, members),
+                None => too_deep(members),
+            }
+        }
+    }
+
+    // A path that begins with a name of the POU.
+    fn variable(&self, seen: Seen, first: &Name, members: &[Name]) -> Outcome
+        ensures { result ≡ outcome_of (in_variable (file_in self.now.names) seen (record { first = name_view first.now; members = names_view members.now })) }
+    {
+        if seen.whole {
+            self.named(seen, first, members)
+        } else {
+            Outcome::suppressed()
+        }
+    }
+
+    // A name that is that of no variable.
+    fn outer(&self, name: &Name) -> Outcome
+        ensures { result ≡ outcome_of (in_outer (file_in self.now.names) (pou_in self.now.names) (name_view name.now)) }
+    {
+        if self.names.is_fault(name) {
+            return misused(name);
+        }
+        self.names.file.use_at(name)
+    }
+
+    // A target, by its names.
+    fn target_of(&self, first: &Name, members: &[Name]) -> Outcome
+        ensures { let f = file_in self.now.names in let p = pou_in self.now.names in let n = name_view first.now in result ≡ outcome_of (in_target f p (seen_named f p n.text) (record { first = n; members = names_view members.now })) }
+    {
+        match self.names.seen(first) {
+            Some(seen) => self.variable(seen, first, members),
+            None => self.outer(first),
+        }
+    }
+
+    /// The path of a target.
+    pub fn target(&self, path: &Path) -> Outcome
+        ensures { let f = file_in self.now.names in let p = pou_in self.now.names in let q = path_view path.now in result ≡ outcome_of (in_target f p (seen_named f p q.first.text) q) }
+    {
+        self.target_of(&path.first, &path.members)
+    }
+
+    /// The control variable of a FOR.
+    pub fn control(&self, name: &Name) -> Outcome
+        ensures { let f = file_in self.now.names in let p = pou_in self.now.names in let n = name_view name.now in result ≡ outcome_of (in_target f p (seen_named f p n.text) (alone n)) }
+    {
+        self.target_of(name, &[])
+    }
+
+    /// A path that is read.
+    pub fn path(&self, path: &Path) -> Outcome
+        ensures { let f = file_in self.now.names in let p = pou_in self.now.names in let q = path_view path.now in result ≡ outcome_of (in_path f p (seen_named f p q.first.text) q) }
+    {
+        let first = &path.first;
+        if let Some(seen) = self.names.seen(first) {
+            return self.variable(seen, first, &path.members);
+        }
+        if !self.names.is_fault(first) && is_value(self.names.file.types.names.standing(first)) {
+            return too_deep(&path.members);
+        }
+        self.outer(first)
+    }
+
+    /// `kind#value`.
+    pub fn enumerator(&self, kind: &Name, value: &Name) -> Outcome
+        ensures { let f = file_in self.now.names in let t = name_view kind.now in result ≡ outcome_of (in_enumerator f t (name_view value.now) (standing f t.text)) }
+    {
+        self.names.file.enumerator(kind, value)
+    }
+
+    /// The name of a call in an expression, which calls this.
+    pub fn called(&self, callee: Callee, name: &Name) -> Outcome
+        ensures { result ≡ outcome_of (in_called (file_in self.now.names) callee (name_view name.now)) }
+    {
+        match callee {
+            Callee::Unknown => self.names.file.use_at(name),
+            _ => Outcome::ok(),
+        }
+    }
+
+    // The name of an argument.
+    fn argument_named(&self, callee: Callee, name: &Name) -> Outcome
+        ensures { result ≡ outcome_of (in_argument_named (file_in self.now.names) callee (name_view name.now)) }
+    {
+        match callee {
+            Callee::Standard => unknown(name),
+            Callee::Function(number) => match self.seen_in(number, name) {
+                Some(seen) => argument_by(seen, name),
+                None => Outcome::suppressed(),
+            },
+            Callee::Unknown => Outcome::ok(),
+        }
+    }
+
+    /// The name of an argument, where it has one.
+    pub fn argument_name(&self, callee: Callee, name: &Option<Name>) -> Outcome
+        ensures { result ≡ outcome_of (in_argument_name (file_in self.now.names) callee (option_map name_view name.now)) }
+    {
+        match name {
+            Some(name) => self.argument_named(callee, name),
+            None => Outcome::ok(),
+        }
+    }
+
+    /// The name of a block's call, of which this is known.
+    pub fn instance(&self, seen: Option<Seen>, name: &Name) -> Outcome
+        ensures { result ≡ outcome_of (in_instance (file_in self.now.names) (pou_in self.now.names) seen (name_view name.now)) }
+    {
+        match seen {
+            Some(seen) => {
+                if !seen.whole {
+                    return Outcome::suppressed();
+                }
+                if seen.block.is_some() {
+                    Outcome::ok()
+                } else {
+                    misused(name)
+                }
+            }
+            None => self.outer(name),
+        }
+    }
+
+    /// The name of a connection of a block's call.
+    pub fn connected(&self, block: Option<usize>, name: &Name) -> Outcome
+        ensures { result ≡ outcome_of (in_connected (file_in self.now.names) block (name_view name.now)) }
+    {
+        match block {
+            Some(block) => self.member(block, name),
+            None => Outcome::ok(),
+        }
+    }
+}

@@ -1,0 +1,15 @@
+pub mod Library
+pub mod FileScope
+pub mod Types
+pub mod ChartWords
+pub mod TextSets
+pub mod Scopes
+pub mod DeclarationUses
+pub mod Broken
+pub mod Circles
+pub mod FirstOf
+pub mod ScopeView
+pub mod Table
+pub mod Ends
+pub mod PouShapes
+pub mod Slots

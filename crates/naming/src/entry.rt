@@ -1,0 +1,9 @@
+// Entries of a table.
+use crate::standing::Standing;
+
+/// How often a file declares a name, and what the first of them stands for.
+#[derive(Clone, Copy, Debug, PartialEq, Eq)]
+pub struct Entry {
+    pub count: usize,
+    pub standing: Standing,
+}

@@ -1,0 +1,7 @@
+pub mod Numbers
+pub mod Widths
+pub mod RowValues
+pub mod Words
+pub mod NodeValues
+pub mod NodeOrders
+pub mod States

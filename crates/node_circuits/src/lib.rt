@@ -1,0 +1,9 @@
+// Nodes as words of a circuit: each node in turn makes the word and the gates that its kind names, from the words before it.
+#![tactic(auto)]
+
+mod nodes;
+mod operands;
+mod operators;
+mod rows;
+
+pub use nodes::encode;

@@ -1,0 +1,8 @@
+pub mod Nodes
+pub mod NodeTypes
+pub mod Sources
+pub mod Words
+pub mod Stores
+pub mod Scans
+pub mod TypedFlats
+pub mod NodeLaws

@@ -1,0 +1,12 @@
+pub mod Ranges
+pub mod Held
+pub mod Functions
+pub mod Expressions
+pub mod Places
+pub mod Assignments
+pub mod Choices
+pub mod MeantScans
+pub mod TypedWords
+pub mod TypedStores
+pub mod TypedScans
+pub mod Evaluation

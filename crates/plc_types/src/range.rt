@@ -1,0 +1,8 @@
+// Ranges of values.
+
+/// The least and the greatest value of a cell.
+#[derive(Clone, Copy, Debug, PartialEq, Eq)]
+pub struct Range {
+    pub low: i64,
+    pub high: i64,
+}

@@ -1,0 +1,141 @@
+-- Sizes that no number of 64 bits passes.
+use Rattle.std.proofs.Common.{◌≡◌, ℕ, zero, suc, ◌+◌, ◌-◌, ◌^◌, ◌<◌, ◌≤◌, min, Bool, true, false, ltb, leb, ◌&&◌, if◌then◌else◌, List, [], ◌∷◌, length, map, replicate, set, get_or, Option, Some, None, Result, Ok, Err, refl, sym, ap, ◌∙◌, arith, ⊎_elim, add_comm}
+use Rattle.std.specs.Prelude.{nat_lt, nat_le, IfOk}
+use Rattle.std.specs.List.{list_all}
+use Rattle.std.proofs.Math.Nat.{min-eq_left, min-eq_right}
+use Rattle.std.proofs.Math.ListN.{get_or-map as get_or-mapped}
+use Rattle.std.proofs.lemmas.List.{map-set}
+use Rattle.std.proofs.lemmas.Bool.{cases_lt, lt-ltb, le-ltb, le-leb, lt-leb, ltb-true, and_parts}
+use Rattle.source_tree.specs.Syntax.{PouData, FileData}
+use Rattle.naming.specs.FileScope.{pou_at}
+use Rattle.naming.specs.Scopes.{Variable, variables_in_pou, is_step}
+use Rattle.typing.specs.declared.member.Member.{Member}
+use Rattle.typing.specs.declared.next.Next.{Next}
+use Rattle.typing.specs.Places.{has_cell, size_among, count_of_cells, first_places, places_behind, variables_in, variables_at, sizes_along}
+use Rattle.typing.specs.Members.{members_of, members_if, members_at}
+use Rattle.pou_cells.specs.Placing.{taken_by, cells_of_all, capped, capped_cells, capped_along}
+
+-- a number that is passed, or is not
+capped_small : (n : ℕ) → n < 2 ^ 64 - 1 → capped n ≡ n
+capped_small n small = min-eq_left (omega (arith, small))
+
+capped_great : (n : ℕ) → 2 ^ 64 - 1 ≤ n → capped n ≡ 2 ^ 64 - 1
+capped_great n great = min-eq_right great
+
+-- a sum of which a part is capped
+capped_right : (a b : ℕ) → capped (a + capped b) ≡ capped (a + b)
+capped_right a b =
+    ⊎_elim (λ (x : b < 2 ^ 64 - 1). rw (capped_small b x) refl)
+    (λ (x : 2 ^ 64 - 1 ≤ b). rw (capped_great b x) (capped_great (a + (2 ^ 64 - 1)) (omega arith) ∙ sym (capped_great (a + b) (omega (arith, x))))) (cases_lt b (2 ^ 64 - 1))
+
+capped_left : (a b : ℕ) → capped (capped a + b) ≡ capped (a + b)
+capped_left a b = ap capped (add_comm (capped a) b) ∙ capped_right b a ∙ ap capped (add_comm b a)
+
+capped_sum : (a b : ℕ) → capped (capped a + capped b) ≡ capped (a + b)
+capped_sum a b = capped_left a (capped b) ∙ capped_right a b
+
+capped_twice : (n : ℕ) → capped (capped n) ≡ capped n
+capped_twice n =
+    let inside : capped n + 0 ≡ capped n = omega arith in
+    let outside : n + 0 ≡ n = omega arith in
+    sym (ap capped inside) ∙ capped_left n 0 ∙ ap capped outside
+
+-- a number of 64 bits
+pub capped_word : (n : ℕ) → n < 2 ^ 64 → capped n ≡ n
+capped_word n word = min-eq_left (omega (arith, word))
+
+capped_size : (s : List ℕ) (b : Option ℕ) → size_among (map capped s) b ≡ capped (size_among s b)
+capped_size s None = refl
+capped_size s (Some b) = get_or-mapped capped s b 0
+
+by_step : (x : Bool) (m n : ℕ) → m ≡ capped n → (if x then 2 else m) ≡ capped (if x then 2 else n)
+by_step true m n e = refl
+by_step false m n e = e
+
+by_cell : (x : Bool) (m n : ℕ) → m ≡ capped n → (if x then m else 0) ≡ capped (if x then n else 0)
+by_cell true m n e = e
+by_cell false m n e = refl
+
+capped_taken : (s : List ℕ) (m : Member) → taken_by (map capped s) m ≡ capped (taken_by s m)
+capped_taken s m =
+    by_cell (has_cell m.role) (if is_step m.role then 2 else size_among (map capped s) m.block) (if is_step m.role then 2 else size_among s m.block)
+    (by_step (is_step m.role) (size_among (map capped s) m.block) (size_among s m.block) (capped_size s m.block))
+
+-- how many cells variables take
+capped_cells-is : (s : List ℕ) (ms : List Member) → capped_cells (map capped s) ms ≡ capped (cells_of_all s ms)
+capped_cells-is s [] = refl
+capped_cells-is s (m ∷ ms) = rw (capped_taken s m, capped_cells-is s ms) (capped_sum (taken_by s m) (cells_of_all s ms))
+
+pub capped_once : (s : List ℕ) (ms : List Member) → capped (capped_cells s ms) ≡ capped_cells s ms
+capped_once s [] = refl
+capped_once s (m ∷ ms) = capped_twice (taken_by s m + capped_cells s ms)
+
+pub capped_start : (s : List ℕ) (ms : List Member) → capped (0 + capped_cells s ms) ≡ capped_cells s ms
+capped_start s ms = let same : 0 + capped_cells s ms ≡ capped_cells s ms = omega arith in ap capped same ∙ capped_once s ms
+
+-- one variable more
+pub capped_more : (s : List ℕ) (m : Member) (ms : List Member) (count next : ℕ) → next ≡ capped (count + taken_by s m) → capped (next + capped_cells s ms) ≡ capped (count + capped_cells s (m ∷ ms))
+capped_more s m ms count next is =
+    let t = taken_by s m in
+    let r = capped_cells s ms in
+    let sum : count + t + r ≡ count + (t + r) = omega arith in
+    ap (λ (x : ℕ). capped (x + r)) is ∙ capped_left (count + t) r ∙ ap capped sum ∙ sym (capped_right count (t + r))
+
+cells_of_all-is : (f : FileData) (told s : List ℕ) (next : Next) (vs : List Variable) → cells_of_all s (members_of f told next vs) ≡ count_of_cells f s vs
+cells_of_all-is f told s next [] = refl
+cells_of_all-is f told s next (v ∷ vs) = rw (cells_of_all-is f told s (places_behind f told next v) vs) refl
+
+in_pou : (f : FileData) (told s : List ℕ) (o : Option PouData) → cells_of_all s (members_if f told o) ≡ count_of_cells f s (variables_in o)
+in_pou f told s None = refl
+in_pou f told s (Some p) = let vs = variables_in_pou p in cells_of_all-is f told s (first_places f told p.kind vs) vs
+
+-- how many cells a POU has
+pub capped_count : (f : FileData) (told s : List ℕ) (k : ℕ) → capped_cells (map capped s) (members_at f told k) ≡ capped (count_of_cells f s (variables_at f k))
+capped_count f told s k = capped_cells-is s (members_at f told k) ∙ ap capped (in_pou f told s (pou_at f k))
+
+-- the sizes of POUs
+capped_along-is : (f : FileData) (s ks : List ℕ) → capped_along f (map capped s) ks ≡ map capped (sizes_along f s ks)
+capped_along-is f s [] = refl
+capped_along-is f s (k ∷ ks) =
+    let n = count_of_cells f s (variables_at f k) in
+    ap (λ (x : ℕ). capped_along f (set (map capped s) k x) ks) (capped_count f [] s k)
+    ∙ ap (λ (l : List ℕ). capped_along f l ks) (sym (map-set capped s k n))
+    ∙ capped_along-is f (set s k n) ks
+
+zeros : (n : ℕ) → map capped (replicate n 0) ≡ replicate n 0
+zeros zero = refl
+zeros (suc n) = ap (λ (l : List ℕ). 0 ∷ l) (zeros n)
+
+pub capped_sizes-are : (f : FileData) (n : ℕ) (ks : List ℕ) → capped_along f (replicate n 0) ks ≡ map capped (sizes_along f (replicate n 0) ks)
+capped_sizes-are f n ks = ap (λ (l : List ℕ). capped_along f l ks) (sym (zeros n)) ∙ capped_along-is f (replicate n 0) ks
+
+many : (c n : ℕ) → n ≡ capped c → 4096 ≤ c → 4096 ≤ n
+many c n is x =
+    ⊎_elim (λ (y : c < 2 ^ 64 - 1). omega (arith, is ∙ capped_small c y, x)) (λ (y : 2 ^ 64 - 1 ≤ c). omega (arith, is ∙ capped_great c y))
+    (cases_lt c (2 ^ 64 - 1))
+
+-- M2
+pub room_of : (c n : ℕ) → n ≡ capped c → nat_lt n 4096 ≡ nat_le (1 + c) 4096
+room_of c n is =
+    ⊎_elim (λ (x : c < 4096). let small : n < 4096 = omega (arith, is ∙ capped_small c (omega (arith, x))) in
+    lt-ltb n 4096 small ∙ sym (le-leb (1 + c) 4096 (omega (arith, x))))
+    (λ (x : 4096 ≤ c). le-ltb n 4096 (many c n is x) ∙ sym (lt-leb (1 + c) 4096 (omega (arith, x))))
+    (cases_lt c 4096)
+
+-- sizes of which each stands for itself alone
+exact : (n : ℕ) → nat_lt (capped n) (2 ^ 64 - 1) ≡ true → capped n ≡ n
+exact n small =
+    ⊎_elim (λ (x : n < 2 ^ 64 - 1). capped_small n x)
+    (λ (x : 2 ^ 64 - 1 ≤ n). let same = capped_great n x in let below : capped n < 2 ^ 64 - 1 = ltb-true (capped n) (2 ^ 64 - 1) small in absurd (omega (arith, same, below)))
+    (cases_lt n (2 ^ 64 - 1))
+
+pub all_exact : (s : List ℕ) → list_all (λ (n : ℕ). nat_lt n (2 ^ 64 - 1)) (map capped s) ≡ true → map capped s ≡ s
+all_exact [] all = refl
+all_exact (n ∷ s) all =
+    let both = and_parts (nat_lt (capped n) (2 ^ 64 - 1)) (list_all (λ (m : ℕ). nat_lt m (2 ^ 64 - 1)) (map capped s)) all in
+    rw (exact n both.0) (ap (λ (l : List ℕ). n ∷ l) (all_exact s both.1))
+
+-- what is said of a result twice
+pub on_both : {A E : Type 0} → (r : Result A E) (P Q R : A → Type 0) → ((a : A) → P a → Q a → R a) → IfOk r P → IfOk r Q → IfOk r R
+on_both (Ok a) P Q R f p q = f a p q
+on_both (Err e) P Q R f p q = p

@@ -1,0 +1,4 @@
+pub mod PouTables
+pub mod PouScopes
+pub mod Placing
+pub mod Placed

@@ -1,0 +1,48 @@
+// The names of a POU's body.
+use crate::block_members::place_of_input;
+use crate::pous::Pous;
+use source_tree::{Name, Path};
+use typing::{Instance, Meaning, Port, Scope, Signature};
+
+/// A POU of a file, by its number.
+#[derive(Clone, Copy)]
+pub struct PouScope<'s> {
+    pub pous: &'s Pous<'s>,
+    pub number: usize,
+}
+
+impl Scope for PouScope<'_> {
+    ghost use Rattle.pou_cells.specs.PouScopes.{means_in};
+
+    ghost means = { means_in };
+
+    fn meaning(&self, path: &Path) -> Option<Meaning> {
+        let name = path.first.text.as_str();
+        match self.pous.member(self.number, name) {
+            None => self.pous.domains.types.value_of(name),
+            Some(member) => self.pous.meant_by(&path.members, member),
+        }
+    }
+
+    fn value(&self, name: &Name) -> Option<Meaning> {
+        self.pous.domains.types.value_of(name.text.as_str())
+    }
+
+    fn signature(&self, name: &str) -> Option<Signature> {
+        self.pous.signature(name)
+    }
+
+    fn port(&self, function: usize, place: usize) -> Option<Port> {
+        self.pous.ports_at(function).get(place).copied()
+    }
+
+    fn input(&self, function: usize, name: &str) -> Option<usize> {
+        let member = self.pous.member(function, name)?;
+        place_of_input(member)
+    }
+
+    fn instance(&self, name: &str) -> Option<Instance> {
+        let member = self.pous.member(self.number, name)?;
+        self.pous.instance_of(member)
+    }
+}

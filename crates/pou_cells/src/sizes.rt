@@ -1,0 +1,84 @@
+// The sizes of POUs, and M2: how many cells a PROGRAM has.
+ghost use Rattle.std.specs.Prelude.{◌≡◌, ◌-◌, ◌^◌, [], map, slice_set, nat_lt, IfOk};
+ghost use Rattle.std.specs.List.{list_all};
+ghost use Rattle.decl_types.specs.Bodies.{file_in};
+ghost use Rattle.typing.specs.Places.{sizes_of};
+ghost use Rattle.typing.specs.Pous.{has_room};
+ghost use Rattle.pou_cells.specs.Placing.{capped, capped_cells, capped_along};
+ghost use Rattle.pou_cells.specs.Placed.{HasSizes};
+
+use crate::placing::taken_by;
+use crate::pous::Pous;
+use std::alloc::{AllocError, Global};
+use typing::Member;
+
+/// How many cells a program has at most.
+const MOST_CELLS: usize = 4096;
+
+// How many cells variables take; the greatest number of 64 bits stands for any greater one.
+fn capped_cells(sizes: &[usize], members: &[Member]) -> usize
+    ensures { result ≡ capped_cells sizes.now members.now }
+{
+    let mut count: usize = 0;
+    for member in members {
+        count = count.saturating_add(taken_by(sizes, member));
+    }
+    count
+}
+
+// Keeps a size at a number, where there is one of that number.
+fn keep(sizes: &mut [usize], number: usize, size: usize)
+    ensures { sizes.new ≡ slice_set sizes.old number size }
+{
+    if number < sizes.len() {
+        sizes[number] = size;
+    }
+}
+
+/// The sizes of the POUs that are reached; the greatest number of 64 bits stands for any greater one.
+#[tactic(auto, unfolding(typing::specs::Places::sizes_of))]
+pub fn capped_sizes(alloc: Global, pous: &Pous<'_>) -> Result<Vec<usize>, AllocError>
+    requires { pous.now.sizes.items ≡ [] }
+    ensures { IfOk result (λ sizes. sizes.items ≡ map capped (sizes_of (file_in pous.now.domains))) }
+{
+    let mut sizes = vec![in alloc; 0; pous.domains.types.names.pou_count()]?;
+    for number in &pous.reached {
+        let size = capped_cells(&sizes, pous.members_at(*number));
+        keep(&mut sizes, *number, size);
+    }
+    Ok(sizes)
+}
+
+/// M2: whether the PROGRAM of a number has at most so many cells, FAULT and those of its instances among them.
+pub fn has_room(pous: &Pous<'_>, sizes: &[usize], number: usize) -> bool
+    requires none { pous.now.sizes.items ≡ [] }
+    requires sizes { sizes.now ≡ map capped (sizes_of (file_in pous.now.domains)) }
+    ensures { result ≡ has_room (file_in pous.now.domains) number }
+{
+    capped_cells(sizes, pous.members_at(number)) < MOST_CELLS
+}
+
+// Whether each of some sizes stands for itself alone.
+fn are_exact(sizes: &[usize]) -> bool
+    ensures { result ≡ list_all (λ size. nat_lt size (2 ^ 64 - 1)) sizes.now }
+{
+    for size in sizes {
+        if *size == usize::MAX {
+            return false;
+        }
+    }
+    true
+}
+
+/// The POUs with the places of their variables. Where a POU that is reached has 2^64 cells or more, or a place past 32 bits,
+/// that is want of memory: its cells are to be spread.
+pub fn placed<'p>(alloc: Global, pous: Pous<'p>, sizes: Vec<usize>) -> Result<Pous<'p>, AllocError>
+    requires { sizes.items ≡ map capped (sizes_of (file_in pous.domains)) }
+    ensures file { IfOk result (λ s. file_in s.domains ≡ file_in pous.entry.domains) }
+    ensures sizes { IfOk result HasSizes }
+{
+    if !are_exact(&sizes) {
+        return Err(AllocError);
+    }
+    pous.with_sizes(alloc, sizes)
+}

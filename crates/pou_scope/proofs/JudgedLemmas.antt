@@ -1,0 +1,59 @@
+-- What is judged of a POU, and of all POUs by the list of their names.
+use Rattle.std.proofs.Common.{◌≡◌, ◌<◌, ◌+◌, ℕ, List, [], ◌∷◌, ◌++◌, length, map, get_or, drop, Bool, Some, None, Option, option_map, refl, sym, ap, ◌∙◌, arith}
+use Rattle.std.specs.List.{slice_get}
+use Rattle.std.proofs.lemmas.Option.{slice_get-map, slice_get_read}
+use Rattle.source_tree.specs.Syntax.{BodyData, PouData, FileData}
+use Rattle.source_tree.specs.SyntaxView.{pou_view}
+use Rattle.pou_scope.specs.declared.pou_names.NamesOfPou.{NamesOfPou}
+use Rattle.rules.specs.declared.outcome.Outcome.{Outcome}
+use Rattle.naming.specs.declared.seen.Seen.{Seen}
+use Rattle.naming.specs.Broken.{variables_twice, in_declarations, in_body, in_pou_scope}
+use Rattle.naming.specs.Circles.{blocks_used, calls_in_body, uses_in}
+use Rattle.naming.specs.FileScope.{pous_of, pou_at, is_program}
+use Rattle.rules.specs.Judgements.{also}
+use Rattle.pou_scope.specs.NamesView.{scope_named, pous_named, scopes_named, AreNamesOf}
+use Rattle.rules.specs.Outcomes.{outcome_of, both}
+use Rattle.naming.specs.Scopes.{Variable, PouScope, scope_of, variables_in_pou, seen_named}
+use Rattle.naming.specs.ScopeView.{variables_view}
+use Rattle.rules.proofs.Outcomes.{then_on, outcome_also}
+
+pub pou_judged : (f : FileData) (p : PouScope) (body : BodyData) (a b d : Outcome) → a ≡ outcome_of (variables_twice p.has_fault [] p.variables) → b ≡ both a (outcome_of (in_declarations f p 0 p.variables))
+    → d ≡ both b (outcome_of (in_body f p body)) → d ≡ outcome_of (in_pou_scope f p body)
+unfolding in_pou_scope
+pou_judged f p body a b d once declared inner =
+    let front = variables_twice p.has_fault [] p.variables in
+    let middle = in_declarations f p 0 p.variables in
+    let two : b ≡ outcome_of (also front middle) = declared ∙ ap (λ o. both o (outcome_of middle)) once ∙ outcome_also front middle in
+    inner ∙ ap (λ o. both o (outcome_of (in_body f p body))) two ∙ outcome_also (also front middle) (in_body f p body)
+
+pub scope_is : (n : NamesOfPou) (p : PouData) → n.has_fault ≡ is_program p.kind → variables_view n.variables.items ≡ variables_in_pou p → scope_named n ≡ scope_of p
+scope_is n p fault variables =
+    ap (λ (b : Bool). record { has_fault = b; variables = variables_view n.variables.items }) fault
+    ∙ ap (λ (vs : List Variable). record { has_fault = is_program p.kind; variables = vs }) variables
+
+same_map : {A B C : Type 0} (g : A → B) (h : B → C) (o : Option A) → option_map (λ a. h (g a)) o ≡ option_map h (option_map g o)
+same_map g h None = refl
+same_map g h (Some a) = refl
+
+pub are_names : (f : FileData) (ns : List NamesOfPou) → scopes_named ns ≡ map scope_of (pous_of f) → AreNamesOf f ns
+are_names f ns scopes number text =
+    let see : PouScope → Option Seen = λ s. seen_named f s text in
+    same_map scope_named see (slice_get ns number) ∙ ap (option_map see) (sym (slice_get-map scope_named ns number))
+    ∙ ap (λ ss. option_map see (slice_get ss number)) scopes
+    ∙ ap (option_map see) (slice_get-map scope_of (pous_of f) number) ∙ sym (same_map scope_of see (pou_at f number))
+
+some_same : {A : Type 0} (a b : A) → Some a ≡ Some b → a ≡ b
+some_same a b h = cc
+
+-- the scope of each by the POU's
+pub scope_at : (ns : List NamesOfPou) (ps : List PouData) (i : ℕ) (x : NamesOfPou) → pous_named ns ≡ ps → scopes_named ns ≡ map scope_of ps → i < length ns → x ≡ get_or ns i x → scope_named x ≡ scope_of (pou_view x.pou.now)
+scope_at ns ps i x pous scopes below at =
+    let there : slice_get ns i ≡ Some x = slice_get_read ns (length ns) i x refl below at in
+    let own : slice_get (scopes_named ns) i ≡ Some (scope_named x) = slice_get-map scope_named ns i ∙ ap (option_map scope_named) there in
+    let pou : slice_get ps i ≡ Some (pou_view x.pou.now) = ap (λ qs. slice_get qs i) (sym pous) ∙ slice_get-map (λ n. pou_view n.pou.now) ns i ∙ ap (option_map (λ n. pou_view n.pou.now)) there in
+    let other : slice_get (map scope_of ps) i ≡ Some (scope_of (pou_view x.pou.now)) = slice_get-map scope_of ps i ∙ ap (option_map scope_of) pou in
+    some_same (scope_named x) (scope_of (pou_view x.pou.now)) (sym own ∙ ap (λ ss. slice_get ss i) scopes ∙ other)
+
+pub uses_is : (f : FileData) (p : PouData) (s : PouScope) (us : List ℕ) → s ≡ scope_of p → us ≡ blocks_used f s s.variables ++ calls_in_body f p.body → us ≡ uses_in f p
+unfolding uses_in
+uses_is f p s us same is = is ∙ ap (λ (q : PouScope). blocks_used f q q.variables ++ calls_in_body f p.body) same

@@ -1,0 +1,2 @@
+pub mod NamesView
+pub mod SlottedView

@@ -1,0 +1,29 @@
+-- What the names of a POU stand for: a file, and the POU's scope.
+use Rattle.std.specs.Prelude.{◌≡◌, ℕ, List, map, option_map}
+use Rattle.std.specs.List.{slice_get}
+use Rattle.source_tree.specs.Syntax.{PouData, FileData}
+use Rattle.source_tree.specs.SyntaxView.{file_view, pou_view}
+use Rattle.pou_scope.specs.declared.pou_names.NamesOfPou.{NamesOfPou}
+use Rattle.pou_scope.specs.declared.pou_names.Names.{Names}
+use Rattle.naming.specs.FileScope.{pou_at}
+use Rattle.naming.specs.Scopes.{PouScope, scope_of, seen_named}
+use Rattle.naming.specs.ScopeView.{variables_view}
+
+abbrev pub file_in : Names → FileData
+file_in names = file_view names.file.now.types.names.file.now
+
+abbrev pub scope_named : NamesOfPou → PouScope
+scope_named n = record { has_fault = n.has_fault; variables = variables_view n.variables.items }
+
+abbrev pub pou_in : Names → PouScope
+pou_in names = scope_named names.own.now
+
+abbrev pub pous_named : List NamesOfPou → List PouData
+pous_named ns = map (λ n. pou_view n.pou.now) ns
+
+abbrev pub scopes_named : List NamesOfPou → List PouScope
+scopes_named ns = map scope_named ns
+
+-- of the names of each POU of a file the same is known as in the file
+abbrev pub AreNamesOf : FileData → List NamesOfPou → Type 0
+AreNamesOf f ns = (number : ℕ) → (text : List ℕ) → option_map (λ n. seen_named f (scope_named n) text) (slice_get ns number) ≡ option_map (λ p. seen_named f (scope_of p) text) (pou_at f number)

@@ -1,0 +1,149 @@
+// The constants and types of a POU's declarations, and what their names break.
+ghost use Rattle.std.specs.Prelude.{◌≡◌, option_map};
+ghost use Rattle.source_tree.specs.SyntaxView.{name_view, tree_view, type_view, initial_view};
+ghost use Rattle.naming.specs.Broken.{in_named_type, in_type, in_kind, in_value, in_constant, in_constant_if, in_declared_constant, in_initial, in_declaration};
+ghost use Rattle.rules.specs.Judgements.{also};
+ghost use Rattle.rules.specs.Outcomes.{outcome_of};
+ghost use Rattle.naming.specs.Scopes.{seen_named};
+ghost use Rattle.naming.specs.ScopeView.{variable_view};
+
+use crate::pou_names::Names;
+use file_scope::misused;
+use naming::{Declared, Seen};
+use rules::Outcome;
+use source_tree::{Bounds, Expr, Name, TypeName};
+
+impl Names<'_, '_> {
+    ghost use Rattle.pou_scope.specs.NamesView.{file_in, pou_in};
+
+    // A name as a value, of which this is known.
+    fn value_by(&self, seen: Option<Seen>, name: &Name) -> Outcome
+        ensures { result ≡ outcome_of (in_value (file_in self.now) (pou_in self.now) seen (name_view name.now)) }
+    {
+        match seen {
+            Some(seen) => {
+                if seen.whole {
+                    misused(name)
+                } else {
+                    Outcome::suppressed()
+                }
+            }
+            None => {
+                if self.is_fault(name) {
+                    return misused(name);
+                }
+                self.file.value_name(name)
+            }
+        }
+    }
+
+    // A name as a value.
+    fn value(&self, name: &Name) -> Outcome
+        ensures { let n = name_view name.now in result ≡ outcome_of (in_value (file_in self.now) (pou_in self.now) (seen_named (file_in self.now) (pou_in self.now) n.text) n) }
+    {
+        self.value_by(self.seen(name), name)
+    }
+
+    /// A constant of a label.
+    pub fn constant(&self, constant: &Expr) -> Outcome
+        ensures { result ≡ outcome_of (in_constant (file_in self.now) (pou_in self.now) (tree_view constant.now)) }
+    {
+        match constant {
+            Expr::Path(path) => self.value(&path.first),
+            Expr::Enumerator(kind, value) => self.file.enumerator(kind, value),
+            _ => Outcome::ok(),
+        }
+    }
+
+    /// The second value of a label, where there is one.
+    pub fn written(&self, value: &Option<Expr>) -> Outcome
+        ensures { result ≡ outcome_of (in_constant_if (file_in self.now) (pou_in self.now) (initial_view value.now)) }
+    {
+        match value {
+            Some(value) => self.constant(value),
+            None => Outcome::ok(),
+        }
+    }
+
+    // A constant in the declaration of a number.
+    fn declared_constant(&self, user: usize, constant: &Expr) -> Outcome
+        ensures { result ≡ outcome_of (in_declared_constant (file_in self.now) (pou_in self.now) user (tree_view constant.now)) }
+    {
+        match constant {
+            Expr::Path(path) => {
+                if self.is_circular(user, &path.first) {
+                    return misused(&path.first);
+                }
+                self.value(&path.first)
+            }
+            Expr::Enumerator(kind, value) => self.file.enumerator(kind, value),
+            _ => Outcome::ok(),
+        }
+    }
+
+    // An initial value in the declaration of a number.
+    fn initial(&self, user: usize, initial: Option<&Expr>) -> Outcome
+        ensures { result ≡ outcome_of (in_initial (file_in self.now) (pou_in self.now) user (option_map (λ e. tree_view e.now) initial.entry)) }
+    {
+        match initial {
+            Some(value) => self.declared_constant(user, value),
+            None => Outcome::ok(),
+        }
+    }
+
+    // The bounds in the declaration of a number.
+    #[tactic(auto, using(rules::proofs::Outcomes::outcome_also))]
+    fn bounds(&self, user: usize, bounds: &Bounds) -> Outcome
+        ensures { result ≡ outcome_of (also (in_declared_constant (file_in self.now) (pou_in self.now) user (tree_view bounds.now.low)) (in_declared_constant (file_in self.now) (pou_in self.now) user (tree_view bounds.now.high))) }
+    {
+        let low = self.declared_constant(user, &bounds.low);
+        low.also(self.declared_constant(user, &bounds.high))
+    }
+
+    // The type of a variable by name.
+    fn named_type(&self, variable: &Declared<'_>, name: &Name) -> Outcome
+        ensures { result ≡ outcome_of (in_named_type (file_in self.now) (variable_view variable.now) (name_view name.now)) }
+    {
+        if variable.role.is_result() {
+            return Outcome::whole_if(self.is_typed(variable));
+        }
+        if self.file.block_named(name).is_none() {
+            return self.file.type_name(name);
+        }
+        if variable.role.is_local() {
+            Outcome::ok()
+        } else {
+            misused(variable.name)
+        }
+    }
+
+    // The type of a variable of a number.
+    fn type_of(&self, user: usize, variable: &Declared<'_>, kind: &TypeName) -> Outcome
+        ensures { result ≡ outcome_of (in_type (file_in self.now) (pou_in self.now) user (variable_view variable.now) (type_view kind.now)) }
+    {
+        match kind {
+            TypeName::Elementary(_, _) => Outcome::ok(),
+            TypeName::Subrange(_, _, bounds) => self.bounds(user, bounds),
+            TypeName::Named(name) => self.named_type(variable, name),
+        }
+    }
+
+    // The type of a name of a number, where it has one.
+    fn kind_of(&self, user: usize, variable: &Declared<'_>) -> Outcome
+        ensures { let v = variable_view variable.now in result ≡ outcome_of (in_kind (file_in self.now) (pou_in self.now) user v v.kind) }
+    {
+        match variable.kind {
+            Some(kind) => self.type_of(user, variable, kind),
+            None => Outcome::ok(),
+        }
+    }
+
+    /// The declaration of a number.
+    #[tactic(auto, using(rules::proofs::Outcomes::outcome_also))]
+    pub fn declaration(&self, user: usize, variable: &Declared<'_>) -> Outcome
+        ensures { result ≡ outcome_of (in_declaration (file_in self.now) (pou_in self.now) user (variable_view variable.now)) }
+    {
+        let kind = self.kind_of(user, variable);
+        kind.also(self.initial(user, variable.initial))
+    }
+}

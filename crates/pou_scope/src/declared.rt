@@ -1,0 +1,107 @@
+// The names of a POU in declared order.
+ghost use Rattle.std.specs.Prelude.{◌≡◌, ◌++◌, map, OnOk, IfOk};
+ghost use Rattle.source_tree.specs.SyntaxView.{name_view, pou_kind_view, pou_view, file_view, declaration_view, declarations_view, all_variables_view};
+ghost use Rattle.naming.specs.Scopes.{declared_by, declared_in, variables_of, result_of, variables_in_pou};
+ghost use Rattle.naming.specs.FileScope.{types_of};
+ghost use Rattle.naming.specs.ScopeView.{variables_view, types_view};
+
+use crate::chart_names::append_names_in_body;
+use file_scope::list_declarations;
+use naming::{Declared, Role};
+use source_tree::{
+    Declaration, Expr, Name, Pou, PouKind, SourceFile, TypeDeclaration, TypeName, Variables,
+};
+use std::alloc::{AllocError, Global};
+
+// Appends a FUNCTION's own name.
+fn append_result<'a>(
+    list: &mut Vec<Declared<'a>>,
+    kind: &'a PouKind,
+    name: &'a Name,
+) -> Result<(), AllocError>
+    ensures { OnOk result (variables_view list.new.items ≡ variables_view list.old.items ++ result_of (pou_kind_view kind.now) (name_view name.now)) }
+{
+    if let PouKind::Function(kind) = kind {
+        list.push(Declared {
+            name,
+            role: Role::Result,
+            kind: Some(kind),
+            initial: None,
+        })?;
+    }
+    Ok(())
+}
+
+// Appends the variables of a declaration.
+fn append_declared<'a>(
+    list: &mut Vec<Declared<'a>>,
+    role: Role,
+    declaration: &'a Declaration,
+) -> Result<(), AllocError>
+    ensures { OnOk result (variables_view list.new.items ≡ variables_view list.old.items ++ declared_by role (declaration_view declaration.now)) }
+{
+    let kind = Some(&declaration.kind);
+    let initial = declaration.initial.as_ref();
+    list.push(Declared {
+        name: &declaration.first,
+        role,
+        kind,
+        initial,
+    })?;
+    for name in &declaration.others {
+        list.push(Declared {
+            name,
+            role,
+            kind,
+            initial,
+        })?;
+    }
+    Ok(())
+}
+
+// Appends the variables of a section.
+fn append_section<'a>(
+    list: &mut Vec<Declared<'a>>,
+    role: Role,
+    declarations: &'a [Declaration],
+) -> Result<(), AllocError>
+    ensures { OnOk result (variables_view list.new.items ≡ variables_view list.old.items ++ declared_in role (declarations_view declarations.now)) }
+{
+    for declaration in declarations {
+        append_declared(list, role, declaration)?;
+    }
+    Ok(())
+}
+
+// Appends the variables that are declared in lists.
+fn append_sections<'a>(
+    list: &mut Vec<Declared<'a>>,
+    sections: &'a [Variables],
+) -> Result<(), AllocError>
+    ensures { OnOk result (variables_view list.new.items ≡ variables_view list.old.items ++ variables_of (all_variables_view sections.now)) }
+{
+    for section in sections {
+        append_section(list, Role::of(section.section), &section.declarations)?;
+    }
+    Ok(())
+}
+
+/// The names of a POU: of a FUNCTION first its own, then the variables that are declared, in their order, and then the names of a
+/// chart.
+pub fn declared_variables(alloc: Global, pou: &Pou) -> Result<Vec<Declared<'_>>, AllocError>
+    ensures { IfOk result (λ list. variables_view list.items ≡ variables_in_pou (pou_view pou.now)) }
+{
+    let mut list = Vec::new(alloc);
+    append_result(&mut list, &pou.kind, &pou.name)?;
+    append_sections(&mut list, &pou.variables)?;
+    append_names_in_body(alloc, &mut list, &pou.body)?;
+    Ok(list)
+}
+
+/// The types that a file declares, in its order.
+pub fn declared_types(alloc: Global, file: &SourceFile) -> Result<Vec<&TypeDeclaration>, AllocError>
+    ensures { IfOk result (λ list. types_view list.items ≡ types_of (file_view file.now)) }
+{
+    let list = list_declarations(alloc, file)?;
+    Ok(list.types)
+}

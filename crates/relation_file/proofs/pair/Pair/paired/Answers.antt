@@ -1,6 +1,0 @@
-use Rattle.std.proofs.Common.{ap, ◌∙◌}
-use Rattle.st_tree.specs.declared.data_type.DataType.{DataType}
-use Rattle.relation_file.proofs.pair.Pair.paired.Goals as goal
-
-pub returns : goal.returns
-returns c = c.paired.ensures ∙ ap (λ (f : DataType → DataType). f c.args.kind) c.args.self.now.paired

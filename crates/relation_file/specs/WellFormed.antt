@@ -1,0 +1,47 @@
+-- What every relation keeps that a file states between two programs.
+use Rattle.std.specs.Prelude.{◌≡◌, ◌≢◌, ◌≤◌, ℕ, List, [], ◌∷◌, ◌++◌, All, true, Some, slice_get}
+use Rattle.std.specs.List.{AllPairs}
+use Rattle.plc_types.specs.Enumerations.{paired_type}
+use Rattle.program_tree.specs.Tree.{CellData, ProgramData}
+use Rattle.scan_model.specs.declared.side.Side.{Side}
+use Rattle.scan_model.specs.declared.side.Side.TheVariants as sides
+use Rattle.scan_model.specs.declared.relation.InputLine.{InputLine}
+use Rattle.scan_model.specs.declared.relation.InputLine.TheVariants.{Both, Old, New}
+use Rattle.scan_model.specs.Pairs.{RelationData}
+use Rattle.scan_model.specs.Candidates.{candidates_of}
+use Rattle.candidates.specs.ByPath.{placed}
+use Rattle.relation_file.specs.Inputs.{are_alike}
+
+-- the cell of a program, by its place, that the number of an INPUT line goes into, where it goes into one
+abbrev pub cell_of : Side → InputLine → List ℕ
+cell_of sides.Old (Both range p q) = p ∷ []
+cell_of sides.Old (Old range p) = p ∷ []
+cell_of sides.Old (New range q) = []
+cell_of sides.New (Both range p q) = q ∷ []
+cell_of sides.New (Old range p) = []
+cell_of sides.New (New range q) = q ∷ []
+
+abbrev pub cells_of : Side → List InputLine → List ℕ
+cells_of side [] = []
+cells_of side (l ∷ ls) = cell_of side l ++ cells_of side ls
+
+-- the cells at two places, one of OLD and one of NEW, are of one type with the same bounds
+pub record ArePaired (old new : ProgramData) (p q : ℕ) : Type 0 where
+  pub of_old : CellData
+  pub of_new : CellData
+  pub at_old : slice_get old.cells p ≡ Some of_old
+  pub at_new : slice_get new.cells q ≡ Some of_new
+  pub alike : are_alike (paired_type old.types new.types) (Some (placed p of_old)) (Some (placed q of_new)) ≡ true
+
+abbrev pub IsAlike : ProgramData → ProgramData → InputLine → Type 0
+IsAlike old new (Both range p q) = ArePaired old new p q
+IsAlike old new (Old range p) = Unit {0}
+IsAlike old new (New range q) = Unit {0}
+
+-- The candidates are the model's, DEPTH and CONFLICTS lie in their limits, no input gets two numbers, and inputs that get one number are alike.
+pub record IsWellFormed (old new : ProgramData) (rel : RelationData) : Type 0 where
+  pub candidates : rel.candidates ≡ candidates_of old new rel
+  pub depth : (1 ≤ rel.depth) × (rel.depth ≤ 64)
+  pub conflicts : (1 ≤ rel.conflicts) × (rel.conflicts ≤ 1000000)
+  pub once : (side : Side) → AllPairs (λ p q. p ≢ q) (cells_of side rel.inputs)
+  pub alike : All (IsAlike old new) rel.inputs

@@ -1,0 +1,7 @@
+pub mod Limits
+pub mod Making
+pub mod Folds
+pub mod Held
+pub mod Trails
+pub mod Merging
+pub mod OpenArms

@@ -1,0 +1,9 @@
+pub mod Bytes
+pub mod Tokens
+pub mod Numbers
+pub mod Syntax
+pub mod Prints
+pub mod Levels
+pub mod SyntaxView
+pub mod Terminals
+pub mod Places

@@ -1,6 +1,0 @@
-use Rattle.std.proofs.Common.{◌≡◌, drop, map}
-use Rattle.st_names.specs.ChartWords.{qualifier_in}
-use Rattle.st_names.proofs.chart_words.qualifier_in.Given as goal
-
-abbrev pub invariant-loop-word : goal.invariant-loop-word
-invariant-loop-word l = qualifier_in (map (λ e. (e.0.now, e.1)) (drop l.word-index l.qualifiers)) l.text ≡ qualifier_in (map (λ e. (e.0.now, e.1)) l.qualifiers) l.text

@@ -1,6 +1,0 @@
-use Rattle.st_tree.specs.SyntaxView.{file_view}
-use Rattle.st_names.proofs.PouLemmas.{shapes_listed}
-use Rattle.st_names.proofs.file_scope.pou_shapes.Goals as goal
-
-pub returns : goal.returns
-returns c = shapes_listed (file_view c.args.types.now.names.file.now) c.args.pous.now c.in_ok-shapes.shapes.items c.requires.pous c.in_ok-shapes.ensures

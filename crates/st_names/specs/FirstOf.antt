@@ -1,8 +1,0 @@
--- The first of what is broken, where anything is.
-use Rattle.std.specs.Prelude.{Option, Some, None}
-use Rattle.st_tree.specs.declared.rule.Refusal.{Refusal}
-use Rattle.st_tree.specs.Rules.{IsFirst}
-
-abbrev pub IsFirstOf : (Refusal → Type 0) → Option Refusal → Type 0
-IsFirstOf broken None = (r : Refusal) → ¬ (broken r)
-IsFirstOf broken (Some r) = IsFirst broken r

@@ -1,8 +1,0 @@
-use Rattle.std.proofs.Common.{◌≡◌, ◌-◌, length, []}
-use Rattle.st_tree.specs.SyntaxView.{names_view}
-use Rattle.st_parser.specs.Reading.{ahead}
-use Rattle.st_parser.specs.Declarations.{others}
-use Rattle.st_parser.proofs.declaration.others.Given as goal
-
-abbrev pub invariant-loop-turn : goal.invariant-loop-turn
-invariant-loop-turn l = others (length l.toks) [] (ahead l.toks l.fn.at) ≡ others (l._turn-end - l._turn) (names_view l.names.items) (ahead l.toks l.at)

@@ -1,8 +1,0 @@
-use Rattle.std.proofs.Common.{◌≡◌, ◌-◌, length, []}
-use Rattle.st_tree.specs.SyntaxView.{step_actions_view}
-use Rattle.st_parser.specs.Reading.{ahead}
-use Rattle.st_parser.specs.ChartSteps.{step_actions}
-use Rattle.st_parser.proofs.step.step_actions.Given as goal
-
-abbrev pub invariant-loop-turn : goal.invariant-loop-turn
-invariant-loop-turn l = step_actions (length l.toks) [] (ahead l.toks l.fn.at) ≡ step_actions (l._turn-end - l._turn) (step_actions_view l.found.items) (ahead l.toks l.at)

@@ -1,0 +1,32 @@
+use Rattle.std.proofs.Common.{rules, arith}
+use Rattle.std.proofs.lemmas.Grind.{common_steps}
+use Rattle.std.proofs.lemmas.List.{map_push}
+use Rattle.source_tree.specs.SyntaxView.{labels_view}
+use Rattle.grammar.specs.Reading.{ahead}
+use Rattle.grammar.specs.Labels.{labels}
+use Rattle.grammar.proofs.Turns.{one_more, no_more}
+use Rattle.st_reader.proofs.selection.labels.Goals as goal
+
+pub returns-in_err-next : goal.returns-in_err-next
+unfolding labels
+returns-in_err-next c =
+    let e = one_more (λ n. labels n (labels_view c.loop-turn.found.items) (ahead c.args.toks.now c.loop-turn.at)) _ c.loop-turn._turn c.loop-turn-test.true c.loop-turn.invariant in
+    first_of (search rules, grind (arith, common_steps))
+
+pub returns-in_default : goal.returns-in_default
+unfolding labels
+returns-in_default c =
+    let e = one_more (λ n. labels n (labels_view c.loop-turn.found.items) (ahead c.args.toks.now c.loop-turn.at)) _ c.loop-turn._turn c.loop-turn-test.true c.loop-turn.invariant in
+    first_of (search rules, grind (arith, common_steps, map_push))
+
+pub loop-turn-preserved : goal.loop-turn-preserved
+unfolding labels
+loop-turn-preserved c =
+    let e = one_more (λ n. labels n (labels_view c.loop-turn.found.items) (ahead c.args.toks.now c.loop-turn.at)) _ c.loop-turn._turn c.loop-turn-test.true c.loop-turn.invariant in
+    first_of (search rules, grind (arith, common_steps, map_push))
+
+pub returns : goal.returns
+unfolding labels
+returns c =
+    let e = no_more (λ n. labels n (labels_view c.loop-turn.found.items) (ahead c.args.toks.now c.loop-turn.at)) _ c.loop-turn._turn c.loop-turn-test.false c.loop-turn.invariant in
+    first_of (search rules, grind (arith, common_steps))

@@ -1,7 +1,0 @@
-use Rattle.std.proofs.Common.{◌≡◌, map, take}
-use Rattle.st_tree.specs.SyntaxView.{labels_view}
-use Rattle.st_types.specs.Labels.{typed_label}
-use Rattle.st_types.proofs.labels.typed_labels.Given as goal
-
-abbrev pub invariant-loop-label : goal.invariant-loop-label
-invariant-loop-label g l = l.list.items ≡ map (typed_label (g.S.Scope.means l.scope) l.kind) (labels_view (take l.label-index l.labels))

@@ -1,9 +1,0 @@
-use Rattle.std.proofs.Common.{◌≡◌, ◌++◌, drop}
-use Rattle.st_names.specs.ScopeView.{variables_view}
-use Rattle.st_types.specs.Bodies.{file_in}
-use Rattle.st_types.specs.Members.{members_of}
-use Rattle.st_types.proofs.members.members_in.Given as goal
-
-abbrev pub invariant-loop-variable : goal.invariant-loop-variable
-invariant-loop-variable l =
-    l.list.items ++ members_of (file_in l.domains) l.sizes l.next (variables_view (drop l.variable-index l.variable-items)) ≡ members_of (file_in l.domains) l.sizes l.initial.next (variables_view l.variable-items)

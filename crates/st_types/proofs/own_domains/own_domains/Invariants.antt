@@ -1,9 +1,0 @@
-use Rattle.std.proofs.Common.{◌≡◌, ◌++◌, drop}
-use Rattle.st_names.specs.FileScope.{types_of}
-use Rattle.st_names.specs.ScopeView.{types_view}
-use Rattle.st_types.specs.Bodies.{file_of}
-use Rattle.st_types.specs.OwnDomains.{own_domains}
-use Rattle.st_types.proofs.own_domains.own_domains.Given as goal
-
-abbrev pub invariant-loop-number : goal.invariant-loop-number
-invariant-loop-number l = l.list.items ++ own_domains (file_of l.file) l.number (types_view (drop l.number l.file.types.items)) ≡ own_domains (file_of l.file) 0 (types_of (file_of l.file))

@@ -1,9 +1,0 @@
-use Rattle.std.proofs.Common.{◌≡◌, ◌+◌, drop}
-use Rattle.st_names.specs.ScopeView.{variables_view}
-use Rattle.st_tree.specs.SyntaxView.{file_view}
-use Rattle.st_types.specs.Places.{count_of_cells}
-use Rattle.st_types.proofs.places.count_of_cells.Given as goal
-
-abbrev pub invariant-loop-variable : goal.invariant-loop-variable
-invariant-loop-variable l =
-    l.count + count_of_cells (file_view l.names.file) l.sizes (variables_view (drop l.variable-index l.variables)) ≡ count_of_cells (file_view l.names.file) l.sizes (variables_view l.variables)

@@ -1,8 +1,0 @@
-use Rattle.std.proofs.Common.{◌≡◌, drop}
-use Rattle.st_tree.specs.SyntaxView.{file_view}
-use Rattle.st_types.specs.Places.{sizes_along, sizes_of}
-use Rattle.st_types.proofs.places.sizes_of.Given as goal
-
-abbrev pub invariant-loop-number : goal.invariant-loop-number
-invariant-loop-number l =
-    sizes_along (file_view l.names.file) l.sizes.items (drop l.number-index l.number-items) ≡ sizes_of (file_view l.names.file)

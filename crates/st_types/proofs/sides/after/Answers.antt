@@ -1,5 +1,0 @@
-use Rattle.st_types.proofs.SideLemmas.{after_front}
-use Rattle.st_types.proofs.sides.after.Goals as goal
-
-pub returns : goal.returns
-returns c = after_front c.args.text.now c.args.front.now c.strip_prefix.result c.strip_prefix.ensures.cases

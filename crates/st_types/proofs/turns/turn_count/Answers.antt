@@ -1,9 +1,0 @@
-use Rattle.std.proofs.Common.{◌∙◌, arith}
-use Rattle.std.proofs.lemmas.Int.{ints}
-use Rattle.st_types.specs.Constants.{turn_count}
-use Rattle.st_types.proofs.Counting.{same_turns}
-use Rattle.st_types.proofs.turns.turn_count.Goals as goal
-
-pub returns : goal.returns
-unfolding turn_count
-returns c = c.turns_within.ensures.count ∙ same_turns 4097 _ _ _ _ _ _ (omega (arith, ints)) (omega (arith, ints)) (omega (arith, ints))

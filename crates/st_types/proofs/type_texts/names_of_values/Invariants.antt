@@ -1,8 +1,0 @@
-use Rattle.std.proofs.Common.{◌≡◌, ◌∷◌, ◌++◌, drop}
-use Rattle.st_tree.specs.SyntaxView.{name_view, names_view}
-use Rattle.st_tree.specs.View.{texts_view}
-use Rattle.st_types.specs.TypedPrograms.{texts_of}
-use Rattle.st_types.proofs.type_texts.names_of_values.Given as goal
-
-abbrev pub invariant-loop-name : goal.invariant-loop-name
-invariant-loop-name l = texts_view l.list.items ++ texts_of (names_view (drop l.name-index l.others)) ≡ texts_of (name_view l.first ∷ names_view l.others)

@@ -1,0 +1,13 @@
+// The domain of a type.
+use plc_types::{DataType, Range};
+
+/// What a type says of its values: their data type, their range, whether it is a subrange, the value that a variable
+/// begins with, and whether the type's declaration breaks no rule.
+#[derive(Clone, Copy, Debug, PartialEq, Eq)]
+pub struct Domain {
+    pub kind: DataType,
+    pub range: Range,
+    pub limited: bool,
+    pub start: i64,
+    pub whole: bool,
+}

@@ -1,0 +1,2 @@
+// Laws of the rules on types: judging a construct part by part, and what a typed program keeps.
+#![tactic(auto)]
