@@ -5,6 +5,7 @@ loops: two nested FORs around an assignment (199,796 statements).
 assignments: one assignment after the other.
 calls: assignments of what a FUNCTION answers, each of which becomes six flat statements.
 sums: two nested FORs around an assignment of a sum of six, which become 999,710 nodes.
+products: 20,480 products of 16 bits, each of the one before.
 choices: 20,000 IFs, each of which changes one of 4,000 cells.
 Use: make_programs.py FOLDER
 """
@@ -33,6 +34,11 @@ def sums(share):
     return f"PROGRAM M {CELLS} FOR i := 1 TO {turns} DO FOR j := 1 TO 200 DO x := x + 1 + 1 + 1 + 1 + 1; END_FOR; END_FOR; END_PROGRAM"
 
 
+def products(share):
+    turns = 4_096 // share
+    return f"PROGRAM M VAR i, x, y : INT; END_VAR FOR i := 1 TO {turns} DO x := x * y * y * y * y * y; END_FOR; END_PROGRAM"
+
+
 def choices(share):
     names = ", ".join(f"v{k}" for k in range(4_000))
     ifs = "".join(f"IF c THEN v{k * 7 % 4_000} := {k % 100}; END_IF;" for k in range(20_000 // share))
@@ -41,7 +47,7 @@ def choices(share):
 
 def main():
     folder = Path(sys.argv[1])
-    for kind in [loops, assignments, calls, sums, choices]:
+    for kind in [loops, assignments, calls, sums, products, choices]:
         for name, share in [("whole", 1), ("half", 2)]:
             (folder / f"{kind.__name__}.{name}.st").write_text(kind(share))
 

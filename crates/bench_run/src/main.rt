@@ -1,10 +1,11 @@
 // The program of the benches. Its first word says what it does with the file that the second names: `front` reads a program's
-// text, `derivation` checks a derivation over a formula, `decide` decides a formula. A third word has it print times.
+// text, `gates` makes the gates of its scan, `derivation` checks a derivation over a formula, `decide` decides a formula. A third word has it print times.
 #![tactic(auto)]
 
 mod checking;
 mod deciding;
 mod dimacs;
+mod gating;
 mod reading;
 mod stages;
 
@@ -22,6 +23,7 @@ fn main(rt: HostRuntime) -> io::Result<()> {
     let is_timed = words.next().is_some();
     match what.as_bytes() {
         b"front" => reading::run(&rt, path.as_str(), is_timed),
+        b"gates" => gating::run(&rt, path.as_str(), is_timed),
         b"derivation" => checking::run(&rt, path.as_str(), is_timed),
         b"decide" => deciding::run(&rt, path.as_str(), is_timed),
         _ => print_usage(&rt),
@@ -29,5 +31,5 @@ fn main(rt: HostRuntime) -> io::Result<()> {
 }
 
 fn print_usage(rt: &HostRuntime) -> io::Result<()> {
-    println!(rt; "usage: bench_run front|derivation|decide FILE [time]")
+    println!(rt; "usage: bench_run front|gates|derivation|decide FILE [time]")
 }
