@@ -16,3 +16,4 @@ pub mod StepGoal
 pub mod ScanTruth
 pub mod Begun
 pub mod Deep
+pub mod TypedCandidates

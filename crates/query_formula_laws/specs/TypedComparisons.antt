@@ -1,5 +1,6 @@
 -- What is asked of a comparison and of the nodes of its programs' scans.
-use Rattle.std.specs.Prelude.{◌≡◌, ◌<◌, false, ◌++◌, length, map, All}
+use Rattle.std.specs.Prelude.{ℕ, List, zero, suc, ◌+◌, ◌≡◌, ◌<◌, false, ◌++◌, length, map, All}
+use Rattle.plc_types.specs.declared.elementary.Elementary.TheVariants as types
 use Rattle.plc_types.specs.DataTypes.{carrier}
 use Rattle.plc_types.specs.Types.{range_of}
 use Rattle.program_tree.specs.Tree.{Expression, CellData, ProgramData}
@@ -10,7 +11,7 @@ use Rattle.flat_core.specs.FlatTree.{FlatData}
 use Rattle.flat_core.specs.FlatRules.{Reads}
 use Rattle.flat_form.specs.FlatLaws.{LeavesTheSame}
 use Rattle.node_core.specs.Scans.{ScanData, scan_of}
-use Rattle.node_core.specs.Stores.{of_cell}
+use Rattle.node_core.specs.Stores.{of_cell, place_at}
 use Rattle.node_core.specs.TypedFlats.{IsTypedPlace, IsTypedFlat, IsTypedClause}
 use Rattle.query_formulas.specs.PairWords.{cell_at}
 use Rattle.query_formulas.specs.Literals.{is_bounded}
@@ -47,3 +48,27 @@ pub record IsScanOf (p : ProgramData) (s : ScanData) : Type 0 where
   pub typed : IsTypedFlat flat
   pub cells : flat.cells ≡ p.cells
   pub leaves : LeavesTheSame p flat
+
+-- ---- what that follows from
+
+-- a place of both programs' cells is one of a BOOL
+pub record IsBoolPlace (cells : List CellData) (place : ℕ) : Type 0 where
+  pub below : place < length cells
+  pub kind : (place_at (map of_cell cells) place).kind ≡ types.Bool
+
+-- so many steps of a chart, whose cells stand from a place of a program on, two for each, are BOOLs
+abbrev pub AreSteps : List CellData → ℕ → ℕ → ℕ → Type 0
+AreSteps cells start place zero = Unit {0}
+AreSteps cells start place (suc steps) = IsBoolPlace cells (start + place) × AreSteps cells start (place + 2) steps
+
+-- the clauses of the relation file are typed; then so are the candidates
+pub record HasTypedClauses (c : Comparison) : Type 0 where
+  pub comparison : IsComparison c
+  pub old_cells : All IsTypedCell c.old.cells
+  pub new_cells : All IsTypedCell c.new.cells
+  pub alike : All (NamesAlike c.old c.new) c.relation.inputs
+  pub environment : All (IsClauseOf c) c.relation.environment
+  pub relates : All (IsClauseOf c) c.relation.relates
+  pub invariants : All (IsClauseOf c) c.relation.invariants
+  pub old_charts : All (λ k. AreSteps (c.old.cells ++ c.new.cells) 0 k.first k.steps) c.old.charts
+  pub new_charts : All (λ k. AreSteps (c.old.cells ++ c.new.cells) (length c.old.cells) k.first k.steps) c.new.charts

@@ -7,7 +7,7 @@ ghost use Rattle.node_core.specs.Scans.{ScanData};
 ghost use Rattle.query_formulas.specs.Products.{product_of};
 ghost use Rattle.query_formulas.specs.Breaks.{breaks_of};
 ghost use Rattle.query_formulas.specs.QueryClauses.{first_formula, step_formula, goal_formula, break_formula};
-ghost use Rattle.query_formula_laws.specs.TypedComparisons.{IsTypedComparison, IsScanOf};
+ghost use Rattle.query_formula_laws.specs.TypedComparisons.{HasTypedClauses, IsTypedComparison, IsScanOf};
 
 /// FIRST's formula has a solution exactly where some first row is allowed.
 pub fn law_first()
@@ -32,4 +32,9 @@ pub fn law_deep()
     ensures { (c : Comparison) (old new : ScanData) (limit scans : ℕ) → IsTypedComparison c → IsScanOf c.old old → IsScanOf c.new new
         → 1 ≤ scans → scans ≤ c.relation.depth
         → Means c (deep scans) (break_formula (breaks_of c old new limit) scans) }
+{}
+
+/// Where the cells of both programs and the clauses of the relation are typed, so are its candidates.
+pub fn law_candidates()
+    ensures { (c : Comparison) → HasTypedClauses c → IsTypedComparison c }
 {}

@@ -3,4 +3,4 @@
 
 mod laws;
 
-pub use laws::{law_deep, law_first, law_goal, law_step};
+pub use laws::{law_candidates, law_deep, law_first, law_goal, law_step};
