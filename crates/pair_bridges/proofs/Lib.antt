@@ -1,0 +1,12 @@
+pub mod Words
+pub mod Literals
+pub mod Pieces
+pub mod Products
+pub mod Breaks
+pub mod Lasts
+pub mod Growth
+pub mod Formulas
+pub mod Meanings
+pub mod Orders
+pub mod InOrder
+pub mod BreaksInOrder

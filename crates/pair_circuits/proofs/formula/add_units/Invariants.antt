@@ -1,0 +1,11 @@
+use Rattle.std.proofs.Common.{◌≡◌, drop}
+use Rattle.gates.specs.Clauses.{with_clauses, BeginsWith}
+use Rattle.pair_circuits.specs.QueryClauses.{AreInside, units}
+use Rattle.pair_circuits.proofs.formula.add_units.Given as goal
+
+abbrev pub invariant-loop-lit : goal.invariant-loop-lit
+invariant-loop-lit l = record {
+  begins : BeginsWith l.initial.formula l.formula;
+  inside : AreInside l.formula.variables (drop l.lit-index l.lits);
+  same : with_clauses l.formula (units (drop l.lit-index l.lits)) ≡ with_clauses l.initial.formula (units l.lits);
+}

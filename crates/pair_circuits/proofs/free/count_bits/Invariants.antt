@@ -1,0 +1,6 @@
+use Rattle.std.proofs.Common.{◌≡◌, ◌+◌, drop}
+use Rattle.pair_circuits.specs.CellShapes.{bits_of}
+use Rattle.pair_circuits.proofs.free.count_bits.Given as goal
+
+abbrev pub invariant-loop-cell : goal.invariant-loop-cell
+invariant-loop-cell l = l.bits + bits_of (drop l.cell-index l.cells) ≡ bits_of l.cells

@@ -1,0 +1,8 @@
+pub mod CellShapes
+pub mod Parts
+pub mod PairWords
+pub mod Literals
+pub mod PairScans
+pub mod Products
+pub mod Breaks
+pub mod QueryClauses
