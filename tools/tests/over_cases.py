@@ -18,14 +18,17 @@ import subprocess
 import sys
 import tempfile
 
-TOOL = os.path.join(os.path.dirname(os.path.realpath(__file__)), "..", "start-relation")
+TOOLS = os.path.join(os.path.dirname(os.path.realpath(__file__)), "..")
+TOOL = os.path.join(TOOLS, "start-relation")
+sys.dont_write_bytecode = True
+sys.path.insert(0, TOOLS)
+from program_text import program_of
 EMPTY = "RELATION 1; FAULTS EQUAL; DEPTH 1; CONFLICTS 1; RELATE TRUE;"
 MARK = re.compile(r"«(?:x:([0-9A-F]{2})|([0-9]+)\*(.*?)|[A-Z][0-9]+)»", re.DOTALL)
 COMMENTED = re.compile(r"\(\* ((?:ENV|RELATE) [^;]*;) \*\)")
 
 
 def tool():
-    sys.dont_write_bytecode = True
     loader = importlib.machinery.SourceFileLoader("start_relation", TOOL)
     module = importlib.util.module_from_spec(importlib.util.spec_from_loader("start_relation", loader))
     loader.exec_module(module)
@@ -80,7 +83,7 @@ def accepted(program, folder, text):
 
 
 def faults(program, folder, start, old, new):
-    relation = start.relation(*(start.program_of(text) for text in (old, new)))
+    relation = start.relation(*(program_of(text) for text in (old, new)))
     for text in (relation, COMMENTED.sub(r"\1", relation)):
         said = answer(program, folder, old, new, text.encode(), b"[]")
         if said != "REPLAY scans 0 related\n":

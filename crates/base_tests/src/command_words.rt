@@ -1,5 +1,5 @@
 // Command lines, with what the rules make of them. Words stand between bars.
-use command_line::{Command, read_words};
+use command_line::{Command, FourWords, read_words};
 use std::alloc::{AllocError, Global};
 use std::test::Fail;
 
@@ -11,13 +11,13 @@ fn command(alloc: Global, line: &str) -> Result<Option<Command>, AllocError> {
     read_words(alloc, given)
 }
 
-fn replay(alloc: Global, four: [&str; 4]) -> Result<Command, AllocError> {
-    let [old, new, relation, trace] = four;
-    Ok(Command::Replay {
+fn words(alloc: Global, four: [&str; 4]) -> Result<FourWords, AllocError> {
+    let [old, new, relation, last] = four;
+    Ok(FourWords {
         old: String::from_str(alloc, old)?,
         new: String::from_str(alloc, new)?,
         relation: String::from_str(alloc, relation)?,
-        trace: String::from_str(alloc, trace)?,
+        last: String::from_str(alloc, last)?,
     })
 }
 
@@ -38,24 +38,46 @@ const REPLAYS: [(&str, [&str; 4]); 9] = [
 #[test]
 fn four_words_by_place(rt: HostRuntime) -> Result<(), Fail> {
     for (line, four) in REPLAYS {
-        let wanted = replay(rt.alloc(), four)?;
+        let wanted = Command::Replay(words(rt.alloc(), four)?);
         assert_eq!(rt; command(rt.alloc(), line)?, Some(wanted), "{line}");
     }
     Ok(())
 }
 
+#[test]
+fn a_finding_is_checked(rt: HostRuntime) -> Result<(), Fail> {
+    let wanted = Command::Check(words(rt.alloc(), ["a", "b", "r", "f"])?);
+    assert_eq!(rt;
+        command(rt.alloc(), "regver|check|a|b|--|r|f")?,
+        Some(wanted)
+    );
+    Ok(())
+}
+
+#[test]
+fn a_finding_is_saved(rt: HostRuntime) -> Result<(), Fail> {
+    let wanted = Command::Verify(words(rt.alloc(), ["a", "b", "r", "a"])?);
+    assert_eq!(rt;
+        command(rt.alloc(), "regver|verify|a|b|r|--|a")?,
+        Some(wanted)
+    );
+    Ok(())
+}
+
 // Too few or too many words, no subcommand of that name, neither help nor version, and no flags.
-const NO_COMMANDS: [&str; 32] = [
+const NO_COMMANDS: [&str; 34] = [
     "regver",
     "regver|replay",
     "regver|replay|a|b|r",
     "regver|replay|a|b|r|t|u",
     "replay|a|b|r|t",
     "regver|play|a|b|r|t",
+    "regver|check|a|b|r",
+    "regver|checks|a|b|r|f",
     "regver|Replay|a|b|r|t",
     "regver|repla|a|b|r|t",
     "regver||a|b|r|t",
-    "regver|verify|a|b|r|t",
+    "regver|verify|a|b|r",
     "regver|-|a|b|r|t",
     "regver|help",
     "regver|help|replay",

@@ -8,6 +8,8 @@ pub struct Counts {
     pub cases: u64,
     pub accept: u64,
     pub replay: u64,
+    pub check: u64,
+    pub verify: u64,
     pub flat: u64,
     pub scan: u64,
     pub relation: u64,
@@ -20,6 +22,8 @@ impl Counts {
         cases: 0,
         accept: 0,
         replay: 0,
+        check: 0,
+        verify: 0,
         flat: 0,
         scan: 0,
         relation: 0,
@@ -39,6 +43,8 @@ impl Counts {
         match door {
             Door::Accept => self.accept = self.accept.saturating_add(1),
             Door::Replay => self.replay = self.replay.saturating_add(1),
+            Door::Check => self.check = self.check.saturating_add(1),
+            Door::Verify => self.verify = self.verify.saturating_add(1),
             Door::Flat => self.flat = self.flat.saturating_add(1),
             Door::Scan => self.scan = self.scan.saturating_add(1),
             Door::Relation => self.relation = self.relation.saturating_add(1),
@@ -49,9 +55,13 @@ impl Counts {
 impl fmt::Display for Counts {
     fn fmt<W: fmt::Write>(&self, f: &mut fmt::Formatter<W>) -> fmt::Result {
         let (cases, failed) = (self.cases, self.failed);
-        let (accept, replay, flat) = (self.accept, self.replay, self.flat);
-        let (scan, relation) = (self.scan, self.relation);
-        write!(f, "{cases} cases: {accept} accept, {replay} replay, ")?;
+        let (accept, replay) = (self.accept, self.replay);
+        let (check, verify) = (self.check, self.verify);
+        let (flat, scan, relation) = (self.flat, self.scan, self.relation);
+        write!(
+            f,
+            "{cases} cases: {accept} accept, {replay} replay, {check} check, {verify} verify, "
+        )?;
         write!(
             f,
             "{flat} flat, {scan} scan, {relation} relation, {failed} failed"

@@ -8,7 +8,9 @@ pub enum Word {
     New,
     Relation,
     Trace,
+    Finding,
     Answer,
+    Verdict,
     Flat,
     List,
     Nodes,
@@ -24,6 +26,7 @@ pub enum Word {
     Lines,
     Along,
     Held,
+    Query,
     Shared,
 }
 
@@ -32,6 +35,8 @@ pub enum Word {
 pub enum Door {
     Accept,
     Replay,
+    Check,
+    Verify,
     Flat,
     Scan,
     Relation,
@@ -70,6 +75,9 @@ impl Word {
             "lines" => Some(Word::Lines),
             "along" => Some(Word::Along),
             "held" => Some(Word::Held),
+            "query" => Some(Word::Query),
+            "finding" => Some(Word::Finding),
+            "verdict" => Some(Word::Verdict),
             _ => None,
         }
     }
@@ -82,7 +90,9 @@ impl Word {
             Word::New => "new",
             Word::Relation => "relation",
             Word::Trace => "trace",
+            Word::Finding => "finding",
             Word::Answer => "answer",
+            Word::Verdict => "verdict",
             Word::Flat => "flat",
             Word::List => "list",
             Word::Nodes => "nodes",
@@ -98,6 +108,7 @@ impl Word {
             Word::Lines => "lines",
             Word::Along => "along",
             Word::Held => "held",
+            Word::Query => "query",
             Word::Shared => "shared",
         }
     }
@@ -106,29 +117,37 @@ impl Word {
     pub fn door(self) -> Option<Door> {
         match self {
             Word::Accept => Some(Door::Accept),
-            Word::Trace | Word::Answer => Some(Door::Replay),
+            Word::Trace => Some(Door::Replay),
+            Word::Finding => Some(Door::Check),
+            Word::Verdict => Some(Door::Verify),
             Word::Flat | Word::List => Some(Door::Flat),
             Word::Nodes | Word::Gates | Word::Lowered => Some(Door::Flat),
             Word::Scan | Word::Before | Word::After | Word::Statements => Some(Door::Scan),
             Word::Candidates | Word::Clauses | Word::Parts => Some(Door::Relation),
-            Word::Lines | Word::Along | Word::Held => Some(Door::Relation),
-            Word::Old | Word::New | Word::Relation | Word::Shared => None,
+            Word::Lines | Word::Along | Word::Held | Word::Query => Some(Door::Relation),
+            Word::Old | Word::New | Word::Relation => None,
+            Word::Answer | Word::Shared => None,
         }
     }
 
     /// Whether a case may have several such sections.
     pub fn may_repeat(self) -> bool {
-        matches!(self, Word::Before | Word::After | Word::Lowered)
+        matches!(
+            self,
+            Word::Before | Word::After | Word::Lowered | Word::Query
+        )
     }
 
     /// Whether a section may have this behind its word; it is empty where nothing stands there.
     pub fn takes(self, argument: &str) -> bool {
         match self {
-            Word::Answer => argument.parse::<u8>().is_ok(),
+            Word::Answer | Word::Verdict => argument.parse::<u8>().is_ok(),
+            Word::Query => !argument.is_empty(),
             Word::Statements => argument.parse::<u64>().is_ok(),
             Word::New => argument.is_empty() || argument == "same",
             Word::Shared => argument.is_empty() || argument == "none",
             Word::Lowered => argument.is_empty() || argument == "last",
+            Word::Finding => argument.is_empty() || argument == "unended",
             Word::List | Word::Candidates => {
                 argument.is_empty() || argument.starts_with("refused ")
             }
@@ -143,6 +162,10 @@ impl Word {
 
     /// Whether a section with this behind its word has a text.
     pub fn has_text(self, argument: &str) -> bool {
-        argument.is_empty() || matches!(self, Word::Answer | Word::Lowered)
+        argument.is_empty()
+            || matches!(
+                self,
+                Word::Answer | Word::Verdict | Word::Lowered | Word::Finding | Word::Query
+            )
     }
 }

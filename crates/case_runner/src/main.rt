@@ -4,6 +4,8 @@
 
 mod accept;
 mod along;
+mod answers;
+mod check;
 mod flat;
 mod flat_run;
 mod gate_lists;
@@ -13,6 +15,7 @@ mod relation;
 mod replay;
 mod run;
 mod scan;
+mod verify;
 
 use case_files::{Case, CaseFault, CaseFile, Counts, Mismatch, read_case_file};
 use run::{door_of, run_case};

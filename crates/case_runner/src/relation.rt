@@ -144,6 +144,13 @@ fn compare_section(
         Word::Clauses => print_clauses(alloc, &all.relation.candidates, &names)?,
         Word::Parts => print_parts(alloc, &all.old, &all.new, &all.relation, &names)?,
         Word::Lines => lines_of(alloc, &texts.relation)?,
+        Word::Query => {
+            return Err(malformed(
+                alloc,
+                "no door answers queries yet: ",
+                section.argument.as_str(),
+            ));
+        }
         _ => return Ok(()),
     };
     let expected = expected_text_of(alloc, section)?;

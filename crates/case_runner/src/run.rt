@@ -1,9 +1,11 @@
 // A case through its door.
 use crate::accept::run_accept;
+use crate::check::run_check;
 use crate::flat::run_flat;
 use crate::relation::run_relation;
 use crate::replay::run_replay;
 use crate::scan::run_scan;
+use crate::verify::run_verify;
 use case_files::{Case, CaseFault, Door, Mismatch, malformed};
 use std::alloc::{AllocError, Global};
 
@@ -37,6 +39,8 @@ pub fn run_case(
     match door {
         Door::Accept => run_accept(alloc, head, case, found),
         Door::Replay => run_replay(alloc, head, case, found),
+        Door::Check => run_check(alloc, head, case, found),
+        Door::Verify => run_verify(alloc, head, case, found),
         Door::Flat => run_flat(alloc, head, case, found),
         Door::Scan => run_scan(alloc, head, case, found),
         Door::Relation => run_relation(alloc, head, case, found),

@@ -1,20 +1,20 @@
 -- What the values of a parse come to.
 use Rattle.std.proofs.Common.{◌≡◌, sym, ap, Option, Some, None}
 use Rattle.clap.specs.Words.{Text}
-use Rattle.command_line.specs.Asked.{replay, usage, replay_given}
+use Rattle.command_line.specs.Asked.{four_words, words_given}
 
-pub no_old : (old new relation trace : Option Text) → old ≡ None → usage ≡ replay_given old new relation trace
-no_old old new relation trace none = ap (λ v. replay_given v new relation trace) (sym none)
+pub no_old : (old new relation last : Option Text) → old ≡ None → None ≡ words_given old new relation last
+no_old old new relation last none = ap (λ v. words_given v new relation last) (sym none)
 
-pub no_new : (old new relation trace : Option Text) (a : Text) → old ≡ Some a → new ≡ None → usage ≡ replay_given old new relation trace
-no_new old new relation trace a is none = λ i. replay_given (sym is i) (sym none i) relation trace
+pub no_new : (old new relation last : Option Text) (a : Text) → old ≡ Some a → new ≡ None → None ≡ words_given old new relation last
+no_new old new relation last a is none = λ i. words_given (sym is i) (sym none i) relation last
 
-pub no_relation : (old new relation trace : Option Text) (a b : Text) → old ≡ Some a → new ≡ Some b → relation ≡ None → usage ≡ replay_given old new relation trace
-no_relation old new relation trace a b first second none = λ i. replay_given (sym first i) (sym second i) (sym none i) trace
+pub no_relation : (old new relation last : Option Text) (a b : Text) → old ≡ Some a → new ≡ Some b → relation ≡ None → None ≡ words_given old new relation last
+no_relation old new relation last a b first second none = λ i. words_given (sym first i) (sym second i) (sym none i) last
 
-pub no_trace : (old new relation trace : Option Text) (a b c : Text) → old ≡ Some a → new ≡ Some b → relation ≡ Some c → trace ≡ None → usage ≡ replay_given old new relation trace
-no_trace old new relation trace a b c first second third none = λ i. replay_given (sym first i) (sym second i) (sym third i) (sym none i)
+pub no_last : (old new relation last : Option Text) (a b c : Text) → old ≡ Some a → new ≡ Some b → relation ≡ Some c → last ≡ None → None ≡ words_given old new relation last
+no_last old new relation last a b c first second third none = λ i. words_given (sym first i) (sym second i) (sym third i) (sym none i)
 
-pub all_given : (old new relation trace : Option Text) (a b c d : Text) → old ≡ Some a → new ≡ Some b → relation ≡ Some c → trace ≡ Some d
-    → replay a b c d ≡ replay_given old new relation trace
-all_given old new relation trace a b c d first second third fourth = λ i. replay_given (sym first i) (sym second i) (sym third i) (sym fourth i)
+pub all_given : (old new relation last : Option Text) (a b c d : Text) → old ≡ Some a → new ≡ Some b → relation ≡ Some c → last ≡ Some d
+    → Some (four_words a b c d) ≡ words_given old new relation last
+all_given old new relation last a b c d first second third fourth = λ i. words_given (sym first i) (sym second i) (sym third i) (sym fourth i)

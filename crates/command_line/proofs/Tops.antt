@@ -1,17 +1,18 @@
 -- What clap's walk makes of the words after the program's name.
 use Rattle.std.proofs.lemmas.Bool.{cases_Bool}
-use Rattle.std.proofs.Common.{true≢false, ◌≡◌, ◌∙◌, ◌&&◌, ◌⊎◌, inl, inr, suc, Bool, true, false, refl, sym, ap, arith, append_assoc, List, [], ◌∷◌, ◌++◌, length, Option, Some, None, is_some, codes, drop}
+use Rattle.std.proofs.Common.{true≢false, ◌≡◌, ◌∙◌, ◌&&◌, ◌⊎◌, inl, inr, suc, Bool, true, false, refl, sym, ap, arith, append_assoc, List, [], ◌∷◌, ◌++◌, length, Option, Some, None, is_some, option_map, codes, drop}
 use Rattle.std.proofs.Math.Bool.{and-true, and-false}
 use Rattle.std.proofs.lemmas.List.{append-nil}
 use Rattle.std.specs.List.{fold, list_all, slice_index_or}
 use Rattle.clap.specs.declared.error.ErrorKind.{ErrorKind}
 use Rattle.clap.specs.declared.error.ErrorKind.TheVariants.{InvalidSubcommand, MissingSubcommand, UnknownArgument}
 use Rattle.std.specs.Str.{bytes_eq}
-use Rattle.clap.specs.Walk.{Held, Step, Text, Walk, after_step, finished, settled, subcommand_or_other, nothing_held, subcommand_met, idle, walk, walk_from, walked}
+use Rattle.clap.specs.Walk.{Held, Step, Text, Walk, after_step, finished, settled, subcommand_or_other, nothing_held, subcommand_met, idle, rows_after, walk, walk_from, walked}
 use Rattle.clap.specs.Simple.{Shape, built, entered, is_simple, names_of}
 use Rattle.clap.specs.Takes.{built_takes, default_passes, entered_passes, is_valid, level_passes, other_passes, settle_passes, step_passes, turn_passes, walk_passes}
 use Rattle.clap.specs.Kinds.{Kinds, or_else}
-use Rattle.clap.specs.Faults.{built_fault, check_fault, defaults_fault, other_fault, settle_fault, step_fault, entered_fault, is_simple_and_free, turn_fault, walk_fault}
+use Rattle.clap.specs.Faults.{built_fault, check_fault, defaults_fault, level_fault, other_fault, settle_fault, step_fault, entered_fault, is_simple_and_free, turn_fault, walk_fault}
+use Rattle.command_line.specs.Subcommands.{Subcommand, checks, replays, verifies, name_of, named}
 use Rattle.command_line.specs.Grammar.{grammar}
 use Rattle.command_line.proofs.Steps.{IsByPlace, dashes, dashes_turn, flag_like, flag_turn, value_turn}
 use Rattle.command_line.proofs.Walks.{Asks, Refuses, four_rows, leaf, leaf_runs, placed}
@@ -25,11 +26,8 @@ grammar_free = refl
 abbrev pub top : Shape
 top = (built grammar).top
 
-subs_are : (built grammar).subs ≡ leaf ∷ []
-subs_are = refl
-
 abbrev names : List (Text × List Text)
-names = (codes "replay", []) ∷ []
+names = (name_of checks, []) ∷ (name_of replays, []) ∷ (name_of verifies, []) ∷ []
 
 names_are : names_of (built grammar) ≡ names
 names_are = refl
@@ -37,56 +35,83 @@ names_are = refl
 top_places : IsByPlace top.rules
 top_places = record { long = λ name. refl; short = λ x. refl }
 
--- ---- `replay`
+-- ---- a subcommand
 
-abbrev stopped : List Text → Walk
-stopped words = record (walk_from nothing_held) { stopped = Some (codes "replay", words) }
+abbrev stopped : Subcommand → List Text → Walk
+stopped s words = record (walk_from nothing_held) { stopped = Some (name_of s, words) }
 
-met_replay : (w : Text) → bytes_eq (codes "replay") w ≡ true → subcommand_met names idle w ≡ Some (codes "replay")
-met_replay w e = rw e refl
+met_is : (w : Text) → subcommand_met names idle w ≡ option_map name_of (named w)
+met_is w = elim (cases_Bool (bytes_eq (codes "check") w)) [
+  | inl e ↦ rw e refl
+  | inr e ↦ elim (cases_Bool (bytes_eq (codes "replay") w)) [
+    | inl f ↦ rw (e, f) refl
+    | inr f ↦ elim (cases_Bool (bytes_eq (codes "verify") w)) [
+      | inl h ↦ rw (e, f, h) refl
+      | inr h ↦ rw (e, f, h) refl
+    ]
+  ]
+]
 
-met_none : (w : Text) → bytes_eq (codes "replay") w ≡ false → subcommand_met names idle w ≡ None
-met_none w e = rw e refl
+met_some : (w : Text) (s : Subcommand) → named w ≡ Some s → subcommand_met names idle w ≡ Some (name_of s)
+met_some w s e = met_is w ∙ ap (option_map name_of) e
 
-walk_stopped : (given rest : List Text) → fold (walked top.rules names) (stopped given) rest ≡ stopped (given ++ rest)
+met_none : (w : Text) → named w ≡ None → subcommand_met names idle w ≡ None
+met_none w e = met_is w ∙ ap (option_map name_of) e
+
+walk_stopped : (s : Subcommand) (given rest : List Text) → fold (walked top.rules names) (stopped s given) rest ≡ stopped s (given ++ rest)
 unfolding walked
-walk_stopped given [] = ap stopped (sym (append-nil given))
-walk_stopped given (w ∷ rest) = walk_stopped (given ++ w ∷ []) rest ∙ ap stopped (append_assoc given (w ∷ []) rest)
+walk_stopped s given [] = ap (stopped s) (sym (append-nil given))
+walk_stopped s given (w ∷ rest) = walk_stopped s (given ++ w ∷ []) rest ∙ ap (stopped s) (append_assoc given (w ∷ []) rest)
 
-passes_stopped : (given rest : List Text) → walk_passes top names (stopped given) rest ≡ true
+passes_stopped : (s : Subcommand) (given rest : List Text) → walk_passes top names (stopped s given) rest ≡ true
 unfolding walk_passes walked
-passes_stopped given [] = refl
-passes_stopped given (w ∷ rest) = passes_stopped (given ++ w ∷ []) rest
+passes_stopped s given [] = refl
+passes_stopped s given (w ∷ rest) = passes_stopped s (given ++ w ∷ []) rest
 
-clean_stopped : (given rest : List Text) → walk_fault top names (stopped given) rest ≡ []
+clean_stopped : (s : Subcommand) (given rest : List Text) → walk_fault top names (stopped s given) rest ≡ []
 unfolding walk_fault walked
-clean_stopped given [] = refl
-clean_stopped given (w ∷ rest) = clean_stopped (given ++ w ∷ []) rest
+clean_stopped s given [] = refl
+clean_stopped s given (w ∷ rest) = clean_stopped s (given ++ w ∷ []) rest
 
 abbrev first_met : Text → Option Text → Held × Step
 first_met w name = subcommand_or_other top.rules name idle 1 w nothing_held
 
-module _ (w : Text) (e : bytes_eq (codes "replay") w ≡ true) where
-  replay_step : walked top.rules names (walk_from nothing_held) w ≡ stopped []
+-- its name passes as a word
+passes_named : (s : Subcommand) (w : Text) → (other_passes top (Some (name_of s)) w nothing_held && step_passes top 1 (first_met w (Some (name_of s))).0 (first_met w (Some (name_of s))).1) ≡ true
+passes_named checks w = refl
+passes_named replays w = refl
+passes_named verifies w = refl
+
+clean_named : (s : Subcommand) (w : Text) → or_else (other_fault top (Some (name_of s)) w nothing_held) (step_fault top 1 (first_met w (Some (name_of s))).0 (first_met w (Some (name_of s))).1) ≡ []
+clean_named checks w = refl
+clean_named replays w = refl
+clean_named verifies w = refl
+
+module _ (w : Text) (s : Subcommand) (e : named w ≡ Some s) where
+  first_step : walked top.rules names (walk_from nothing_held) w ≡ stopped s []
   unfolding walked
-  replay_step = let m = met_replay w e in λ i. after_step top.rules w (walk_from nothing_held) (first_met w (m i)).0 (first_met w (m i)).1
+  first_step = let m = met_some w s e in λ i. after_step top.rules w (walk_from nothing_held) (first_met w (m i)).0 (first_met w (m i)).1
 
-  replay_passes : turn_passes top names (walk_from nothing_held) w ≡ true
-  replay_passes = let m = met_replay w e in λ i. other_passes top (m i) w nothing_held && step_passes top 1 (first_met w (m i)).0 (first_met w (m i)).1
+  first_passes : turn_passes top names (walk_from nothing_held) w ≡ true
+  first_passes =
+      let m = met_some w s e in
+      (λ i. other_passes top (m i) w nothing_held && step_passes top 1 (first_met w (m i)).0 (first_met w (m i)).1) ∙ passes_named s w
 
-  replay_clean : turn_fault top names (walk_from nothing_held) w ≡ []
-  replay_clean = let m = met_replay w e in λ i. or_else (other_fault top (m i) w nothing_held) (step_fault top 1 (first_met w (m i)).0 (first_met w (m i)).1)
+  first_clean : turn_fault top names (walk_from nothing_held) w ≡ []
+  first_clean =
+      let m = met_some w s e in
+      (λ i. or_else (other_fault top (m i) w nothing_held) (step_fault top 1 (first_met w (m i)).0 (first_met w (m i)).1)) ∙ clean_named s w
 
-  walk_is : (rest : List Text) → walk top.rules names nothing_held (w ∷ rest) ≡ stopped rest
-  walk_is rest = ap (λ v. fold (walked top.rules names) v rest) replay_step ∙ walk_stopped [] rest
+  walk_is : (rest : List Text) → walk top.rules names nothing_held (w ∷ rest) ≡ stopped s rest
+  walk_is rest = ap (λ v. fold (walked top.rules names) v rest) first_step ∙ walk_stopped s [] rest
 
   walk_passes_is : (rest : List Text) → walk_passes top names (walk_from nothing_held) (w ∷ rest) ≡ true
   unfolding walk_passes
-  walk_passes_is rest = (λ i. replay_passes i && walk_passes top names (replay_step i) rest) ∙ passes_stopped [] rest
+  walk_passes_is rest = (λ i. first_passes i && walk_passes top names (first_step i) rest) ∙ passes_stopped s [] rest
 
   walk_clean_is : (rest : List Text) → walk_fault top names (walk_from nothing_held) (w ∷ rest) ≡ []
   unfolding walk_fault
-  walk_clean_is rest = (λ i. or_else (replay_clean i) (walk_fault top names (replay_step i) rest)) ∙ clean_stopped [] rest
+  walk_clean_is rest = (λ i. or_else (first_clean i) (walk_fault top names (first_step i) rest)) ∙ clean_stopped s [] rest
 
 -- ---- the whole command line
 
@@ -109,55 +134,78 @@ or_first : (a b : Kinds) → or_else a b ≡ [] → a ≡ []
 or_first [] b e = refl
 or_first (k ∷ ks) b e = e
 
--- the words after the program's name are a replay's
+-- a subcommand is built as any other, but for its name
+entered_at : (s : Subcommand) (rest : List Text) → entered (built grammar) (Some (name_of s, rest)) ≡ Some (name_of s, rows_after leaf.rules [] rest)
+entered_at checks rest = refl
+entered_at replays rest = refl
+entered_at verifies rest = refl
+
+takes_at : (s : Subcommand) (rest : List Text) → takes_by true (stopped s rest) ≡ (level_passes leaf [] nothing_held rest false && true)
+unfolding walk_passes
+takes_at checks rest = refl
+takes_at replays rest = refl
+takes_at verifies rest = refl
+
+fault_at : (s : Subcommand) (rest : List Text) → entered_fault (built grammar) (Some (name_of s, rest)) ≡ level_fault leaf [] nothing_held rest false []
+unfolding walk_fault defaults_fault
+fault_at checks rest = refl
+fault_at replays rest = refl
+fault_at verifies rest = refl
+
+-- the words after the program's name are a subcommand's
 pub record AsksAll (body : List Text) : Type 0 where
   pub name : Text
   pub rest : List Text
   pub parts : body ≡ name ∷ rest
-  pub is_replay : bytes_eq (codes "replay") name ≡ true
+  pub subcommand : Subcommand
+  pub is : named name ≡ Some subcommand
   pub asks : Asks rest
   pub taken : built_takes (built grammar) nothing_held body ≡ true
-  pub met : entered (built grammar) (walk top.rules names nothing_held body).stopped ≡ Some (codes "replay", four_rows asks.old asks.new asks.relation asks.trace)
+  pub met : entered (built grammar) (walk top.rules names nothing_held body).stopped ≡ Some (name_of subcommand, four_rows asks.old asks.new asks.relation asks.last)
 
 pub record RefusesAll (body : List Text) : Type 0 where
-  pub other : (name : Text) (rest : List Text) (old new relation trace : Text) → body ≡ name ∷ rest → bytes_eq (codes "replay") name ≡ true
-      → placed rest ≡ Some (old ∷ new ∷ relation ∷ trace ∷ []) → ⊥
+  pub other : (name : Text) (rest : List Text) (s : Subcommand) (old new relation last : Text) → body ≡ name ∷ rest → named name ≡ Some s
+      → placed rest ≡ Some (old ∷ new ∷ relation ∷ last ∷ []) → ⊥
   pub taken : built_takes (built grammar) nothing_held body ≡ false
   pub faulty : built_fault (built grammar) nothing_held body ≡ [] → ⊥
 
-asked_first : (w : Text) (rest : List Text) → bytes_eq (codes "replay") w ≡ true → Asks rest → AsksAll (w ∷ rest)
+asked_first : (w : Text) (rest : List Text) (s : Subcommand) → named w ≡ Some s → Asks rest → AsksAll (w ∷ rest)
 unfolding walk_passes walk_fault
-asked_first w rest e asks = record {
+asked_first w rest s e asks = record {
   name = w;
   rest = rest;
   parts = refl;
-  is_replay = e;
+  subcommand = s;
+  is = e;
   asks = asks;
-  taken = (λ i. takes_by (walk_passes_is w e rest i) (walk_is w e rest i)) ∙ and-true (level_passes leaf [] nothing_held rest false) ∙ asks.passes;
-  met = ap (λ v. entered (built grammar) v.stopped) (walk_is w e rest) ∙ ap (λ rows. Some (codes "replay", rows)) asks.rows;
+  taken = (λ i. takes_by (walk_passes_is w s e rest i) (walk_is w s e rest i)) ∙ takes_at s rest ∙ and-true (level_passes leaf [] nothing_held rest false) ∙ asks.passes;
+  met = ap (λ v. entered (built grammar) v.stopped) (walk_is w s e rest) ∙ entered_at s rest ∙ ap (λ rows. Some (name_of s, rows)) asks.rows;
 }
 
-refused_first : (w : Text) (rest : List Text) → bytes_eq (codes "replay") w ≡ true → Refuses rest → RefusesAll (w ∷ rest)
-refused_first w rest e refuses = record {
-  other = λ name after old new relation trace parts is h.
+refused_first : (w : Text) (rest : List Text) (s : Subcommand) → named w ≡ Some s → Refuses rest → RefusesAll (w ∷ rest)
+refused_first w rest s e refuses = record {
+  other = λ name after t old new relation last parts is h.
       let same : rest ≡ after = ap (drop 1) parts in
-      refuses.other old new relation trace (ap placed same ∙ h);
-  taken = (λ i. takes_by (walk_passes_is w e rest i) (walk_is w e rest i)) ∙ and-true (level_passes leaf [] nothing_held rest false) ∙ refuses.refused;
-  faulty = λ h. refuses.faulty (or_first _ _ (sym (λ i. fault_by (walk_clean_is w e rest i) (walk_is w e rest i)) ∙ h));
+      refuses.other old new relation last (ap placed same ∙ h);
+  taken = (λ i. takes_by (walk_passes_is w s e rest i) (walk_is w s e rest i)) ∙ takes_at s rest ∙ and-true (level_passes leaf [] nothing_held rest false) ∙ refuses.refused;
+  faulty = λ h.
+      let first : entered_fault (built grammar) (Some (name_of s, rest)) ≡ [] =
+      or_first _ _ (sym (λ i. fault_by (walk_clean_is w s e rest i) (walk_is w s e rest i)) ∙ h) in
+      refuses.faulty (sym (fault_at s rest) ∙ first);
 }
 
--- a first word that is not `replay`
-not_first : (w : Text) (rest : List Text) → bytes_eq (codes "replay") w ≡ false → built_takes (built grammar) nothing_held (w ∷ rest) ≡ false
+-- a first word that names no subcommand
+not_first : (w : Text) (rest : List Text) → named w ≡ None → built_takes (built grammar) nothing_held (w ∷ rest) ≡ false
     → (built_fault (built grammar) nothing_held (w ∷ rest) ≡ [] → ⊥) → RefusesAll (w ∷ rest)
 not_first w rest e taken faulty = record {
-  other = λ name after old new relation trace parts is h.
+  other = λ name after s old new relation last parts is h.
       let same : w ≡ name = ap (λ ws. slice_index_or ws 0 w) parts in
-      absurd (true≢false (sym is ∙ sym (ap (bytes_eq (codes "replay")) same) ∙ e));
+      absurd (true≢false (ap is_some (sym is ∙ sym (ap named same) ∙ e)));
   taken = taken;
   faulty = faulty;
 }
 
-walk_refused : (w : Text) (rest : List Text) → bytes_eq (codes "replay") w ≡ false → walk_passes top names (walk_from nothing_held) (w ∷ rest) ≡ false
+walk_refused : (w : Text) (rest : List Text) → named w ≡ None → walk_passes top names (walk_from nothing_held) (w ∷ rest) ≡ false
     → (walk_fault top names (walk_from nothing_held) (w ∷ rest) ≡ [] → ⊥) → RefusesAll (w ∷ rest)
 walk_refused w rest e refused faulty =
     let v = walk top.rules names nothing_held (w ∷ rest) in
@@ -167,7 +215,7 @@ no_kinds : (k : ErrorKind) (ks : Kinds) → k ∷ ks ≡ [] → ⊥
 no_kinds k ks e = let bad : suc (length ks) ≡ 0 = ap length e in omega (arith, bad)
 
 -- its turn fails
-turn_refused : (w : Text) (rest : List Text) (k : ErrorKind) (ks : Kinds) → bytes_eq (codes "replay") w ≡ false → turn_passes top names (walk_from nothing_held) w ≡ false
+turn_refused : (w : Text) (rest : List Text) (k : ErrorKind) (ks : Kinds) → named w ≡ None → turn_passes top names (walk_from nothing_held) w ≡ false
     → turn_fault top names (walk_from nothing_held) w ≡ k ∷ ks → RefusesAll (w ∷ rest)
 unfolding walk_passes walk_fault
 turn_refused w rest k ks e refused fault =
@@ -176,7 +224,7 @@ turn_refused w rest k ks e refused fault =
     (λ h. no_kinds k ks (sym (ap (λ f. or_else f (walk_fault top names after rest)) fault) ∙ h))
 
 -- `--` before a subcommand
-dashes_refused : (w : Text) (rest : List Text) → bytes_eq (codes "replay") w ≡ false → bytes_eq w dashes ≡ true → RefusesAll (w ∷ rest)
+dashes_refused : (w : Text) (rest : List Text) → named w ≡ None → bytes_eq w dashes ≡ true → RefusesAll (w ∷ rest)
 unfolding walk_passes walk_fault walked defaults_fault
 dashes_refused w [] e is =
     let turn = dashes_turn top names top_places [] None 1 w (met_none w e) is in
@@ -187,8 +235,8 @@ dashes_refused w (x ∷ rest) e is =
     walk_refused w (x ∷ rest) e (λ i. turn.passes i && walk_passes top names (turn.step i) (x ∷ rest))
     (λ h. no_kinds UnknownArgument (InvalidSubcommand ∷ []) (sym (λ i. or_else (turn.clean i) (walk_fault top names (turn.step i) (x ∷ rest))) ∙ h))
 
-no_replay : (w : Text) (rest : List Text) → bytes_eq (codes "replay") w ≡ false → RefusesAll (w ∷ rest)
-no_replay w rest e = elim (cases_Bool (bytes_eq w dashes)) [
+not_named : (w : Text) (rest : List Text) → named w ≡ None → RefusesAll (w ∷ rest)
+not_named w rest e = elim (cases_Bool (bytes_eq w dashes)) [
   | inl is ↦ dashes_refused w rest e is
   | inr is ↦ elim (cases_Bool (flag_like w)) [
     | inl f ↦
@@ -200,18 +248,19 @@ no_replay w rest e = elim (cases_Bool (bytes_eq w dashes)) [
   ]
 ]
 
+by_name : (w : Text) (rest : List Text) (o : Option Subcommand) → named w ≡ o → AsksAll (w ∷ rest) ⊎ RefusesAll (w ∷ rest)
+by_name w rest None e = inr (not_named w rest e)
+by_name w rest (Some s) e = elim (leaf_runs rest) [
+  | inl asks ↦ inl (asked_first w rest s e asks)
+  | inr refuses ↦ inr (refused_first w rest s e refuses)
+]
+
 -- clap takes the words after the program's name, or refuses them
 pub top_runs : (body : List Text) → AsksAll body ⊎ RefusesAll body
 unfolding defaults_fault walk_passes walk_fault
 top_runs [] = inr (record {
-  other = λ name rest old new relation trace parts is h. let bad : 0 ≡ suc (length rest) = ap length parts in omega (arith, bad);
+  other = λ name rest s old new relation last parts is h. let bad : 0 ≡ suc (length rest) = ap length parts in omega (arith, bad);
   taken = refl;
   faulty = λ h. no_kinds MissingSubcommand [] h;
 })
-top_runs (w ∷ rest) = elim (cases_Bool (bytes_eq (codes "replay") w)) [
-  | inl e ↦ elim (leaf_runs rest) [
-    | inl asks ↦ inl (asked_first w rest e asks)
-    | inr refuses ↦ inr (refused_first w rest e refuses)
-  ]
-  | inr e ↦ inr (no_replay w rest e)
-]
+top_runs (w ∷ rest) = by_name w rest (named w) refl

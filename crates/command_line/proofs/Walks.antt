@@ -1,4 +1,4 @@
--- What clap's walk makes of the words of a replay.
+-- What clap's walk makes of the words of a subcommand.
 use Rattle.std.proofs.lemmas.Bool.{cases_Bool}
 use Rattle.std.proofs.lemmas.List.{append-nil}
 use Rattle.std.proofs.Common.{unwrap_or, cond, true≢false, ◌≡◌, ◌∙◌, ◌<◌, ◌≤◌, ◌+◌, ◌&&◌, ◌⊎◌, inl, inr, ℕ, Bool, true, false, zero, suc, refl, sym, ap, arith, append_assoc, List, [], ◌∷◌, ◌++◌, length, length-append, Option, Some, None, is_some, option_map, codes}
@@ -13,12 +13,12 @@ use Rattle.clap.specs.Kinds.{Kinds, or_else}
 use Rattle.clap.specs.declared.error.ErrorKind.TheVariants.{MissingRequiredArgument, UnknownArgument}
 use Rattle.clap.specs.Faults.{check_fault, defaults_fault, level_fault, settle_fault, turn_fault, walk_fault}
 use Rattle.clap.specs.Simple.{Shape, built_leaf, inherited, marked_built, with_leaf_noted}
-use Rattle.command_line.specs.Grammar.{grammar, replay_app}
+use Rattle.command_line.specs.Grammar.{grammar, files_app}
 use Rattle.command_line.proofs.Steps.{IsByPlace, between, dashes, dashes_turn, flag_like, flag_turn, value_turn}
 
--- the subcommand as it is built
+-- a subcommand as it is built, by any name
 abbrev pub leaf : Shape
-leaf = built_leaf (inherited (with_leaf_noted (marked_built grammar.top)) replay_app.top)
+leaf = built_leaf (inherited (with_leaf_noted (marked_built grammar.top)) (files_app (codes "replay")).top)
 
 leaf_places : IsByPlace leaf.rules
 leaf_places = record { long = λ name. refl; short = λ x. refl }
@@ -41,7 +41,7 @@ pending_at [] = None
 pending_at (a ∷ []) = Some (codes "OLD", a ∷ [])
 pending_at (a ∷ b ∷ []) = Some (codes "NEW", b ∷ [])
 pending_at (a ∷ b ∷ c ∷ []) = Some (codes "REL", c ∷ [])
-pending_at (a ∷ b ∷ c ∷ d ∷ _) = Some (codes "TRACE", d ∷ [])
+pending_at (a ∷ b ∷ c ∷ d ∷ _) = Some (codes "LAST", d ∷ [])
 
 abbrev pub at : Bool → List Text → Walk
 at t given = between t (rows_at given) (pending_at given) (length given + 1)
@@ -218,19 +218,19 @@ run false given (w ∷ rest) le = elim (cases_Bool (bytes_eq w dashes)) [
 -- ---- the level of the subcommand
 
 abbrev pub four_rows : Text → Text → Text → Text → List Row
-four_rows a b c d = row (codes "OLD") a ∷ row (codes "NEW") b ∷ row (codes "REL") c ∷ row (codes "TRACE") d ∷ []
+four_rows a b c d = row (codes "OLD") a ∷ row (codes "NEW") b ∷ row (codes "REL") c ∷ row (codes "LAST") d ∷ []
 
 pub record Asks (words : List Text) : Type 0 where
   pub old : Text
   pub new : Text
   pub relation : Text
-  pub trace : Text
-  pub placed : placed words ≡ Some (old ∷ new ∷ relation ∷ trace ∷ [])
+  pub last : Text
+  pub placed : placed words ≡ Some (old ∷ new ∷ relation ∷ last ∷ [])
   pub passes : level_passes leaf [] nothing_held words false ≡ true
-  pub rows : rows_after leaf.rules [] words ≡ four_rows old new relation trace
+  pub rows : rows_after leaf.rules [] words ≡ four_rows old new relation last
 
 pub record Refuses (words : List Text) : Type 0 where
-  pub other : (old new relation trace : Text) → placed words ≡ Some (old ∷ new ∷ relation ∷ trace ∷ []) → ⊥
+  pub other : (old new relation last : Text) → placed words ≡ Some (old ∷ new ∷ relation ∷ last ∷ []) → ⊥
   pub refused : level_passes leaf [] nothing_held words false ≡ false
   pub faulty : level_fault leaf [] nothing_held words false [] ≡ [] → ⊥
 
@@ -267,15 +267,15 @@ pub record Four (words : List Text) : Type 0 where
   pub old : Text
   pub new : Text
   pub relation : Text
-  pub trace : Text
-  pub are : words ≡ old ∷ new ∷ relation ∷ trace ∷ []
+  pub last : Text
+  pub are : words ≡ old ∷ new ∷ relation ∷ last ∷ []
 
 four_of : (words : List Text) → length words ≤ 4 → 4 ≤ length words → Four words
 four_of [] le ge = absurd (omega (arith, ge))
 four_of (a ∷ []) le ge = absurd (omega (arith, ge))
 four_of (a ∷ b ∷ []) le ge = absurd (omega (arith, ge))
 four_of (a ∷ b ∷ c ∷ []) le ge = absurd (omega (arith, ge))
-four_of (a ∷ b ∷ c ∷ d ∷ []) le ge = record { old = a; new = b; relation = c; trace = d; are = refl }
+four_of (a ∷ b ∷ c ∷ d ∷ []) le ge = record { old = a; new = b; relation = c; last = d; are = refl }
 four_of (a ∷ b ∷ c ∷ d ∷ e ∷ rest) le ge = absurd (omega (arith, le))
 
 few_refused : (words : List Text) (r : Reaches false [] words) → length r.all < 4 → Refuses words
@@ -299,7 +299,7 @@ four_asked words r ge =
       old = four.old;
       new = four.new;
       relation = four.relation;
-      trace = four.trace;
+      last = four.last;
       placed = sym (nothing_before (placed words)) ∙ r.placed ∙ ap Some four.are;
       passes = passes_walk words r ∙ ap (λ all. end_passes (at r.trailing all).held) four.are;
       rows = ap (λ v. finished leaf.rules v.held) r.ends ∙ ap (λ all. finished leaf.rules (at r.trailing all).held) four.are;

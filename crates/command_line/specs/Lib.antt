@@ -1,3 +1,4 @@
-pub mod Asked
+pub mod Subcommands
 pub mod Grammar
+pub mod Asked
 pub mod Plain

@@ -6,14 +6,22 @@ mod read;
 
 pub use read::read_words;
 
+/// The words that name four files: two programs, a relation, and a trace or a finding.
+#[derive(Debug, Drop, PartialEq, Eq)]
+pub struct FourWords {
+    pub old: String,
+    pub new: String,
+    pub relation: String,
+    pub last: String,
+}
+
 /// A command that the words of the command line may ask for.
 #[derive(Debug, Drop, PartialEq, Eq)]
 pub enum Command {
-    /// Runs the rows of a trace on both programs. Each file is named by one word.
-    Replay {
-        old: String,
-        new: String,
-        relation: String,
-        trace: String,
-    },
+    /// Judges a finding, the last of the files.
+    Check(FourWords),
+    /// Runs the rows of a trace, the last of the files, on both programs.
+    Replay(FourWords),
+    /// Decides the programs and the relation, and saves the finding, the last of the files.
+    Verify(FourWords),
 }

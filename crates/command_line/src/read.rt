@@ -1,20 +1,21 @@
 // The words, read by clap.
-ghost use Rattle.std.specs.Prelude.{◌≡◌, ◌↔◌, IfOk, IsErr, None, is_some, map, string_bytes};
+ghost use Rattle.std.specs.Prelude.{◌≡◌, ◌↔◌, IfOk, IsErr, None, is_some, map, option_map, string_bytes};
 ghost use Rattle.std.specs.Option.{option_map_or};
 ghost use Rattle.clap.specs.Words.{found_of, kind_of, rows_of, subcommand_rows_of, takes};
-ghost use Rattle.command_line.specs.Asked.{asked, read_as, replay_of_rows, subcommand_asked, usage};
+ghost use Rattle.command_line.specs.Asked.{asked, asked_by, read_as, subcommand_asked, usage, words_in, words_of};
 ghost use Rattle.command_line.specs.Grammar.{grammar};
+ghost use Rattle.command_line.specs.Subcommands.{checks, replays, verifies};
 ghost use Rattle.command_line.specs.Plain.{plainly_asked};
 
-use crate::Command;
 use crate::grammar::program_command;
+use crate::{Command, FourWords};
 use clap::ArgMatches;
 use clap::error::ErrorKind;
 use std::alloc::{AllocError, Global};
 
-// The words of a replay, by their places.
-fn replay_of(alloc: Global, matches: &ArgMatches<'_>) -> Result<Option<Command>, AllocError>
-    ensures { IfOk result (λ command. read_as command ≡ replay_of_rows (rows_of (found_of matches.now))) }
+// The words of a subcommand, by their places.
+fn words_of(alloc: Global, matches: &ArgMatches<'_>) -> Result<Option<FourWords>, AllocError>
+    ensures { IfOk result (λ words. option_map words_of words ≡ words_in (rows_of (found_of matches.now))) }
 {
     let Some(old) = matches.get_str("OLD") else {
         return Ok(None);
@@ -25,15 +26,42 @@ fn replay_of(alloc: Global, matches: &ArgMatches<'_>) -> Result<Option<Command>,
     let Some(relation) = matches.get_str("REL") else {
         return Ok(None);
     };
-    let Some(trace) = matches.get_str("TRACE") else {
+    let Some(last) = matches.get_str("LAST") else {
         return Ok(None);
     };
-    Ok(Some(Command::Replay {
+    Ok(Some(FourWords {
         old: String::from_str(alloc, old)?,
         new: String::from_str(alloc, new)?,
         relation: String::from_str(alloc, relation)?,
-        trace: String::from_str(alloc, trace)?,
+        last: String::from_str(alloc, last)?,
     }))
+}
+
+fn check_of(words: Option<FourWords>) -> Option<Command>
+    ensures { read_as result ≡ asked_by checks (option_map words_of words) }
+{
+    match words {
+        Some(words) => Some(Command::Check(words)),
+        None => None,
+    }
+}
+
+fn replay_of(words: Option<FourWords>) -> Option<Command>
+    ensures { read_as result ≡ asked_by replays (option_map words_of words) }
+{
+    match words {
+        Some(words) => Some(Command::Replay(words)),
+        None => None,
+    }
+}
+
+fn verify_of(words: Option<FourWords>) -> Option<Command>
+    ensures { read_as result ≡ asked_by verifies (option_map words_of words) }
+{
+    match words {
+        Some(words) => Some(Command::Verify(words)),
+        None => None,
+    }
 }
 
 // The command that the subcommand stands for.
@@ -41,7 +69,9 @@ fn command_of(alloc: Global, matches: &ArgMatches<'_>) -> Result<Option<Command>
     ensures { IfOk result (λ command. read_as command ≡ option_map_or subcommand_asked (subcommand_rows_of matches.now) usage) }
 {
     match matches.subcommand() {
-        Some(("replay", given)) => replay_of(alloc, given),
+        Some(("check", given)) => Ok(check_of(words_of(alloc, given)?)),
+        Some(("replay", given)) => Ok(replay_of(words_of(alloc, given)?)),
+        Some(("verify", given)) => Ok(verify_of(words_of(alloc, given)?)),
         _ => Ok(None),
     }
 }

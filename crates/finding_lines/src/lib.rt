@@ -14,4 +14,4 @@ pub use laws::{law_one_spelling, law_read_back};
 pub use line::{Asked, Conclusion, Line};
 pub use numbers::Numbers;
 pub use read::read_line;
-pub use show::show_line;
+pub use show::{show_conclusion, show_line};

@@ -91,7 +91,8 @@ fn show_spent(
     show_labelled(text, label, number)
 }
 
-fn show_conclusion(text: &mut String, conclusion: Conclusion) -> Result<(), AllocError>
+/// Adds a verdict, with the space before it.
+pub fn show_conclusion(text: &mut String, conclusion: Conclusion) -> Result<(), AllocError>
     ensures { OnOk result (string_bytes text.new ≡ string_bytes text.old ++ concluded conclusion) }
 {
     match conclusion {

@@ -1,11 +1,13 @@
 // The program that a text states, handed on to its flat form.
-ghost use Rattle.std.specs.Prelude.{◌≡◌, IfOk, IfErr};
+ghost use Rattle.std.specs.Prelude.{◌≡◌, IfOk, IfErr, IsTrue};
 ghost use Rattle.program_tree.specs.View.{program_view};
+ghost use Rattle.scan_model.specs.InRange.{IsProgram as IsFitToRun};
 ghost use Rattle.flat_core.specs.FlatView.{flat_program_view};
-ghost use Rattle.flat_form.specs.FlatPrograms.{flat_program};
+ghost use Rattle.flat_form.specs.FlatPrograms.{flat_program, is_short};
 ghost use Rattle.flat_form.specs.FlatLaws.{LeavesTheSame};
 ghost use Rattle.front_end.specs.Texts.{IsProgram};
 ghost use Rattle.rules.specs.Faults.{IfRefused};
+ghost use Rattle.typed_programs.specs.Programs.{IsTypedProgram};
 ghost use Rattle.flat_end.specs.FlatTexts.{HasNoFlatForm};
 
 use fb_inline::{FlatFault, flatten};
@@ -23,11 +25,13 @@ pub struct Accepted {
 }
 
 /// The program that a text states and its flat form, or the first rule that it breaks: those of `accept_text`, and then that on the
-/// number of flat statements (M5). No text states a program that is not well typed as far as tests show; no law says so, and one that did
-/// would count as want of memory.
+/// number of flat statements (M5). Each program that a text states is typed, so `flatten` finds none that is not.
 pub fn accept_flat(alloc: Global, text: &[u8]) -> Result<Accepted, Fault>
     ensures program { IfOk result (λ a. IsProgram text.now (program_view a.program)) }
+    ensures fit { IfOk result (λ a. IsFitToRun (program_view a.program)) }
+    ensures typed { IfOk result (λ a. IsTypedProgram (program_view a.program)) }
     ensures flat { IfOk result (λ a. flat_program_view a.flat ≡ flat_program (program_view a.program)) }
+    ensures short { IfOk result (λ a. IsTrue (is_short (program_view a.program))) }
     ensures meaning { IfOk result (λ a. LeavesTheSame (program_view a.program) (flat_program_view a.flat)) }
     ensures refused { IfErr result (IfRefused (HasNoFlatForm text.now)) }
 {
@@ -39,7 +43,7 @@ pub fn accept_flat(alloc: Global, text: &[u8]) -> Result<Accepted, Fault>
     match flatten(alloc, &program) {
         Ok(flat) => Ok(Accepted { program, flat }),
         Err(FlatFault::Refused(refusal)) => Err(Fault::Refused(refusal)),
-        Err(FlatFault::Untyped) => Err(Fault::Memory),
+        Err(FlatFault::Untyped) => unreachable!(),
         Err(FlatFault::Memory) => Err(Fault::Memory),
     }
 }

@@ -3,3 +3,4 @@ pub mod OneReading
 pub mod OneProgram
 pub mod OnePou
 pub mod Ready
+pub mod TypedTexts

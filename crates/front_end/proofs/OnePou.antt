@@ -1,5 +1,5 @@
 -- A file that breaks no rule on names has one PROGRAM.
-use Rattle.std.proofs.Common.{◌≡◌, ◌<◌, ◌≤◌, ◌+◌, ◌==◌, ◌++◌, ◌⊎◌, Bool, true, false, ℕ, zero, suc, List, [], ◌∷◌, Option, Some, None, nat_lt, length, sym, ap, ◌∙◌, refl, arith, rules, tests, inl, inr, if◌then◌else◌}
+use Rattle.std.proofs.Common.{◌≡◌, ◌<◌, ◌≤◌, ◌+◌, ◌==◌, ◌++◌, ◌⊎◌, Bool, true, false, ℕ, List, [], ◌∷◌, Some, None, length, sym, ◌∙◌, refl, arith, rules, tests, inl, inr}
 use Rattle.std.specs.List.{position, position_or_len, count_by, slice_get, slice_index_or}
 use Rattle.std.proofs.lemmas.Iterator.Adapters.{position_from-zero}
 use Rattle.std.proofs.lemmas.Option.{slice_get_cases}

@@ -1,16 +1,15 @@
 -- What each pass says of a text.
-use Rattle.std.proofs.Common.{◌≡◌, [], ◌∷◌, ◌++◌, List, ℕ, true, Some, subst, inl, inr}
+use Rattle.std.proofs.Common.{◌≡◌, [], ◌++◌, List, ℕ, true, Some, subst, inl, inr}
 use Rattle.source_tree.specs.declared.token.Tok.{Tok}
 use Rattle.rules.specs.declared.fault.Fault.{Fault}
 use Rattle.source_tree.specs.Syntax.{PouData, FileData}
 use Rattle.program_tree.specs.Tree.{ProgramData}
 use Rattle.grammar.specs.WholeFile.{IsFile, IsFileFault}
 use Rattle.call_order.specs.Uses.{Reaches}
-use Rattle.rules.specs.declared.rule.Refusal.{Refusal}
 use Rattle.rules.specs.Rules.{IsAmong}
 use Rattle.naming.specs.FileScope.{pou_at}
 use Rattle.naming.specs.Broken.{broken_names}
-use Rattle.naming.specs.Circles.{uses_of, IsBroken}
+use Rattle.naming.specs.Circles.{uses_of}
 use Rattle.st_names.specs.Bound.{program_number}
 use Rattle.st_names.specs.Bound as naming
 use Rattle.typing.specs.Pous.{broken_types, has_room}
@@ -18,6 +17,7 @@ use Rattle.typing.specs.TypedPrograms.{typed_program}
 use Rattle.typing.specs.Faults as typing
 use Rattle.rules.specs.declared.fault.Fault.TheVariants as faults
 use Rattle.front_end.specs.Texts.{HasTokens, HasTree, HasNoTree, by_nesting, by_grammar, HasFile, AreNamesSound, HasProgram, IsProgram, IsNoProgram, by_tree, by_names, by_types, by_room}
+use Rattle.front_end.proofs.OnePou.{one_pou}
 use Rattle.front_end.specs.StandardBlocks.{prelude_text}
 use Rattle.rules.specs.Faults.{IfRefused}
 
@@ -58,3 +58,12 @@ pub program_of : (text : List ℕ) (f : FileData) (number : ℕ) (pou : PouData)
     → ((n : ℕ) (q : PouData) → program_number f ≡ Some n → pou_at f n ≡ Some q → p ≡ typed_program f n q) → IsProgram text p
 program_of text f number pou p h n one types room typed =
     record { file = f; number = number; pou = pou; states = h; names = n; one = one; typing = types; room = room number one.is; program = typed number pou one.is one.there }
+
+-- the same, of a file that is another's copy, whose names break no rule
+pub program_read : (text : List ℕ) (f g : FileData) (p : ProgramData) → HasFile text g → g ≡ f → broken_names g ≡ [] → ((k : ℕ) → ¬ (Reaches (uses_of g) k k)) → broken_types f ≡ []
+    → ((n : ℕ) → program_number f ≡ Some n → has_room f n ≡ true) → ((n : ℕ) (q : PouData) → program_number f ≡ Some n → pou_at f n ≡ Some q → p ≡ typed_program f n q) → IsProgram text p
+program_read text f g p h same none acyclic types room typed =
+    let kept = subst (λ (x : FileData). broken_names x ≡ []) same none in
+    let no_circle = subst (λ (x : FileData). (k : ℕ) → ¬ (Reaches (uses_of x) k k)) same acyclic in
+    let one = one_pou f kept in
+    program_of text f one.number one.pou p (subst (HasFile text) same h) (sound_names f kept no_circle) one.one types room typed

@@ -7,6 +7,7 @@ ghost use Rattle.front_end.specs.StandardBlocks.{prelude_text};
 ghost use Rattle.front_end.specs.Texts.{HasTokens, HasNoTokens, HasTree, HasNoTree, HasFile, IsProgram, IsNoProgram};
 ghost use Rattle.rules.specs.Faults.{IfRefused};
 ghost use Rattle.scan_model.specs.InRange.{IsProgram as IsFitToRun};
+ghost use Rattle.typed_programs.specs.Programs.{IsTypedProgram};
 
 use crate::prelude::prelude;
 use program_tree::Program;
@@ -68,10 +69,11 @@ fn file_of(alloc: Global, text: &[u8]) -> Result<SourceFile, Fault>
 }
 
 /// The program that a text states, or the first rule that it breaks of those on size, tokens, words that are left
-/// out, nesting, grammar, names, types and the count of cells, in this order of passes.
+/// out, nesting, grammar, names, types and the count of cells, in this order of passes. The program is typed: no pass that follows has to ask.
 pub fn accept_text(alloc: Global, text: &[u8]) -> Result<Program, Fault>
     ensures program { IfOk result (λ p. IsProgram text.now (program_view p)) }
     ensures fit { IfOk result (λ p. IsFitToRun (program_view p)) }
+    ensures typed { IfOk result (λ p. IsTypedProgram (program_view p)) }
     ensures refused { IfErr result (IfRefused (IsNoProgram text.now)) }
 {
     let file = file_of(alloc, text)?;

@@ -1,6 +1,8 @@
 pub mod Booleans
 pub mod PlanLaws
 pub mod GateTests
+pub mod NextGate
+pub mod StoredGates
 pub mod NetLaws
 pub mod Growth
 pub mod ClauseLaws

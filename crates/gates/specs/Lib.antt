@@ -6,4 +6,5 @@ pub mod Rules
 pub mod Order
 pub mod Models
 pub mod Clauses
+pub mod Stored
 pub mod Inside

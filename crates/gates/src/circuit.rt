@@ -1,9 +1,11 @@
-ghost use Rattle.std.specs.Prelude.{◌≡◌, ℕ, ◌<◌, ◌≤◌, ◌+◌, ◌-◌, ◌^◌, [], length, IfOk, IfErr, OnOk};
+ghost use Rattle.std.specs.Prelude.{◌≡◌, ℕ, ◌<◌, ◌≤◌, ◌+◌, ◌-◌, ◌^◌, [], length, slice_index_or, IfOk, IfErr, OnOk};
+ghost use Rattle.clause_core.specs.declared.gate.Gate.{Gate};
 ghost use Rattle.gates.specs.Netlists.{Netlist, make, IsOverfull, IsWithinLimit, IsExtensionOf};
 ghost use Rattle.gates.specs.Order.{end_of};
 ghost use Rattle.gates.specs.Rules.{and_of, or_of, xor_of, mux_of};
 
 use crate::plan::{Plan, and_plan, mux_plan, or_plan, xor_plan};
+use crate::stored::{StoredGate, gate_of, stored};
 use clause_core::{Gate, Lit};
 use indexmap::IndexSet;
 use std::alloc::Global;
@@ -25,7 +27,7 @@ pub enum GateFault {
 pub struct Circuit {
     first: u32,
     limit: u32,
-    gates: IndexSet<Gate>,
+    gates: IndexSet<StoredGate>,
 }
 
 impl Model for Circuit {
@@ -79,11 +81,13 @@ impl Circuit {
         self.limit
     }
 
-    /// The gates in the order in which they were made.
-    pub fn gates(&self) -> &[Gate]
-        ensures { result.now ≡ self.now.gates }
+    /// The gate of a place in the order in which they were made.
+    #[inline]
+    pub fn gate(&self, place: usize) -> Gate
+        requires { place < length self.now.gates }
+        ensures { (g : Gate) → result ≡ slice_index_or self.now.gates place g }
     {
-        self.gates.as_slice()
+        gate_of(self.gates.as_slice()[place])
     }
 
     /// The literal that a plan comes to.
@@ -111,10 +115,11 @@ impl Circuit {
         ensures too_many { IfErr result (λ fault. fault ≡ GateFault.TooMany → IsOverfull (make (Plan.Ask gate negative) self.old).net) }
         ensures extends { IsExtensionOf self.old self.new }
     {
-        if self.gates.len() >= self.limit as usize && !self.gates.contains(&gate) {
+        let kept = stored(gate);
+        if self.gates.len() >= self.limit as usize && !self.gates.contains(&kept) {
             return Err(GateFault::TooMany);
         }
-        let Ok((index, _)) = self.gates.insert_full(gate) else {
+        let Ok((index, _)) = self.gates.insert_full(kept) else {
             return Err(GateFault::Memory);
         };
         Ok(Lit {

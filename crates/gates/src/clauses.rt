@@ -19,12 +19,10 @@ impl Circuit {
         ensures ok { OnOk result (formula.new ≡ with_clauses formula.old (clauses_from (self.now.first + from) (slice_range self.now.gates from to))) }
         ensures begins { BeginsWith formula.old formula.new }
     {
-        let gates = &self.gates()[from..to];
         formula.variables();
-        let mut variable = self.first() + from as u32;
-        for gate in gates {
-            add_gate(variable, *gate, formula)?;
-            variable += 1;
+        let first = self.first();
+        for place in from..to {
+            add_gate(first + place as u32, self.gate(place), formula)?;
         }
         Ok(())
     }

@@ -6,6 +6,7 @@ mod clauses;
 mod law;
 mod literals;
 mod plan;
+mod stored;
 
 pub use circuit::{Circuit, GateFault};
 pub use law::{law_clauses, law_growth, law_one_model, law_order, law_values};

@@ -1,15 +1,16 @@
 -- The words of a run, one gate after the other.
-use Rattle.std.proofs.Common.{◌≡◌, ℕ, ◌+◌, ◌<◌, Bool, true, sym, ◌∙◌, ap, subst, List, [], ◌∷◌, length, drop, get_or, arith, inl, inr, get_or-set_same, get_or-set_other}
-use Rattle.std.specs.Prelude.{nat_eq, slice_set}
+use Rattle.std.proofs.Common.{◌≡◌, ℕ, ◌+◌, ◌<◌, ◌≤◌, ◌&&◌, Bool, true, sym, ◌∙◌, ap, subst, List, [], ◌∷◌, length, drop, get_or, arith, inl, inr, get_or-set_same, get_or-set_other}
+use Rattle.std.specs.Prelude.{nat_eq, nat_lt, slice_set}
 use Rattle.std.proofs.lemmas.List.{drop_more}
-use Rattle.std.proofs.lemmas.Bool.{and_parts, eq-eqb, ne_eqb, cond-true, cond-false, cases_eq}
+use Rattle.std.proofs.lemmas.Bool.{and_parts, and_from, lt-ltb, ltb-true, eq-eqb, ne_eqb, cond-true, cond-false, cases_eq}
+use Rattle.clause_core.specs.declared.literal.Lit.{Lit}
 use Rattle.clause_core.specs.declared.gate.Gate.{Gate}
-use Rattle.clause_core.specs.declared.gate.Gate.TheVariants.{And}
+use Rattle.clause_core.specs.declared.gate.Gate.TheVariants.{And, Xor, Mux}
 use Rattle.gates.specs.Models.{put, extended, IsModel}
 use Rattle.gates.specs.Meaning.{gate_true}
 use Rattle.gates.specs.Netlists.{Netlist}
 use Rattle.gates.specs.Literals.{plain}
-use Rattle.gates.specs.Order.{gate_below, is_ordered, IsOrdered}
+use Rattle.gates.specs.Order.{lit_below, gate_below, is_ordered, IsOrdered}
 use Rattle.gates.proofs.OneModel.{ExtendsOnce_ordered}
 use Rattle.lane_sim.specs.Lanes.{lane, assignment_of, IsRunOf}
 use mathlib.Core.Path.{fun_ext}
@@ -51,3 +52,26 @@ is_ordered-next x i gs lt h =
     let any : Gate = And (plain 0) (plain 0) in
     let whole : is_ordered x (get_or gs i any ∷ drop (i + 1) gs) ≡ true = subst (λ (rest : List Gate). is_ordered x rest ≡ true) (drop_more gs i any lt) h in
     (and_parts (gate_below x (get_or gs i any)) (is_ordered (x + 1) (drop (i + 1) gs)) whole).1
+
+-- what stands before a variable stands before a later one
+lit_later : (x y : ℕ) (l : Lit) → x ≤ y → lit_below x l ≡ true → lit_below y l ≡ true
+lit_later x y l le e =
+    let (one, below) = and_parts (nat_lt 0 l.variable) (nat_lt l.variable x) e in
+    and_from (nat_lt 0 l.variable) (nat_lt l.variable y) one (lt-ltb l.variable y (omega (arith, ltb-true l.variable x below, le)))
+
+pub gate_later : (x y : ℕ) (g : Gate) → x ≤ y → gate_below x g ≡ true → gate_below y g ≡ true
+gate_later x y (And a b) le e =
+    let (one, two) = and_parts (lit_below x a) (lit_below x b) e in
+    and_from (lit_below y a) (lit_below y b) (lit_later x y a le one) (lit_later x y b le two)
+gate_later x y (Xor a b) le e =
+    let (one, two) = and_parts (lit_below x a) (lit_below x b) e in
+    and_from (lit_below y a) (lit_below y b) (lit_later x y a le one) (lit_later x y b le two)
+gate_later x y (Mux c a b) le e =
+    let (zero, more) = and_parts (lit_below x c) (lit_below x a && lit_below x b) e in
+    let (one, two) = and_parts (lit_below x a) (lit_below x b) more in
+    and_from (lit_below y c) (lit_below y a && lit_below y b) (lit_later x y c le zero) (and_from (lit_below y a) (lit_below y b) (lit_later x y a le one) (lit_later x y b le two))
+
+pub next_below : (x i : ℕ) (gs : List Gate) (d : Gate) → i < length gs → is_ordered x (drop i gs) ≡ true → gate_below x (get_or gs i d) ≡ true
+next_below x i gs d lt h =
+    let whole : is_ordered x (get_or gs i d ∷ drop (i + 1) gs) ≡ true = subst (λ (rest : List Gate). is_ordered x rest ≡ true) (drop_more gs i d lt) h in
+    (and_parts (gate_below x (get_or gs i d)) (is_ordered (x + 1) (drop (i + 1) gs)) whole).0

@@ -1,10 +1,9 @@
-ghost use Rattle.std.specs.Prelude.{◌≡◌, ℕ, ◌<◌, ◌≤◌, ◌+◌, true, length, IfOk, IsTrue};
+ghost use Rattle.std.specs.Prelude.{◌≡◌, ℕ, ◌<◌, ◌≤◌, ◌+◌, true, length, IfOk};
 ghost use Rattle.gates.specs.Models.{extended};
-ghost use Rattle.gates.specs.Order.{IsOrdered, is_ordered, end_of};
+ghost use Rattle.gates.specs.Order.{IsOrdered, end_of};
 ghost use Rattle.lane_sim.specs.Lanes.{assignment_of, IsRunOf};
 
 use crate::lanes::gate_word;
-use clause_core::Gate;
 use gates::Circuit;
 use std::alloc::{AllocError, Global};
 use std::simd::u64x4;
@@ -19,16 +18,15 @@ fn put_free(free: &[u64x4], words: &mut [u64x4])
     words[2..2 + free.len()].copy_from_slice(free);
 }
 
-// Writes the gates in their order, of which the first is the variable `first`.
-fn put_gates(first: usize, gates: &[Gate], words: &mut [u64x4])
-    requires len { length words.old ≡ first + length gates.now }
-    requires ordered { IsTrue (is_ordered first gates.now) }
-    ensures { (j : ℕ) → j < 256 → assignment_of j words.new ≡ extended (assignment_of j words.old) first gates.now }
+// Writes the gates in their order.
+fn put_gates(circuit: &Circuit, words: &mut [u64x4])
+    requires len { length words.old ≡ end_of circuit.now }
+    requires ordered { IsOrdered circuit.now }
+    ensures { (j : ℕ) → j < 256 → assignment_of j words.new ≡ extended (assignment_of j words.old) circuit.now.first circuit.now.gates }
 {
-    let mut variable = first;
-    for gate in gates {
-        words[variable] = gate_word(words, *gate);
-        variable += 1;
+    let first = circuit.first() as usize;
+    for place in 0..circuit.count() {
+        words[first + place] = gate_word(words, circuit.gate(place));
     }
 }
 
@@ -40,7 +38,7 @@ pub fn simulate_again(circuit: &Circuit, free: &[u64x4], words: &mut [u64x4])
     ensures { (j : ℕ) → j < 256 → IsRunOf circuit.now free.now words.new j }
 {
     put_free(free, words);
-    put_gates(circuit.first() as usize, circuit.gates(), words);
+    put_gates(circuit, words);
 }
 
 /// The words of all variables in 256 runs: the word of a variable stands at its number, and the first is none's.

@@ -10,3 +10,4 @@ pub mod Meanings
 pub mod Orders
 pub mod InOrder
 pub mod BreaksInOrder
+pub mod DecodedAnswers

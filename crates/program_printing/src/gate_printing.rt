@@ -11,9 +11,9 @@ pub fn print_gates(
 ) -> Result<String, AllocError> {
     let mut text = String::new(alloc);
     let mut variable = u64::from(circuit.first());
-    for gate in circuit.gates() {
+    for place in 0..circuit.count() {
         text.push_str(format!(in alloc; "{variable}")?.as_str())?;
-        print_gate(alloc, gate, &mut text)?;
+        print_gate(alloc, circuit.gate(place), &mut text)?;
         text.push_str("\n")?;
         variable = variable.wrapping_add(1);
     }
@@ -27,23 +27,23 @@ pub fn print_gates(
     Ok(text)
 }
 
-fn print_gate(alloc: Global, gate: &Gate, text: &mut String) -> Result<(), AllocError> {
+fn print_gate(alloc: Global, gate: Gate, text: &mut String) -> Result<(), AllocError> {
     match gate {
         Gate::And(a, b) => {
             text.push_str(" AND")?;
-            print_lit(alloc, *a, text)?;
-            print_lit(alloc, *b, text)
+            print_lit(alloc, a, text)?;
+            print_lit(alloc, b, text)
         }
         Gate::Xor(a, b) => {
             text.push_str(" XOR")?;
-            print_lit(alloc, *a, text)?;
-            print_lit(alloc, *b, text)
+            print_lit(alloc, a, text)?;
+            print_lit(alloc, b, text)
         }
         Gate::Mux(c, a, b) => {
             text.push_str(" MUX")?;
-            print_lit(alloc, *c, text)?;
-            print_lit(alloc, *a, text)?;
-            print_lit(alloc, *b, text)
+            print_lit(alloc, c, text)?;
+            print_lit(alloc, a, text)?;
+            print_lit(alloc, b, text)
         }
     }
 }

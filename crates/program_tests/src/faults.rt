@@ -149,7 +149,7 @@ fn files_of_a_megabyte(rt: HostRuntime) -> Result<(), Fail> {
 #[test]
 fn words_that_are_no_command(rt: HostRuntime) -> Result<(), Fail> {
     let alloc = rt.alloc();
-    for command in ["replays", "REPLAY", "verify", "help"] {
+    for command in ["replays", "REPLAY", "gen", "help"] {
         let mut shelf = shelf(alloc, none(alloc))?;
         let mut out = MemSink::new(alloc, none(alloc));
         let status = regver(alloc, words(alloc, command, "t")?, &mut shelf, &mut out);

@@ -11,6 +11,8 @@ mod machines;
 #[cfg(test)]
 mod names;
 #[cfg(test)]
+mod savings;
+#[cfg(test)]
 mod tokens;
 #[cfg(test)]
 mod trees;

@@ -1,13 +1,13 @@
 -- The pair at the start, and the formula of FIRST.
 use Rattle.std.proofs.Common.{◌≡◌, ℕ, zero, suc, ◌+◌, ◌*◌, ◌≤◌, Bool, true, false, refl, sym, ◌∙◌, subst, List, [], ◌∷◌, ◌++◌, arith}
 use Rattle.std.proofs.lemmas.List.{append-nil}
-use Rattle.clause_core.specs.Satisfaction.{assigned, formula_true}
+use Rattle.clause_core.specs.Satisfaction.{assigned, formula_true, Satisfies}
 use Rattle.scan_model.specs.Scans.{initial}
 use Rattle.scan_model.specs.InRange.{Row}
 use Rattle.scan_model.specs.Pairs.{IsPairInRange, start, is_allowed}
 use Rattle.queries.specs.Comparisons.{Comparison}
 use Rattle.queries.specs.Questions.{first}
-use Rattle.queries.specs.Meaning.{HasAnswer, Means}
+use Rattle.queries.specs.Meaning.{Means}
 use Rattle.gates.specs.Netlists.{Netlist}
 use Rattle.gates.specs.Order.{IsOrdered}
 use Rattle.gates.specs.Models.{IsModel, extended, Agrees}
@@ -19,8 +19,9 @@ use Rattle.query_formulas.specs.PairWords.{free_words, sum_of, widths_of}
 use Rattle.query_formulas.specs.Products.{lines_cells}
 use Rattle.query_formulas.specs.Breaks.{ScanLiterals, scan_from, scans_from, start_words, breaks_of}
 use Rattle.query_formulas.specs.QueryClauses.{row_units, first_formula}
+use Rattle.query_formulas.specs.Decoded.{IsAnswer}
+use Rattle.query_formula_laws.specs.Decoded.{decoded_row, scans_decoded}
 use Rattle.query_formula_laws.specs.TypedComparisons.{IsTypedComparison, IsScanOf}
-use Rattle.query_formula_laws.proofs.PairValues.{values_of}
 use Rattle.query_formula_laws.proofs.FreeBits.{bits_of, joined}
 use Rattle.query_formula_laws.proofs.FreeWords.{widths-initial, values-initial}
 use Rattle.query_formula_laws.proofs.Spelled.{SpellsPair}
@@ -66,11 +67,9 @@ module _ (c : Comparison) (t : IsTypedComparison c) (a b : ScanData) (is_a : IsS
   ordered : IsOrdered net
   ordered = record { one = omega arith; ordered = refl }
 
-  found_first : (v : ℕ → Bool) → IsModel v scan.begun → formula_true v (row_units scan) ≡ true → HasAnswer c first
-  found_first v m h =
-      let row = values_of v (kinds_of (lines_cells c)) inputs in
-      let is = row_true v c t a b is_a is_b inputs (start_words c) (start c.old c.new) row net (start_spelled v c t m.one) (free_read v 2 (lines_cells c)) (start_inside c t) m in
-      (start c.old c.new, row ∷ [], (row, refl, sym is ∙ h))
+  row_decoded : (v : ℕ → Bool) → IsModel v scan.begun → formula_true v (row_units scan) ≡ true → is_allowed c.relation (decoded_row c inputs v) (start c.old c.new) ≡ true
+  row_decoded v m h =
+      sym (row_true v c t a b is_a is_b inputs (start_words c) (start c.old c.new) (decoded_row c inputs v) net (start_spelled v c t m.one) (free_read v 2 (lines_cells c)) (start_inside c t) m) ∙ h
 
   asked_first : (row : Row) → is_allowed c.relation row (start c.old c.new) ≡ true → (v : ℕ → Bool) × IsModel v scan.begun × (formula_true v (row_units scan) ≡ true)
   asked_first row h =
@@ -89,26 +88,38 @@ module _ (c : Comparison) (t : IsTypedComparison c) (a b : ScanData) (is_a : IsS
       let m = once.model in
       (v, m, row_true v c t a b is_a is_b inputs (start_words c) (start c.old c.new) row net (start_spelled v c t m.one) spells (start_inside c t) m ∙ h)
 
--- for so many scans
-first_means_of : (c : Comparison) (t : IsTypedComparison c) (a b : ScanData) → IsScanOf c.old a → IsScanOf c.new b → (limit first_gate scans : ℕ) → 1 ≤ scans → 2 + line_bits c ≤ first_gate
-    → Means c first (first_formula (scans_from c a b scans 2 (start_words c) (record { first = first_gate; limit = limit; gates = [] })))
-first_means_of c t a b is_a is_b limit first_gate zero some wide = absurd (omega arith)
-first_means_of c t a b is_a is_b limit first_gate (suc scans) some wide = record {
-  found = λ v h.
-      let s = scan_from c a b (free_words 2 (widths_of (lines_cells c))) (start_words c) (record { first = first_gate; limit = limit; gates = [] }) in
-      let parts = gates-model v s.begun (row_units s) h in
-      found_first c t a b is_a is_b limit first_gate wide v parts.0 parts.1;
-  asked = λ answer.
-      let s = scan_from c a b (free_words 2 (widths_of (lines_cells c))) (start_words c) (record { first = first_gate; limit = limit; gates = [] }) in
-      let is = asked_first c t a b is_a is_b limit first_gate wide answer.2.0 answer.2.2 in
-      (is.0, model-gates is.0 s.begun (row_units s) is.1 is.2);
-}
+  -- ---- for so many scans
+
+  abbrev scans_begun : ℕ → List ScanLiterals
+  scans_begun scans = scans_from c a b scans 2 (start_words c) net
+
+  first_decoded_of : (scans : ℕ) → 1 ≤ scans → (v : ℕ → Bool) → Satisfies v (first_formula (scans_begun scans)).clauses → IsAnswer c first (scans_decoded c (scans_begun scans) 1 v)
+  first_decoded_of zero some v h = absurd (omega arith)
+  first_decoded_of (suc scans) some v h =
+      let parts = gates-model v scan.begun (row_units scan) h in
+      (decoded_row c inputs v, refl, row_decoded v parts.0 parts.1)
+
+  first_means_of : (scans : ℕ) → 1 ≤ scans → Means c first (first_formula (scans_begun scans))
+  first_means_of zero some = absurd (omega arith)
+  first_means_of (suc scans) some = record {
+    found = λ v h. let d = scans_decoded c (scans_begun (suc scans)) 1 v in (d.pair, d.rows, first_decoded_of (suc scans) some v h);
+    asked = λ answer.
+        let is = asked_first answer.2.0 answer.2.2 in
+        (is.0, model-gates is.0 scan.begun (row_units scan) is.1 is.2);
+  }
 
 wide_enough : (d s : ℕ) → 1 ≤ d → 2 + s ≤ 2 + d * s
 wide_enough (suc d) s h = omega arith
 wide_enough zero s h = absurd (omega arith)
 
-pub first_means : (c : Comparison) (t : IsTypedComparison c) (a b : ScanData) → IsScanOf c.old a → IsScanOf c.new b → (limit : ℕ) → Means c first (first_formula (breaks_of c a b limit))
-first_means c t a b is_a is_b limit =
-    let some = t.comparison.some_depth in
-    first_means_of c t a b is_a is_b limit (2 + c.relation.depth * line_bits c) c.relation.depth some (wide_enough c.relation.depth (line_bits c) some)
+module _ (c : Comparison) (t : IsTypedComparison c) (a b : ScanData) (is_a : IsScanOf c.old a) (is_b : IsScanOf c.new b) (limit : ℕ) where
+  -- what a solution spells is an answer
+  pub first_decoded : (v : ℕ → Bool) → Satisfies v (first_formula (breaks_of c a b limit)).clauses → IsAnswer c first (scans_decoded c (breaks_of c a b limit) 1 v)
+  first_decoded v h =
+      let some = t.comparison.some_depth in
+      first_decoded_of c t a b is_a is_b limit (2 + c.relation.depth * line_bits c) (wide_enough c.relation.depth (line_bits c) some) c.relation.depth some v h
+
+  pub first_means : Means c first (first_formula (breaks_of c a b limit))
+  first_means =
+      let some = t.comparison.some_depth in
+      first_means_of c t a b is_a is_b limit (2 + c.relation.depth * line_bits c) (wide_enough c.relation.depth (line_bits c) some) c.relation.depth some

@@ -28,12 +28,11 @@ use Rattle.node_core.specs.TypedFlats.{IsTypedPlace, IsTypedClause}
 use Rattle.node_laws.proofs.MeantScans.{meant_clauses}
 use Rattle.node_laws.proofs.TypedScans.{typed_clauses}
 use Rattle.node_circuits.specs.NodeWords.{Words, operand_of, words_of_nodes}
-use Rattle.node_circuit_laws.specs.WordValues.{HaveWidths, value_at}
+use Rattle.node_circuit_laws.specs.WordValues.{HaveWidths, value_at, values_of}
 use Rattle.node_circuit_laws.proofs.Widths.{length-operand, widths_of_nodes}
 use Rattle.node_circuit_laws.proofs.Words.{operand_same, HasValues-all}
 use Rattle.node_circuit_laws.proofs.NodeValues.{values_of_nodes, start_values}
 use Rattle.query_formulas.specs.Literals.{bit_of}
-use Rattle.query_formula_laws.proofs.PairValues.{values_of}
 use Rattle.query_formula_laws.proofs.Values.{widths-append, values-append, words_are, same_place}
 use Rattle.query_formula_laws.proofs.Spelled.{Spells, length-spelled}
 

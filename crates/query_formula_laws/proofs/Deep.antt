@@ -1,5 +1,5 @@
 -- The formula of DEEP means its query: by induction over the scans of a run.
-use Rattle.std.proofs.Common.{◌≡◌, ℕ, zero, suc, ◌+◌, ◌-◌, ◌*◌, ◌<◌, ◌≤◌, Bool, true, false, refl, sym, ◌∙◌, ap, subst, List, [], ◌∷◌, ◌++◌, length, take, arith, append_assoc, length-append}
+use Rattle.std.proofs.Common.{◌≡◌, ℕ, zero, suc, ◌+◌, ◌-◌, ◌*◌, ◌<◌, ◌≤◌, Bool, true, false, refl, sym, ◌∙◌, ap, subst, List, [], ◌∷◌, ◌++◌, length, map, take, arith, append_assoc, length-append}
 use Rattle.std.specs.Prelude.{All}
 use Rattle.std.proofs.lemmas.Bool.{and_parts, and_from}
 use Rattle.std.proofs.lemmas.List.{append-nil}
@@ -23,8 +23,10 @@ use Rattle.query_formulas.specs.PairWords.{PairWords, free_words, widths_of}
 use Rattle.query_formulas.specs.Products.{lines_cells}
 use Rattle.query_formulas.specs.Breaks.{ScanLiterals, scan_from, scans_from, start_words, breaks_of}
 use Rattle.query_formulas.specs.QueryClauses.{units, some_fails, row_units, break_units, last_net, listed_formula, break_formula}
+use Rattle.query_formulas.specs.Decoded.{IsAnswer}
+use Rattle.query_formula_laws.specs.Decoded.{decoded_row, decoded_run, scans_decoded}
 use Rattle.query_formula_laws.specs.TypedComparisons.{IsTypedComparison, IsScanOf}
-use Rattle.query_formula_laws.proofs.PairValues.{values_of, AreOfTypes}
+use Rattle.query_formula_laws.proofs.TypedValues.{AreOfTypes}
 use Rattle.query_formula_laws.proofs.FreeBits.{bits_of, joined}
 use Rattle.query_formula_laws.proofs.Spelled.{Spells, SpellsPair}
 use Rattle.query_formula_laws.proofs.FormulaTruth.{all_of, truths, units-true, some_fails-true, formula-append, gates-model, model-gates}
@@ -44,20 +46,20 @@ abbrev RowsSpelled : (ℕ → Bool) → Comparison → ℕ → List Row → Type
 RowsSpelled v c x [] = Unit {0}
 RowsSpelled v c x (row ∷ rows) = Spells v (lines_cells c) (row_words c x) row × RowsSpelled v c (x + line_bits c) rows
 
-abbrev row_read : (ℕ → Bool) → Comparison → ℕ → Row
-row_read v c x = values_of v (kinds_of (lines_cells c)) (row_words c x)
+abbrev words_in : List ScanLiterals → List Words
+words_in ss = map (λ s. s.inputs) ss
 
-abbrev rows_read : (ℕ → Bool) → Comparison → ℕ → ℕ → List Row
-rows_read v c x zero = []
-rows_read v c x (suc j) = row_read v c x ∷ rows_read v c (x + line_bits c) j
+abbrev rows_read : (ℕ → Bool) → Comparison → List ScanLiterals → List Row
+rows_read v c ss = map (λ inputs. decoded_row c inputs v) (words_in ss)
 
-rows_read-spelled : (v : ℕ → Bool) (c : Comparison) (x j : ℕ) → RowsSpelled v c x (rows_read v c x j)
-rows_read-spelled v c x zero = tt
-rows_read-spelled v c x (suc j) = (free_read v x (lines_cells c), rows_read-spelled v c (x + line_bits c) j)
+module _ (v : ℕ → Bool) (c : Comparison) (a b : ScanData) where
+  rows_read-spelled : (j x : ℕ) (words : PairWords) (n : Netlist) → RowsSpelled v c x (rows_read v c (scans_from c a b j x words n))
+  rows_read-spelled zero x words n = tt
+  rows_read-spelled (suc j) x words n = let s = scan_from c a b (row_words c x) words n in (free_read v x (lines_cells c), rows_read-spelled j (x + line_bits c) s.pair s.net)
 
-length-rows_read : (v : ℕ → Bool) (c : Comparison) (x j : ℕ) → length (rows_read v c x j) ≡ j
-length-rows_read v c x zero = refl
-length-rows_read v c x (suc j) = ap suc (length-rows_read v c (x + line_bits c) j)
+  length-rows_read : (j x : ℕ) (words : PairWords) (n : Netlist) → length (rows_read v c (scans_from c a b j x words n)) ≡ j
+  length-rows_read zero x words n = refl
+  length-rows_read (suc j) x words n = let s = scan_from c a b (row_words c x) words n in ap suc (length-rows_read j (x + line_bits c) s.pair s.net)
 
 abbrev RowsTyped : Comparison → List Row → Type 0
 RowsTyped c [] = Unit {0}
@@ -243,22 +245,15 @@ module _ (c : Comparison) (t : IsTypedComparison c) (a b : ScanData) (is_a : IsS
         let shorter : length rows ≡ j = omega arith in
         (v, model-gates v last (break_units one more) m (break_asked v c t a b is_a is_b j 2 (start_words c) net (start c.old c.new) row rows shorter spelled (start_spelled v c t m.one) (start_inside c t) m k))
 
-    listed_means : Means c (deep (suc j)) (listed_formula (one ∷ more))
-    listed_means = record {
-      found = λ v h.
-          let parts = gates-model v (last_net one more) (break_units one more) h in
-          let m = parts.0 in
-          let rows = rows_read v c (2 + line_bits c) j in
-          let row = row_read v c 2 in (
-            start c.old c.new,
-            row ∷ rows,
-            (
-              ap suc (length-rows_read v c (2 + line_bits c) j),
-              break_found v c t a b is_a is_b j 2 (start_words c) net (start c.old c.new) row rows (length-rows_read v c (2 + line_bits c) j) (rows_read-spelled v c 2 (suc j)) (start_spelled v c t m.one) (start_inside c t) m parts.1,
-            ),
-          );
-      asked = λ answer. deep_asked answer.1 answer.2.0 answer.2.1;
-    }
+    listed_decoded : (v : ℕ → Bool) → Satisfies v (listed_formula (one ∷ more)).clauses → IsAnswer c (deep (suc j)) (decoded_run c (words_in (one ∷ more)) v)
+    listed_decoded v h =
+        let parts = gates-model v (last_net one more) (break_units one more) h in
+        let m = parts.0 in
+        let rows = rows_read v c more in
+        let len : length rows ≡ j = length-rows_read v c a b j (2 + line_bits c) one.pair one.net in (
+          ap suc len,
+          break_found v c t a b is_a is_b j 2 (start_words c) net (start c.old c.new) (decoded_row c one.inputs v) rows len (rows_read-spelled v c a b (suc j) 2 (start_words c) net) (start_spelled v c t m.one) (start_inside c t) m parts.1,
+        )
 
   wider : (j d s : ℕ) → suc j ≤ d → 2 + suc j * s ≤ 2 + d * s
   wider j d s h =
@@ -268,10 +263,28 @@ module _ (c : Comparison) (t : IsTypedComparison c) (a b : ScanData) (is_a : IsS
       bigger : (k e s : ℕ) → 2 + k * s ≤ 2 + (k + e) * s
       bigger k e s = omega arith
 
+  abbrev first_gate : ℕ
+  first_gate = 2 + c.relation.depth * line_bits c
+
+  taken : (limit scans : ℕ) → scans ≤ c.relation.depth → scans_from c a b scans 2 (start_words c) (record { first = first_gate; limit = limit; gates = [] }) ≡ take scans (breaks_of c a b limit)
+  taken limit scans few = sym (take_scans c a b scans c.relation.depth 2 (start_words c) (record { first = first_gate; limit = limit; gates = [] }) few)
+
+  -- what a solution spells is an answer
+  pub deep_decoded : (limit scans : ℕ) → 1 ≤ scans → scans ≤ c.relation.depth → (v : ℕ → Bool) → Satisfies v (break_formula (breaks_of c a b limit) scans).clauses → IsAnswer c (deep scans) (scans_decoded c (breaks_of c a b limit) scans v)
+  deep_decoded limit zero some few v = absurd (omega arith)
+  deep_decoded limit (suc j) some few v =
+      subst (λ (ss : List ScanLiterals). Satisfies v (listed_formula ss).clauses → IsAnswer c (deep (suc j)) (decoded_run c (words_in ss) v)) (taken limit (suc j) few)
+      (listed_decoded limit first_gate j (wider j c.relation.depth (line_bits c) few) v)
+
+  solved : (limit scans : ℕ) → 1 ≤ scans → scans ≤ c.relation.depth → (rows : List Row) → length rows ≡ scans → IsBreakFrom c.old c.new c.relation (start c.old c.new) rows
+      → (values : ℕ → Bool) × Satisfies values (break_formula (breaks_of c a b limit) scans).clauses
+  solved limit zero some few rows len k = absurd (omega arith)
+  solved limit (suc j) some few rows len k =
+      subst (λ (ss : List ScanLiterals). (values : ℕ → Bool) × Satisfies values (listed_formula ss).clauses) (taken limit (suc j) few)
+      (deep_asked limit first_gate j (wider j c.relation.depth (line_bits c) few) rows len k)
+
   pub deep_means : (limit scans : ℕ) → 1 ≤ scans → scans ≤ c.relation.depth → Means c (deep scans) (break_formula (breaks_of c a b limit) scans)
-  deep_means limit zero some few = absurd (omega arith)
-  deep_means limit (suc j) some few =
-      let first_gate = 2 + c.relation.depth * line_bits c in
-      let n : Netlist = record { first = first_gate; limit = limit; gates = [] } in
-      subst (λ (ss : List ScanLiterals). Means c (deep (suc j)) (listed_formula ss)) (sym (take_scans c a b (suc j) c.relation.depth 2 (start_words c) n few))
-      (listed_means limit first_gate j (wider j c.relation.depth (line_bits c) few))
+  deep_means limit scans some few = record {
+    found = λ v h. let d = scans_decoded c (breaks_of c a b limit) scans v in (d.pair, d.rows, deep_decoded limit scans some few v h);
+    asked = λ answer. solved limit scans some few answer.1 answer.2.0 answer.2.1;
+  }

@@ -12,11 +12,11 @@ use Rattle.word_circuits.specs.Words.{constant_of}
 use Rattle.word_laws.specs.Numbers.{bit, number, signed_number, value}
 use Rattle.word_laws.proofs.BitLaws.{length-constant}
 use Rattle.node_core.specs.NodeLaws.{kinds_of}
-use Rattle.node_circuit_laws.specs.WordValues.{HaveWidths}
+use Rattle.node_circuit_laws.specs.WordValues.{HaveWidths, values_of}
 use Rattle.node_circuit_laws.proofs.RowValues.{row-constant}
 use Rattle.query_formulas.specs.PairWords.{free_word, free_words, sum_of, initial_words}
 use Rattle.scan_model.specs.Scans.{initial}
-use Rattle.query_formula_laws.proofs.PairValues.{values_of, AreOfTypes}
+use Rattle.query_formula_laws.proofs.TypedValues.{AreOfTypes}
 use Rattle.query_formula_laws.proofs.FreeBits.{bits_of, joined}
 use Rattle.query_formula_laws.proofs.Values.{widths-cons}
 

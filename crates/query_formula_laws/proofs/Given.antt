@@ -19,10 +19,10 @@ use Rattle.gates.specs.Models.{Agrees}
 use Rattle.word_laws.specs.Numbers.{value}
 use Rattle.node_core.specs.NodeLaws.{kinds_of}
 use Rattle.node_laws.proofs.Ranges.{within, between-in}
-use Rattle.node_circuit_laws.specs.WordValues.{HaveWidths}
+use Rattle.node_circuit_laws.specs.WordValues.{HaveWidths, values_of}
 use Rattle.query_formulas.specs.PairWords.{free_word, free_words, sum_of, widths_of, width_of_cell}
 use Rattle.query_formula_laws.specs.TypedComparisons.{IsTypedCell, IsTypedComparison}
-use Rattle.query_formula_laws.proofs.PairValues.{values_of, AreOfTypes}
+use Rattle.query_formula_laws.proofs.TypedValues.{AreOfTypes}
 use Rattle.query_formula_laws.proofs.FreeBits.{bits_of, joined}
 use Rattle.query_formula_laws.proofs.FreeWords.{value_by_bits, free_values, length-bits, widths-free}
 use Rattle.query_formula_laws.proofs.Spelled.{Spells, fits_cells, lines_typed}

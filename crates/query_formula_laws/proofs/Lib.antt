@@ -1,4 +1,4 @@
-pub mod PairValues
+pub mod TypedValues
 pub mod FreeBits
 pub mod Values
 pub mod FreeWords

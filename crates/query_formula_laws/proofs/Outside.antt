@@ -21,11 +21,10 @@ use Rattle.word_laws.specs.Numbers.{value}
 use Rattle.word_laws.proofs.ChoiceLaws.{value-outside}
 use Rattle.node_core.specs.NodeLaws.{kinds_of}
 use Rattle.node_circuits.specs.NodeWords.{Words}
-use Rattle.node_circuit_laws.specs.WordValues.{HaveWidths}
+use Rattle.node_circuit_laws.specs.WordValues.{HaveWidths, values_of}
 use Rattle.node_circuit_laws.proofs.Numbers.{some_bits, wrapped_same, not_between}
 use Rattle.query_formulas.specs.Literals.{in_front, is_bounded, outside_cell, outside_cells}
 use Rattle.query_formula_laws.specs.TypedComparisons.{IsTypedCell}
-use Rattle.query_formula_laws.proofs.PairValues.{values_of}
 use Rattle.query_formula_laws.proofs.Values.{widths-head, widths-tail, widths-none, value_typed}
 
 some_of : (t : Elementary) (a : List Lit) → length a ≡ width_of t → 0 < length a

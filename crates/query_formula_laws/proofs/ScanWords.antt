@@ -21,14 +21,13 @@ use Rattle.node_laws.proofs.MeantScans.{meant_scans}
 use Rattle.node_laws.proofs.TypedScans.{typed_scans}
 use Rattle.node_circuits.specs.NodeWords.{Words, word_in, words_of_nodes}
 use Rattle.node_circuits.proofs.Growth.{extends_nodes}
-use Rattle.node_circuit_laws.specs.WordValues.{HaveWidths, value_at}
+use Rattle.node_circuit_laws.specs.WordValues.{HaveWidths, value_at, values_of}
 use Rattle.node_circuit_laws.proofs.Widths.{widths_of_nodes}
 use Rattle.node_circuit_laws.proofs.Words.{width_at, HasValues-all}
 use Rattle.node_circuit_laws.proofs.NodeValues.{values_of_nodes, start_values}
 use Rattle.query_formulas.specs.PairWords.{PairWords}
 use Rattle.query_formulas.specs.PairScans.{scanned_words, scanned_pair}
 use Rattle.query_formula_laws.specs.TypedComparisons.{IsScanOf}
-use Rattle.query_formula_laws.proofs.PairValues.{values_of}
 use Rattle.query_formula_laws.proofs.Values.{widths-cons, words_are, same_place}
 use Rattle.query_formula_laws.proofs.Spelled.{Spells, SpellsPair, length-spelled}
 

@@ -19,8 +19,9 @@ use Rattle.node_circuits.specs.NodeWords.{Words}
 use Rattle.query_formulas.specs.PairWords.{PairWords, free_words, sum_of, widths_of}
 use Rattle.query_formulas.specs.Products.{lines_cells, free_cells, product_of}
 use Rattle.query_formulas.specs.QueryClauses.{members_of, some_fails, premises_of, step_formula, goal_formula}
+use Rattle.query_formulas.specs.Decoded.{IsAnswer}
+use Rattle.query_formula_laws.specs.Decoded.{decoded_pair, decoded_row, product_decoded}
 use Rattle.query_formula_laws.specs.TypedComparisons.{IsTypedComparison, IsScanOf}
-use Rattle.query_formula_laws.proofs.PairValues.{values_of, pair_of}
 use Rattle.query_formula_laws.proofs.FreeBits.{bits_of, joined}
 use Rattle.query_formula_laws.proofs.Spelled.{Spells, SpellsPair}
 use Rattle.query_formula_laws.proofs.FormulaTruth.{gates-model, model-gates}
@@ -58,10 +59,10 @@ module _ (c : Comparison) (t : IsTypedComparison c) (a b : ScanData) (is_a : IsS
   -- ---- what a model reads
 
   abbrev read_pair : (ℕ → Bool) → Pair
-  read_pair v = pair_of v c.old c.new (pair_words c)
+  read_pair v = decoded_pair c (pair_words c).old (pair_words c).new v
 
   abbrev read_row : (ℕ → Bool) → Row
-  read_row v = values_of v (kinds_of (lines_cells c)) (input_words c)
+  read_row v = decoded_row c (input_words c) v
 
   reads_pair : (v : ℕ → Bool) → SpellsPair v c.old c.new (pair_words c) (read_pair v)
   reads_pair v = record { old = free_read v 2 c.old.cells; new = free_read v (new_from c) c.new.cells }
@@ -128,12 +129,16 @@ module _ (c : Comparison) (t : IsTypedComparison c) (a b : ScanData) (is_a : IsS
 
   -- ---- STEP
 
+  -- what a solution spells is an answer
+  pub step_decoded : (set : CandidateSet) (v : ℕ → Bool) → Satisfies v (step_formula (product_of c a b limit) set).clauses → IsAnswer c (step set) (product_decoded c (product_of c a b limit) v)
+  step_decoded set v h =
+      let p = product_of c a b limit in
+      let parts = gates-model v p.net (premises_of p set ++ some_fails (members_of set p.after) ∷ []) h in
+      (read_row v, refl, step_found v c t p (read_pair v) (read_row v) (model_truth v parts.0) set parts.1)
+
   pub step_means : (set : CandidateSet) → Means c (step set) (step_formula (product_of c a b limit) set)
   step_means set = record {
-    found = λ v h.
-        let p = product_of c a b limit in
-        let parts = gates-model v p.net (premises_of p set ++ some_fails (members_of set p.after) ∷ []) h in
-        (read_pair v, read_row v ∷ [], (read_row v, refl, step_found v c t p (read_pair v) (read_row v) (model_truth v parts.0) set parts.1));
+    found = λ v h. let d = product_decoded c (product_of c a b limit) v in (d.pair, d.rows, step_decoded set v h);
     asked = λ answer. by answer.0 answer.2.0 answer.2.2;
   }
     where
@@ -145,12 +150,16 @@ module _ (c : Comparison) (t : IsTypedComparison c) (a b : ScanData) (is_a : IsS
 
   -- ---- GOAL
 
+  -- what a solution spells is an answer
+  pub goal_decoded : (set : CandidateSet) (v : ℕ → Bool) → Satisfies v (goal_formula (product_of c a b limit) set).clauses → IsAnswer c (goal set) (product_decoded c (product_of c a b limit) v)
+  goal_decoded set v h =
+      let p = product_of c a b limit in
+      let parts = gates-model v p.net (premises_of p set ++ some_fails p.relates ∷ []) h in
+      (read_row v, refl, goal_found v c t p (read_pair v) (read_row v) (model_truth v parts.0) set parts.1)
+
   pub goal_means : (set : CandidateSet) → Means c (goal set) (goal_formula (product_of c a b limit) set)
   goal_means set = record {
-    found = λ v h.
-        let p = product_of c a b limit in
-        let parts = gates-model v p.net (premises_of p set ++ some_fails p.relates ∷ []) h in
-        (read_pair v, read_row v ∷ [], (read_row v, refl, goal_found v c t p (read_pair v) (read_row v) (model_truth v parts.0) set parts.1));
+    found = λ v h. let d = product_decoded c (product_of c a b limit) v in (d.pair, d.rows, goal_decoded set v h);
     asked = λ answer. by answer.0 answer.2.0 answer.2.2;
   }
     where

@@ -22,7 +22,7 @@ use Rattle.queries.specs.Comparisons.{Comparison}
 use Rattle.node_core.specs.NodeLaws.{kinds_of}
 use Rattle.node_core.specs.Stores.{of_cell, place_at}
 use Rattle.query_formula_laws.specs.TypedComparisons.{IsClauseOf, IsBoolPlace, AreSteps, HasTypedClauses, IsTypedComparison}
-use Rattle.query_formula_laws.proofs.PairValues.{AreOfTypes}
+use Rattle.query_formula_laws.proofs.TypedValues.{AreOfTypes}
 use Rattle.query_formula_laws.proofs.Given.{of_types}
 
 -- ---- one data type in a pair

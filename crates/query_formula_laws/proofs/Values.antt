@@ -13,9 +13,9 @@ use Rattle.node_laws.proofs.Ranges.{wrapped-in}
 use Rattle.word_laws.specs.Numbers.{number, value}
 use Rattle.word_laws.proofs.Values.{value_wraps_at, value_differs}
 use Rattle.node_circuits.specs.NodeWords.{Words}
-use Rattle.node_circuit_laws.specs.WordValues.{HaveWidths, value_at}
+use Rattle.node_circuit_laws.specs.WordValues.{HaveWidths, value_at, values_of}
 use Rattle.node_circuit_laws.proofs.Numbers.{some_bits}
-use Rattle.query_formula_laws.proofs.PairValues.{values_of, AreOfTypes}
+use Rattle.query_formula_laws.proofs.TypedValues.{AreOfTypes}
 
 -- ---- widths
 

@@ -1,1 +1,2 @@
 pub mod TypedComparisons
+pub mod Decoded

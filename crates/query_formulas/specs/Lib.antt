@@ -4,3 +4,4 @@ pub mod PairScans
 pub mod Products
 pub mod Breaks
 pub mod QueryClauses
+pub mod Decoded

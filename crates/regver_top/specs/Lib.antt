@@ -1,13 +1,1 @@
-pub mod Traces
-pub mod Kept
-pub mod Held
-pub mod Accepting
-pub mod Accepted
-pub mod Lines
-pub mod Outcomes
-pub mod Reports
-pub mod Alike
-pub mod Played
-pub mod Puts
-pub mod Answers
-pub mod Codes
+pub mod Asking

@@ -1,77 +1,65 @@
 // The top call: all that the program does.
-ghost use Rattle.std.specs.Prelude.{◌≡◌, ◌≢◌, ◌≤◌, IsErrOf, IfOk, Some, map, string_bytes, true, false};
+ghost use Rattle.std.specs.Prelude.{◌≡◌, ◌≢◌, ◌≤◌, ◌⊎◌, Some, map, string_bytes, true, false};
 ghost use Rattle.clap.specs.Words.{takes};
-ghost use Rattle.command_line.specs.Asked.{asked, read_as, replay};
+ghost use Rattle.command_line.specs.Asked.{asked, asked_of, read_as, words_of};
 ghost use Rattle.command_line.specs.Grammar.{grammar};
+ghost use Rattle.command_line.specs.Subcommands.{verifies};
 ghost use Rattle.outside.specs.Causes.{Rose, NoneFell};
-ghost use Rattle.regver_top.specs.Accepting.{Texts};
-ghost use Rattle.regver_top.specs.Accepted.{AreKept};
-ghost use Rattle.regver_top.specs.Reports.{AreTold, IsAsked, SomeRose};
-ghost use Rattle.regver_top.specs.Answers.{Answers, IsExact};
+ghost use Rattle.command_answers.specs.Answers.{Answers, IsExact};
+ghost use Rattle.command_files.specs.Texts.{Texts};
+ghost use Rattle.verify_command.specs.Lines.{IsOfVerdict};
+ghost use Rattle.regver_top.specs.Asking.{change, writes_text, settled, AreTold, IsAsked, IsShownBy, IsSavedBy, SomeRose, WriteRose, KeepsFiles, LeavesFinding};
 
-use crate::accept::KeptTexts;
-use crate::answer::{put_answer, put_last};
-use crate::files::read_text;
-use crate::status::Status;
-use command_line::{Command, read_words};
-use outside::{OutErr, Shelf, Sink};
+use check_command::answer_check;
+use command_answers::{Status, put_last};
+use command_line::{Command, FourWords, read_words};
+use outside::{Shelf, Sink};
+use replay_command::answer_replay;
 use std::alloc::Global;
+use verify_command::answer_verify;
 
 const USAGE: &str = "USAGE verify OLD NEW REL FINDING, check, replay, explain or gen\n";
 
-// Reads the four files whole, in their order.
-fn read_texts<S: Shelf>(
-    alloc: Global,
-    old: &str,
-    new: &str,
-    relation: &str,
-    trace: &str,
-    shelf: &mut S,
-) -> Result<KeptTexts, OutErr>
-    ensures texts { (t : Texts) → AreTold (S.file shelf.old) (replay old.now new.now relation.now trace.now) t → IfOk result (λ kept. AreKept kept t) }
-    ensures kept { S.file shelf.new ≡ S.file shelf.old }
-    ensures fault { IsErrOf result OutErr.Fault → SomeRose (S.read_faults shelf.old) (S.read_faults shelf.new) (replay old.now new.now relation.now trace.now) }
-    ensures reads { NoneFell (S.read_faults shelf.old) (S.read_faults shelf.new) }
-    ensures writes { NoneFell (S.write_faults shelf.old) (S.write_faults shelf.new) }
+// Whether the last word is one of the others.
+fn repeats(words: &FourWords) -> bool
+    ensures { result ≡ writes_text (asked_of verifies (words_of words.now)) }
 {
-    let old = read_text(alloc, shelf, old)?;
-    let new = read_text(alloc, shelf, new)?;
-    let relation = read_text(alloc, shelf, relation)?;
-    let trace = read_text(alloc, shelf, trace)?;
-    Ok(KeptTexts {
-        old,
-        new,
-        relation,
-        trace,
-    })
+    words.last == words.old || words.last == words.new || words.last == words.relation
 }
 
-// Replays the trace of four files, and says how that ends.
-fn answer_replay<S: Shelf, K: Sink>(
+// Saves a finding, unless its name is that of one of the texts.
+fn answer_saving<S: Shelf, K: Sink>(
     alloc: Global,
-    old: &str,
-    new: &str,
-    relation: &str,
-    trace: &str,
+    words: &FourWords,
     shelf: &mut S,
     out: &mut K,
 ) -> Status
-    ensures kept { S.file shelf.new ≡ S.file shelf.old }
-    ensures answer { let asked = replay old.now new.now relation.now trace.now in
-        (t : Texts) → AreTold (S.file shelf.old) asked t
-        → Answers (IsAsked asked t) (SomeRose (S.read_faults shelf.old) (S.read_faults shelf.new) asked) result (K.taken out.old) (K.taken out.new) }
-    ensures usage { result ≢ Status.Usage }
-    ensures read_fault { result ≡ Status.ReadFault → SomeRose (S.read_faults shelf.old) (S.read_faults shelf.new) (replay old.now new.now relation.now trace.now) }
-    ensures write_fault { result ≡ Status.WriteFault → Rose (K.faults out.old) (K.faults out.new) }
+    ensures kept { let k = change (S.file shelf.old) (S.file shelf.new) (S.read_faults shelf.old) (S.read_faults shelf.new) (S.write_faults shelf.old) (S.write_faults shelf.new) in KeepsFiles k (settled (asked_of verifies (words_of words.now))) }
+    ensures untouched { (result ≡ Status.ReadFault) ⊎ (result ≡ Status.Usage) → S.file shelf.new ≡ S.file shelf.old }
+    ensures left { let k = change (S.file shelf.old) (S.file shelf.new) (S.read_faults shelf.old) (S.read_faults shelf.new) (S.write_faults shelf.old) (S.write_faults shelf.new) in let asked = settled (asked_of verifies (words_of words.now)) in
+        (t : Texts) → AreTold k asked t → LeavesFinding k asked t }
+    ensures answer { let k = change (S.file shelf.old) (S.file shelf.new) (S.read_faults shelf.old) (S.read_faults shelf.new) (S.write_faults shelf.old) (S.write_faults shelf.new) in let asked = settled (asked_of verifies (words_of words.now)) in
+        (t : Texts) → AreTold k asked t → Answers (IsAsked k asked t) (SomeRose k asked) result (K.taken out.old) (K.taken out.new) }
+    ensures usage { writes_text (asked_of verifies (words_of words.now)) ≡ false → result ≢ Status.Usage }
+    ensures only_usage { writes_text (asked_of verifies (words_of words.now)) ≡ true → result ≢ Status.WriteFault → result ≢ Status.Memory → result ≡ Status.Usage }
+    ensures read_fault { let k = change (S.file shelf.old) (S.file shelf.new) (S.read_faults shelf.old) (S.read_faults shelf.new) (S.write_faults shelf.old) (S.write_faults shelf.new) in result ≡ Status.ReadFault → SomeRose k (settled (asked_of verifies (words_of words.now))) }
+    ensures write_fault { let k = change (S.file shelf.old) (S.file shelf.new) (S.read_faults shelf.old) (S.read_faults shelf.new) (S.write_faults shelf.old) (S.write_faults shelf.new) in result ≡ Status.WriteFault → WriteRose k (settled (asked_of verifies (words_of words.now))) ⊎ Rose (K.faults out.old) (K.faults out.new) }
     ensures reads { NoneFell (S.read_faults shelf.old) (S.read_faults shelf.new) }
     ensures writes { NoneFell (S.write_faults shelf.old) (S.write_faults shelf.new) }
     ensures faults { K.faults out.old ≤ K.faults out.new }
 {
-    match read_texts(alloc, old, new, relation, trace, shelf) {
-        Ok(texts) => put_answer(alloc, &texts, out),
-        Err(OutErr::Fault) => put_last(out, "READ FAULT\n", Status::ReadFault),
-        Err(OutErr::Memory) => put_last(out, "MEMORY\n", Status::Memory),
+    if repeats(words) {
+        return put_last(out, USAGE, Status::Usage);
     }
+    answer_verify(
+        alloc,
+        &words.old,
+        &words.new,
+        &words.relation,
+        &words.last,
+        shelf,
+        out,
+    )
 }
 
 // Carries out a command, and says how that ends.
@@ -81,24 +69,40 @@ fn answer_command<S: Shelf, K: Sink>(
     shelf: &mut S,
     out: &mut K,
 ) -> Status
-    ensures kept { S.file shelf.new ≡ S.file shelf.old }
-    ensures answer { let asked = read_as (Some command.now) in
-        (t : Texts) → AreTold (S.file shelf.old) asked t
-        → Answers (IsAsked asked t) (SomeRose (S.read_faults shelf.old) (S.read_faults shelf.new) asked) result (K.taken out.old) (K.taken out.new) }
-    ensures usage { result ≢ Status.Usage }
-    ensures read_fault { result ≡ Status.ReadFault → SomeRose (S.read_faults shelf.old) (S.read_faults shelf.new) (read_as (Some command.now)) }
-    ensures write_fault { result ≡ Status.WriteFault → Rose (K.faults out.old) (K.faults out.new) }
+    ensures kept { let k = change (S.file shelf.old) (S.file shelf.new) (S.read_faults shelf.old) (S.read_faults shelf.new) (S.write_faults shelf.old) (S.write_faults shelf.new) in KeepsFiles k (settled (read_as (Some command.now))) }
+    ensures untouched { (result ≡ Status.ReadFault) ⊎ (result ≡ Status.Usage) → S.file shelf.new ≡ S.file shelf.old }
+    ensures left { let k = change (S.file shelf.old) (S.file shelf.new) (S.read_faults shelf.old) (S.read_faults shelf.new) (S.write_faults shelf.old) (S.write_faults shelf.new) in let asked = settled (read_as (Some command.now)) in
+        (t : Texts) → AreTold k asked t → LeavesFinding k asked t }
+    ensures answer { let k = change (S.file shelf.old) (S.file shelf.new) (S.read_faults shelf.old) (S.read_faults shelf.new) (S.write_faults shelf.old) (S.write_faults shelf.new) in let asked = settled (read_as (Some command.now)) in
+        (t : Texts) → AreTold k asked t → Answers (IsAsked k asked t) (SomeRose k asked) result (K.taken out.old) (K.taken out.new) }
+    ensures usage { writes_text (read_as (Some command.now)) ≡ false → result ≢ Status.Usage }
+    ensures only_usage { writes_text (read_as (Some command.now)) ≡ true → result ≢ Status.WriteFault → result ≢ Status.Memory → result ≡ Status.Usage }
+    ensures read_fault { let k = change (S.file shelf.old) (S.file shelf.new) (S.read_faults shelf.old) (S.read_faults shelf.new) (S.write_faults shelf.old) (S.write_faults shelf.new) in result ≡ Status.ReadFault → SomeRose k (settled (read_as (Some command.now))) }
+    ensures write_fault { let k = change (S.file shelf.old) (S.file shelf.new) (S.read_faults shelf.old) (S.read_faults shelf.new) (S.write_faults shelf.old) (S.write_faults shelf.new) in result ≡ Status.WriteFault → WriteRose k (settled (read_as (Some command.now))) ⊎ Rose (K.faults out.old) (K.faults out.new) }
     ensures reads { NoneFell (S.read_faults shelf.old) (S.read_faults shelf.new) }
     ensures writes { NoneFell (S.write_faults shelf.old) (S.write_faults shelf.new) }
     ensures faults { K.faults out.old ≤ K.faults out.new }
 {
     match command {
-        Command::Replay {
-            old,
-            new,
-            relation,
-            trace,
-        } => answer_replay(alloc, old, new, relation, trace, shelf, out),
+        Command::Check(words) => answer_check(
+            alloc,
+            &words.old,
+            &words.new,
+            &words.relation,
+            &words.last,
+            shelf,
+            out,
+        ),
+        Command::Replay(words) => answer_replay(
+            alloc,
+            &words.old,
+            &words.new,
+            &words.relation,
+            &words.last,
+            shelf,
+            out,
+        ),
+        Command::Verify(words) => answer_saving(alloc, words, shelf, out),
     }
 }
 
@@ -109,14 +113,16 @@ fn answer_words<S: Shelf, K: Sink>(
     shelf: &mut S,
     out: &mut K,
 ) -> Status
-    ensures kept { S.file shelf.new ≡ S.file shelf.old }
-    ensures answer { let asked = asked (map string_bytes words.items) in
-        (t : Texts) → AreTold (S.file shelf.old) asked t
-        → Answers (IsAsked asked t) (SomeRose (S.read_faults shelf.old) (S.read_faults shelf.new) asked) result (K.taken out.old) (K.taken out.new) }
-    ensures usage { takes grammar (map string_bytes words.items) ≡ true → result ≢ Status.Usage }
-    ensures only_usage { takes grammar (map string_bytes words.items) ≡ false → result ≢ Status.WriteFault → result ≢ Status.Memory → result ≡ Status.Usage }
-    ensures read_fault { result ≡ Status.ReadFault → SomeRose (S.read_faults shelf.old) (S.read_faults shelf.new) (asked (map string_bytes words.items)) }
-    ensures write_fault { result ≡ Status.WriteFault → Rose (K.faults out.old) (K.faults out.new) }
+    ensures kept { let k = change (S.file shelf.old) (S.file shelf.new) (S.read_faults shelf.old) (S.read_faults shelf.new) (S.write_faults shelf.old) (S.write_faults shelf.new) in KeepsFiles k (settled (asked (map string_bytes words.items))) }
+    ensures untouched { (result ≡ Status.ReadFault) ⊎ (result ≡ Status.Usage) → S.file shelf.new ≡ S.file shelf.old }
+    ensures left { let k = change (S.file shelf.old) (S.file shelf.new) (S.read_faults shelf.old) (S.read_faults shelf.new) (S.write_faults shelf.old) (S.write_faults shelf.new) in let asked = settled (asked (map string_bytes words.items)) in
+        (t : Texts) → AreTold k asked t → LeavesFinding k asked t }
+    ensures answer { let k = change (S.file shelf.old) (S.file shelf.new) (S.read_faults shelf.old) (S.read_faults shelf.new) (S.write_faults shelf.old) (S.write_faults shelf.new) in let asked = settled (asked (map string_bytes words.items)) in
+        (t : Texts) → AreTold k asked t → Answers (IsAsked k asked t) (SomeRose k asked) result (K.taken out.old) (K.taken out.new) }
+    ensures usage { takes grammar (map string_bytes words.items) ≡ true → writes_text (asked (map string_bytes words.items)) ≡ false → result ≢ Status.Usage }
+    ensures only_usage { (takes grammar (map string_bytes words.items) ≡ false) ⊎ (writes_text (asked (map string_bytes words.items)) ≡ true) → result ≢ Status.WriteFault → result ≢ Status.Memory → result ≡ Status.Usage }
+    ensures read_fault { let k = change (S.file shelf.old) (S.file shelf.new) (S.read_faults shelf.old) (S.read_faults shelf.new) (S.write_faults shelf.old) (S.write_faults shelf.new) in result ≡ Status.ReadFault → SomeRose k (settled (asked (map string_bytes words.items))) }
+    ensures write_fault { let k = change (S.file shelf.old) (S.file shelf.new) (S.read_faults shelf.old) (S.read_faults shelf.new) (S.write_faults shelf.old) (S.write_faults shelf.new) in result ≡ Status.WriteFault → WriteRose k (settled (asked (map string_bytes words.items))) ⊎ Rose (K.faults out.old) (K.faults out.new) }
     ensures reads { NoneFell (S.read_faults shelf.old) (S.read_faults shelf.new) }
     ensures writes { NoneFell (S.write_faults shelf.old) (S.write_faults shelf.new) }
     ensures faults { K.faults out.old ≤ K.faults out.new }
@@ -135,31 +141,43 @@ pub fn regver<S: Shelf, K: Sink>(
     shelf: &mut S,
     out: &mut K,
 ) -> Status
-    // No file changes.
-    ensures kept { S.file shelf.new ≡ S.file shelf.old }
+    // No file changes but the finding that `verify` writes, and none where a read failed or the command line is none that there is.
+    ensures kept { let k = change (S.file shelf.old) (S.file shelf.new) (S.read_faults shelf.old) (S.read_faults shelf.new) (S.write_faults shelf.old) (S.write_faults shelf.new) in KeepsFiles k (settled (asked (map string_bytes words.items))) }
+    ensures untouched { (result ≡ Status.ReadFault) ⊎ (result ≡ Status.Usage) → S.file shelf.new ≡ S.file shelf.old }
+
+    // That finding is as at entry, or what is told of it is a part of a finding on what the texts state.
+    ensures left { let k = change (S.file shelf.old) (S.file shelf.new) (S.read_faults shelf.old) (S.read_faults shelf.new) (S.write_faults shelf.old) (S.write_faults shelf.new) in let asked = settled (asked (map string_bytes words.items)) in
+        (t : Texts) → AreTold k asked t → LeavesFinding k asked t }
 
     // The bytes on the sink and the status are those of what the words ask for, where the texts of the files that
     // they name are told: of a report on them, or of how the program is used.
-    ensures answer { let asked = asked (map string_bytes words.items) in
-        (t : Texts) → AreTold (S.file shelf.old) asked t
-        → Answers (IsAsked asked t) (SomeRose (S.read_faults shelf.old) (S.read_faults shelf.new) asked) result (K.taken out.old) (K.taken out.new) }
+    ensures answer { let k = change (S.file shelf.old) (S.file shelf.new) (S.read_faults shelf.old) (S.read_faults shelf.new) (S.write_faults shelf.old) (S.write_faults shelf.new) in let asked = settled (asked (map string_bytes words.items)) in
+        (t : Texts) → AreTold k asked t → Answers (IsAsked k asked t) (SomeRose k asked) result (K.taken out.old) (K.taken out.new) }
 
-    // USAGE comes exactly where clap does not take the words, unless the sink or memory gives up.
-    ensures usage { takes grammar (map string_bytes words.items) ≡ true → result ≢ Status.Usage }
-    ensures only_usage { takes grammar (map string_bytes words.items) ≡ false → result ≢ Status.WriteFault → result ≢ Status.Memory → result ≡ Status.Usage }
+    // Where the answer is VALID and a verdict, that is the verdict of the model on what the texts state, or SPENT with its log.
+    ensures shown { let k = change (S.file shelf.old) (S.file shelf.new) (S.read_faults shelf.old) (S.read_faults shelf.new) (S.write_faults shelf.old) (S.write_faults shelf.new) in let asked = settled (asked (map string_bytes words.items)) in
+        (t : Texts) → AreTold k asked t → result ≡ Status.Valid → IsShownBy asked t (K.taken out.old) (K.taken out.new) }
+
+    // Where the answer is a verdict, a finding was saved that is judged valid with it, and it is that of the model, or SPENT with its log.
+    ensures saved { let k = change (S.file shelf.old) (S.file shelf.new) (S.read_faults shelf.old) (S.read_faults shelf.new) (S.write_faults shelf.old) (S.write_faults shelf.new) in let asked = settled (asked (map string_bytes words.items)) in
+        (t : Texts) → AreTold k asked t → IsOfVerdict result → IsSavedBy k asked t result (K.taken out.old) (K.taken out.new) }
+
+    // USAGE comes exactly where clap does not take the words, or `verify` would write one of the files that it reads, unless the
+    // sink or memory gives up.
+    ensures usage { takes grammar (map string_bytes words.items) ≡ true → writes_text (asked (map string_bytes words.items)) ≡ false → result ≢ Status.Usage }
+    ensures only_usage { (takes grammar (map string_bytes words.items) ≡ false) ⊎ (writes_text (asked (map string_bytes words.items)) ≡ true) → result ≢ Status.WriteFault → result ≢ Status.Memory → result ≡ Status.Usage }
 
     // A fault comes only where a count rose, and no count falls.
-    ensures read_fault { result ≡ Status.ReadFault → SomeRose (S.read_faults shelf.old) (S.read_faults shelf.new) (asked (map string_bytes words.items)) }
-    ensures write_fault { result ≡ Status.WriteFault → Rose (K.faults out.old) (K.faults out.new) }
+    ensures read_fault { let k = change (S.file shelf.old) (S.file shelf.new) (S.read_faults shelf.old) (S.read_faults shelf.new) (S.write_faults shelf.old) (S.write_faults shelf.new) in result ≡ Status.ReadFault → SomeRose k (settled (asked (map string_bytes words.items))) }
+    ensures write_fault { let k = change (S.file shelf.old) (S.file shelf.new) (S.read_faults shelf.old) (S.read_faults shelf.new) (S.write_faults shelf.old) (S.write_faults shelf.new) in result ≡ Status.WriteFault → WriteRose k (settled (asked (map string_bytes words.items))) ⊎ Rose (K.faults out.old) (K.faults out.new) }
     ensures reads { NoneFell (S.read_faults shelf.old) (S.read_faults shelf.new) }
     ensures writes { NoneFell (S.write_faults shelf.old) (S.write_faults shelf.new) }
     ensures faults { K.faults out.old ≤ K.faults out.new }
 
     // Where no count rose, the answer is the whole of what is asked for, or memory was wanting.
-    ensures complete { let asked = asked (map string_bytes words.items) in
-        (t : Texts) → AreTold (S.file shelf.old) asked t
-        → ¬ SomeRose (S.read_faults shelf.old) (S.read_faults shelf.new) asked → ¬ Rose (K.faults out.old) (K.faults out.new)
-        → result ≢ Status.Memory → IsExact (IsAsked asked t) result (K.taken out.old) (K.taken out.new) }
+    ensures complete { let k = change (S.file shelf.old) (S.file shelf.new) (S.read_faults shelf.old) (S.read_faults shelf.new) (S.write_faults shelf.old) (S.write_faults shelf.new) in let asked = settled (asked (map string_bytes words.items)) in
+        (t : Texts) → AreTold k asked t → ¬ SomeRose k asked → ¬ WriteRose k asked → ¬ Rose (K.faults out.old) (K.faults out.new)
+        → result ≢ Status.Memory → IsExact (IsAsked k asked t) result (K.taken out.old) (K.taken out.new) }
 {
     answer_words(alloc, words, shelf, out)
 }

@@ -6,10 +6,11 @@ use Rattle.source_tree.specs.SyntaxView.{file_view}
 use Rattle.program_tree.specs.View.{program_view}
 use Rattle.naming.specs.Broken.{broken_names}
 use Rattle.naming.specs.Circles.{uses_of}
-use Rattle.front_end.specs.Texts.{HasFile, AreNamesSound}
+use Rattle.front_end.specs.Texts.{HasFile}
 use Rattle.front_end.proofs.OnePou.{one_pou}
 use Rattle.front_end.proofs.Ready.{program_of_ready}
-use Rattle.front_end.proofs.Passes.{tree_first, names_refused, sound_names, types_refused, program_of}
+use Rattle.front_end.proofs.TypedTexts.{text_typed}
+use Rattle.front_end.proofs.Passes.{tree_first, names_refused, sound_names, types_refused, program_read}
 use Rattle.front_end.proofs.accept.accept_text.Goals as goal
 
 pub returns-in_err-file-clause-refused : goal.returns-in_err-file-clause-refused
@@ -35,13 +36,14 @@ returns-in_err-check-clause-refused c =
 
 pub returns-clause-program : goal.returns-clause-program
 returns-clause-program c =
-    let f = file_view c.in_ok-resolved.resolved.file in
-    let same = sym c.in_ok-resolved.ensures.file in
-    let none = subst (λ (g : FileData). broken_names g ≡ []) same c.in_ok-resolved.ensures.kept in
-    let acyclic = subst (λ (g : FileData). (k : ℕ) → ¬ (Reaches (uses_of g) k k)) same c.in_ok-resolved.ensures.acyclic in
-    let one = one_pou f none in
-    program_of c.args.text.now f one.number one.pou (program_view c.in_ok-check.field-0) (subst (HasFile c.args.text.now) same c.in_ok-file.ensures.file) (sound_names f none acyclic) one.one
-    c.in_ok-check.ensures.kept c.in_ok-check.ensures.room c.in_ok-check.ensures.typed
+    program_read c.args.text.now (file_view c.in_ok-resolved.resolved.file) (file_view c.in_ok-file.file) (program_view c.in_ok-check.field-0) c.in_ok-file.ensures.file (sym c.in_ok-resolved.ensures.file)
+    c.in_ok-resolved.ensures.kept c.in_ok-resolved.ensures.acyclic c.in_ok-check.ensures.kept c.in_ok-check.ensures.room c.in_ok-check.ensures.typed
 
 pub returns-clause-fit : goal.returns-clause-fit
 returns-clause-fit c = program_of_ready (program_view c.in_ok-check.field-0) c.in_ok-check.ensures.ready
+
+pub returns-clause-typed : goal.returns-clause-typed
+returns-clause-typed c =
+    text_typed c.args.text.now (program_view c.in_ok-check.field-0)
+    (program_read c.args.text.now (file_view c.in_ok-resolved.resolved.file) (file_view c.in_ok-file.file) (program_view c.in_ok-check.field-0) c.in_ok-file.ensures.file (sym c.in_ok-resolved.ensures.file)
+    c.in_ok-resolved.ensures.kept c.in_ok-resolved.ensures.acyclic c.in_ok-check.ensures.kept c.in_ok-check.ensures.room c.in_ok-check.ensures.typed)

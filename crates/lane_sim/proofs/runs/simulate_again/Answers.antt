@@ -1,14 +1,7 @@
-use Rattle.std.proofs.Common.{◌∙◌, ap, List}
-use Rattle.clause_core.specs.declared.gate.Gate.{Gate}
-use Rattle.gates.specs.Models.{extended}
-use Rattle.lane_sim.specs.Lanes.{assignment_of}
 use Rattle.lane_sim.proofs.RunLaws.{IsRunOf-extended}
 use Rattle.lane_sim.proofs.runs.simulate_again.Goals as goal
 
 pub returns : goal.returns
 returns c j h =
     IsRunOf-extended c.args.circuit.now c.args.free.now c.put_free.new.words c.put_gates.new.words j c.requires.ordered c.requires.free
-    (c.put_free.ensures.one j h) (λ i lt. c.put_free.ensures.bits j i lt)
-    (c.put_gates.ensures j h
-    ∙ ap (λ x. extended (assignment_of j c.put_free.new.words) x c.gates.result.now) c.first.ensures.first
-    ∙ ap (λ (gs : List Gate). extended (assignment_of j c.put_free.new.words) c.args.circuit.now.first gs) c.gates.ensures)
+    (c.put_free.ensures.one j h) (λ i lt. c.put_free.ensures.bits j i lt) (c.put_gates.ensures j h)

@@ -1,0 +1,7 @@
+pub mod Roles
+pub mod NameParts
+pub mod Within
+pub mod CalledFunctions
+pub mod SingleNames
+pub mod WholeNames
+pub mod UsedBlocks

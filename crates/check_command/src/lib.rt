@@ -1,0 +1,10 @@
+// The command `check`: a finding is judged by the programs and the relation that it speaks of.
+#![tactic(auto)]
+
+mod command;
+mod finding;
+mod laws;
+mod show;
+
+pub use command::answer_check;
+pub use laws::one_report;

@@ -1,0 +1,5 @@
+pub mod Codes
+pub mod Reports
+pub mod Alike
+pub mod Puts
+pub mod Answers

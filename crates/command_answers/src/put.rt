@@ -1,0 +1,16 @@
+// Text on the sink.
+ghost use Rattle.std.specs.Prelude.{◌≡◌, OnOk, OnErr};
+ghost use Rattle.outside.specs.Causes.{HasCause};
+ghost use Rattle.outside.specs.Contents.{extended};
+ghost use Rattle.command_answers.specs.Puts.{PutsPart};
+
+use outside::{OutErr, Sink};
+
+/// Puts a text, all of it or a front of it.
+pub fn put_text<K: Sink>(out: &mut K, text: &str) -> Result<(), OutErr>
+    ensures whole { OnOk result (K.taken out.new ≡ extended (K.taken out.old) text.now) }
+    ensures part { OnErr result (PutsPart (K.taken out.old) (K.taken out.new) text.now) }
+    ensures cause { HasCause (K.faults out.old) (K.faults out.new) result }
+{
+    out.put(text.as_bytes())
+}

@@ -1,0 +1,5 @@
+pub mod Kept
+pub mod Texts
+pub mod KeptTexts
+pub mod Stating
+pub mod Refused

@@ -1,0 +1,129 @@
+// The programs with the nodes of their scans, and the relation, that kept texts state.
+ghost use Rattle.std.specs.Prelude.{◌≡◌, true, IfOk, IfErr, List, ℕ};
+ghost use Rattle.program_tree.specs.View.{program_view};
+ghost use Rattle.rules.specs.declared.rule.Rule.TheVariants.{TooLong};
+ghost use Rattle.scan_model.specs.InRange.{IsProgram as IsFitToRun};
+ghost use Rattle.scan_model.specs.Pairs.{relation_view, BelongsTo};
+ghost use Rattle.node_core.specs.Scans.{scan_view};
+ghost use Rattle.node_end.specs.NodeTexts.{HasManyNodes};
+ghost use Rattle.flat_end.specs.FlatTexts.{HasNoFlatForm};
+ghost use Rattle.relation_file.specs.Stated.{has_few_candidates};
+ghost use Rattle.relation_file.specs.WellFormed.{IsWellFormed};
+ghost use Rattle.query_formula_laws.specs.TypedComparisons.{IsScanOf};
+ghost use Rattle.product_build.specs.Limits.{HasFewLines};
+ghost use Rattle.comparison_typing.specs.Readings.{IsRead};
+ghost use Rattle.command_files.specs.Kept.{IsKept};
+ghost use Rattle.command_files.specs.KeptTexts.{AreKept};
+ghost use Rattle.command_files.specs.Texts.{Texts};
+ghost use Rattle.comparison_files.specs.Accepting.{nodes_of, StatesProgram, StatesSmallRelation, StatesNoSmallRelation, AreStated, IsRefused, IsTooLarge};
+ghost use Rattle.comparison_files.specs.Comparing.{comparison_in};
+ghost use Rattle.comparison_files.specs.Faults.{IfFault, IfFaultOf};
+
+use crate::fault::{CompareFault, program_fault, relation_fault};
+use command_answers::{Limit, Source};
+use command_files::KeptTexts;
+use front_end::tokens_of;
+use node_end::{Accepted, accept};
+use program_tree::Program;
+use relation_file::read_relation;
+use relation_sizes::law_few_lines;
+use rules::{Refusal, Rule};
+use scan_model::Relation;
+use std::alloc::Global;
+
+/// What is compared: both programs, each with the nodes of its scan, and the relation between them.
+#[derive(Drop)]
+pub struct Compared {
+    pub old: Accepted,
+    pub new: Accepted,
+    pub relation: Relation,
+}
+
+fn too_long(source: Source) -> CompareFault
+    ensures { result ≡ CompareFault.Refused source (record { rule = TooLong; at = 0 }) }
+{
+    let rule = Rule::TooLong;
+    CompareFault::Refused(source, Refusal { rule, at: 0 })
+}
+
+// The program that the text of a file states.
+fn program_in(
+    alloc: Global,
+    source: Source,
+    text: &Option<Vec<u8>>,
+) -> Result<Accepted, CompareFault>
+    ensures ok { (bytes : List ℕ) → IsKept text.now bytes → IfOk result (λ a. StatesProgram bytes (program_view a.program)) }
+    ensures nodes { IfOk result (λ a. scan_view a.scan ≡ nodes_of (program_view a.program)) }
+    ensures fit { IfOk result (λ a. IsFitToRun (program_view a.program)) }
+    ensures meaning { IfOk result (λ a. IsScanOf (program_view a.program) (scan_view a.scan)) }
+    ensures refused { (bytes : List ℕ) → IsKept text.now bytes → IfErr result (IfFaultOf source (HasNoFlatForm bytes) (λ l. (l ≡ Limit.Nodes) × HasManyNodes bytes)) }
+{
+    let Some(text) = text else {
+        return Err(too_long(source));
+    };
+    match accept(alloc, text) {
+        Ok(accepted) => Ok(accepted),
+        Err(fault) => Err(program_fault(source, fault)),
+    }
+}
+
+// The relation between two programs that a text states.
+fn relation_of(
+    alloc: Global,
+    old: &Program,
+    new: &Program,
+    text: &[u8],
+) -> Result<Relation, CompareFault>
+    ensures ok { IfOk result (λ r. StatesSmallRelation (program_view old.now) (program_view new.now) text.now (relation_view r)) }
+    ensures belongs { IfOk result (λ r. BelongsTo (program_view old.now) (program_view new.now) (relation_view r)) }
+    ensures well_formed { IfOk result (λ r. IsWellFormed (program_view old.now) (program_view new.now) (relation_view r)) }
+    ensures few { IfOk result (λ r. has_few_candidates (relation_view r) ≡ true) }
+    ensures lines { IfOk result (λ r. HasFewLines (record { old = program_view old.now; new = program_view new.now; relation = relation_view r })) }
+    ensures refused { IfErr result (IfFaultOf Source.Relation (StatesNoSmallRelation (program_view old.now) (program_view new.now) text.now) (λ l. ⊥)) }
+{
+    law_few_lines();
+    let toks = match tokens_of(alloc, text) {
+        Ok(toks) => toks,
+        Err(fault) => return Err(relation_fault(fault)),
+    };
+    match read_relation(alloc, &toks, text.len(), old, new) {
+        Ok(relation) => Ok(relation),
+        Err(fault) => Err(relation_fault(fault)),
+    }
+}
+
+fn relation_in(
+    alloc: Global,
+    old: &Program,
+    new: &Program,
+    text: &Option<Vec<u8>>,
+) -> Result<Relation, CompareFault>
+    ensures ok { (bytes : List ℕ) → IsKept text.now bytes → IfOk result (λ r. StatesSmallRelation (program_view old.now) (program_view new.now) bytes (relation_view r)) }
+    ensures belongs { IfOk result (λ r. BelongsTo (program_view old.now) (program_view new.now) (relation_view r)) }
+    ensures well_formed { IfOk result (λ r. IsWellFormed (program_view old.now) (program_view new.now) (relation_view r)) }
+    ensures few { IfOk result (λ r. has_few_candidates (relation_view r) ≡ true) }
+    ensures lines { IfOk result (λ r. HasFewLines (record { old = program_view old.now; new = program_view new.now; relation = relation_view r })) }
+    ensures refused { (bytes : List ℕ) → IsKept text.now bytes → IfErr result (IfFaultOf Source.Relation (StatesNoSmallRelation (program_view old.now) (program_view new.now) bytes) (λ l. ⊥)) }
+{
+    match text {
+        None => Err(too_long(Source::Relation)),
+        Some(text) => relation_of(alloc, old, new, text),
+    }
+}
+
+/// What the texts state, or the first rule or limit on a program or the relation that the first of them breaks.
+pub fn accept_texts(alloc: Global, texts: &KeptTexts) -> Result<Compared, CompareFault>
+    ensures ok { (t : Texts) → AreKept texts.now t → IfOk result (λ m. AreStated t (comparison_in m)) }
+    ensures read { IfOk result (λ m. IsRead (comparison_in m)) }
+    ensures lines { IfOk result (λ m. HasFewLines (comparison_in m)) }
+    ensures old_nodes { IfOk result (λ m. scan_view m.old.scan ≡ nodes_of (program_view m.old.program)) }
+    ensures new_nodes { IfOk result (λ m. scan_view m.new.scan ≡ nodes_of (program_view m.new.program)) }
+    ensures old_meaning { IfOk result (λ m. IsScanOf (program_view m.old.program) (scan_view m.old.scan)) }
+    ensures new_meaning { IfOk result (λ m. IsScanOf (program_view m.new.program) (scan_view m.new.scan)) }
+    ensures refused { (t : Texts) → AreKept texts.now t → IfErr result (IfFault (IsRefused t) (IsTooLarge t)) }
+{
+    let old = program_in(alloc, Source::Old, &texts.old)?;
+    let new = program_in(alloc, Source::New, &texts.new)?;
+    let relation = relation_in(alloc, &old.program, &new.program, &texts.relation)?;
+    Ok(Compared { old, new, relation })
+}

@@ -1,0 +1,2 @@
+pub mod Notable
+pub mod Explaining

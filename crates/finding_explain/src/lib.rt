@@ -1,0 +1,10 @@
+// A finding is judged, and where it is valid it is explained: its report is made from its lines.
+#![tactic(auto)]
+
+mod answers;
+mod collect;
+mod explain;
+mod notes;
+
+pub use answers::{Explained, FindingFile};
+pub use explain::explain_finding;

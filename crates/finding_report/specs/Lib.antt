@@ -1,0 +1,4 @@
+pub mod Names
+pub mod Noted
+pub mod Reports
+pub mod Views

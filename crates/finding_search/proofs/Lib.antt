@@ -1,0 +1,7 @@
+pub mod Going
+pub mod StepLines
+pub mod LogRuns
+pub mod RowPasses
+pub mod Openings
+pub mod Whole
+pub mod DropLemmas

@@ -1,0 +1,137 @@
+-- The logs of a decider pass as they are written.
+use Rattle.std.proofs.Common.{◌≡◌, ◌≢◌, ℕ, suc, ◌-◌, Bool, true, false, not, ◌&&◌, List, [], ◌∷◌, ◌++◌, map, length, refl, sym, ap, ◌∙◌, subst, arith, pos, append-nil}
+use Rattle.std.specs.Prelude.{nat_lt, if◌then◌else◌}
+use Rattle.std.proofs.lemmas.Bool.{false≢true, lt-ltb}
+use Rattle.clause_core.specs.declared.literal.Lit.{Lit}
+use Rattle.clause_core.specs.declared.log.Entry.{Entry}
+use Rattle.clause_core.specs.declared.log.Entry.TheVariants.{Derived}
+use Rattle.clause_core.specs.declared.step.Step.{Step}
+use Rattle.clause_core.specs.declared.check.Outcome.TheVariants.{NoConflict}
+use Rattle.clause_core.specs.Formula.{Formula}
+use Rattle.clause_core.specs.Clauses.{rises}
+use Rattle.clause_core.specs.Steps.{outcome}
+use Rattle.clause_core.specs.Freshness.{IsFresh}
+use Rattle.clause_core.specs.Logs.{LastDecides, IsGoodStep, IsGoodLog, IsFreshLog}
+use Rattle.clause_core.specs.Decisions.{IsRefutation, IsSpent}
+use Rattle.finding_lines.specs.declared.line.Asked.{Asked}
+use Rattle.derivation_check.specs.Checks.{Derivation, held_of}
+use Rattle.queries.specs.Settings.{Setting}
+use Rattle.queries.specs.Questions.{QueryData}
+use Rattle.judgement.specs.Steps.{clause_of, hints_of, step_of, opened, with_derived, is_accepted, accepts, is_empty}
+use Rattle.judgement.specs.Places.{Place, in_log, in_query, Moved, goes}
+use Rattle.judgement.specs.Tests.{when}
+use Rattle.judgement.specs.declared.answers.Reason.{Reason}
+use Rattle.judgement.specs.declared.answers.Reason.TheVariants.{B2, B6, B10}
+use Rattle.judgement.proofs.LogLemmas.{held_of-with_derived}
+use Rattle.finding_search.specs.Passing.{Passes, Runs}
+use Rattle.finding_search.specs.Shown.{number_of, line_of, lines_of}
+use Rattle.finding_search.specs.Places.{after_all}
+use Rattle.finding_search.proofs.StepLines.{clause_back, rises_back, hints_back, hints_positive}
+
+-- a test that passes
+pub when-true : (b : Bool) (r : Reason) (m n : Moved) → b ≡ true → m ≡ n → m ≡ when b r n
+when-true true r m n e same = same
+when-true false r m n e same = absurd (false≢true e)
+
+is_empty-nil : (c : List Lit) → c ≡ [] → is_empty c ≡ true
+is_empty-nil c e = ap is_empty e
+
+is_empty-some : (c : List Lit) → c ≢ [] → is_empty c ≡ false
+is_empty-some [] some = absurd (some refl)
+is_empty-some (l ∷ ls) some = refl
+
+module _ (s : Setting) (formula : QueryData → Formula) where
+  module _ (d : Derivation) (step : Step) (good : IsGoodStep d.formula.variables (held_of d) step) where
+    same_clause : clause_of (map number_of step.clause) ≡ step.clause
+    same_clause = clause_back d.formula.variables 0 step.clause good.rises
+
+    same_hints : hints_of (map pos step.hints) ≡ step.hints
+    same_hints = hints_back step.hints
+
+    ordered : rises d.formula.variables (clause_of (map number_of step.clause)) ≡ true
+    ordered = ap (rises d.formula.variables) same_clause ∙ good.rises
+
+    taken : accepts d (step_of (map number_of step.clause) (map pos step.hints)) ≡ true
+    taken =
+        ap (λ c. is_accepted (outcome d.formula.variables (held_of d) c (hints_of (map pos step.hints)))) same_clause
+        ∙ ap (λ h. is_accepted (outcome d.formula.variables (held_of d) step.clause h)) same_hints ∙ ap is_accepted good.accepted
+
+    tight : LastDecides d.formula.variables (held_of d) (step_of (map number_of step.clause) (map pos step.hints))
+    tight = (
+      good.last.0,
+      good.last.1,
+      same_hints ∙ good.last.2,
+      subst (λ c. outcome d.formula.variables (held_of d) c good.last.0 ≡ NoConflict) (sym same_clause) good.last.3,
+    )
+
+    -- in a log that is to refute its formula
+    step_leads : (behind : Place) (b : Bool) → is_empty step.clause ≡ b
+        → Passes s formula (in_log d behind) (line_of (Derived step)) (if b then behind else in_log (with_derived d step.clause) behind)
+    step_leads behind b e = record {
+      form = (rises_back d.formula.variables 0 step.clause good.rises, hints_positive d.formula.variables (held_of d) step good);
+      moves = (
+        true,
+        (λ _. (λ _. tt, λ _. refl)),
+        when-true _ B2 _ _ ordered (when-true _ B6 _ _ taken
+            (ap (λ t. goes (if t then behind else in_log (with_derived d step.clause) behind)) (sym e)
+            ∙ ap (λ c. goes (if is_empty c then behind else in_log (with_derived d c) behind)) (sym same_clause))),
+      );
+      tight = tight;
+    }
+
+    -- in a log that is to spend its query
+    step_spends : (asked : Asked) (left : ℕ) → step.clause ≢ [] → IsFresh (held_of d) step.clause
+        → Passes s formula (in_query asked d (suc left)) (line_of (Derived step)) (in_query asked (with_derived d step.clause) left)
+    step_spends asked left some fresh = record {
+      form = (rises_back d.formula.variables 0 step.clause good.rises, hints_positive d.formula.variables (held_of d) step good);
+      moves = (
+        true,
+        (λ _. (λ _. subst (IsFresh (held_of d)) (sym same_clause) fresh, λ _. refl)),
+        when-true _ B2 _ _ ordered (when-true _ B6 _ _ taken (when-true _ B10 _ _ (more (is_empty (clause_of (map number_of step.clause)))
+            (ap is_empty same_clause ∙ is_empty-some step.clause some)) (ap (λ n. goes (in_query asked (with_derived d step.clause) n)) (let e : left ≡ suc left - 1 = omega arith in e)
+            ∙ ap (λ c. goes (in_query asked (with_derived d c) (suc left - 1))) (sym same_clause)))),
+      );
+      tight = tight;
+    } where
+      more : (b : Bool) → b ≡ false → (not b && (true && nat_lt 0 (suc left))) ≡ true
+      more true e = absurd (false≢true (sym e))
+      more false e = lt-ltb 0 (suc left) (omega arith)
+
+  log_runs : (d : Derivation) (behind : Place) (front : List Entry) (last : Step) → IsGoodLog d.formula.variables (held_of d) (front ++ Derived last ∷ []) → last.clause ≡ []
+      → IsFreshLog (held_of d) front → Runs s formula (in_log d behind) (lines_of (front ++ Derived last ∷ [])) behind
+  log_runs d behind [] last good empty fresh = (behind, step_leads d last good.0 behind true (is_empty-nil last.clause empty), refl)
+  log_runs d behind (Derived step ∷ more) last good empty fresh = (
+    in_log (with_derived d step.clause) behind,
+    step_leads d step good.0 behind false (is_empty-some step.clause fresh.0.1),
+    log_runs (with_derived d step.clause) behind more last
+        (subst (λ held. IsGoodLog d.formula.variables held (more ++ Derived last ∷ [])) (held_of-with_derived d step.clause) good.1) empty
+        (subst (λ held. IsFreshLog held more) (held_of-with_derived d step.clause) fresh.1),
+  )
+
+  -- a log that refutes a formula leads behind it
+  pub refutation_runs : (f : Formula) (limit : ℕ) (log : List Entry) (behind : Place) → IsRefutation f limit log → Runs s formula (in_log (opened f) behind) (lines_of log) behind
+  refutation_runs f limit log behind r =
+      let front = r.ends.0 in
+      let last = r.ends.1 in
+      subst (λ l. Runs s formula (in_log (opened f) behind) (lines_of l) behind) (sym r.ends.2)
+      (log_runs (opened f) behind front last
+      (subst (λ held. IsGoodLog f.variables held (front ++ Derived last ∷ [])) (sym (append-nil f.clauses)) (subst (IsGoodLog f.variables f.clauses) r.ends.2 r.good)) r.ends.3
+      (subst (λ held. IsFreshLog held front) (sym (append-nil f.clauses)) r.ends.4))
+
+  query_runs : (asked : Asked) (d : Derivation) (log : List Entry) → IsGoodLog d.formula.variables (held_of d) log → IsFreshLog (held_of d) log
+      → Runs s formula (in_query asked d (length log)) (lines_of log) (in_query asked (after_all d log) 0)
+  query_runs asked d [] good fresh = refl
+  query_runs asked d (Derived step ∷ more) good fresh = (
+    in_query asked (with_derived d step.clause) (length more),
+    step_spends d step good.0 asked (length more) fresh.0.1 fresh.0.0,
+    query_runs asked (with_derived d step.clause) more (subst (λ held. IsGoodLog d.formula.variables held more) (held_of-with_derived d step.clause) good.1)
+        (subst (λ held. IsFreshLog held more) (held_of-with_derived d step.clause) fresh.1),
+  )
+
+  -- a log that spends a formula leads to where no step is to come
+  pub spent_runs : (f : Formula) (limit : ℕ) (log : List Entry) (asked : Asked) → IsSpent f limit log
+      → Runs s formula (in_query asked (opened f) limit) (lines_of log) (in_query asked (after_all (opened f) log) 0)
+  spent_runs f limit log asked p =
+      subst (λ n. Runs s formula (in_query asked (opened f) n) (lines_of log) (in_query asked (after_all (opened f) log) 0)) p.all
+      (query_runs asked (opened f) log (subst (λ held. IsGoodLog f.variables held log) (sym (append-nil f.clauses)) p.good)
+      (subst (λ held. IsFreshLog held log) (sym (append-nil f.clauses)) p.fresh))

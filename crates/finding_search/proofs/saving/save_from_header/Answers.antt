@@ -1,0 +1,61 @@
+use Rattle.std.proofs.Common.{sym, subst, ℕ}
+use Rattle.clause_core.specs.Decisions.{IsSpent}
+use Rattle.finding_lines.specs.declared.line.Conclusion.TheVariants.{Vacuous}
+use Rattle.queries.specs.Comparisons.{Comparison}
+use Rattle.queries.specs.Questions.{first}
+use Rattle.queries.specs.Meaning.{Answers}
+use Rattle.pair_trial.specs.Trials.{comparison_of, setting_in}
+use Rattle.judgement.specs.Places.{at_end, finished}
+use Rattle.invariant_prune.specs.Answers.{pair_of}
+use Rattle.finding_search.proofs.Going.{Writes-then, Writes-exit}
+use Rattle.finding_search.proofs.Openings.{log_first, query_first, end_passes}
+use Rattle.finding_search.proofs.RowPasses.{seen_found}
+use Rattle.finding_search.proofs.saving.save_from_header.Goals as goal
+
+pub returns-in_err-write_seen-in-Found : goal.returns-in_err-write_seen-in-Found
+returns-in_err-write_seen-in-Found g c =
+    let k = comparison_of c.args.trial.now in
+    let s = setting_in c.args.trial.now in
+    let f = g.Q.Queries.formula c.args.queries.now in
+    let a = rw c.in-Found.is at c.in_ok-found.ensures in
+    let b = subst (λ (x : Comparison). Answers x first (pair_of c.in-Found.found) c.in-Found.found.rows.items) c.requires.compared a in
+    Writes-exit s f _ _ _ _ _ _ _ c.from_residual-in_err-write_seen-in-Found.ensures.1
+    (c.in_err-write_seen-in-Found.ensures s f _ _ (seen_found k f c.requires.comparison (pair_of c.in-Found.found) c.in-Found.found.rows.items b))
+
+pub returns-in_err-write_refutation-in-Refuted : goal.returns-in_err-write_refutation-in-Refuted
+returns-in_err-write_refutation-in-Refuted g c =
+    let k = comparison_of c.args.trial.now in
+    let s = setting_in c.args.trial.now in
+    let f = g.Q.Queries.formula c.args.queries.now in
+    let refutes = rw c.in-Refuted.is at c.in_ok-found.ensures in
+    Writes-exit s f _ _ _ _ _ _ _ c.from_residual-in_err-write_refutation-in-Refuted.ensures.1
+    (c.in_err-write_refutation-in-Refuted.ensures s f (f first) c.limit_of-limit.result _ (at_end Vacuous) (log_first s f) refutes)
+
+pub returns-in_ok-write_seen-in-Found : goal.returns-in_ok-write_seen-in-Found
+returns-in_ok-write_seen-in-Found g c =
+    let k = comparison_of c.args.trial.now in
+    let s = setting_in c.args.trial.now in
+    let f = g.Q.Queries.formula c.args.queries.now in
+    let a = rw c.in-Found.is at c.in_ok-found.ensures in
+    let b = subst (λ (x : Comparison). Answers x first (pair_of c.in-Found.found) c.in-Found.found.rows.items) c.requires.compared a in
+    Writes-then s f _ _ _ _ _ finished _ _
+    (c.in_ok-write_seen-in-Found.ensures s f _ _ (seen_found k f c.requires.comparison (pair_of c.in-Found.found) c.in-Found.found.rows.items b)) c.save_from_start.ensures
+
+pub returns-in_ok-write_refutation-in-Refuted : goal.returns-in_ok-write_refutation-in-Refuted
+returns-in_ok-write_refutation-in-Refuted g c =
+    let k = comparison_of c.args.trial.now in
+    let s = setting_in c.args.trial.now in
+    let f = g.Q.Queries.formula c.args.queries.now in
+    let refutes = rw c.in-Refuted.is at c.in_ok-found.ensures in
+    Writes-then s f _ _ _ _ _ finished _ _
+    (c.in_ok-write_refutation-in-Refuted.ensures s f (f first) c.limit_of-limit.result _ (at_end Vacuous) (log_first s f) refutes)
+    (c.write_end.ensures s f _ (end_passes s f Vacuous))
+
+pub returns-in-Spent : goal.returns-in-Spent
+returns-in-Spent g c =
+    let k = comparison_of c.args.trial.now in
+    let s = setting_in c.args.trial.now in
+    let f = g.Q.Queries.formula c.args.queries.now in
+    let spent = rw c.in-Spent.is at c.in_ok-found.ensures in
+    let all = subst (λ (n : ℕ). IsSpent (f first) n c.in-Spent.log) (sym c.limit_of-limit.ensures.same) spent in
+    c.write_spent.ensures s f (f first) _ c.limit_of-limit.ensures.same (query_first s f) all

@@ -1,0 +1,19 @@
+use Rattle.std.proofs.Common.{drop}
+use Rattle.std.specs.Prelude.{Ok, Result}
+use Rattle.clause_core.specs.Formula.{Formula}
+use Rattle.finding_file.specs.declared.errors.WriteErr.{WriteErr}
+use Rattle.queries.specs.Settings.{Setting}
+use Rattle.queries.specs.Questions.{QueryData}
+use Rattle.judgement.specs.Places.{Place}
+use Rattle.finding_search.specs.Desks.{desk}
+use Rattle.finding_search.specs.Passing.{Runs}
+use Rattle.finding_search.specs.Shown.{scans_of}
+use Rattle.finding_search.specs.Writes.{Writes}
+use Rattle.finding_search.proofs.scans.write_scans.Given as goal
+
+abbrev pub invariant-loop-row : goal.invariant-loop-row
+invariant-loop-row g l =
+    (s : Setting) (formula : QueryData → Formula) (from to : Place) → Runs s formula from (scans_of l.rows) to
+    → (at : Place) × Runs s formula at (scans_of (drop l.row-index l.rows)) to
+    × Writes s formula (desk (g.S.Shelf.file l.initial.shelf) (g.S.Shelf.write_faults l.initial.shelf) (g.S.Shelf.read_faults l.initial.shelf) l.initial.writer) from
+    (desk (g.S.Shelf.file l.shelf) (g.S.Shelf.write_faults l.shelf) (g.S.Shelf.read_faults l.shelf) l.writer) (λ (x : Unit {0}). at) (let r : Result (Unit {0}) WriteErr = Ok tt in r)

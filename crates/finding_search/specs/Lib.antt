@@ -1,0 +1,5 @@
+pub mod Desks
+pub mod Passing
+pub mod Shown
+pub mod Writes
+pub mod Places

@@ -1,0 +1,19 @@
+// The search for a verdict, which writes its evidence as it goes: each answer is in the finding before the next is asked for.
+// - numbers: rows, literals and hints as numbers of lines
+// - writing: one line
+// - logs, scans: the lines of a log, and those of a break
+// - conclusions: the numbers that a verdict is written with
+// - dropping, deepening: the rows that drop candidates, and the depths that are searched
+// - saving: the whole
+#![tactic(auto)]
+
+mod conclusions;
+mod deepening;
+mod dropping;
+mod logs;
+mod numbers;
+mod saving;
+mod scans;
+mod writing;
+
+pub use saving::save_finding;

@@ -1,0 +1,97 @@
+// Logs: the line that opens one, its steps, and what follows a spent one.
+ghost use Rattle.std.specs.Prelude.{◌≡◌, ℕ, pos, Some};
+ghost use Rattle.clause_core.specs.Formula.{Formula};
+ghost use Rattle.clause_core.specs.Decisions.{IsRefutation, IsSpent};
+ghost use Rattle.finding_lines.specs.declared.line.Line.TheVariants as lines;
+ghost use Rattle.finding_lines.specs.Form.{AskedFits};
+ghost use Rattle.queries.specs.Settings.{Setting};
+ghost use Rattle.queries.specs.Questions.{QueryData};
+ghost use Rattle.judgement.specs.Steps.{opened};
+ghost use Rattle.judgement.specs.Places.{Place, in_log, in_query, finished};
+ghost use Rattle.finding_search.specs.Desks.{desk};
+ghost use Rattle.finding_search.specs.Passing.{Passes, Runs};
+ghost use Rattle.finding_search.specs.Shown.{lines_of};
+ghost use Rattle.finding_search.specs.Places.{after_all};
+ghost use Rattle.finding_search.specs.Writes.{Writes};
+
+use crate::conclusions::spent_by;
+use crate::numbers::entry_line;
+use crate::writing::{write_end, write_line};
+use clause_core::{Entry, Log};
+use finding_file::{FindingWriter, WriteErr};
+use finding_lines::{Asked, Conclusion, Line};
+use outside::Shelf;
+use std::alloc::Global;
+
+// The lines of steps.
+fn write_steps<S: Shelf>(
+    alloc: Global,
+    writer: &mut FindingWriter,
+    shelf: &mut S,
+    entries: &[Entry],
+) -> Result<(), WriteErr>
+    ensures { (s : Setting) (formula : QueryData → Formula) (from to : Place) → Runs s formula from (lines_of entries.now) to
+        → Writes s formula (desk (S.file shelf.old) (S.write_faults shelf.old) (S.read_faults shelf.old) writer.old) from
+        (desk (S.file shelf.new) (S.write_faults shelf.new) (S.read_faults shelf.new) writer.new) (λ _. to) result }
+{
+    for entry in entries {
+        let line = entry_line(alloc, entry)?;
+        write_line(writer, shelf, &line)?;
+    }
+    Ok(())
+}
+
+/// The log that refutes a query's formula, with the LOG line before it.
+pub fn write_refutation<S: Shelf>(
+    alloc: Global,
+    writer: &mut FindingWriter,
+    shelf: &mut S,
+    asked: Asked,
+    log: &Log,
+) -> Result<(), WriteErr>
+    requires { AskedFits asked }
+    ensures { (s : Setting) (formula : QueryData → Formula) (f : Formula) (limit : ℕ) (from behind : Place)
+        → Passes s formula from (lines.Log asked) (in_log (opened f) behind) → IsRefutation f limit log.now
+        → Writes s formula (desk (S.file shelf.old) (S.write_faults shelf.old) (S.read_faults shelf.old) writer.old) from
+        (desk (S.file shelf.new) (S.write_faults shelf.new) (S.read_faults shelf.new) writer.new) (λ _. behind) result }
+{
+    write_line(writer, shelf, &Line::Log(asked))?;
+    write_steps(alloc, writer, shelf, log.entries())
+}
+
+// The log that spends a query, with the QUERY line before it.
+fn write_spent_log<S: Shelf>(
+    alloc: Global,
+    writer: &mut FindingWriter,
+    shelf: &mut S,
+    asked: Asked,
+    log: &Log,
+) -> Result<(), WriteErr>
+    requires { AskedFits asked }
+    ensures { (s : Setting) (formula : QueryData → Formula) (f : Formula) (from : Place)
+        → Passes s formula from (lines.Query asked) (in_query asked (opened f) s.conflicts) → IsSpent f s.conflicts log.now
+        → Writes s formula (desk (S.file shelf.old) (S.write_faults shelf.old) (S.read_faults shelf.old) writer.old) from
+        (desk (S.file shelf.new) (S.write_faults shelf.new) (S.read_faults shelf.new) writer.new) (λ _. in_query asked (after_all (opened f) log.now) 0) result }
+{
+    write_line(writer, shelf, &Line::Query(asked))?;
+    write_steps(alloc, writer, shelf, log.entries())
+}
+
+/// The same, and the END line: SPENT after so many steps.
+pub fn write_spent<S: Shelf>(
+    alloc: Global,
+    writer: &mut FindingWriter,
+    shelf: &mut S,
+    asked: Asked,
+    log: &Log,
+    limit: u32,
+) -> Result<Conclusion, WriteErr>
+    requires { AskedFits asked }
+    ensures { (s : Setting) (formula : QueryData → Formula) (f : Formula) (from : Place) → s.conflicts ≡ limit
+        → Passes s formula from (lines.Query asked) (in_query asked (opened f) s.conflicts) → IsSpent f s.conflicts log.now
+        → Writes s formula (desk (S.file shelf.old) (S.write_faults shelf.old) (S.read_faults shelf.old) writer.old) from
+        (desk (S.file shelf.new) (S.write_faults shelf.new) (S.read_faults shelf.new) writer.new) finished result }
+{
+    write_spent_log(alloc, writer, shelf, asked, log)?;
+    write_end(writer, shelf, spent_by(asked, limit))
+}

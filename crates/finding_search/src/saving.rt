@@ -1,0 +1,195 @@
+// A whole finding.
+ghost use Rattle.std.specs.Prelude.{◌≡◌, ◌∷◌, [], length, IfOk, IfSome, OnErr};
+ghost use Rattle.outside.specs.Causes.{NoneFell};
+ghost use Rattle.outside.specs.Contents.{OthersStay};
+ghost use Rattle.clause_core.specs.Formula.{Formula};
+ghost use Rattle.finding_lines.specs.declared.line.Line.TheVariants as lines;
+ghost use Rattle.finding_file.specs.Causes.{IsCausedBy};
+ghost use Rattle.scan_model.specs.InRange.{Row};
+ghost use Rattle.queries.specs.Comparisons.{IsComparison};
+ghost use Rattle.queries.specs.Settings.{Setting, first_set};
+ghost use Rattle.queries.specs.Questions.{QueryData};
+ghost use Rattle.queries.specs.Sets.{members};
+ghost use Rattle.pair_trial.specs.Trials.{comparison_of, setting_in};
+ghost use Rattle.invariant_prune.specs.Answers.{pair_of};
+ghost use Rattle.judgement.specs.Places.{Place, at_top, at_header, at_drops, at_kept, finished};
+ghost use Rattle.judgement.specs.Findings.{IsJudged};
+ghost use Rattle.judgement.specs.Shown.{IsShown};
+ghost use Rattle.judgement.specs.declared.answers.Judged.TheVariants.{Valid};
+ghost use Rattle.finding_search.specs.Desks.{desk};
+ghost use Rattle.finding_search.specs.Passing.{Passes, IsPartOfFinding, IsFull};
+ghost use Rattle.finding_search.specs.Shown.{numbers_of};
+ghost use Rattle.finding_search.specs.Writes.{Writes};
+
+use crate::conclusions::{limit_of, related_by};
+use crate::deepening::search;
+use crate::dropping::{Pruned, prune};
+use crate::logs::{write_refutation, write_spent};
+use crate::numbers::{pair_numbers, row_numbers};
+use crate::writing::{write_end, write_line};
+use clause_core::Decider;
+use finding_file::{FindingWriter, WriteErr};
+use finding_lines::{Asked, Conclusion, Line};
+use invariant_prune::{Answer, first, goal};
+use outside::Shelf;
+use pair_trial::{Trial, first_set};
+use queries::{CandidateSet, Decoded, Queries};
+use std::alloc::Global;
+
+// The row that leads out of the relation.
+fn write_pair<S: Shelf>(
+    alloc: Global,
+    writer: &mut FindingWriter,
+    shelf: &mut S,
+    found: &Decoded,
+) -> Result<(), WriteErr>
+    requires { length found.now.rows.items ≡ 1 }
+    ensures { (s : Setting) (formula : QueryData → Formula) (from to : Place)
+        → ((row : Row) → found.now.rows.items ≡ row ∷ [] → Passes s formula from (lines.Pair (numbers_of (pair_of found.now) row)) to)
+        → Writes s formula (desk (S.file shelf.old) (S.write_faults shelf.old) (S.read_faults shelf.old) writer.old) from
+        (desk (S.file shelf.new) (S.write_faults shelf.new) (S.read_faults shelf.new) writer.new) (λ _. to) result }
+{
+    let numbers = pair_numbers(alloc, found, &found.rows[0])?;
+    write_line(writer, shelf, &Line::Pair(numbers))
+}
+
+// From the set that is kept on.
+fn save_from_kept<D: Decider, Q: Queries, S: Shelf>(
+    alloc: Global,
+    decider: &mut D,
+    trial: &Trial,
+    queries: &Q,
+    writer: &mut FindingWriter,
+    shelf: &mut S,
+    set: &CandidateSet,
+) -> Result<Conclusion, WriteErr>
+    requires compared { Q.compared queries.now ≡ comparison_of trial.now }
+    requires comparison { IsComparison (comparison_of trial.now) }
+    ensures { Writes (setting_in trial.now) (Q.formula queries.now) (desk (S.file shelf.old) (S.write_faults shelf.old) (S.read_faults shelf.old) writer.old) (at_kept (members set.now))
+        (desk (S.file shelf.new) (S.write_faults shelf.new) (S.read_faults shelf.new) writer.new) finished result }
+{
+    let limit = limit_of(trial);
+    match goal(alloc, decider, queries, set, limit)? {
+        Answer::Found(found) => {
+            write_pair(alloc, writer, shelf, &found)?;
+            search(alloc, decider, trial, queries, writer, shelf, set)
+        }
+        Answer::Refuted(log) => {
+            write_refutation(alloc, writer, shelf, Asked::Goal, &log)?;
+            write_end(writer, shelf, related_by(trial, set))
+        }
+        Answer::Spent(log) => write_spent(alloc, writer, shelf, Asked::Goal, &log, limit),
+    }
+}
+
+// From the set of what holds at the start on.
+fn save_from_start<D: Decider, Q: Queries, S: Shelf>(
+    alloc: Global,
+    decider: &mut D,
+    trial: &mut Trial,
+    queries: &Q,
+    writer: &mut FindingWriter,
+    shelf: &mut S,
+) -> Result<Conclusion, WriteErr>
+    requires compared { Q.compared queries.now ≡ comparison_of trial.old }
+    requires comparison { IsComparison (comparison_of trial.old) }
+    ensures { Writes (setting_in trial.old) (Q.formula queries.now) (desk (S.file shelf.old) (S.write_faults shelf.old) (S.read_faults shelf.old) writer.old) (at_drops (first_set (setting_in trial.old)))
+        (desk (S.file shelf.new) (S.write_faults shelf.new) (S.read_faults shelf.new) writer.new) finished result }
+{
+    let set = first_set(alloc, trial)?;
+    match prune(alloc, decider, trial, queries, writer, shelf, set)? {
+        Pruned::Kept(kept) => save_from_kept(alloc, decider, trial, queries, writer, shelf, &kept),
+        Pruned::Spent(verdict) => Ok(verdict),
+    }
+}
+
+// The first row.
+fn write_seen<S: Shelf>(
+    alloc: Global,
+    writer: &mut FindingWriter,
+    shelf: &mut S,
+    found: &Decoded,
+) -> Result<(), WriteErr>
+    requires { length found.now.rows.items ≡ 1 }
+    ensures { (s : Setting) (formula : QueryData → Formula) (from to : Place)
+        → ((row : Row) → found.now.rows.items ≡ row ∷ [] → Passes s formula from (lines.Seen row) to)
+        → Writes s formula (desk (S.file shelf.old) (S.write_faults shelf.old) (S.read_faults shelf.old) writer.old) from
+        (desk (S.file shelf.new) (S.write_faults shelf.new) (S.read_faults shelf.new) writer.new) (λ _. to) result }
+{
+    let numbers = row_numbers(alloc, &found.rows[0])?;
+    write_line(writer, shelf, &Line::Seen(numbers))
+}
+
+// From the header on.
+fn save_from_header<D: Decider, Q: Queries, S: Shelf>(
+    alloc: Global,
+    decider: &mut D,
+    trial: &mut Trial,
+    queries: &Q,
+    writer: &mut FindingWriter,
+    shelf: &mut S,
+) -> Result<Conclusion, WriteErr>
+    requires compared { Q.compared queries.now ≡ comparison_of trial.old }
+    requires comparison { IsComparison (comparison_of trial.old) }
+    ensures { Writes (setting_in trial.old) (Q.formula queries.now) (desk (S.file shelf.old) (S.write_faults shelf.old) (S.read_faults shelf.old) writer.old) at_header
+        (desk (S.file shelf.new) (S.write_faults shelf.new) (S.read_faults shelf.new) writer.new) finished result }
+{
+    let limit = limit_of(trial);
+    match first(alloc, decider, queries, limit)? {
+        Answer::Found(found) => {
+            write_seen(alloc, writer, shelf, &found)?;
+            save_from_start(alloc, decider, trial, queries, writer, shelf)
+        }
+        Answer::Refuted(log) => {
+            write_refutation(alloc, writer, shelf, Asked::First, &log)?;
+            write_end(writer, shelf, Conclusion::Vacuous)
+        }
+        Answer::Spent(log) => write_spent(alloc, writer, shelf, Asked::First, &log, limit),
+    }
+}
+
+// From before the header on.
+fn save_from_top<D: Decider, Q: Queries, S: Shelf>(
+    alloc: Global,
+    decider: &mut D,
+    trial: &mut Trial,
+    queries: &Q,
+    writer: &mut FindingWriter,
+    shelf: &mut S,
+) -> Result<Conclusion, WriteErr>
+    requires compared { Q.compared queries.now ≡ comparison_of trial.old }
+    requires comparison { IsComparison (comparison_of trial.old) }
+    ensures { Writes (setting_in trial.old) (Q.formula queries.now) (desk (S.file shelf.old) (S.write_faults shelf.old) (S.read_faults shelf.old) writer.old) at_top
+        (desk (S.file shelf.new) (S.write_faults shelf.new) (S.read_faults shelf.new) writer.new) finished result }
+{
+    write_line(writer, shelf, &Line::Header)?;
+    save_from_header(alloc, decider, trial, queries, writer, shelf)
+}
+
+/// Searches for the verdict, and writes the finding that shows it into a file that is empty, line by line: each answer of the
+/// decider is written before the next is asked for. It asks one query for a first row, at most one for each candidate and one
+/// more for the set, one for the relation, and at most DEPTH for breaks.
+pub fn save_finding<D: Decider, Q: Queries, S: Shelf>(
+    alloc: Global,
+    decider: &mut D,
+    trial: &mut Trial,
+    queries: &Q,
+    writer: &mut FindingWriter,
+    shelf: &mut S,
+) -> Result<Conclusion, WriteErr>
+    requires compared { Q.compared queries.now ≡ comparison_of trial.old }
+    requires comparison { IsComparison (comparison_of trial.old) }
+    requires empty { IfSome (S.file shelf.old writer.old.name) (λ file. file ≡ []) }
+    requires unwritten { writer.old.size ≡ 0 }
+    ensures valid { IfOk result (λ verdict. IfSome (S.file shelf.new writer.old.name)
+        (λ file. IsJudged (setting_in trial.old) (Q.formula queries.now) writer.old.limit file (Ok (Valid verdict)))) }
+    ensures shown { IfOk result (IsShown (comparison_of trial.old) (Q.formula queries.now)) }
+    ensures part { OnErr result (IfSome (S.file shelf.new writer.old.name) (IsPartOfFinding (setting_in trial.old) (Q.formula queries.now))) }
+    ensures past { result ≡ Err WriteErr.M8 → IsFull (setting_in trial.old) (Q.formula queries.now) (S.file shelf.new writer.old.name) writer.old.limit }
+    ensures others { OthersStay (S.file shelf.old) (S.file shelf.new) writer.old.name }
+    ensures cause { IsCausedBy WriteErr.Fault (S.write_faults shelf.old) (S.write_faults shelf.new) writer.old.name result }
+    ensures reads { NoneFell (S.read_faults shelf.old) (S.read_faults shelf.new) }
+{
+    queries.laws();
+    save_from_top(alloc, decider, trial, queries, writer, shelf)
+}

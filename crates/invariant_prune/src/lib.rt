@@ -1,0 +1,8 @@
+// The queries that a verdict rests on, each decided within a limit: an answer to it, or the log that the decider leaves.
+#![tactic(auto)]
+
+mod answer;
+mod asking;
+
+pub use answer::Answer;
+pub use asking::{first, goal, next_drop, search_at};

@@ -1,0 +1,93 @@
+-- VALID comes from `check` alone, and a verdict from `verify` alone.
+use Rattle.std.proofs.Common.{◌≡◌, ◌⊎◌, inl, inr, ℕ, List, Option, sym, ap, ◌∙◌, subst}
+use Rattle.scan_model.specs.declared.relation.Ending.{Ending}
+use Rattle.scan_model.specs.declared.relation.Ending.TheVariants.{Related, Unrelated as UnrelatedAt, NotAllowed as NotAllowedAt}
+use Rattle.judgement.specs.declared.answers.Judged.{Judged}
+use Rattle.judgement.specs.declared.answers.Judged.TheVariants as judgements
+use Rattle.command_answers.specs.declared.status.Status.{Status}
+use Rattle.command_answers.specs.declared.status.Status.TheVariants.{Valid, Usage, Refused, Replayed, Unrelated, NotAllowed, WriteFault}
+use Rattle.command_answers.specs.Answers.{Answers, AnswersSoFar, IsExact}
+use Rattle.command_answers.specs.Reports.{Report}
+use Rattle.command_files.specs.Texts.{Texts}
+use Rattle.command_line.specs.Asked.{Asked, check, replay, verify, usage}
+use Rattle.check_command.specs.Lines.{judged_status}
+use Rattle.check_command.specs.Reports.{CheckReports, refused as check_refused, too_large as check_too_large, on_finding, judged, too_long}
+use Rattle.check_command.proofs.Answering.{exact_shown}
+use Rattle.replay_command.specs.Reports.{Reports, refused, replayed, ending_status}
+use Rattle.verify_command.specs.Lines.{IsOfVerdict}
+use Rattle.verify_command.specs.Reports.{Saving, VerifyReports, refused as verify_refused, too_large as verify_too_large, on_pair, decided, too_long as finding_too_long, not_written}
+use Rattle.verify_command.proofs.Lines.{of_verdict, whole_of}
+use Rattle.verify_command.proofs.Answering.{saved_of}
+use Rattle.regver_top.specs.Asking.{Change, saving_in, IsAsked, IsShownBy, IsSavedBy}
+
+-- ---- VALID
+
+not_of_ending : (e : Ending) → Valid ≡ ending_status e → ⊥
+not_of_ending (Related n) h = let g : Valid ≡ Replayed = h in cc
+not_of_ending (UnrelatedAt k) h = let g : Valid ≡ Unrelated = h in cc
+not_of_ending (NotAllowedAt k) h = let g : Valid ≡ NotAllowed = h in cc
+
+not_of_replay : (t : Texts) (r : Report) → Reports t r → Valid ≡ r.status → ⊥
+not_of_replay t r (refused file refusal h e) s = let g : Valid ≡ Refused = s ∙ ap (λ x. x.status) e in cc
+not_of_replay t r (replayed old new rel rows run ending accepted is e) s = not_of_ending ending (s ∙ ap (λ x. x.status) e)
+
+not_of_verify : (t : Texts) (s : Saving) (r : Report) → VerifyReports t s r → Valid ≡ r.status → ⊥
+not_of_verify t s r (verify_refused file refusal h same e) v = let g : Valid ≡ Refused = v ∙ ap (λ x. x.status) e in cc
+not_of_verify t s r (verify_too_large file limit h same e) v = let g : Valid ≡ Refused = v ∙ ap (λ x. x.status) e in cc
+not_of_verify t s r (on_pair c h (decided verdict saved shown e)) v = subst IsOfVerdict (sym (v ∙ ap (λ x. x.status) e)) (of_verdict verdict)
+not_of_verify t s r (on_pair c h (finding_too_long full e)) v = let g : Valid ≡ Refused = v ∙ ap (λ x. x.status) e in cc
+not_of_verify t s r (on_pair c h (not_written failed e)) v = let g : Valid ≡ WriteFault = v ∙ ap (λ x. x.status) e in cc
+
+pub shown_of : (k : Change) (a : Asked) (t : Texts) (before now : Option (List ℕ)) → IsExact (IsAsked k a t) Valid before now → IsShownBy a t before now
+shown_of k (check old new rel finding) t before now h = exact_shown t before now h
+shown_of k (replay old new rel trace) t before now (r, h, s, put) = not_of_replay t r h s
+shown_of k (verify old new rel finding) t before now (r, h, s, put) = not_of_verify t (saving_in k finding) r h s
+shown_of k usage t before now (r, h, s, put) = let g : Valid ≡ Usage = s ∙ ap (λ x. x.status) h in cc
+
+-- ---- verdicts
+
+-- a report is no other one, of a status that is no verdict's
+no_verdict : (status : Status) (r x : Report) → IsOfVerdict status → status ≡ r.status → r ≡ x → (IsOfVerdict x.status → ⊥) → ⊥
+no_verdict status r x v s e h = h (subst IsOfVerdict (s ∙ ap (λ y. y.status) e) v)
+
+not_judged : (j : Judged) → IsOfVerdict (judged_status j) → ⊥
+not_judged (judgements.Valid verdict) v = v
+not_judged (judgements.Bad line reason) v = v
+
+not_ended : (e : Ending) → IsOfVerdict (ending_status e) → ⊥
+not_ended (Related n) v = v
+not_ended (UnrelatedAt k) v = v
+not_ended (NotAllowedAt k) v = v
+
+none_of_check : (t : Texts) (status : Status) (r : Report) → IsOfVerdict status → CheckReports t r → status ≡ r.status → ⊥
+none_of_check t status r v (check_refused file refusal h e) s = no_verdict status r _ v s e (λ x. x)
+none_of_check t status r v (check_too_large file limit h e) s = no_verdict status r _ v s e (λ x. x)
+none_of_check t status r v (on_finding c h (judged said is shown e)) s = no_verdict status r _ v s e (not_judged said)
+none_of_check t status r v (on_finding c h (too_long is e)) s = no_verdict status r _ v s e (λ x. x)
+
+none_of_replay : (t : Texts) (status : Status) (r : Report) → IsOfVerdict status → Reports t r → status ≡ r.status → ⊥
+none_of_replay t status r v (refused file refusal h e) s = no_verdict status r _ v s e (λ x. x)
+none_of_replay t status r v (replayed old new rel rows run ending accepted is e) s = no_verdict status r _ v s e (not_ended ending)
+
+-- behind the status of a verdict all was put
+exact_by : (Wanted : Report → Type 0) (faulted : Type 0) (status : Status) (before now : Option (List ℕ)) → IsOfVerdict status → Answers Wanted faulted status before now → IsExact Wanted status before now
+exact_by Wanted faulted status before now v a = subst (λ x. AnswersSoFar x Wanted faulted status before now) (whole_of status v) a
+
+pub saved_by : (k : Change) (a : Asked) (t : Texts) (faulted : Type 0) (status : Status) (before now : Option (List ℕ)) → IsOfVerdict status → Answers (IsAsked k a t) faulted status before now
+    → IsSavedBy k a t status before now
+saved_by k (check old new rel finding) t faulted status before now v a =
+    let x = exact_by (IsAsked k (check old new rel finding) t) faulted status before now v a in
+    none_of_check t status x.0 v x.1 x.2
+saved_by k (replay old new rel trace) t faulted status before now v a =
+    let x = exact_by (IsAsked k (replay old new rel trace) t) faulted status before now v a in
+    none_of_replay t status x.0 v x.1 x.2
+saved_by k (verify old new rel finding) t faulted status before now v a = saved_of t (saving_in k finding) faulted status before now v a
+saved_by k usage t faulted status before now v a =
+    let x = exact_by (IsAsked k usage t) faulted status before now v a in
+    no_verdict status x.0 _ v x.2 x.1 (λ y. y)
+
+-- ---- faults of writes
+
+pub no_fault : (A B : Type 0) → (A → ⊥) → (B → ⊥) → A ⊎ B → ⊥
+no_fault A B a b (inl h) = a h
+no_fault A B a b (inr h) = b h

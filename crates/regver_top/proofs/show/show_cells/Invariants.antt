@@ -1,7 +1,0 @@
-use Rattle.std.proofs.Common.{◌≡◌, ◌++◌, drop, string_bytes}
-use Rattle.program_tree.specs.View.{cells_view}
-use Rattle.regver_top.specs.Lines.{shown}
-use Rattle.regver_top.proofs.show.show_cells.Given as goal
-
-abbrev pub invariant-loop-place : goal.invariant-loop-place
-invariant-loop-place l = string_bytes l.line ++ shown (cells_view (drop l.place l.cells)) (drop l.place l.state) ≡ string_bytes l.initial.line ++ shown (cells_view l.cells) l.state

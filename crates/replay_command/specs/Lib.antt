@@ -1,0 +1,8 @@
+pub mod Traces
+pub mod Held
+pub mod Accepting
+pub mod Accepted
+pub mod Lines
+pub mod Outcomes
+pub mod Reports
+pub mod Played

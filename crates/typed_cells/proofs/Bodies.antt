@@ -1,0 +1,65 @@
+-- A body that breaks no rule and uses only what it may is typed over the cells of its POU.
+use Rattle.std.proofs.Common.{◌≡◌, ℕ, true, false, List, [], refl}
+use Rattle.call_order.specs.Marks.{is_marked}
+use Rattle.source_tree.specs.Syntax.{PartData, BodyData, statements, chart, PouKindData, function, function_block, program, PouData, FileData}
+use Rattle.std.specs.Prelude.{Some}
+use Rattle.source_tree.specs.Levels.{MayDo}
+use Rattle.program_tree.specs.Tree.{Statement, Statements, assign, run, choice, cases, repeat, chart as typed_chart_statement, no_statements, statement}
+use Rattle.naming.specs.Broken.{variables_twice}
+use Rattle.naming.specs.FileScope.{pou_at, is_program}
+use Rattle.naming.specs.Scopes.{variables_in_pou}
+use Rattle.typing.specs.Reached.{reached}
+use Rattle.typing.specs.TypedStatements.{typed_stmts}
+use Rattle.typing.specs.TypedPrograms.{typed_body}
+use Rattle.typing.specs.Places.{sizes_of}
+use Rattle.typing.specs.Members.{scope_of, is_function}
+use Rattle.typed_programs.specs.Scopes.{Pous, BodyScope}
+use Rattle.typed_programs.specs.Statements.{IsTyped, IsTypedPart, AreTyped, AreTypedParts}
+use Rattle.typed_scopes.specs.Charts.{ChartFits}
+use Rattle.typed_scopes.proofs.Statements.{stmts_are}
+use Rattle.typed_scopes.proofs.Charts.{chart_is}
+use Rattle.typed_cells.specs.Uses.{uses_of_pou}
+use Rattle.typed_cells.specs.Places.{last, scope_over, pous}
+use Rattle.typed_cells.specs.Premises.{UsesItsBlocks, IsOrdered}
+use Rattle.typed_cells.specs.Bodies.{IsTypedIn, ArePartsSound, IsBodySound}
+use Rattle.typed_cells.proofs.Scopes.{scope_fits}
+use Rattle.typed_cells.proofs.ChartCells.{chart_flags, chart_rising}
+
+module _ (ps : Pous) (b : BodyScope) where
+  part_is : (t : Statement) → IsTyped ps b t → IsTypedPart ps b t
+  part_is (assign target e) typed = typed
+  part_is (run block offset) typed = typed
+  part_is (choice arms other) typed = typed
+  part_is (cases kind e es other) typed = typed
+  part_is (repeat turns body) typed = typed
+  part_is (typed_chart_statement _ _ _) typed = absurd typed
+
+  parts_are : (ts : Statements) → AreTyped ps b ts → AreTypedParts ps b ts
+  parts_are no_statements typed = tt
+  parts_are (statement t ts) typed = (part_is t typed.0, parts_are ts typed.1)
+
+no_function : (kind : PouKindData) (ps : List PartData) → MayDo kind (chart ps) → is_function kind ≡ false
+no_function (function t) ps may = absurd may
+no_function function_block ps may = refl
+no_function program ps may = refl
+
+module _ (f : FileData) (used : UsesItsBlocks f) (ordered : IsOrdered f) (k : ℕ) (p : PouData) (there : pou_at f k ≡ Some p) (is : is_marked (reached f) k ≡ true) (unique : (variables_twice (is_program p.kind) [] (variables_in_pou p)).whole ≡ true) where
+  chart_fits : (ps : List PartData) → p.body ≡ chart ps → is_function p.kind ≡ false → ArePartsSound (scope_of f (sizes_of f) k) (uses_of_pou f k) ps → ChartFits (scope_over f k p) (scope_of f (sizes_of f) k) ps
+  chart_fits ps body plain sound = record {
+    flags = chart_flags f used ordered k p there ps body (is_program p.kind) unique plain;
+    rising = chart_rising f used ordered k p there ps body (is_program p.kind) unique plain;
+    transitions = sound.transitions;
+    actions = sound.actions;
+  }
+
+  body_as : (b : BodyData) → p.body ≡ b → MayDo p.kind b → IsBodySound (scope_of f (sizes_of f) k) (uses_of_pou f k) b → AreTypedParts (pous f) (scope_over f k p) (typed_body (scope_of f (sizes_of f) k) b)
+  body_as (statements ss) body may sound =
+      parts_are (pous f) (scope_over f k p) (typed_stmts (scope_of f (sizes_of f) k) ss)
+      (stmts_are (pous f) (scope_over f k p) (last f) (scope_of f (sizes_of f) k) (uses_of_pou f k) (scope_fits f used ordered k p there is) [] ss sound.within sound.levelled sound.whole)
+  body_as (chart ps) body may sound = (
+    chart_is (pous f) (scope_over f k p) (last f) (scope_of f (sizes_of f) k) (uses_of_pou f k) (scope_fits f used ordered k p there is) ps (chart_fits ps body (no_function p.kind ps may) sound) sound.within sound.levelled sound.whole,
+    tt,
+  )
+
+  pub body_is_typed : MayDo p.kind p.body → IsBodySound (scope_of f (sizes_of f) k) (uses_of_pou f k) p.body → IsTypedIn f k p
+  body_is_typed may sound = body_as p.body refl may sound

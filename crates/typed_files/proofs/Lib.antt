@@ -1,0 +1,3 @@
+pub mod ProgramPlaces
+pub mod SoundBodies
+pub mod TypedFiles

@@ -1,0 +1,17 @@
+// The function does nothing: its clause is the law.
+ghost use Rattle.std.specs.Prelude.{◌≡◌, ℕ, [], Some};
+ghost use Rattle.rules.specs.declared.rule.Refusal.{Refusal};
+ghost use Rattle.source_tree.specs.Syntax.{PouData, FileData};
+ghost use Rattle.source_tree.specs.Levels.{IsFileLevelled};
+ghost use Rattle.naming.specs.FileScope.{pou_at};
+ghost use Rattle.naming.specs.Circles.{IsBroken};
+ghost use Rattle.st_names.specs.Bound.{program_number};
+ghost use Rattle.typing.specs.Pous.{broken_types};
+ghost use Rattle.typing.specs.TypedPrograms.{typed_program};
+ghost use Rattle.typed_programs.specs.Programs.{IsTypedProgram};
+
+/// Where a levelled file breaks no rule on names and none on types, its PROGRAM is typed. The count of its cells is not asked for.
+pub fn law_typed()
+    ensures { (f : FileData) → ((r : Refusal) → IsBroken f r → ⊥) → IsFileLevelled f → broken_types f ≡ []
+        → (k : ℕ) (p : PouData) → program_number f ≡ Some k → pou_at f k ≡ Some p → IsTypedProgram (typed_program f k p) }
+{}

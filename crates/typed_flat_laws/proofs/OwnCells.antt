@@ -1,0 +1,75 @@
+-- Where the cells of a body stand among those of an owner, and the ranges that its expressions stay in.
+use Rattle.std.proofs.Common.{◌≡◌, ℕ, ◌+◌, ◌<◌, ◌≤◌, Bool, true, ◌&&◌, ◌||◌, List, [], ◌∷◌, length, refl, ap, ◌∙◌}
+use Rattle.plc_types.specs.declared.elementary.Elementary.{Elementary}
+use Rattle.plc_types.specs.declared.function.Function.{Function}
+use Rattle.plc_types.specs.declared.function.Function.TheVariants as functions
+use Rattle.plc_types.specs.declared.range.Range.{Range}
+use Rattle.plc_types.specs.Types.{range_of}
+use Rattle.program_tree.specs.Tree.{Expression, number, cell, unary, chain, call, answer, Operands, no_operands, operand, Expressions, no_expressions, expression}
+use Rattle.meaning.specs.Values.{result_type}
+use Rattle.meaning.specs.Effects.{range_at}
+use Rattle.flat_core.specs.declared.flat_tree.Scratch.{Scratch}
+use Rattle.flat_form.specs.Frames.{FrameData}
+use Rattle.flat_form.specs.WellTyped as well
+use Rattle.node_core.specs.Words.{first_operand_kind, first_kind}
+use Rattle.node_core.specs.Stores.{place_at}
+use Rattle.node_core.specs.TypedFlats.{covers, last_stays, chosen_stay}
+use Rattle.typed_programs.specs.Scopes.{Pous, BodyScope}
+use Rattle.typed_programs.specs.Expressions.{IsOf, AreOf, stays_in, each_stays}
+
+-- a cell of an owner takes what a place takes, and tests the range of a subrange
+pub record IsCellFor (ranges : List Range) (tested : ℕ → Bool) (place : ℕ) (p : Scratch) : Type 0 where
+  pub room : place < length ranges
+  pub range : range_at ranges place ≡ p.range
+  pub limited : p.limited ≡ true → tested place ≡ true
+
+-- A body whose named cells are an owner's, from a base on; FAULT is none of them.
+pub record OwnCells : Type 0 where
+  pub frames : ℕ → FrameData
+  pub instances : ℕ → List Scratch
+  pub scope : BodyScope
+  pub within : scope.settable ≤ length scope.places
+  pub ranges : List Range
+  pub tested : ℕ → Bool
+  pub base : ℕ
+  pub behind_fault : 0 < base + scope.first
+  pub owns : (n : ℕ) → scope.first ≤ n → n < length scope.places → IsCellFor ranges tested (base + n) (place_at scope.places n)
+
+abbrev pub pous_for : OwnCells → Pous
+pous_for w = record { frames = w.frames; instances = w.instances }
+
+-- ---- ranges
+
+last-same : (os : Operands) (r : Range) (a b : Bool) → a ≡ b → well.last_stays a os r ≡ last_stays b os r
+last-same no_operands r a b e = e
+last-same (operand o q f os) r a b e = last-same os r (covers r (range_of (result_type o q))) (covers r (range_of (result_type o q))) refl
+
+chosen-same : (f : Function) (l : List Bool) → well.chosen_stay f l ≡ chosen_stay f l
+chosen-same functions.Select [] = refl
+chosen-same functions.Select (a ∷ []) = refl
+chosen-same functions.Select (a ∷ b ∷ []) = refl
+chosen-same functions.Select (a ∷ b ∷ c ∷ []) = refl
+chosen-same functions.Select (a ∷ b ∷ c ∷ d ∷ l) = refl
+chosen-same (functions.Convert from) l = refl
+chosen-same functions.Absolute l = refl
+chosen-same functions.Minimum l = refl
+chosen-same functions.Maximum l = refl
+chosen-same functions.Limit l = refl
+chosen-same (functions.Shift s k) l = refl
+
+module _ (w : OwnCells) where
+  mutual
+    pub stays-same : (t : Elementary) (e : Expression) (r : Range) → IsOf (pous_for w) w.scope t e → well.stays_in w.frames w.ranges w.base e r ≡ stays_in (pous_for w) w.scope.places e r
+    stays-same t (number v) r h = refl
+    stays-same t (cell place) r h = ap (λ (x : Range). covers r x) (w.owns place h.0.0 h.0.1).range
+    stays-same t (unary o q e) r h = refl
+    stays-same t (chain e os) r h = last-same os r _ _ (stays-same (first_kind t os) e r h.0)
+    stays-same t (call f q es) r h =
+        ap (λ (x : Bool). covers r (range_of q) || (covers (range_of q) r && x))
+        (chosen-same f (well.each_stays w.frames w.ranges w.base es r) ∙ ap (λ (l : List Bool). chosen_stay f l) (each-same (first_operand_kind f q) q es r h.2))
+    stays-same t (answer f es) r h = refl
+
+    each-same : (first others : Elementary) (es : Expressions) (r : Range) → AreOf (pous_for w) w.scope first others es → well.each_stays w.frames w.ranges w.base es r ≡ each_stays (pous_for w) w.scope.places es r
+    each-same first others no_expressions r h = refl
+    each-same first others (expression e es) r h =
+        ap (λ (x : Bool). x ∷ well.each_stays w.frames w.ranges w.base es r) (stays-same first e r h.0) ∙ ap (λ (l : List Bool). stays_in (pous_for w) w.scope.places e r ∷ l) (each-same others others es r h.1)

@@ -1,0 +1,94 @@
+-- The flat lists of typed statements are typed.
+use Rattle.std.proofs.Common.{◌≡◌, ℕ, ◌+◌, ◌<◌, List, ◌∷◌, ◌++◌, length, refl, ap, ◌∙◌, arith}
+use Rattle.plc_types.specs.declared.elementary.Elementary.{Elementary}
+use Rattle.plc_types.specs.declared.elementary.Elementary.TheVariants as types
+use Rattle.program_tree.specs.Tree.{Expression, Statement, assign, run, choice, cases, repeat, chart, Statements, no_statements, statement, Choices, no_choices, choose, Entries, no_entries, entry}
+use Rattle.flat_core.specs.declared.flat_tree.Scratch.{Scratch}
+use Rattle.flat_core.specs.FlatTree.{FlatStatement}
+use Rattle.flat_core.specs.FlatView.{nested}
+use Rattle.flat_form.specs.Frames.{whole_cell}
+use Rattle.flat_form.specs.Calls.{scratch_in, before}
+use Rattle.flat_form.specs.FlatLists.{scratch_of, scratch_of_all, scratch_of_choices, scratch_of_entries, flat_of, flat_of_all, flat_choices, flat_entries}
+use Rattle.flat_form.specs.WellTyped.{turns_stay}
+use Rattle.node_core.specs.Stores.{place_at}
+use Rattle.typed_programs.specs.Scopes.{IsSettable}
+use Rattle.typed_programs.specs.Expressions.{Takes}
+use Rattle.typed_programs.specs.Statements.{IsTyped, AreTyped, AreTypedChoices, AreTypedEntries}
+use Rattle.typed_flat_laws.proofs.TypedLists.{typed_both, takes_at, whole_takes, stand_front, stand_back}
+use Rattle.typed_flat_laws.proofs.Standing.{Standing, pous_of}
+use Rattle.typed_flat_laws.proofs.Moved.{Stand, left, moved-is, moved-taken}
+use Rattle.typed_flat_laws.proofs.CallLists.{Lists, before-typed}
+use Rattle.typed_flat_laws.proofs.LabelTests.{labels_test-is}
+use Rattle.typed_flat_laws.proofs.Turns.{turns-typed}
+
+module _ (s : Standing) where
+  -- a cell that statements may set stands at its place
+  pub settable-stands : (n : ℕ) → IsSettable s.scope n → place_at s.places (s.owner (s.base + n)) ≡ place_at s.scope.places n
+  settable-stands n h = let most = s.within in let low = h.0 in let high = h.1 in s.owns n low (omega arith)
+
+  assign-typed : (target : ℕ) (e : Expression) (k : ℕ) → IsSettable s.scope target → Takes (pous_of s) s.scope (place_at s.scope.places target) e → Stand s k (scratch_in s.bodies e) → Lists s (flat_of s.bodies s.owner s.base (assign target e) k)
+  assign-typed target e k settable taken stands =
+      typed_both s.places (before s.bodies s.owner s.base e k) _ (before-typed s (place_at s.scope.places target).kind e k taken.0 stands)
+      (takes_at s.places (s.owner (s.base + target)) (place_at s.scope.places target) (left s e k) (settable-stands target settable) (moved-taken s (place_at s.scope.places target) e k taken stands), tt)
+
+  run-typed : (block offset k : ℕ) → IsTyped (pous_of s) s.scope (run block offset) → Stand s k (scratch_of s.bodies (run block offset)) → Lists s (flat_of s.bodies s.owner s.base (run block offset) k)
+  run-typed block offset k h stands =
+      let first = h.1 in
+      let room = h.2 in
+      let most = s.within in
+      let there = λ (n : ℕ) (low : n < length (s.instances block)).
+      let e : s.base + offset + n ≡ s.base + (offset + n) = omega arith in
+      ap (λ j. place_at s.places (s.owner j)) e ∙ s.owns (offset + n) (omega arith) (omega arith) ∙ h.3 n low in
+      s.before.runs block h.0 s.owner (s.base + offset) k there stands
+
+  mutual
+    pub statement-typed : (t : Statement) (k : ℕ) → IsTyped (pous_of s) s.scope t → Stand s k (scratch_of s.bodies t) → Lists s (flat_of s.bodies s.owner s.base t k)
+    statement-typed (assign target e) k h stands = assign-typed target e k h.0 h.1 stands
+    statement-typed (run block offset) k h stands = run-typed block offset k h stands
+    statement-typed (choice arms other) k h stands =
+        let made = scratch_of_choices s.bodies arms in
+        let rest = scratch_of_all s.bodies other in
+        choices-typed arms k (flat_of_all s.bodies s.owner s.base other (k + length made)) h.0 (stand_front s.places made rest k stands) (list-typed other (k + length made) h.1 (stand_back s.places made rest k stands))
+    statement-typed (cases kind e es other) k h stands =
+        let mine = scratch_in s.bodies e in
+        let j = k + length mine in
+        let entries = scratch_of_entries s.bodies es in
+        let others = scratch_of_all s.bodies other in
+        let front = stand_front s.places mine (whole_cell kind ∷ (entries ++ others)) k stands in
+        let back = stand_back s.places mine (whole_cell kind ∷ (entries ++ others)) k stands in
+        typed_both s.places (before s.bodies s.owner s.base e k) _ (before-typed s kind e k h.0 front) (
+          takes_at s.places j (whole_cell kind) (left s e k) back.0 (whole_takes s.places s.typed (whole_cell kind) (left s e k) refl (moved-is s kind e k h.0 front)),
+          entries-typed kind j (ap (λ (p : Scratch). p.kind) back.0) es (j + 1) (flat_of_all s.bodies s.owner s.base other (j + 1 + length entries)) h.1 (stand_front s.places entries others (j + 1) back.1)
+              (list-typed other (j + 1 + length entries) h.2 (stand_back s.places entries others (j + 1) back.1)),
+        )
+    statement-typed (repeat turns body) k h stands =
+        turns-typed s.places s.typed (s.owner (s.base + turns.control)) turns.count turns.first turns.step (scratch_of_all s.bodies body) (flat_of_all s.bodies s.owner s.base body)
+        (ap (λ (p : Scratch). turns_stay turns p.range) (settable-stands turns.control h.0) ∙ h.1) (λ j m. list-typed body j h.2 m) k stands
+    statement-typed (chart _ _ _) k h stands = absurd h
+
+    pub list-typed : (ts : Statements) (k : ℕ) → AreTyped (pous_of s) s.scope ts → Stand s k (scratch_of_all s.bodies ts) → Lists s (flat_of_all s.bodies s.owner s.base ts k)
+    list-typed no_statements k h stands = tt
+    list-typed (statement t ts) k h stands =
+        let made = scratch_of s.bodies t in
+        let rest = scratch_of_all s.bodies ts in
+        typed_both s.places (flat_of s.bodies s.owner s.base t k) _ (statement-typed t k h.0 (stand_front s.places made rest k stands)) (list-typed ts (k + length made) h.1 (stand_back s.places made rest k stands))
+
+    choices-typed : (arms : Choices) (k : ℕ) (rest : List FlatStatement) → AreTypedChoices (pous_of s) s.scope arms → Stand s k (scratch_of_choices s.bodies arms) → Lists s rest → Lists s (nested (flat_choices s.bodies s.owner s.base arms k) rest)
+    choices-typed no_choices k rest h stands others = others
+    choices-typed (choose e ss arms) k rest h stands others =
+        let mine = scratch_in s.bodies e in
+        let body = scratch_of_all s.bodies ss in
+        let more = scratch_of_choices s.bodies arms in
+        let j = k + length mine in
+        let front = stand_front s.places mine (body ++ more) k stands in
+        let back = stand_back s.places mine (body ++ more) k stands in
+        typed_both s.places (before s.bodies s.owner s.base e k) _ (before-typed s types.Bool e k h.0 front)
+        ((moved-is s types.Bool e k h.0 front, list-typed ss j h.1 (stand_front s.places body more j back), choices-typed arms (j + length body) rest h.2 (stand_back s.places body more j back) others), tt)
+
+    entries-typed : (kind : Elementary) (t : ℕ) → (place_at s.places t).kind ≡ kind → (es : Entries) (k : ℕ) (rest : List FlatStatement) → AreTypedEntries (pous_of s) s.scope kind es → Stand s k (scratch_of_entries s.bodies es) → Lists s rest
+        → Lists s (nested (flat_entries s.bodies s.owner s.base kind t es k) rest)
+    entries-typed kind t is no_entries k rest h stands others = others
+    entries-typed kind t is (entry labels ss es) k rest h stands others =
+        let body = scratch_of_all s.bodies ss in
+        let more = scratch_of_entries s.bodies es in
+        ((labels_test-is s.places kind t is labels h.0, list-typed ss k h.1 (stand_front s.places body more k stands), entries-typed kind t is es (k + length body) rest h.2 (stand_back s.places body more k stands) others), tt)

@@ -1,0 +1,33 @@
+-- The turns of a FOR, one behind the other, are typed: each value of the control variable lies in the range of its place.
+use Rattle.std.proofs.Common.{◌≡◌, ℕ, suc, zero, ◌+◌, true, false, List, length, ℤ, pos, ◌+ℤ◌, ◌*ℤ◌}
+use Rattle.std.specs.Prelude.{All}
+use Rattle.std.proofs.lemmas.Bool.{and_parts, or_right}
+use Rattle.plc_types.specs.Types.{range_of, in_range}
+use Rattle.program_tree.specs.Tree.{number}
+use Rattle.flat_core.specs.declared.flat_tree.Scratch.{Scratch}
+use Rattle.flat_core.specs.FlatTree.{FlatStatement}
+use Rattle.flat_form.specs.FlatLists.{repeated, unrolled}
+use Rattle.flat_laws.proofs.TurnValues.{stay_from, later-fit}
+use Rattle.node_core.specs.Stores.{place_at}
+use Rattle.node_core.specs.TypedFlats.{Takes, IsTypedPlace}
+use Rattle.typed_flat_laws.proofs.TypedLists.{typed_at, Typed, typed_both, StandFrom, stand_front, stand_back}
+use Rattle.typed_flat_laws.proofs.FramePlaces.{between_in}
+
+module _ (ps : List Scratch) (typed : All IsTypedPlace ps) where
+  -- a place takes a number of its range
+  pub number_taken : (place : ℕ) (v : ℤ) → in_range v (place_at ps place).range ≡ true → Takes ps (place_at ps place) (number v)
+  number_taken place v h =
+      let p = place_at ps place in
+      let its = typed_at ps place typed in
+      (between_in (range_of p.kind) p.range v its.0 its.1 h, or_right p.limited (in_range v p.range) h)
+
+  pub turns-typed : (control : ℕ) (n : ℕ) (v step : ℤ) (made : List Scratch) (body : ℕ → List FlatStatement) → stay_from n v step (place_at ps control).range ≡ true
+      → ((k : ℕ) → StandFrom ps k made → Typed ps (body k)) → (k : ℕ) → StandFrom ps k (repeated n made) → Typed ps (unrolled n control v step (length made) body k)
+  turns-typed control zero v step made body stays each k stands =
+      (number_taken control v (and_parts (in_range v (place_at ps control).range) (in_range (v +ℤ pos 0 *ℤ step) (place_at ps control).range) stays).0, tt)
+  turns-typed control (suc n) v step made body stays each k stands =
+      let r = (place_at ps control).range in (
+        number_taken control v (and_parts (in_range v r) (in_range (v +ℤ pos (suc n) *ℤ step) r) stays).0,
+        typed_both ps (body k) _ (each k (stand_front ps made (repeated n made) k stands))
+            (turns-typed control n (v +ℤ step) step made body (later-fit false n v step r stays) each (k + length made) (stand_back ps made (repeated n made) k stands)),
+      )

@@ -1,0 +1,92 @@
+-- A chart that breaks no rule is typed.
+use Rattle.std.proofs.Common.{◌≡◌, List, [], ◌∷◌, length, map, ℕ, ℤ, Bool, true, false, if◌then◌else◌, None, sym, subst}
+use Rattle.std.specs.Prelude.{All}
+use Rattle.std.proofs.lemmas.List.{length-map}
+use Rattle.std.proofs.lemmas.List.Elements.{All-nil, All-cons, All-head, All-tail}
+use Rattle.plc_types.specs.declared.elementary.Elementary.TheVariants as types
+use Rattle.source_tree.specs.Syntax.{PartData, step_part, transition_part, action_part, ChartTransitionData, ChartActionData}
+use Rattle.source_tree.specs.Levels.{ArePartsLevelled}
+use Rattle.program_tree.specs.View.{actions_of as actions_from}
+use Rattle.sfc_shape.specs.Shapes.{steps_of, transitions_of, actions_of, comes_first, placed, in_firing_order}
+use Rattle.rules.specs.declared.rule.Rule.TheVariants.{OperandType}
+use Rattle.typing.specs.Typing.{Scope}
+use Rattle.typing.specs.Typed.{typed}
+use Rattle.typing.specs.TypedStatements.{typed_stmts}
+use Rattle.typing.specs.JudgedCharts.{judged_part, judged_parts}
+use Rattle.typing.specs.TypedCharts.{step_cells, typed_action, typed_transition, typed_chart}
+use Rattle.typed_programs.specs.Scopes.{Pous, BodyScope}
+use Rattle.typed_programs.specs.Expressions.{IsOf}
+use Rattle.typed_programs.specs.Statements.{IsTypedPart, AreTyped, AreTypedTransitions, AreTypedActions}
+use Rattle.typed_scopes.specs.Uses.{Usable, ArePartsWithin}
+use Rattle.typed_scopes.specs.Fitting.{ScopeFits}
+use Rattle.typed_scopes.specs.Charts.{NamesSteps, IsNamedBySteps, ChartFits}
+use Rattle.typed_scopes.proofs.Wholes.{whole_also}
+use Rattle.typed_scopes.proofs.Statements.{condition_is, stmts_are}
+
+-- ---- transitions in firing order
+
+all_placed : (P : ChartTransitionData → Type 0) (t : ChartTransitionData) (us : List ChartTransitionData) → P t → All P us → All P (placed t us)
+all_placed P t [] one all = All-cons P t [] one all
+all_placed P t (u ∷ us) one all = by (comes_first u.priority t.priority) (all_placed P t us one (All-tail P u us all))
+  where
+    by : (c : Bool) → All P (placed t us) → All P (if c then u ∷ placed t us else t ∷ u ∷ us)
+    by true rest = All-cons P u (placed t us) (All-head P u us all) rest
+    by false rest = All-cons P t (u ∷ us) one all
+
+all_in_order : (P : ChartTransitionData → Type 0) (ts : List ChartTransitionData) → All P ts → All P (in_firing_order ts)
+all_in_order P [] all = all
+all_in_order P (t ∷ ts) all = all_placed P t (in_firing_order ts) (All-head P t ts all) (all_in_order P ts (All-tail P t ts all))
+
+module _ (pous : Pous) (b : BodyScope) (last : ℕ → ℤ) (scope : Scope) (uses : Usable) (fits : ScopeFits pous b last scope uses) where
+  HasCondition : ChartTransitionData → Type 0
+  HasCondition t = IsOf pous b types.Bool (typed scope None t.condition)
+
+  HasBody : ChartActionData → Type 0
+  HasBody a = AreTyped pous b (typed_stmts scope a.body)
+
+  conditions_are : (ps : List PartData) → ArePartsWithin uses ps → ArePartsLevelled ps → (judged_parts scope ps).whole ≡ true → All HasCondition (transitions_of ps)
+  unfolding HasCondition
+  conditions_are [] within levels whole = All-nil HasCondition
+  conditions_are (step_part s ∷ ps) within levels whole = conditions_are ps within levels.1 (whole_also (judged_part scope (step_part s)) (judged_parts scope ps) whole).1
+  conditions_are (transition_part t ∷ ps) within levels whole =
+      let both = whole_also (judged_part scope (transition_part t)) (judged_parts scope ps) whole in
+      All-cons HasCondition t (transitions_of ps) (condition_is pous b last scope uses fits OperandType t.condition within.0 levels.0 both.0) (conditions_are ps within.1 levels.1 both.1)
+  conditions_are (action_part a ∷ ps) within levels whole = conditions_are ps within.1 levels.1 (whole_also (judged_part scope (action_part a)) (judged_parts scope ps) whole).1
+
+  bodies_are : (ps : List PartData) → ArePartsWithin uses ps → ArePartsLevelled ps → (judged_parts scope ps).whole ≡ true → All HasBody (actions_of ps)
+  unfolding HasBody
+  bodies_are [] within levels whole = All-nil HasBody
+  bodies_are (step_part s ∷ ps) within levels whole = bodies_are ps within levels.1 (whole_also (judged_part scope (step_part s)) (judged_parts scope ps) whole).1
+  bodies_are (transition_part t ∷ ps) within levels whole = bodies_are ps within.1 levels.1 (whole_also (judged_part scope (transition_part t)) (judged_parts scope ps) whole).1
+  bodies_are (action_part a ∷ ps) within levels whole =
+      let both = whole_also (judged_part scope (action_part a)) (judged_parts scope ps) whole in
+      All-cons HasBody a (actions_of ps) (stmts_are pous b last scope uses fits [] a.body within.0 levels.0 both.0) (bodies_are ps within.1 levels.1 both.1)
+
+  transitions_are : (ps : List PartData) (ts : List ChartTransitionData) → All HasCondition ts → All (NamesSteps ps) ts
+      → AreTypedTransitions pous b (length (steps_of ps)) (map (typed_transition scope ps) ts)
+  unfolding HasCondition
+  transitions_are ps [] conditions named = tt
+  transitions_are ps (t ∷ ts) conditions named =
+      let steps = All-head (NamesSteps ps) t ts named in
+      (All-head HasCondition t ts conditions, steps.0, steps.1, transitions_are ps ts (All-tail HasCondition t ts conditions) (All-tail (NamesSteps ps) t ts named))
+
+  actions_are : (ps : List PartData) (as' : List ChartActionData) → All HasBody as' → All (IsNamedBySteps scope ps) as'
+      → AreTypedActions pous b (length (steps_of ps)) (actions_from (map (typed_action scope ps) as'))
+  unfolding HasBody
+  actions_are ps [] bodies named = tt
+  actions_are ps (a ∷ rest) bodies named =
+      let steps = All-head (IsNamedBySteps scope ps) a rest named in
+      (steps.0, steps.1, All-head HasBody a rest bodies, actions_are ps rest (All-tail HasBody a rest bodies) (All-tail (IsNamedBySteps scope ps) a rest named))
+
+  pub chart_is : (ps : List PartData) → ChartFits b scope ps → ArePartsWithin uses ps → ArePartsLevelled ps → (judged_parts scope ps).whole ≡ true → IsTypedPart pous b (typed_chart scope ps)
+  chart_is ps chart_fits within levels whole =
+      let actions = actions_from (map (typed_action scope ps) (actions_of ps)) in
+      let ts = map (typed_transition scope ps) (in_firing_order (transitions_of ps)) in
+      let count = sym (length-map (steps_of ps) (step_cells scope)) in
+      let fire = transitions_are ps (in_firing_order (transitions_of ps)) (all_in_order HasCondition (transitions_of ps) (conditions_are ps within levels whole)) (all_in_order (NamesSteps ps) (transitions_of ps) chart_fits.transitions) in
+      let act = actions_are ps (actions_of ps) (bodies_are ps within levels whole) chart_fits.actions in (
+        chart_fits.flags,
+        chart_fits.rising,
+        subst (λ (n : ℕ). AreTypedActions pous b n actions) count act,
+        subst (λ (n : ℕ). AreTypedTransitions pous b n ts) count fire,
+      )

@@ -1,0 +1,4 @@
+pub mod Types
+pub mod Uses
+pub mod Fitting
+pub mod Charts

@@ -1,0 +1,269 @@
+// The command `verify`.
+ghost use Rattle.std.specs.Prelude.{◌≡◌, ◌≢◌, ◌≤◌, ◌⊎◌};
+ghost use Rattle.outside.specs.Causes.{Rose, NoneFell};
+ghost use Rattle.outside.specs.Contents.{OthersStay};
+ghost use Rattle.program_tree.specs.View.{program_view};
+ghost use Rattle.node_core.specs.Scans.{scan_view};
+ghost use Rattle.query_formula_laws.specs.TypedComparisons.{IsScanOf};
+ghost use Rattle.comparison_typing.specs.Readings.{IsRead};
+ghost use Rattle.product_build.specs.Limits.{HasFewLines};
+ghost use Rattle.product_build.specs.MadeCircuits.{comparison_between};
+ghost use Rattle.command_answers.specs.Answers.{Answers, IsExact};
+ghost use Rattle.command_files.specs.Texts.{Texts, AreThreeTold, OneOfThreeRose};
+ghost use Rattle.command_files.specs.KeptTexts.{AreKept};
+ghost use Rattle.comparison_files.specs.Accepting.{nodes_of, AreStated, IsRefused, IsTooLarge};
+ghost use Rattle.comparison_files.specs.Comparing.{comparison_in};
+ghost use Rattle.comparison_files.specs.Faults.{IfFault};
+ghost use Rattle.verify_command.specs.Lines.{IsOfVerdict};
+ghost use Rattle.verify_command.specs.Reports.{Saving, saving, HasFailed, IsLeft, VerifyReports, ShowsSaved};
+
+use crate::finding::answer_finding;
+use cdcl_watch::Watched;
+use clause_core::Decider;
+use command_answers::{Status, put_last, put_limit, put_refusal};
+use command_files::{KeptTexts, read_texts};
+use comparison_files::{CompareFault, Compared, accept_texts, circuits_of};
+use node_core::Scan;
+use node_end::Accepted;
+use outside::{OutErr, Shelf, Sink};
+use program_tree::Program;
+use scan_model::Relation;
+use std::alloc::Global;
+
+// Puts why texts are not compared, where no file has changed.
+fn put_fault<K: Sink>(alloc: Global, fault: CompareFault, out: &mut K) -> Status
+    ensures answer { (t : Texts) (s : Saving) → s.after ≡ s.before → IfFault (IsRefused t) (IsTooLarge t) fault → Answers (VerifyReports t s) ⊥ result (K.taken out.old) (K.taken out.new) }
+    ensures usage { result ≢ Status.Usage }
+    ensures read_fault { result ≢ Status.ReadFault }
+    ensures write_fault { result ≡ Status.WriteFault → Rose (K.faults out.old) (K.faults out.new) }
+    ensures faults { K.faults out.old ≤ K.faults out.new }
+{
+    match fault {
+        CompareFault::Refused(source, refusal) => put_refusal(alloc, source, refusal, out),
+        CompareFault::TooLarge(source, limit) => put_limit(alloc, source, limit, out),
+        CompareFault::Memory => put_last(out, "MEMORY\n", Status::Memory),
+    }
+}
+
+// Makes the circuits of what is compared, and saves the finding by them.
+fn answer_pair<D: Decider, S: Shelf, K: Sink>(
+    alloc: Global,
+    decider: &mut D,
+    old: &Program,
+    old_scan: Scan,
+    new: &Program,
+    new_scan: Scan,
+    relation: &Relation,
+    finding: &str,
+    shelf: &mut S,
+    out: &mut K,
+) -> Status
+    requires read { IsRead (comparison_between old.now new.now relation.now) }
+    requires lines { HasFewLines (comparison_between old.now new.now relation.now) }
+    requires old_nodes { scan_view old_scan ≡ nodes_of (program_view old.now) }
+    requires new_nodes { scan_view new_scan ≡ nodes_of (program_view new.now) }
+    requires old_meaning { IsScanOf (program_view old.now) (scan_view old_scan) }
+    requires new_meaning { IsScanOf (program_view new.now) (scan_view new_scan) }
+    ensures others { OthersStay (S.file shelf.old) (S.file shelf.new) finding.now }
+    ensures left { (t : Texts) → AreStated t (comparison_between old.now new.now relation.now) → IsLeft t (saving (S.file shelf.old) (S.file shelf.new) (S.write_faults shelf.old) (S.write_faults shelf.new) finding.now) }
+    ensures answer { (t : Texts) → AreStated t (comparison_between old.now new.now relation.now)
+        → Answers (VerifyReports t (saving (S.file shelf.old) (S.file shelf.new) (S.write_faults shelf.old) (S.write_faults shelf.new) finding.now)) ⊥ result (K.taken out.old) (K.taken out.new) }
+    ensures usage { result ≢ Status.Usage }
+    ensures read_fault { result ≢ Status.ReadFault }
+    ensures write_fault { result ≡ Status.WriteFault → HasFailed (saving (S.file shelf.old) (S.file shelf.new) (S.write_faults shelf.old) (S.write_faults shelf.new) finding.now) ⊎ Rose (K.faults out.old) (K.faults out.new) }
+    ensures reads { NoneFell (S.read_faults shelf.old) (S.read_faults shelf.new) }
+    ensures writes { NoneFell (S.write_faults shelf.old) (S.write_faults shelf.new) }
+    ensures faults { K.faults out.old ≤ K.faults out.new }
+{
+    match circuits_of(alloc, old, old_scan, new, new_scan, relation) {
+        Ok(circuits) => answer_finding(
+            alloc, decider, old, new, relation, &circuits, finding, shelf, out,
+        ),
+        Err(fault) => put_fault(alloc, fault, out),
+    }
+}
+
+// The same of what is compared, as it is held.
+fn answer_compared<D: Decider, S: Shelf, K: Sink>(
+    alloc: Global,
+    decider: &mut D,
+    compared: Compared,
+    finding: &str,
+    shelf: &mut S,
+    out: &mut K,
+) -> Status
+    requires read { IsRead (comparison_in compared) }
+    requires lines { HasFewLines (comparison_in compared) }
+    requires old_nodes { scan_view compared.old.scan ≡ nodes_of (program_view compared.old.program) }
+    requires new_nodes { scan_view compared.new.scan ≡ nodes_of (program_view compared.new.program) }
+    requires old_meaning { IsScanOf (program_view compared.old.program) (scan_view compared.old.scan) }
+    requires new_meaning { IsScanOf (program_view compared.new.program) (scan_view compared.new.scan) }
+    ensures others { OthersStay (S.file shelf.old) (S.file shelf.new) finding.now }
+    ensures left { (t : Texts) → AreStated t (comparison_in compared) → IsLeft t (saving (S.file shelf.old) (S.file shelf.new) (S.write_faults shelf.old) (S.write_faults shelf.new) finding.now) }
+    ensures answer { (t : Texts) → AreStated t (comparison_in compared)
+        → Answers (VerifyReports t (saving (S.file shelf.old) (S.file shelf.new) (S.write_faults shelf.old) (S.write_faults shelf.new) finding.now)) ⊥ result (K.taken out.old) (K.taken out.new) }
+    ensures usage { result ≢ Status.Usage }
+    ensures read_fault { result ≢ Status.ReadFault }
+    ensures write_fault { result ≡ Status.WriteFault → HasFailed (saving (S.file shelf.old) (S.file shelf.new) (S.write_faults shelf.old) (S.write_faults shelf.new) finding.now) ⊎ Rose (K.faults out.old) (K.faults out.new) }
+    ensures reads { NoneFell (S.read_faults shelf.old) (S.read_faults shelf.new) }
+    ensures writes { NoneFell (S.write_faults shelf.old) (S.write_faults shelf.new) }
+    ensures faults { K.faults out.old ≤ K.faults out.new }
+{
+    let Compared { old, new, relation } = compared;
+    let Accepted {
+        program: old,
+        scan: old_scan,
+    } = old;
+    let Accepted {
+        program: new,
+        scan: new_scan,
+    } = new;
+    answer_pair(
+        alloc, decider, &old, old_scan, &new, new_scan, &relation, finding, shelf, out,
+    )
+}
+
+// Saves the finding on what kept texts state.
+fn answer_texts<D: Decider, S: Shelf, K: Sink>(
+    alloc: Global,
+    decider: &mut D,
+    texts: &KeptTexts,
+    finding: &str,
+    shelf: &mut S,
+    out: &mut K,
+) -> Status
+    ensures others { OthersStay (S.file shelf.old) (S.file shelf.new) finding.now }
+    ensures left { (t : Texts) → AreKept texts.now t → IsLeft t (saving (S.file shelf.old) (S.file shelf.new) (S.write_faults shelf.old) (S.write_faults shelf.new) finding.now) }
+    ensures answer { (t : Texts) → AreKept texts.now t
+        → Answers (VerifyReports t (saving (S.file shelf.old) (S.file shelf.new) (S.write_faults shelf.old) (S.write_faults shelf.new) finding.now)) ⊥ result (K.taken out.old) (K.taken out.new) }
+    ensures usage { result ≢ Status.Usage }
+    ensures read_fault { result ≢ Status.ReadFault }
+    ensures write_fault { result ≡ Status.WriteFault → HasFailed (saving (S.file shelf.old) (S.file shelf.new) (S.write_faults shelf.old) (S.write_faults shelf.new) finding.now) ⊎ Rose (K.faults out.old) (K.faults out.new) }
+    ensures reads { NoneFell (S.read_faults shelf.old) (S.read_faults shelf.new) }
+    ensures writes { NoneFell (S.write_faults shelf.old) (S.write_faults shelf.new) }
+    ensures faults { K.faults out.old ≤ K.faults out.new }
+{
+    match accept_texts(alloc, texts) {
+        Ok(compared) => answer_compared(alloc, decider, compared, finding, shelf, out),
+        Err(fault) => put_fault(alloc, fault, out),
+    }
+}
+
+// Reads the texts, and saves the finding on what they state.
+fn answer_files<D: Decider, S: Shelf, K: Sink>(
+    alloc: Global,
+    decider: &mut D,
+    old: &str,
+    new: &str,
+    relation: &str,
+    finding: &str,
+    shelf: &mut S,
+    out: &mut K,
+) -> Status
+    ensures others { OthersStay (S.file shelf.old) (S.file shelf.new) finding.now }
+    ensures unread { result ≡ Status.ReadFault → S.file shelf.new ≡ S.file shelf.old }
+    ensures left { (t : Texts) → AreThreeTold (S.file shelf.old) old.now new.now relation.now t → IsLeft t (saving (S.file shelf.old) (S.file shelf.new) (S.write_faults shelf.old) (S.write_faults shelf.new) finding.now) }
+    ensures answer { (t : Texts) → AreThreeTold (S.file shelf.old) old.now new.now relation.now t
+        → Answers (VerifyReports t (saving (S.file shelf.old) (S.file shelf.new) (S.write_faults shelf.old) (S.write_faults shelf.new) finding.now)) (OneOfThreeRose (S.read_faults shelf.old) (S.read_faults shelf.new) old.now new.now relation.now) result (K.taken out.old) (K.taken out.new) }
+    ensures usage { result ≢ Status.Usage }
+    ensures read_fault { result ≡ Status.ReadFault → OneOfThreeRose (S.read_faults shelf.old) (S.read_faults shelf.new) old.now new.now relation.now }
+    ensures write_fault { result ≡ Status.WriteFault → HasFailed (saving (S.file shelf.old) (S.file shelf.new) (S.write_faults shelf.old) (S.write_faults shelf.new) finding.now) ⊎ Rose (K.faults out.old) (K.faults out.new) }
+    ensures reads { NoneFell (S.read_faults shelf.old) (S.read_faults shelf.new) }
+    ensures writes { NoneFell (S.write_faults shelf.old) (S.write_faults shelf.new) }
+    ensures faults { K.faults out.old ≤ K.faults out.new }
+{
+    match read_texts(alloc, old, new, relation, shelf) {
+        Ok(texts) => answer_texts(alloc, decider, &texts, finding, shelf, out),
+        Err(OutErr::Fault) => put_last(out, "READ FAULT\n", Status::ReadFault),
+        Err(OutErr::Memory) => put_last(out, "MEMORY\n", Status::Memory),
+    }
+}
+
+/// Decides two programs and a relation by this decider, saves the finding that shows the verdict, and says how that ends. OLD, NEW and
+/// REL are read whole before any rule is tested. The finding is made only once all three are accepted, and written line by line.
+pub fn answer_verify_with<D: Decider, S: Shelf, K: Sink>(
+    alloc: Global,
+    decider: &mut D,
+    old: &str,
+    new: &str,
+    relation: &str,
+    finding: &str,
+    shelf: &mut S,
+    out: &mut K,
+) -> Status
+    // No file but the finding changes, and none where a read failed.
+    ensures others { OthersStay (S.file shelf.old) (S.file shelf.new) finding.now }
+    ensures unread { result ≡ Status.ReadFault → S.file shelf.new ≡ S.file shelf.old }
+
+    // Whatever the answer, the finding is as at entry, or what is told of it is a part of a finding on what the texts state.
+    ensures left { (t : Texts) → AreThreeTold (S.file shelf.old) old.now new.now relation.now t → IsLeft t (saving (S.file shelf.old) (S.file shelf.new) (S.write_faults shelf.old) (S.write_faults shelf.new) finding.now) }
+
+    // The bytes on the sink and the status are those of a report on the three texts, where these are told.
+    ensures answer { (t : Texts) → AreThreeTold (S.file shelf.old) old.now new.now relation.now t
+        → Answers (VerifyReports t (saving (S.file shelf.old) (S.file shelf.new) (S.write_faults shelf.old) (S.write_faults shelf.new) finding.now)) (OneOfThreeRose (S.read_faults shelf.old) (S.read_faults shelf.new) old.now new.now relation.now) result (K.taken out.old) (K.taken out.new) }
+
+    // Where the status is that of a verdict, the finding was saved and is judged valid with it, and it is the verdict of the model on
+    // what the texts state, or SPENT with its log.
+    ensures saved { (t : Texts) → AreThreeTold (S.file shelf.old) old.now new.now relation.now t → IsOfVerdict result
+        → ShowsSaved t (saving (S.file shelf.old) (S.file shelf.new) (S.write_faults shelf.old) (S.write_faults shelf.new) finding.now) result (K.taken out.old) (K.taken out.new) }
+    ensures usage { result ≢ Status.Usage }
+
+    // A fault comes only where a count rose, and no count falls.
+    ensures read_fault { result ≡ Status.ReadFault → OneOfThreeRose (S.read_faults shelf.old) (S.read_faults shelf.new) old.now new.now relation.now }
+    ensures write_fault { result ≡ Status.WriteFault → HasFailed (saving (S.file shelf.old) (S.file shelf.new) (S.write_faults shelf.old) (S.write_faults shelf.new) finding.now) ⊎ Rose (K.faults out.old) (K.faults out.new) }
+    ensures reads { NoneFell (S.read_faults shelf.old) (S.read_faults shelf.new) }
+    ensures writes { NoneFell (S.write_faults shelf.old) (S.write_faults shelf.new) }
+    ensures faults { K.faults out.old ≤ K.faults out.new }
+
+    // Where no count rose, the answer is a whole report, or memory was wanting.
+    ensures complete { (t : Texts) → AreThreeTold (S.file shelf.old) old.now new.now relation.now t
+        → ¬ (OneOfThreeRose (S.read_faults shelf.old) (S.read_faults shelf.new) old.now new.now relation.now)
+        → ¬ HasFailed (saving (S.file shelf.old) (S.file shelf.new) (S.write_faults shelf.old) (S.write_faults shelf.new) finding.now) → ¬ Rose (K.faults out.old) (K.faults out.new)
+        → result ≢ Status.Memory → IsExact (VerifyReports t (saving (S.file shelf.old) (S.file shelf.new) (S.write_faults shelf.old) (S.write_faults shelf.new) finding.now)) result (K.taken out.old) (K.taken out.new) }
+{
+    answer_files(alloc, decider, old, new, relation, finding, shelf, out)
+}
+
+/// The same by the decider with watched literals.
+pub fn answer_verify<S: Shelf, K: Sink>(
+    alloc: Global,
+    old: &str,
+    new: &str,
+    relation: &str,
+    finding: &str,
+    shelf: &mut S,
+    out: &mut K,
+) -> Status
+    // No file but the finding changes, and none where a read failed.
+    ensures others { OthersStay (S.file shelf.old) (S.file shelf.new) finding.now }
+    ensures unread { result ≡ Status.ReadFault → S.file shelf.new ≡ S.file shelf.old }
+
+    // Whatever the answer, the finding is as at entry, or what is told of it is a part of a finding on what the texts state.
+    ensures left { (t : Texts) → AreThreeTold (S.file shelf.old) old.now new.now relation.now t → IsLeft t (saving (S.file shelf.old) (S.file shelf.new) (S.write_faults shelf.old) (S.write_faults shelf.new) finding.now) }
+
+    // The bytes on the sink and the status are those of a report on the three texts, where these are told.
+    ensures answer { (t : Texts) → AreThreeTold (S.file shelf.old) old.now new.now relation.now t
+        → Answers (VerifyReports t (saving (S.file shelf.old) (S.file shelf.new) (S.write_faults shelf.old) (S.write_faults shelf.new) finding.now)) (OneOfThreeRose (S.read_faults shelf.old) (S.read_faults shelf.new) old.now new.now relation.now) result (K.taken out.old) (K.taken out.new) }
+
+    // Where the status is that of a verdict, the finding was saved and is judged valid with it, and it is the verdict of the model on
+    // what the texts state, or SPENT with its log.
+    ensures saved { (t : Texts) → AreThreeTold (S.file shelf.old) old.now new.now relation.now t → IsOfVerdict result
+        → ShowsSaved t (saving (S.file shelf.old) (S.file shelf.new) (S.write_faults shelf.old) (S.write_faults shelf.new) finding.now) result (K.taken out.old) (K.taken out.new) }
+    ensures usage { result ≢ Status.Usage }
+
+    // A fault comes only where a count rose, and no count falls.
+    ensures read_fault { result ≡ Status.ReadFault → OneOfThreeRose (S.read_faults shelf.old) (S.read_faults shelf.new) old.now new.now relation.now }
+    ensures write_fault { result ≡ Status.WriteFault → HasFailed (saving (S.file shelf.old) (S.file shelf.new) (S.write_faults shelf.old) (S.write_faults shelf.new) finding.now) ⊎ Rose (K.faults out.old) (K.faults out.new) }
+    ensures reads { NoneFell (S.read_faults shelf.old) (S.read_faults shelf.new) }
+    ensures writes { NoneFell (S.write_faults shelf.old) (S.write_faults shelf.new) }
+    ensures faults { K.faults out.old ≤ K.faults out.new }
+
+    // Where no count rose, the answer is a whole report, or memory was wanting.
+    ensures complete { (t : Texts) → AreThreeTold (S.file shelf.old) old.now new.now relation.now t
+        → ¬ (OneOfThreeRose (S.read_faults shelf.old) (S.read_faults shelf.new) old.now new.now relation.now)
+        → ¬ HasFailed (saving (S.file shelf.old) (S.file shelf.new) (S.write_faults shelf.old) (S.write_faults shelf.new) finding.now) → ¬ Rose (K.faults out.old) (K.faults out.new)
+        → result ≢ Status.Memory → IsExact (VerifyReports t (saving (S.file shelf.old) (S.file shelf.new) (S.write_faults shelf.old) (S.write_faults shelf.new) finding.now)) result (K.taken out.old) (K.taken out.new) }
+{
+    let mut decider = Watched::new();
+    answer_verify_with(alloc, &mut decider, old, new, relation, finding, shelf, out)
+}

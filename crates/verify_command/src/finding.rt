@@ -1,0 +1,109 @@
+// A finding saved, and what is answered.
+ghost use Rattle.std.specs.Prelude.{◌≡◌, ◌≢◌, ◌≤◌, ◌⊎◌, IfOk, OnErr};
+ghost use Rattle.outside.specs.Causes.{Rose, NoneFell};
+ghost use Rattle.outside.specs.Contents.{OthersStay};
+ghost use Rattle.finding_file.specs.Causes.{IsCausedBy};
+ghost use Rattle.queries.specs.Comparisons.{IsComparison};
+ghost use Rattle.queries.specs.Settings.{setting_of};
+ghost use Rattle.scan_replay.specs.Duos.{AreComparable};
+ghost use Rattle.judgement.specs.Shown.{IsShown};
+ghost use Rattle.finding_search.specs.Passing.{IsFull};
+ghost use Rattle.product_build.specs.MadeCircuits.{comparison_between};
+ghost use Rattle.command_answers.specs.Answers.{Answers};
+ghost use Rattle.verify_command.specs.Reports.{most_bytes, saving, HasFailed, IsSaved, LeavesPart, ReportsVerdict, ReportsSaved};
+
+use crate::show::{verdict_line, verdict_status};
+use clause_core::Decider;
+use command_answers::{Limit, Source, Status, put_last, put_limit, put_report};
+use finding_file::{FindingWriter, WriteErr};
+use finding_lines::Conclusion;
+use finding_search::save_finding;
+use outside::{OutErr, Shelf, Sink};
+use pair_trial::Trial;
+use program_tree::Program;
+use queries::Queries;
+use scan_model::Relation;
+use std::alloc::Global;
+
+/// How many bytes a finding may have.
+const MOST_BYTES: u64 = 1_073_741_824;
+
+// Makes the file of the finding, and saves the finding in it.
+fn save<D: Decider, Q: Queries, S: Shelf>(
+    alloc: Global,
+    decider: &mut D,
+    old: &Program,
+    new: &Program,
+    relation: &Relation,
+    queries: &Q,
+    finding: &str,
+    shelf: &mut S,
+) -> Result<Conclusion, WriteErr>
+    requires compared { Q.compared queries.now ≡ comparison_between old.now new.now relation.now }
+    requires comparable { AreComparable old.now new.now relation.now }
+    requires comparison { IsComparison (comparison_between old.now new.now relation.now) }
+    ensures saved { IfOk result (IsSaved (comparison_between old.now new.now relation.now) (Q.formula queries.now) (saving (S.file shelf.old) (S.file shelf.new) (S.write_faults shelf.old) (S.write_faults shelf.new) finding.now)) }
+    ensures shown { IfOk result (IsShown (comparison_between old.now new.now relation.now) (Q.formula queries.now)) }
+    ensures left { OnErr result (LeavesPart (comparison_between old.now new.now relation.now) (Q.formula queries.now) (saving (S.file shelf.old) (S.file shelf.new) (S.write_faults shelf.old) (S.write_faults shelf.new) finding.now)) }
+    ensures past { result ≡ Err WriteErr.M8 → IsFull (setting_of (comparison_between old.now new.now relation.now)) (Q.formula queries.now) (S.file shelf.new finding.now) most_bytes }
+    ensures others { OthersStay (S.file shelf.old) (S.file shelf.new) finding.now }
+    ensures cause { IsCausedBy WriteErr.Fault (S.write_faults shelf.old) (S.write_faults shelf.new) finding.now result }
+    ensures reads { NoneFell (S.read_faults shelf.old) (S.read_faults shelf.new) }
+{
+    let Ok(mut trial) = Trial::new(alloc, old, new, relation) else {
+        return Err(WriteErr::Memory);
+    };
+    let Ok(mut writer) = FindingWriter::new(alloc, finding, MOST_BYTES) else {
+        return Err(WriteErr::Memory);
+    };
+    match shelf.create(finding) {
+        Ok(()) => save_finding(alloc, decider, &mut trial, queries, &mut writer, shelf),
+        Err(OutErr::Fault) => Err(WriteErr::Fault),
+        Err(OutErr::Memory) => Err(WriteErr::Memory),
+    }
+}
+
+// Puts how the saving of a finding ended.
+fn put_saved<K: Sink>(alloc: Global, saved: Result<Conclusion, WriteErr>, out: &mut K) -> Status
+    ensures answer { Answers (ReportsSaved saved) ⊥ result (K.taken out.old) (K.taken out.new) }
+    ensures usage { result ≢ Status.Usage }
+    ensures read_fault { result ≢ Status.ReadFault }
+    ensures write_fault { result ≡ Status.WriteFault → (saved ≡ Err WriteErr.Fault) ⊎ Rose (K.faults out.old) (K.faults out.new) }
+    ensures faults { K.faults out.old ≤ K.faults out.new }
+{
+    match saved {
+        Ok(verdict) => put_report(out, verdict_line(alloc, verdict), verdict_status(verdict)),
+        Err(WriteErr::M8) => put_limit(alloc, Source::Finding, Limit::Finding, out),
+        Err(WriteErr::Fault) => put_last(out, "WRITE FAULT\n", Status::WriteFault),
+        Err(WriteErr::Memory) => put_last(out, "MEMORY\n", Status::Memory),
+    }
+}
+
+/// Saves the finding on what is compared, and puts how that ended.
+pub(crate) fn answer_finding<D: Decider, Q: Queries, S: Shelf, K: Sink>(
+    alloc: Global,
+    decider: &mut D,
+    old: &Program,
+    new: &Program,
+    relation: &Relation,
+    queries: &Q,
+    finding: &str,
+    shelf: &mut S,
+    out: &mut K,
+) -> Status
+    requires compared { Q.compared queries.now ≡ comparison_between old.now new.now relation.now }
+    requires comparable { AreComparable old.now new.now relation.now }
+    requires comparison { IsComparison (comparison_between old.now new.now relation.now) }
+    ensures others { OthersStay (S.file shelf.old) (S.file shelf.new) finding.now }
+    ensures left { LeavesPart (comparison_between old.now new.now relation.now) (Q.formula queries.now) (saving (S.file shelf.old) (S.file shelf.new) (S.write_faults shelf.old) (S.write_faults shelf.new) finding.now) }
+    ensures answer { Answers (ReportsVerdict (comparison_between old.now new.now relation.now) (Q.formula queries.now) (saving (S.file shelf.old) (S.file shelf.new) (S.write_faults shelf.old) (S.write_faults shelf.new) finding.now)) ⊥ result (K.taken out.old) (K.taken out.new) }
+    ensures usage { result ≢ Status.Usage }
+    ensures read_fault { result ≢ Status.ReadFault }
+    ensures write_fault { result ≡ Status.WriteFault → HasFailed (saving (S.file shelf.old) (S.file shelf.new) (S.write_faults shelf.old) (S.write_faults shelf.new) finding.now) ⊎ Rose (K.faults out.old) (K.faults out.new) }
+    ensures reads { NoneFell (S.read_faults shelf.old) (S.read_faults shelf.new) }
+    ensures writes { NoneFell (S.write_faults shelf.old) (S.write_faults shelf.new) }
+    ensures faults { K.faults out.old ≤ K.faults out.new }
+{
+    let saved = save(alloc, decider, old, new, relation, queries, finding, shelf);
+    put_saved(alloc, saved, out)
+}

@@ -1,0 +1,8 @@
+// The command `verify`: the verdict on two programs and a relation, with the finding that shows it.
+#![tactic(auto)]
+
+mod command;
+mod finding;
+mod show;
+
+pub use command::{answer_verify, answer_verify_with};

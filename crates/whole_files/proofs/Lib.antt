@@ -1,0 +1,12 @@
+pub mod Told
+pub mod KnownTypes
+pub mod ToldTrees
+pub mod ToldStatements
+pub mod Formed
+pub mod WholeDomains
+pub mod WholeVariables
+pub mod WholeMembers
+pub mod WholeBodies
+pub mod ApartControls
+pub mod WholeLaw
+pub mod ChartNames

@@ -1,0 +1,2 @@
+pub mod WholeScopes
+pub mod WholePous

@@ -1,0 +1,200 @@
+"""Reads what a program text declares: its types, and the inputs and outputs of its PROGRAM.
+
+Only the declarations are read, and what they say is believed: `regver replay` says whether a program is accepted.
+"""
+
+import re
+from collections import namedtuple
+
+# A file with more bytes is refused.
+MOST_BYTES = 1_048_576
+# The elementary types, each with the values that it has.
+SIGNED = {"SINT": 8, "INT": 16, "DINT": 32}
+UNSIGNED = {"BOOL": 1, "USINT": 8, "UINT": 16, "UDINT": 32, "BYTE": 8, "WORD": 16, "DWORD": 32}
+VALUES = {name: range(-2 ** (bits - 1), 2 ** (bits - 1)) for name, bits in SIGNED.items()}
+VALUES.update({name: range(2 ** bits) for name, bits in UNSIGNED.items()})
+TOKEN = re.compile(
+    r"""(?P<gap> [\t\n\f\r ]+ | \(\*.*?\*\) | //[^\n]* )
+      | (?P<word> [A-Za-z_][A-Za-z0-9_]* )
+      | (?P<number> [0-9][A-Za-z0-9_#]* )
+      | (?P<sign> := | => | <> | <= | >= | \.\. | [(),;:.+*/&=<>#-] )""",
+    re.VERBOSE | re.DOTALL)
+
+# A token's kind, its text in upper case, its text as it stands, the number of its line, and where it begins.
+Token = namedtuple("Token", "kind upper text line place")
+# What a variable is declared as. The base is the name of an elementary type or the tuple of an enumeration's values.
+Type = namedtuple("Type", "base bounds")
+Variable = namedtuple("Variable", "name type")
+
+
+class Unreadable(Exception):
+    """The text is not as the language wants it, at this line."""
+
+    def __init__(self, line, message):
+        super().__init__("{}: {}".format(line, message))
+
+
+class Trouble(Exception):
+    """What keeps a script from its work, as it tells it."""
+
+
+def tokens_of(text):
+    """The tokens of a text, and one of the kind `end` behind them."""
+    place, line, tokens = 0, 1, []
+    while place < len(text):
+        found = TOKEN.match(text, place)
+        if not found:
+            raise Unreadable(line, "no token begins with " + ascii(text[place]))
+        if found.lastgroup != "gap":
+            tokens.append(Token(found.lastgroup, found.group().upper(), found.group(), line, place))
+        line += found.group().count("\n")
+        place = found.end()
+    return tokens + [Token("end", "", "the end of the file", line, place)]
+
+
+def value_of(number, line):
+    base, _, digits = number.rpartition("#")
+    try:
+        return int(digits.replace("_", ""), int(base or 10))
+    except ValueError:
+        raise Unreadable(line, "this is no number: " + number)
+
+
+class Program:
+    """What a file declares: its types, and the inputs and outputs of its PROGRAM in the order of the text."""
+
+    def __init__(self, text):
+        self.tokens = tokens_of(text)
+        self.next = 0
+        self.types = {}
+        self.sections = {"VAR_INPUT": [], "VAR_OUTPUT": []}
+        programs = 0
+        while self.tokens[self.next].kind != "end":
+            if self.takes("TYPE"):
+                self.read_types()
+            elif self.takes("PROGRAM"):
+                programs += 1
+                self.read_variables()
+            else:
+                self.next += 1
+        if programs != 1:
+            raise Unreadable(self.tokens[-1].line, "there are {} PROGRAMs, not one".format(programs))
+        self.inputs = self.resolved("VAR_INPUT")
+        self.outputs = self.resolved("VAR_OUTPUT")
+
+    def takes(self, upper):
+        """Goes behind the next token where it is this one."""
+        taken = self.tokens[self.next].upper == upper
+        self.next += taken
+        return taken
+
+    def wants(self, upper):
+        token = self.tokens[self.next]
+        if not self.takes(upper):
+            raise Unreadable(token.line, "{} is wanted before {}".format(upper, token.text))
+
+    def take(self, kind):
+        token = self.tokens[self.next]
+        if token.kind != kind:
+            raise Unreadable(token.line, "a {} is wanted before {}".format(kind, token.text))
+        self.next += 1
+        return token
+
+    def names(self):
+        names = [self.take("word").text]
+        while self.takes(","):
+            names.append(self.take("word").text)
+        return names
+
+    def bound(self):
+        """A bound of a subrange: a number with or without a sign, or one with its type before it."""
+        negative = self.takes("-")
+        if self.tokens[self.next].kind == "word":
+            self.take("word")
+            self.wants("#")
+            negative ^= self.takes("-")
+        token = self.take("number")
+        value = value_of(token.upper, token.line)
+        return -value if negative else value
+
+    def kind(self):
+        """What stands behind the colon of a declaration: a type, or the token of a type's name."""
+        token = self.take("word")
+        if token.upper not in VALUES:
+            return token
+        if not self.takes("("):
+            return Type(token.upper, None)
+        low = self.bound()
+        self.wants("..")
+        high = self.bound()
+        self.wants(")")
+        return Type(token.upper, (low, high))
+
+    def read_types(self):
+        while not self.takes("END_TYPE"):
+            name = self.take("word").upper
+            self.wants(":")
+            if self.takes("("):
+                self.types[name] = Type(tuple(value.upper() for value in self.names()), None)
+                self.wants(")")
+            else:
+                self.types[name] = self.kind()
+            self.wants(";")
+
+    def read_variables(self):
+        self.take("word")
+        while self.tokens[self.next].upper in ("VAR", "VAR_INPUT", "VAR_OUTPUT", "VAR_TEMP"):
+            section = self.sections.get(self.take("word").upper, [])
+            self.takes("CONSTANT")
+            while not self.takes("END_VAR"):
+                names = self.names()
+                self.wants(":")
+                kind = self.kind()
+                section.extend(Variable(name, kind) for name in names)
+                while self.tokens[self.next].upper not in (";", ""):  # an initial value
+                    self.next += 1
+                self.wants(";")
+
+    def resolved(self, section):
+        return [Variable(name, self.type_of(kind)) for name, kind in self.sections[section]]
+
+    def type_of(self, kind):
+        """The type that a name stands for, at the end of its way of other names."""
+        seen = set()
+        while isinstance(kind, Token):
+            if kind.upper in seen or kind.upper not in self.types:
+                raise Unreadable(kind.line, "this is no type of the file: " + kind.text)
+            seen.add(kind.upper)
+            kind = self.types[kind.upper]
+        self.types.update(dict.fromkeys(seen, kind))
+        return kind
+
+
+def read_bytes(path, most, what):
+    try:
+        with open(path, "rb") as file:
+            text = file.read(most + 1)
+    except OSError as error:
+        raise Trouble("cannot read {}: {}".format(path, error.strerror)) from error
+    if len(text) > most:
+        raise Trouble("{}: {} has at most {:,} bytes".format(path, what, most))
+    return text
+
+
+def text_of(text):
+    """The characters of a file's bytes; all bytes beyond ASCII stand in comments."""
+    mark = b"\xef\xbb\xbf"
+    return text[len(mark) if text.startswith(mark) else 0:].decode("latin-1")
+
+
+def program_of(text):
+    """The program that a file's bytes state."""
+    return Program(text_of(text))
+
+
+def read_program(path):
+    text = read_bytes(path, MOST_BYTES, "a program")
+    try:
+        return program_of(text)
+    except Unreadable as error:
+        raise Trouble("{}:{}; ./regver replay says which rule the text breaks".format(path, error)) from error
