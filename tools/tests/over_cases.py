@@ -3,17 +3,20 @@
 
     python3 tools/tests/over_cases.py PROGRAM FILE.case ..
 
-PROGRAM is a regression verifier, as ./regver or another implementation of it. Each program text of the cases that it
-accepts is taken as OLD and as NEW: with itself, with its neighbours and with some others. Under the relation that
-tools/start-relation prints, PROGRAM must answer an empty trace with `REPLAY scans 0 related`, and so it must where all
-lines that stand in comments are taken out of them.
+PROGRAM is a regression verifier, as the program that ./regver built or another implementation of it. Each program text of
+the cases that it accepts is taken as OLD and as NEW: with itself, with its neighbour and with some other. Under the
+relation that tools/start-relation prints, PROGRAM must answer an empty trace with `REPLAY scans 0 related`, and so it must
+where all lines that stand in comments are taken out of them. The pairs run side by side on all processors.
 """
 
+import concurrent.futures
+import functools
 import importlib.machinery
 import importlib.util
 import os
 import random
 import re
+import resource
 import subprocess
 import sys
 import tempfile
@@ -23,6 +26,8 @@ TOOL = os.path.join(TOOLS, "start-relation")
 sys.dont_write_bytecode = True
 sys.path.insert(0, TOOLS)
 from program_text import program_of
+# The bytes of memory that each process may have: some cases declare more than any machine holds.
+MOST_MEMORY = 4 << 30
 EMPTY = "RELATION 1; FAULTS EQUAL; DEPTH 1; CONFLICTS 1; RELATE TRUE;"
 MARK = re.compile(r"«(?:x:([0-9A-F]{2})|([0-9]+)\*(.*?)|[A-Z][0-9]+)»", re.DOTALL)
 COMMENTED = re.compile(r"\(\* ((?:ENV|RELATE) [^;]*;) \*\)")
@@ -67,41 +72,50 @@ def sections_of(path):
             yield bytes_of(text if alone else shared + text)
 
 
-def answer(program, folder, *texts):
-    names = []
-    for name, text in zip(("old", "new", "relation", "trace"), texts):
-        names.append(os.path.join(folder, name))
-        with open(names[-1], "wb") as file:
-            file.write(text)
-    run = subprocess.run([program, "replay", *names], stdout=subprocess.PIPE, check=False)
+def answer(program, *texts):
+    with tempfile.TemporaryDirectory() as folder:
+        names = []
+        for name, text in zip(("old", "new", "relation", "trace"), texts):
+            names.append(os.path.join(folder, name))
+            with open(names[-1], "wb") as file:
+                file.write(text)
+        run = subprocess.run([program, "replay", *names], stdout=subprocess.PIPE, check=False)
     return run.stdout.decode()
 
 
-def accepted(program, folder, text):
+def accepted(program, text):
     """Whether a text is an accepted program: its inputs may be missing in the relation, which is read after it."""
-    return not answer(program, folder, text, text, EMPTY.encode(), b"[]").startswith(("REFUSED OLD", "READ", "USAGE", "MEM"))
+    return answer(program, text, text, EMPTY.encode(), b"[]").startswith(("REPLAY", "REFUSED REL"))
 
 
-def faults(program, folder, start, old, new):
-    relation = start.relation(*(program_of(text) for text in (old, new)))
-    for text in (relation, COMMENTED.sub(r"\1", relation)):
-        said = answer(program, folder, old, new, text.encode(), b"[]")
+@functools.lru_cache(maxsize=None)
+def declared(text):
+    return program_of(text)
+
+
+def fault_of(program, start, old, new):
+    """What the program answers to a relation of this pair other than it must, with the texts; None where there is nothing."""
+    relation = start.relation(declared(old), declared(new))
+    for text in dict.fromkeys((relation, COMMENTED.sub(r"\1", relation))):
+        said = answer(program, old, new, text.encode(), b"[]")
         if said != "REPLAY scans 0 related\n":
-            yield said.strip() + "\n" + text + "--- of\n" + old.decode("latin-1") + "\n--- and\n" + new.decode("latin-1")
+            return said.strip() + "\n" + text + "--- of\n" + old.decode("latin-1") + "\n--- and\n" + new.decode("latin-1")
+    return None
 
 
 def main(program, paths):
+    resource.setrlimit(resource.RLIMIT_AS, (MOST_MEMORY, MOST_MEMORY))
     start, chance = tool(), random.Random(1)
-    with tempfile.TemporaryDirectory() as folder:
-        texts = list(dict.fromkeys(text for path in paths for text in sections_of(path)))
-        texts = [text for text in texts if accepted(program, folder, text)]
-        pairs = [(text, text) for text in texts]
-        pairs += list(zip(texts, texts[1:])) + list(zip(texts[1:], texts))
+    texts = list(dict.fromkeys(text for path in paths for text in sections_of(path)))
+    with concurrent.futures.ThreadPoolExecutor(os.cpu_count()) as threads:
+        known = list(threads.map(lambda text: accepted(program, text), texts))
+        texts = [text for text, taken in zip(texts, known) if taken]
+        pairs = [(text, text) for text in texts] + list(zip(texts, texts[1:]))
         pairs += [(chance.choice(texts), chance.choice(texts)) for _ in texts]
-        failed = [fault for old, new in pairs for fault in faults(program, folder, start, old, new)]
+        failed = [fault for fault in threads.map(lambda pair: fault_of(program, start, *pair), pairs) if fault]
     for fault in failed:
-        print("FAILED: " + fault)
-    print("{} programs, {} pairs, {} failed".format(len(texts), len(pairs), len(failed)))
+        print("FAILED: " + fault[:20_000])
+    print("relations to begin with: {} programs, {} pairs, {} failed".format(len(texts), len(pairs), len(failed)))
     return 1 if failed or not pairs else 0
 
 

@@ -44,11 +44,43 @@ fn four_words_by_place(rt: HostRuntime) -> Result<(), Fail> {
     Ok(())
 }
 
+// A number is one word, and is read by the command.
+#[test]
+fn one_word_by_place(rt: HostRuntime) -> Result<(), Fail> {
+    for (line, count) in [
+        ("regver|gen|16", "16"),
+        ("regver|gen|--|-1", "-1"),
+        ("regver|gen|x", "x"),
+    ] {
+        let wanted = Command::Gen(String::from_str(rt.alloc(), count)?);
+        assert_eq!(rt; command(rt.alloc(), line)?, Some(wanted), "{line}");
+    }
+    for line in [
+        "regver|gen",
+        "regver|gen|1|2",
+        "regver|gen|-1",
+        "regver|gen|a|b|r|f",
+    ] {
+        assert_eq!(rt; command(rt.alloc(), line)?, None, "{line}");
+    }
+    Ok(())
+}
+
 #[test]
 fn a_finding_is_checked(rt: HostRuntime) -> Result<(), Fail> {
     let wanted = Command::Check(words(rt.alloc(), ["a", "b", "r", "f"])?);
     assert_eq!(rt;
         command(rt.alloc(), "regver|check|a|b|--|r|f")?,
+        Some(wanted)
+    );
+    Ok(())
+}
+
+#[test]
+fn a_finding_is_explained(rt: HostRuntime) -> Result<(), Fail> {
+    let wanted = Command::Explain(words(rt.alloc(), ["a", "b", "r", "f"])?);
+    assert_eq!(rt;
+        command(rt.alloc(), "regver|explain|a|--|b|r|f")?,
         Some(wanted)
     );
     Ok(())
@@ -65,7 +97,7 @@ fn a_finding_is_saved(rt: HostRuntime) -> Result<(), Fail> {
 }
 
 // Too few or too many words, no subcommand of that name, neither help nor version, and no flags.
-const NO_COMMANDS: [&str; 34] = [
+const NO_COMMANDS: [&str; 35] = [
     "regver",
     "regver|replay",
     "regver|replay|a|b|r",
@@ -74,6 +106,7 @@ const NO_COMMANDS: [&str; 34] = [
     "regver|play|a|b|r|t",
     "regver|check|a|b|r",
     "regver|checks|a|b|r|f",
+    "regver|explain|a|b|r",
     "regver|Replay|a|b|r|t",
     "regver|repla|a|b|r|t",
     "regver||a|b|r|t",

@@ -1,6 +1,14 @@
 // Reads a program's text, and tells how far its readers come.
+ghost use Rattle.std.specs.Prelude.{IfOk};
+ghost use Rattle.source_tree.specs.Levels.{IsFileLevelled};
+ghost use Rattle.source_tree.specs.SyntaxView.{file_view};
+ghost use Rattle.program_tree.specs.View.{program_view};
+ghost use Rattle.scan_model.specs.InRange.{IsProgram};
+ghost use Rattle.typed_programs.specs.Programs.{IsTypedProgram};
+ghost use Rattle.bench_run.specs.SoundFiles.{HasSoundNames};
+
 use crate::stages::Stages;
-use fb_inline::{FlatFault, flatten};
+use fb_inline::flatten;
 use front_end::tokens_of;
 use program_tree::Program;
 use rules::{Fault, Refusal};
@@ -18,7 +26,6 @@ use std::{fs, io};
 #[derive(Debug, Drop)]
 enum Stop {
     Refused(Refusal),
-    Untyped,
     TooManyNodes,
     Memory,
     Output(io::Error),
@@ -29,16 +36,6 @@ impl From<Fault> for Stop {
         match fault {
             Fault::Refused(refusal) => Stop::Refused(refusal),
             Fault::Memory => Stop::Memory,
-        }
-    }
-}
-
-impl From<FlatFault> for Stop {
-    fn from(fault: FlatFault) -> Self {
-        match fault {
-            FlatFault::Refused(refusal) => Stop::Refused(refusal),
-            FlatFault::Untyped => Stop::Untyped,
-            FlatFault::Memory => Stop::Memory,
         }
     }
 }
@@ -58,15 +55,25 @@ impl From<io::Error> for Stop {
     }
 }
 
-fn tree_of(alloc: Global, toks: &[Tok<'_>], end: usize) -> Result<SourceFile, Fault> {
+fn tree_of(alloc: Global, toks: &[Tok<'_>], end: usize) -> Result<SourceFile, Fault>
+    ensures { IfOk result (λ f. IsFileLevelled (file_view f)) }
+{
     Ok(parse_file(alloc, toks, end)?)
 }
 
-fn resolved(alloc: Global, file: SourceFile) -> Result<Resolved, Fault> {
+fn resolved(alloc: Global, file: SourceFile) -> Result<Resolved, Fault>
+    requires { IsFileLevelled (file_view file) }
+    ensures { IfOk result (λ names. HasSoundNames (file_view names.file)) }
+{
     Ok(resolve(alloc, file)?)
 }
 
-fn checked(alloc: Global, names: Resolved) -> Result<Program, Fault> {
+// The program of a file, which is typed, since the file breaks no rule.
+fn checked(alloc: Global, names: Resolved) -> Result<Program, Fault>
+    requires { HasSoundNames (file_view names.file) }
+    ensures fit { IfOk result (λ p. IsProgram (program_view p)) }
+    ensures typed { IfOk result (λ p. IsTypedProgram (program_view p)) }
+{
     Ok(check(alloc, names)?)
 }
 
@@ -78,7 +85,6 @@ pub fn run(rt: &HostRuntime, path: &str, is_timed: bool) -> io::Result<()> {
     match read(rt, rt.alloc(), &text, &mut stages) {
         Ok(counts) => print_counts(rt, counts),
         Err(Stop::Refused(refusal)) => print_refusal(rt, refusal),
-        Err(Stop::Untyped) => println!(rt; "the program is not well typed"),
         Err(Stop::TooManyNodes) => println!(rt; "refused: M6 at 0"),
         Err(Stop::Memory) => println!(rt; "memory was wanting"),
         Err(Stop::Output(error)) => Err(error),

@@ -18,7 +18,7 @@ use Rattle.typing.specs.Members.{function_number}
 use Rattle.bound_names.specs.BoundNames.{is_bound, IsBodyWithin}
 use Rattle.bound_names.proofs.NameParts.{never, holds_by, fails_by}
 use Rattle.bound_names.proofs.Within.{body_within}
-use Rattle.bound_names.proofs.WholeNames.{pou_whole}
+use Rattle.st_names.proofs.WholeNames.{pou_whole}
 use Rattle.bound_names.proofs.UsedBlocks.{uses-pou, call_in}
 use Rattle.whole_files.proofs.Formed.{pou_levelled}
 use Rattle.bound_names.proofs.CalledFunctions.{function_is, function_of}

@@ -3,5 +3,4 @@ pub mod NameParts
 pub mod Within
 pub mod CalledFunctions
 pub mod SingleNames
-pub mod WholeNames
 pub mod UsedBlocks

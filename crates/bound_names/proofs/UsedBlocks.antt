@@ -13,7 +13,7 @@ use Rattle.naming.specs.Circles.{block_used, blocks_used, calls_in_body, uses_in
 use Rattle.st_names.proofs.WholeDeclarations.{read_map}
 use Rattle.st_names.proofs.PouUses.{ordered}
 use Rattle.typing.specs.Places.{variables_in, variables_at}
-use Rattle.bound_names.proofs.WholeNames.{single_at, variable_whole}
+use Rattle.st_names.proofs.WholeNames.{single_at, variable_whole}
 use Rattle.bound_names.proofs.SingleNames.{at_length, single_named}
 
 block_here : (f : FileData) (p : PouScope) (before rest : List Variable) (v : Variable) (b : ℕ) → is_whole f p v ≡ true → block_of f v ≡ Some b → is_among b (blocks_used f p (before ++ v ∷ rest)) ≡ true

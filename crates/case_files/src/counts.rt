@@ -9,10 +9,12 @@ pub struct Counts {
     pub accept: u64,
     pub replay: u64,
     pub check: u64,
+    pub explain: u64,
     pub verify: u64,
     pub flat: u64,
     pub scan: u64,
     pub relation: u64,
+    pub query: u64,
     pub failed: u64,
 }
 
@@ -23,10 +25,12 @@ impl Counts {
         accept: 0,
         replay: 0,
         check: 0,
+        explain: 0,
         verify: 0,
         flat: 0,
         scan: 0,
         relation: 0,
+        query: 0,
         failed: 0,
     };
 
@@ -44,10 +48,12 @@ impl Counts {
             Door::Accept => self.accept = self.accept.saturating_add(1),
             Door::Replay => self.replay = self.replay.saturating_add(1),
             Door::Check => self.check = self.check.saturating_add(1),
+            Door::Explain => self.explain = self.explain.saturating_add(1),
             Door::Verify => self.verify = self.verify.saturating_add(1),
             Door::Flat => self.flat = self.flat.saturating_add(1),
             Door::Scan => self.scan = self.scan.saturating_add(1),
             Door::Relation => self.relation = self.relation.saturating_add(1),
+            Door::Query => self.query = self.query.saturating_add(1),
         }
     }
 }
@@ -56,15 +62,17 @@ impl fmt::Display for Counts {
     fn fmt<W: fmt::Write>(&self, f: &mut fmt::Formatter<W>) -> fmt::Result {
         let (cases, failed) = (self.cases, self.failed);
         let (accept, replay) = (self.accept, self.replay);
-        let (check, verify) = (self.check, self.verify);
-        let (flat, scan, relation) = (self.flat, self.scan, self.relation);
+        let (check, explain, verify) = (self.check, self.explain, self.verify);
+        let (flat, scan) = (self.flat, self.scan);
+        let (relation, query) = (self.relation, self.query);
         write!(
             f,
-            "{cases} cases: {accept} accept, {replay} replay, {check} check, {verify} verify, "
+            "{cases} cases: {accept} accept, {replay} replay, {check} check, {explain} explain, "
         )?;
         write!(
             f,
-            "{flat} flat, {scan} scan, {relation} relation, {failed} failed"
-        )
+            "{verify} verify, {flat} flat, {scan} scan, {relation} relation, {query} query, "
+        )?;
+        write!(f, "{failed} failed")
     }
 }

@@ -111,3 +111,17 @@ pub fn in_one_line(alloc: Global, text: &str) -> Result<String, AllocError> {
     }
     Ok(line)
 }
+
+/// A refusal with its place in a text, also by line and column from 1.
+pub fn refused_at(alloc: Global, rule: &str, at: usize, text: &[u8]) -> Result<String, AllocError> {
+    let (mut line, mut column) = (1usize, 1usize);
+    for byte in text.iter().take(at) {
+        if *byte == b'\n' {
+            line = line.wrapping_add(1);
+            column = 1;
+        } else {
+            column = column.wrapping_add(1);
+        }
+    }
+    format!(in alloc; "{rule} at byte {at}, which is line {line}, column {column}")
+}

@@ -9,13 +9,13 @@ pub enum Word {
     Relation,
     Trace,
     Finding,
+    Explain,
     Answer,
     Verdict,
     Flat,
     List,
     Nodes,
     Gates,
-    Lowered,
     Scan,
     Before,
     After,
@@ -27,6 +27,8 @@ pub enum Word {
     Along,
     Held,
     Query,
+    Satisfiable,
+    Unsatisfiable,
     Shared,
 }
 
@@ -36,10 +38,12 @@ pub enum Door {
     Accept,
     Replay,
     Check,
+    Explain,
     Verify,
     Flat,
     Scan,
     Relation,
+    Query,
 }
 
 impl Word {
@@ -56,7 +60,6 @@ impl Word {
             "list" => Some(Word::List),
             "nodes" => Some(Word::Nodes),
             "gates" => Some(Word::Gates),
-            "lowered" => Some(Word::Lowered),
             "scan" => Some(Word::Scan),
             "before" => Some(Word::Before),
             "after" => Some(Word::After),
@@ -76,7 +79,10 @@ impl Word {
             "along" => Some(Word::Along),
             "held" => Some(Word::Held),
             "query" => Some(Word::Query),
+            "satisfiable" => Some(Word::Satisfiable),
+            "unsatisfiable" => Some(Word::Unsatisfiable),
             "finding" => Some(Word::Finding),
+            "explain" => Some(Word::Explain),
             "verdict" => Some(Word::Verdict),
             _ => None,
         }
@@ -91,13 +97,13 @@ impl Word {
             Word::Relation => "relation",
             Word::Trace => "trace",
             Word::Finding => "finding",
+            Word::Explain => "explain",
             Word::Answer => "answer",
             Word::Verdict => "verdict",
             Word::Flat => "flat",
             Word::List => "list",
             Word::Nodes => "nodes",
             Word::Gates => "gates",
-            Word::Lowered => "lowered",
             Word::Scan => "scan",
             Word::Before => "before",
             Word::After => "after",
@@ -109,6 +115,8 @@ impl Word {
             Word::Along => "along",
             Word::Held => "held",
             Word::Query => "query",
+            Word::Satisfiable => "satisfiable",
+            Word::Unsatisfiable => "unsatisfiable",
             Word::Shared => "shared",
         }
     }
@@ -119,12 +127,14 @@ impl Word {
             Word::Accept => Some(Door::Accept),
             Word::Trace => Some(Door::Replay),
             Word::Finding => Some(Door::Check),
+            Word::Explain => Some(Door::Explain),
             Word::Verdict => Some(Door::Verify),
             Word::Flat | Word::List => Some(Door::Flat),
-            Word::Nodes | Word::Gates | Word::Lowered => Some(Door::Flat),
+            Word::Nodes | Word::Gates => Some(Door::Flat),
             Word::Scan | Word::Before | Word::After | Word::Statements => Some(Door::Scan),
             Word::Candidates | Word::Clauses | Word::Parts => Some(Door::Relation),
-            Word::Lines | Word::Along | Word::Held | Word::Query => Some(Door::Relation),
+            Word::Lines | Word::Along | Word::Held => Some(Door::Relation),
+            Word::Query | Word::Satisfiable | Word::Unsatisfiable => Some(Door::Query),
             Word::Old | Word::New | Word::Relation => None,
             Word::Answer | Word::Shared => None,
         }
@@ -132,10 +142,7 @@ impl Word {
 
     /// Whether a case may have several such sections.
     pub fn may_repeat(self) -> bool {
-        matches!(
-            self,
-            Word::Before | Word::After | Word::Lowered | Word::Query
-        )
+        matches!(self, Word::Before | Word::After | Word::Query)
     }
 
     /// Whether a section may have this behind its word; it is empty where nothing stands there.
@@ -146,8 +153,7 @@ impl Word {
             Word::Statements => argument.parse::<u64>().is_ok(),
             Word::New => argument.is_empty() || argument == "same",
             Word::Shared => argument.is_empty() || argument == "none",
-            Word::Lowered => argument.is_empty() || argument == "last",
-            Word::Finding => argument.is_empty() || argument == "unended",
+            Word::Finding | Word::Explain => argument.is_empty() || argument == "unended",
             Word::List | Word::Candidates => {
                 argument.is_empty() || argument.starts_with("refused ")
             }
@@ -165,7 +171,7 @@ impl Word {
         argument.is_empty()
             || matches!(
                 self,
-                Word::Answer | Word::Verdict | Word::Lowered | Word::Finding | Word::Query
+                Word::Answer | Word::Verdict | Word::Finding | Word::Explain | Word::Query
             )
     }
 }

@@ -2,20 +2,7 @@
 // It ends with status 1 where a case has failed.
 #![tactic(auto)]
 
-mod accept;
-mod along;
-mod answers;
-mod check;
-mod flat;
-mod flat_run;
-mod gate_lists;
-mod lowered_run;
-mod node_run;
-mod relation;
-mod replay;
 mod run;
-mod scan;
-mod verify;
 
 use case_files::{Case, CaseFault, CaseFile, Counts, Mismatch, read_case_file};
 use run::{door_of, run_case};

@@ -1,13 +1,11 @@
 // A case through its door.
-use crate::accept::run_accept;
-use crate::check::run_check;
-use crate::flat::run_flat;
-use crate::relation::run_relation;
-use crate::replay::run_replay;
-use crate::scan::run_scan;
-use crate::verify::run_verify;
 use case_files::{Case, CaseFault, Door, Mismatch, malformed};
-use std::alloc::{AllocError, Global};
+use command_doors::{run_check, run_explain, run_replay, run_verify};
+use flat_doors::run_flat;
+use query_doors::run_query;
+use scan_doors::run_scan;
+use std::alloc::Global;
+use text_doors::{run_accept, run_relation};
 
 /// The door of a case: the one that its sections name, or that of replays where they are among those that several doors have.
 pub fn door_of(alloc: Global, case: &Case) -> Result<Door, CaseFault> {
@@ -40,9 +38,11 @@ pub fn run_case(
         Door::Accept => run_accept(alloc, head, case, found),
         Door::Replay => run_replay(alloc, head, case, found),
         Door::Check => run_check(alloc, head, case, found),
+        Door::Explain => run_explain(alloc, head, case, found),
         Door::Verify => run_verify(alloc, head, case, found),
         Door::Flat => run_flat(alloc, head, case, found),
         Door::Scan => run_scan(alloc, head, case, found),
         Door::Relation => run_relation(alloc, head, case, found),
+        Door::Query => run_query(alloc, head, case, found),
     }
 }

@@ -1,168 +1,15 @@
 // The command `check`.
-ghost use Rattle.std.specs.Prelude.{◌≡◌, ◌≢◌, ◌≤◌, List, ℕ, Option, Some};
+ghost use Rattle.std.specs.Prelude.{◌≡◌, ◌≢◌, ◌≤◌};
 ghost use Rattle.outside.specs.Causes.{Rose, NoneFell};
-ghost use Rattle.program_tree.specs.View.{program_view};
-ghost use Rattle.node_core.specs.Scans.{scan_view};
-ghost use Rattle.query_formula_laws.specs.TypedComparisons.{IsScanOf};
-ghost use Rattle.comparison_typing.specs.Readings.{IsRead};
-ghost use Rattle.product_build.specs.Limits.{HasFewLines};
-ghost use Rattle.product_build.specs.MadeCircuits.{comparison_between};
 ghost use Rattle.command_answers.specs.Answers.{Answers, IsExact};
 ghost use Rattle.command_files.specs.Texts.{Texts, AreFourTold, OneOfFourRose};
-ghost use Rattle.command_files.specs.KeptTexts.{AreKept};
-ghost use Rattle.comparison_files.specs.Accepting.{nodes_of, AreStated, IsRefused, IsTooLarge};
-ghost use Rattle.comparison_files.specs.Comparing.{comparison_in};
-ghost use Rattle.comparison_files.specs.Faults.{IfFault};
 ghost use Rattle.check_command.specs.Reports.{CheckReports, ShowsValid};
 
-use crate::finding::answer_finding;
-use command_answers::{Status, put_last, put_limit, put_refusal};
-use command_files::{KeptTexts, read_texts};
-use comparison_files::{CompareFault, Compared, accept_texts, circuits_of};
-use node_core::Scan;
-use node_end::Accepted;
-use outside::{OutErr, Shelf, Sink};
-use program_tree::Program;
-use scan_model::Relation;
+use crate::finding::Checking;
+use command_answers::Status;
+use finding_commands::answer_on_finding;
+use outside::{Shelf, Sink};
 use std::alloc::Global;
-
-// Puts why texts are not compared.
-fn put_fault<K: Sink>(alloc: Global, fault: CompareFault, out: &mut K) -> Status
-    ensures answer { (t : Texts) → IfFault (IsRefused t) (IsTooLarge t) fault → Answers (CheckReports t) ⊥ result (K.taken out.old) (K.taken out.new) }
-    ensures usage { result ≢ Status.Usage }
-    ensures read_fault { result ≢ Status.ReadFault }
-    ensures write_fault { result ≡ Status.WriteFault → Rose (K.faults out.old) (K.faults out.new) }
-    ensures faults { K.faults out.old ≤ K.faults out.new }
-{
-    match fault {
-        CompareFault::Refused(source, refusal) => put_refusal(alloc, source, refusal, out),
-        CompareFault::TooLarge(source, limit) => put_limit(alloc, source, limit, out),
-        CompareFault::Memory => put_last(out, "MEMORY\n", Status::Memory),
-    }
-}
-
-// Makes the circuits of what is compared, and judges the finding by them.
-fn answer_pair<S: Shelf, K: Sink>(
-    alloc: Global,
-    old: &Program,
-    old_scan: Scan,
-    new: &Program,
-    new_scan: Scan,
-    relation: &Relation,
-    finding: &str,
-    shelf: &mut S,
-    out: &mut K,
-) -> Status
-    requires read { IsRead (comparison_between old.now new.now relation.now) }
-    requires lines { HasFewLines (comparison_between old.now new.now relation.now) }
-    requires old_nodes { scan_view old_scan ≡ nodes_of (program_view old.now) }
-    requires new_nodes { scan_view new_scan ≡ nodes_of (program_view new.now) }
-    requires old_meaning { IsScanOf (program_view old.now) (scan_view old_scan) }
-    requires new_meaning { IsScanOf (program_view new.now) (scan_view new_scan) }
-    ensures kept { S.file shelf.new ≡ S.file shelf.old }
-    ensures answer { (t : Texts) → AreStated t (comparison_between old.now new.now relation.now) → S.file shelf.old finding.now ≡ Some t.finding
-        → Answers (CheckReports t) (Rose (S.read_faults shelf.old finding.now) (S.read_faults shelf.new finding.now)) result (K.taken out.old) (K.taken out.new) }
-    ensures usage { result ≢ Status.Usage }
-    ensures read_fault { result ≡ Status.ReadFault → Rose (S.read_faults shelf.old finding.now) (S.read_faults shelf.new finding.now) }
-    ensures write_fault { result ≡ Status.WriteFault → Rose (K.faults out.old) (K.faults out.new) }
-    ensures reads { NoneFell (S.read_faults shelf.old) (S.read_faults shelf.new) }
-    ensures writes { NoneFell (S.write_faults shelf.old) (S.write_faults shelf.new) }
-    ensures faults { K.faults out.old ≤ K.faults out.new }
-{
-    match circuits_of(alloc, old, old_scan, new, new_scan, relation) {
-        Ok(circuits) => answer_finding(alloc, old, new, relation, &circuits, finding, shelf, out),
-        Err(fault) => put_fault(alloc, fault, out),
-    }
-}
-
-// The same of what is compared, as it is held.
-fn answer_compared<S: Shelf, K: Sink>(
-    alloc: Global,
-    compared: Compared,
-    finding: &str,
-    shelf: &mut S,
-    out: &mut K,
-) -> Status
-    requires read { IsRead (comparison_in compared) }
-    requires lines { HasFewLines (comparison_in compared) }
-    requires old_nodes { scan_view compared.old.scan ≡ nodes_of (program_view compared.old.program) }
-    requires new_nodes { scan_view compared.new.scan ≡ nodes_of (program_view compared.new.program) }
-    requires old_meaning { IsScanOf (program_view compared.old.program) (scan_view compared.old.scan) }
-    requires new_meaning { IsScanOf (program_view compared.new.program) (scan_view compared.new.scan) }
-    ensures kept { S.file shelf.new ≡ S.file shelf.old }
-    ensures answer { (t : Texts) → AreStated t (comparison_in compared) → S.file shelf.old finding.now ≡ Some t.finding
-        → Answers (CheckReports t) (Rose (S.read_faults shelf.old finding.now) (S.read_faults shelf.new finding.now)) result (K.taken out.old) (K.taken out.new) }
-    ensures usage { result ≢ Status.Usage }
-    ensures read_fault { result ≡ Status.ReadFault → Rose (S.read_faults shelf.old finding.now) (S.read_faults shelf.new finding.now) }
-    ensures write_fault { result ≡ Status.WriteFault → Rose (K.faults out.old) (K.faults out.new) }
-    ensures reads { NoneFell (S.read_faults shelf.old) (S.read_faults shelf.new) }
-    ensures writes { NoneFell (S.write_faults shelf.old) (S.write_faults shelf.new) }
-    ensures faults { K.faults out.old ≤ K.faults out.new }
-{
-    let Compared { old, new, relation } = compared;
-    let Accepted {
-        program: old,
-        scan: old_scan,
-    } = old;
-    let Accepted {
-        program: new,
-        scan: new_scan,
-    } = new;
-    answer_pair(
-        alloc, &old, old_scan, &new, new_scan, &relation, finding, shelf, out,
-    )
-}
-
-// Judges the finding by kept texts.
-fn answer_texts<S: Shelf, K: Sink>(
-    alloc: Global,
-    texts: &KeptTexts,
-    finding: &str,
-    shelf: &mut S,
-    out: &mut K,
-) -> Status
-    ensures kept { S.file shelf.new ≡ S.file shelf.old }
-    ensures answer { (t : Texts) → AreKept texts.now t → S.file shelf.old finding.now ≡ Some t.finding
-        → Answers (CheckReports t) (Rose (S.read_faults shelf.old finding.now) (S.read_faults shelf.new finding.now)) result (K.taken out.old) (K.taken out.new) }
-    ensures usage { result ≢ Status.Usage }
-    ensures read_fault { result ≡ Status.ReadFault → Rose (S.read_faults shelf.old finding.now) (S.read_faults shelf.new finding.now) }
-    ensures write_fault { result ≡ Status.WriteFault → Rose (K.faults out.old) (K.faults out.new) }
-    ensures reads { NoneFell (S.read_faults shelf.old) (S.read_faults shelf.new) }
-    ensures writes { NoneFell (S.write_faults shelf.old) (S.write_faults shelf.new) }
-    ensures faults { K.faults out.old ≤ K.faults out.new }
-{
-    match accept_texts(alloc, texts) {
-        Ok(compared) => answer_compared(alloc, compared, finding, shelf, out),
-        Err(fault) => put_fault(alloc, fault, out),
-    }
-}
-
-// The answer, whole or not.
-fn answer_files<S: Shelf, K: Sink>(
-    alloc: Global,
-    old: &str,
-    new: &str,
-    relation: &str,
-    finding: &str,
-    shelf: &mut S,
-    out: &mut K,
-) -> Status
-    ensures kept { S.file shelf.new ≡ S.file shelf.old }
-    ensures answer { (t : Texts) → AreFourTold (S.file shelf.old) old.now new.now relation.now finding.now t t.finding
-        → Answers (CheckReports t) (OneOfFourRose (S.read_faults shelf.old) (S.read_faults shelf.new) old.now new.now relation.now finding.now) result (K.taken out.old) (K.taken out.new) }
-    ensures usage { result ≢ Status.Usage }
-    ensures read_fault { result ≡ Status.ReadFault → OneOfFourRose (S.read_faults shelf.old) (S.read_faults shelf.new) old.now new.now relation.now finding.now }
-    ensures write_fault { result ≡ Status.WriteFault → Rose (K.faults out.old) (K.faults out.new) }
-    ensures reads { NoneFell (S.read_faults shelf.old) (S.read_faults shelf.new) }
-    ensures writes { NoneFell (S.write_faults shelf.old) (S.write_faults shelf.new) }
-    ensures faults { K.faults out.old ≤ K.faults out.new }
-{
-    match read_texts(alloc, old, new, relation, shelf) {
-        Ok(texts) => answer_texts(alloc, &texts, finding, shelf, out),
-        Err(OutErr::Fault) => put_last(out, "READ FAULT\n", Status::ReadFault),
-        Err(OutErr::Memory) => put_last(out, "MEMORY\n", Status::Memory),
-    }
-}
 
 /// Judges a finding by the programs and the relation that it speaks of, and says how that ends. OLD, NEW and REL are read whole before
 /// any rule is tested, and the finding line by line.
@@ -199,5 +46,5 @@ pub fn answer_check<S: Shelf, K: Sink>(
         → ¬ OneOfFourRose (S.read_faults shelf.old) (S.read_faults shelf.new) old.now new.now relation.now finding.now → ¬ Rose (K.faults out.old) (K.faults out.new)
         → result ≢ Status.Memory → IsExact (CheckReports t) result (K.taken out.old) (K.taken out.new) }
 {
-    answer_files(alloc, old, new, relation, finding, shelf, out)
+    answer_on_finding(alloc, &Checking, old, new, relation, finding, shelf, out)
 }

@@ -1,2 +1,3 @@
 pub mod PairedTypes
 pub mod Pairs
+pub mod Sides

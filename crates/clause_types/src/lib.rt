@@ -2,6 +2,7 @@
 #![tactic(auto)]
 
 mod clauses;
+mod enumeration_values;
 mod pair;
 mod paired_types;
 mod sides;

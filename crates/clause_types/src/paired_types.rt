@@ -2,9 +2,9 @@
 ghost use Rattle.std.specs.Prelude.{◌≡◌, ◌<◌, length};
 ghost use Rattle.plc_types.specs.Enumerations.{are_same_names, names_at};
 ghost use Rattle.program_tree.specs.View.{texts_view, lists_of_texts, program_view};
-ghost use Rattle.expr_types.specs.Sides.{FindsValues};
+ghost use Rattle.clause_types.specs.Sides.{FindsValues};
 
-use expr_types::{Values, find_value, values};
+use crate::enumeration_values::{Values, find_value, values};
 use plc_types::DataType;
 use program_tree::Program;
 use std::alloc::{AllocError, Global};

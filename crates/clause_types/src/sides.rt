@@ -3,9 +3,9 @@ ghost use Rattle.std.specs.Prelude.{◌≡◌, ◌↔◌, ◌+◌, ◌<◌, ◌^
 ghost use Rattle.source_tree.specs.SyntaxView.{names_view};
 ghost use Rattle.program_tree.specs.View.{cell_view, cells_view, program_view};
 ghost use Rattle.typing.specs.Programs.{joined, own_type, cell_meaning, cell_among, value_among, member_of};
-ghost use Rattle.expr_types.specs.Sides.{Finds, FindsValues};
+ghost use Rattle.clause_types.specs.Sides.{Finds, FindsValues};
 
-use expr_types::{Values, find_meaning, values};
+use crate::enumeration_values::{Values, find_meaning, values};
 use indexmap::IndexMap;
 use program_tree::{Cell, Program};
 use source_tree::Name;

@@ -4,3 +4,4 @@ pub mod Rows
 pub mod Steps
 pub mod Tops
 pub mod Walks
+pub mod WalkLaws

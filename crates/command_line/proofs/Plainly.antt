@@ -12,7 +12,7 @@ use Rattle.clap.specs.Lexer.{long_of_rest, short_of_rest, strip_byte}
 use Rattle.clap.specs.Walk.{Text}
 use Rattle.command_line.specs.Plain.{by_place, is_flag}
 use Rattle.command_line.proofs.Steps.{dashes, flag_like, has_first_char}
-use Rattle.command_line.proofs.Walks.{placed}
+use Rattle.command_line.proofs.WalkLaws.{placed}
 
 -- a text goes on after its dash with a whole character
 char_after_dash : (y : ℕ) (ys : Text) → IsUtf8 (45 ∷ y ∷ ys) → has_first_char (y ∷ ys) ≡ true

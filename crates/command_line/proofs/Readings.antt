@@ -9,30 +9,54 @@ use Rattle.clap.specs.Walk.{Row, Text}
 use Rattle.clap.specs.Simple.{subcommand_of}
 use Rattle.clap.specs.Takes.{takes}
 use Rattle.clap.specs.Faults.{fault_of}
-use Rattle.command_line.specs.Subcommands.{Subcommand, checks, replays, verifies, name_of, named}
-use Rattle.command_line.specs.Asked.{Asked, Words, asked, asked_by, asked_of, four_words, read_as, subcommand_asked, usage}
+use Rattle.command_line.specs.Subcommands.{Subcommand, checks, explains, generates, replays, verifies, name_of, named}
+use Rattle.command_line.specs.Asked.{Asked, asked, asked_by, asked_of, read_as, subcommand_asked, usage}
 use Rattle.command_line.specs.Grammar.{grammar}
-use Rattle.command_line.specs.Plain.{by_place, command_asked, four_by_place, plainly_asked}
+use Rattle.command_line.specs.Plain.{by_place, command_asked, plainly_asked}
 use Rattle.command_line.proofs.Plainly.{placed_is, utf8_after}
 use Rattle.command_line.proofs.Tops.{AsksAll, RefusesAll, top_runs}
-use Rattle.command_line.proofs.Walks.{four_rows, placed}
+use Rattle.command_line.proofs.WalkLaws.{placed}
+use Rattle.command_line.proofs.Walks.{rows_of}
 
-asked_at : (s : Subcommand) (a b c d : Text) → subcommand_asked (name_of s, four_rows a b c d) ≡ asked_of s (four_words a b c d)
-asked_at checks a b c d = refl
-asked_at replays a b c d = refl
-asked_at verifies a b c d = refl
+-- what is found for the words asks for what the words do
+asked_at : (s : Subcommand) (all : List Text) → subcommand_asked (name_of s, rows_of s all) ≡ asked_of s all
+asked_at checks [] = refl
+asked_at checks (a ∷ []) = refl
+asked_at checks (a ∷ b ∷ []) = refl
+asked_at checks (a ∷ b ∷ c ∷ []) = refl
+asked_at checks (a ∷ b ∷ c ∷ d ∷ []) = refl
+asked_at checks (a ∷ b ∷ c ∷ d ∷ e ∷ rest) = refl
+asked_at explains [] = refl
+asked_at explains (a ∷ []) = refl
+asked_at explains (a ∷ b ∷ []) = refl
+asked_at explains (a ∷ b ∷ c ∷ []) = refl
+asked_at explains (a ∷ b ∷ c ∷ d ∷ []) = refl
+asked_at explains (a ∷ b ∷ c ∷ d ∷ e ∷ rest) = refl
+asked_at replays [] = refl
+asked_at replays (a ∷ []) = refl
+asked_at replays (a ∷ b ∷ []) = refl
+asked_at replays (a ∷ b ∷ c ∷ []) = refl
+asked_at replays (a ∷ b ∷ c ∷ d ∷ []) = refl
+asked_at replays (a ∷ b ∷ c ∷ d ∷ e ∷ rest) = refl
+asked_at verifies [] = refl
+asked_at verifies (a ∷ []) = refl
+asked_at verifies (a ∷ b ∷ []) = refl
+asked_at verifies (a ∷ b ∷ c ∷ []) = refl
+asked_at verifies (a ∷ b ∷ c ∷ d ∷ []) = refl
+asked_at verifies (a ∷ b ∷ c ∷ d ∷ e ∷ rest) = refl
+asked_at generates [] = refl
+asked_at generates (a ∷ []) = refl
+asked_at generates (a ∷ b ∷ rest) = refl
 
 -- clap takes the words, as a subcommand's
 pub record Takes (words : List Text) : Type 0 where
   pub subcommand : Subcommand
-  pub old : Text
-  pub new : Text
-  pub relation : Text
-  pub last : Text
+  pub all : List Text
   pub taken : takes grammar words ≡ true
-  pub read : subcommand_of grammar words ≡ Some (name_of subcommand, four_rows old new relation last)
-  pub asks : asked words ≡ asked_of subcommand (four_words old new relation last)
-  pub plain : All IsUtf8 words → plainly_asked words ≡ asked_of subcommand (four_words old new relation last)
+  pub read : subcommand_of grammar words ≡ Some (name_of subcommand, rows_of subcommand all)
+  pub asks : asked words ≡ asked_of subcommand all
+  pub plain : All IsUtf8 words → plainly_asked words ≡ asked_of subcommand all
+  pub some : asked_of subcommand all ≡ usage → ⊥
 
 -- clap refuses the words
 pub record Refuses (words : List Text) : Type 0 where
@@ -42,28 +66,18 @@ pub record Refuses (words : List Text) : Type 0 where
   pub plain : All IsUtf8 words → plainly_asked words ≡ usage
 
 abbrev by_subcommand : Option Subcommand → List Text → Asked
-by_subcommand o rest = option_map_or (λ s. asked_by s (four_by_place (by_place rest))) o usage
+by_subcommand o rest = option_map_or (λ s. asked_by s (by_place rest)) o usage
 
-plain_asked : (body : List Text) (r : AsksAll body) → All IsUtf8 body → command_asked body ≡ asked_of r.subcommand (four_words r.asks.old r.asks.new r.asks.relation r.asks.last)
+plain_asked : (body : List Text) (r : AsksAll body) → All IsUtf8 body → command_asked body ≡ asked_of r.subcommand r.asks.all
 plain_asked body r utf8 =
     let rest_utf8 : All IsUtf8 r.rest = subst (λ ws. All IsUtf8 (drop 1 ws)) r.parts (utf8_after body utf8) in
     ap command_asked r.parts ∙ ap (λ o. by_subcommand o r.rest) r.is
-    ∙ ap (λ o. asked_by r.subcommand (four_by_place o)) (sym (placed_is r.rest rest_utf8) ∙ r.asks.placed)
-
-not_four : (o : Option (List Text)) → ((a b c d : Text) → o ≡ Some (a ∷ b ∷ c ∷ d ∷ []) → ⊥) → four_by_place o ≡ None
-not_four None other = refl
-not_four (Some []) other = refl
-not_four (Some (a ∷ [])) other = refl
-not_four (Some (a ∷ b ∷ [])) other = refl
-not_four (Some (a ∷ b ∷ c ∷ [])) other = refl
-not_four (Some (a ∷ b ∷ c ∷ d ∷ [])) other = absurd (other a b c d refl)
-not_four (Some (a ∷ b ∷ c ∷ d ∷ e ∷ rest)) other = refl
+    ∙ ap (asked_by r.subcommand) (sym (placed_is r.rest rest_utf8) ∙ r.asks.placed)
 
 plain_other : (name : Text) (rest : List Text) (o : Option Subcommand) → named name ≡ o → RefusesAll (name ∷ rest) → All IsUtf8 (name ∷ rest) → command_asked (name ∷ rest) ≡ usage
 plain_other name rest None e f utf8 = ap (λ o. by_subcommand o rest) e
 plain_other name rest (Some s) e f utf8 =
-    ap (λ o. by_subcommand o rest) e ∙ ap (λ o. asked_by s (four_by_place o)) (sym (placed_is rest (utf8_after (name ∷ rest) utf8)))
-    ∙ ap (asked_by s) (not_four (placed rest) (λ a b c d h. f.other name rest s a b c d refl e h))
+    ap (λ o. by_subcommand o rest) e ∙ ap (asked_by s) (sym (placed_is rest (utf8_after (name ∷ rest) utf8))) ∙ f.other name rest s refl e
 
 plain_usage : (body : List Text) → RefusesAll body → All IsUtf8 body → command_asked body ≡ usage
 plain_usage [] f utf8 = refl
@@ -74,14 +88,12 @@ unfolding asked plainly_asked
 reading words = elim (top_runs (drop 1 words)) [
   | inl r ↦ inl (record {
     subcommand = r.subcommand;
-    old = r.asks.old;
-    new = r.asks.new;
-    relation = r.asks.relation;
-    last = r.asks.last;
+    all = r.asks.all;
     taken = r.taken;
     read = r.met;
-    asks = (λ i. if r.taken i then option_map_or subcommand_asked (r.met i) usage else usage) ∙ asked_at r.subcommand r.asks.old r.asks.new r.asks.relation r.asks.last;
+    asks = (λ i. if r.taken i then option_map_or subcommand_asked (r.met i) usage else usage) ∙ asked_at r.subcommand r.asks.all;
     plain = λ utf8. plain_asked (drop 1 words) r (utf8_after words utf8);
+    some = r.asks.asks;
   })
   | inr f ↦ inr (record {
     refused = f.taken;
@@ -91,25 +103,23 @@ reading words = elim (top_runs (drop 1 words)) [
   })
 ]
 
-not_usage : (command : Option Command) (s : Subcommand) (w : Words) → read_as command ≡ asked_of s w → is_some command ≡ true
-not_usage None checks w e = cc
-not_usage None replays w e = cc
-not_usage None verifies w e = cc
-not_usage (Some command) s w e = refl
+not_usage : (command : Option Command) (s : Subcommand) (all : List Text) → read_as command ≡ asked_of s all → (asked_of s all ≡ usage → ⊥) → is_some command ≡ true
+not_usage None s all e some = absurd (some (sym e))
+not_usage (Some command) s all e some = refl
 
 -- where clap found no fault, what it read is what the words ask for
 pub ok_asked : (words : List Text) (rows : Option (Text × List Row)) → fault_of grammar words ≡ [] → rows ≡ subcommand_of grammar words
     → option_map_or subcommand_asked rows usage ≡ asked words
 ok_asked words rows clean same = elim (reading words) [
-  | inl t ↦ ap (λ o. option_map_or subcommand_asked o usage) (same ∙ t.read) ∙ asked_at t.subcommand t.old t.new t.relation t.last ∙ sym t.asks
+  | inl t ↦ ap (λ o. option_map_or subcommand_asked o usage) (same ∙ t.read) ∙ asked_at t.subcommand t.all ∙ sym t.asks
   | inr f ↦ absurd (f.faulty clean)
 ]
 
 pub ok_taken : (words : List Text) (command : Option Command) (rows : Option (Text × List Row)) → fault_of grammar words ≡ [] → rows ≡ subcommand_of grammar words
     → read_as command ≡ option_map_or subcommand_asked rows usage → is_some command ≡ takes grammar words
 ok_taken words command rows clean same is = elim (reading words) [
-  | inl t ↦ not_usage command t.subcommand (four_words t.old t.new t.relation t.last)
-      (is ∙ ap (λ o. option_map_or subcommand_asked o usage) (same ∙ t.read) ∙ asked_at t.subcommand t.old t.new t.relation t.last) ∙ sym t.taken
+  | inl t ↦ not_usage command t.subcommand t.all
+      (is ∙ ap (λ o. option_map_or subcommand_asked o usage) (same ∙ t.read) ∙ asked_at t.subcommand t.all) t.some ∙ sym t.taken
   | inr f ↦ absurd (f.faulty clean)
 ]
 

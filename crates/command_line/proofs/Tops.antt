@@ -12,10 +12,13 @@ use Rattle.clap.specs.Simple.{Shape, built, entered, is_simple, names_of}
 use Rattle.clap.specs.Takes.{built_takes, default_passes, entered_passes, is_valid, level_passes, other_passes, settle_passes, step_passes, turn_passes, walk_passes}
 use Rattle.clap.specs.Kinds.{Kinds, or_else}
 use Rattle.clap.specs.Faults.{built_fault, check_fault, defaults_fault, level_fault, other_fault, settle_fault, step_fault, entered_fault, is_simple_and_free, turn_fault, walk_fault}
-use Rattle.command_line.specs.Subcommands.{Subcommand, checks, replays, verifies, name_of, named}
+use Rattle.command_line.specs.Subcommands.{Subcommand, checks, explains, generates, replays, verifies, name_of, named}
 use Rattle.command_line.specs.Grammar.{grammar}
 use Rattle.command_line.proofs.Steps.{IsByPlace, dashes, dashes_turn, flag_like, flag_turn, value_turn}
-use Rattle.command_line.proofs.Walks.{Asks, Refuses, four_rows, leaf, leaf_runs, placed}
+use Rattle.command_line.specs.Asked.{Asked, asked_by, usage}
+use Rattle.std.specs.Option.{option_map_or}
+use Rattle.command_line.proofs.WalkLaws.{placed}
+use Rattle.command_line.proofs.Walks.{Asks, Refuses, leaf_of, rows_of, runs}
 
 pub grammar_simple : is_simple grammar ≡ true
 grammar_simple = refl
@@ -27,7 +30,7 @@ abbrev pub top : Shape
 top = (built grammar).top
 
 abbrev names : List (Text × List Text)
-names = (name_of checks, []) ∷ (name_of replays, []) ∷ (name_of verifies, []) ∷ []
+names = (name_of checks, []) ∷ (name_of explains, []) ∷ (name_of generates, []) ∷ (name_of replays, []) ∷ (name_of verifies, []) ∷ []
 
 names_are : names_of (built grammar) ≡ names
 names_are = refl
@@ -43,11 +46,17 @@ stopped s words = record (walk_from nothing_held) { stopped = Some (name_of s, w
 met_is : (w : Text) → subcommand_met names idle w ≡ option_map name_of (named w)
 met_is w = elim (cases_Bool (bytes_eq (codes "check") w)) [
   | inl e ↦ rw e refl
-  | inr e ↦ elim (cases_Bool (bytes_eq (codes "replay") w)) [
-    | inl f ↦ rw (e, f) refl
-    | inr f ↦ elim (cases_Bool (bytes_eq (codes "verify") w)) [
-      | inl h ↦ rw (e, f, h) refl
-      | inr h ↦ rw (e, f, h) refl
+  | inr e ↦ elim (cases_Bool (bytes_eq (codes "explain") w)) [
+    | inl d ↦ rw (e, d) refl
+    | inr d ↦ elim (cases_Bool (bytes_eq (codes "gen") w)) [
+      | inl g ↦ rw (e, d, g) refl
+      | inr g ↦ elim (cases_Bool (bytes_eq (codes "replay") w)) [
+        | inl f ↦ rw (e, d, g, f) refl
+        | inr f ↦ elim (cases_Bool (bytes_eq (codes "verify") w)) [
+          | inl h ↦ rw (e, d, g, f, h) refl
+          | inr h ↦ rw (e, d, g, f, h) refl
+        ]
+      ]
     ]
   ]
 ]
@@ -79,11 +88,15 @@ first_met w name = subcommand_or_other top.rules name idle 1 w nothing_held
 -- its name passes as a word
 passes_named : (s : Subcommand) (w : Text) → (other_passes top (Some (name_of s)) w nothing_held && step_passes top 1 (first_met w (Some (name_of s))).0 (first_met w (Some (name_of s))).1) ≡ true
 passes_named checks w = refl
+passes_named explains w = refl
+passes_named generates w = refl
 passes_named replays w = refl
 passes_named verifies w = refl
 
 clean_named : (s : Subcommand) (w : Text) → or_else (other_fault top (Some (name_of s)) w nothing_held) (step_fault top 1 (first_met w (Some (name_of s))).0 (first_met w (Some (name_of s))).1) ≡ []
 clean_named checks w = refl
+clean_named explains w = refl
+clean_named generates w = refl
 clean_named replays w = refl
 clean_named verifies w = refl
 
@@ -135,20 +148,26 @@ or_first [] b e = refl
 or_first (k ∷ ks) b e = e
 
 -- a subcommand is built as any other, but for its name
-entered_at : (s : Subcommand) (rest : List Text) → entered (built grammar) (Some (name_of s, rest)) ≡ Some (name_of s, rows_after leaf.rules [] rest)
+entered_at : (s : Subcommand) (rest : List Text) → entered (built grammar) (Some (name_of s, rest)) ≡ Some (name_of s, rows_after (leaf_of s).rules [] rest)
 entered_at checks rest = refl
+entered_at explains rest = refl
+entered_at generates rest = refl
 entered_at replays rest = refl
 entered_at verifies rest = refl
 
-takes_at : (s : Subcommand) (rest : List Text) → takes_by true (stopped s rest) ≡ (level_passes leaf [] nothing_held rest false && true)
+takes_at : (s : Subcommand) (rest : List Text) → takes_by true (stopped s rest) ≡ (level_passes (leaf_of s) [] nothing_held rest false && true)
 unfolding walk_passes
 takes_at checks rest = refl
+takes_at explains rest = refl
+takes_at generates rest = refl
 takes_at replays rest = refl
 takes_at verifies rest = refl
 
-fault_at : (s : Subcommand) (rest : List Text) → entered_fault (built grammar) (Some (name_of s, rest)) ≡ level_fault leaf [] nothing_held rest false []
+fault_at : (s : Subcommand) (rest : List Text) → entered_fault (built grammar) (Some (name_of s, rest)) ≡ level_fault (leaf_of s) [] nothing_held rest false []
 unfolding walk_fault defaults_fault
 fault_at checks rest = refl
+fault_at explains rest = refl
+fault_at generates rest = refl
 fault_at replays rest = refl
 fault_at verifies rest = refl
 
@@ -159,17 +178,16 @@ pub record AsksAll (body : List Text) : Type 0 where
   pub parts : body ≡ name ∷ rest
   pub subcommand : Subcommand
   pub is : named name ≡ Some subcommand
-  pub asks : Asks rest
+  pub asks : Asks subcommand rest
   pub taken : built_takes (built grammar) nothing_held body ≡ true
-  pub met : entered (built grammar) (walk top.rules names nothing_held body).stopped ≡ Some (name_of subcommand, four_rows asks.old asks.new asks.relation asks.last)
+  pub met : entered (built grammar) (walk top.rules names nothing_held body).stopped ≡ Some (name_of subcommand, rows_of subcommand asks.all)
 
 pub record RefusesAll (body : List Text) : Type 0 where
-  pub other : (name : Text) (rest : List Text) (s : Subcommand) (old new relation last : Text) → body ≡ name ∷ rest → named name ≡ Some s
-      → placed rest ≡ Some (old ∷ new ∷ relation ∷ last ∷ []) → ⊥
+  pub other : (name : Text) (rest : List Text) (s : Subcommand) → body ≡ name ∷ rest → named name ≡ Some s → asked_by s (placed rest) ≡ usage
   pub taken : built_takes (built grammar) nothing_held body ≡ false
   pub faulty : built_fault (built grammar) nothing_held body ≡ [] → ⊥
 
-asked_first : (w : Text) (rest : List Text) (s : Subcommand) → named w ≡ Some s → Asks rest → AsksAll (w ∷ rest)
+asked_first : (w : Text) (rest : List Text) (s : Subcommand) → named w ≡ Some s → Asks s rest → AsksAll (w ∷ rest)
 unfolding walk_passes walk_fault
 asked_first w rest s e asks = record {
   name = w;
@@ -178,16 +196,22 @@ asked_first w rest s e asks = record {
   subcommand = s;
   is = e;
   asks = asks;
-  taken = (λ i. takes_by (walk_passes_is w s e rest i) (walk_is w s e rest i)) ∙ takes_at s rest ∙ and-true (level_passes leaf [] nothing_held rest false) ∙ asks.passes;
+  taken = (λ i. takes_by (walk_passes_is w s e rest i) (walk_is w s e rest i)) ∙ takes_at s rest ∙ and-true (level_passes (leaf_of s) [] nothing_held rest false) ∙ asks.passes;
   met = ap (λ v. entered (built grammar) v.stopped) (walk_is w s e rest) ∙ entered_at s rest ∙ ap (λ rows. Some (name_of s, rows)) asks.rows;
 }
 
-refused_first : (w : Text) (rest : List Text) (s : Subcommand) → named w ≡ Some s → Refuses rest → RefusesAll (w ∷ rest)
+-- what a subcommand that was named asks for
+abbrev by_subcommand : Option Subcommand → List Text → Asked
+by_subcommand o rest = option_map_or (λ s. asked_by s (placed rest)) o usage
+
+refused_first : (w : Text) (rest : List Text) (s : Subcommand) → named w ≡ Some s → Refuses s rest → RefusesAll (w ∷ rest)
 refused_first w rest s e refuses = record {
-  other = λ name after t old new relation last parts is h.
+  other = λ name after t parts is.
       let same : rest ≡ after = ap (drop 1) parts in
-      refuses.other old new relation last (ap placed same ∙ h);
-  taken = (λ i. takes_by (walk_passes_is w s e rest i) (walk_is w s e rest i)) ∙ takes_at s rest ∙ and-true (level_passes leaf [] nothing_held rest false) ∙ refuses.refused;
+      let first : w ≡ name = ap (λ ws. slice_index_or ws 0 w) parts in
+      let one : ◌≡◌ {A = Option Subcommand} (Some s) (Some t) = sym e ∙ ap named first ∙ is in
+      sym (λ i. by_subcommand (one i) (same i)) ∙ refuses.other;
+  taken = (λ i. takes_by (walk_passes_is w s e rest i) (walk_is w s e rest i)) ∙ takes_at s rest ∙ and-true (level_passes (leaf_of s) [] nothing_held rest false) ∙ refuses.refused;
   faulty = λ h.
       let first : entered_fault (built grammar) (Some (name_of s, rest)) ≡ [] =
       or_first _ _ (sym (λ i. fault_by (walk_clean_is w s e rest i) (walk_is w s e rest i)) ∙ h) in
@@ -198,7 +222,7 @@ refused_first w rest s e refuses = record {
 not_first : (w : Text) (rest : List Text) → named w ≡ None → built_takes (built grammar) nothing_held (w ∷ rest) ≡ false
     → (built_fault (built grammar) nothing_held (w ∷ rest) ≡ [] → ⊥) → RefusesAll (w ∷ rest)
 not_first w rest e taken faulty = record {
-  other = λ name after s old new relation last parts is h.
+  other = λ name after s parts is.
       let same : w ≡ name = ap (λ ws. slice_index_or ws 0 w) parts in
       absurd (true≢false (ap is_some (sym is ∙ sym (ap named same) ∙ e)));
   taken = taken;
@@ -250,7 +274,7 @@ not_named w rest e = elim (cases_Bool (bytes_eq w dashes)) [
 
 by_name : (w : Text) (rest : List Text) (o : Option Subcommand) → named w ≡ o → AsksAll (w ∷ rest) ⊎ RefusesAll (w ∷ rest)
 by_name w rest None e = inr (not_named w rest e)
-by_name w rest (Some s) e = elim (leaf_runs rest) [
+by_name w rest (Some s) e = elim (runs s rest) [
   | inl asks ↦ inl (asked_first w rest s e asks)
   | inr refuses ↦ inr (refused_first w rest s e refuses)
 ]
@@ -259,7 +283,7 @@ by_name w rest (Some s) e = elim (leaf_runs rest) [
 pub top_runs : (body : List Text) → AsksAll body ⊎ RefusesAll body
 unfolding defaults_fault walk_passes walk_fault
 top_runs [] = inr (record {
-  other = λ name rest s old new relation last parts is h. let bad : 0 ≡ suc (length rest) = ap length parts in omega (arith, bad);
+  other = λ name rest s parts is. absurd (let bad : 0 ≡ suc (length rest) = ap length parts in omega (arith, bad));
   taken = refl;
   faulty = λ h. no_kinds MissingSubcommand [] h;
 })

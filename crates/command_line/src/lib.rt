@@ -20,6 +20,10 @@ pub struct FourWords {
 pub enum Command {
     /// Judges a finding, the last of the files.
     Check(FourWords),
+    /// Judges a finding, the last of the files, and reports on it.
+    Explain(FourWords),
+    /// Makes revisions of a size that is asked for by this word, and verifies them.
+    Gen(String),
     /// Runs the rows of a trace, the last of the files, on both programs.
     Replay(FourWords),
     /// Decides the programs and the relation, and saves the finding, the last of the files.

@@ -1,10 +1,10 @@
 // The words, read by clap.
-ghost use Rattle.std.specs.Prelude.{◌≡◌, ◌↔◌, IfOk, IsErr, None, is_some, map, option_map, string_bytes};
+ghost use Rattle.std.specs.Prelude.{◌≡◌, ◌↔◌, ◌∷◌, [], IfOk, IsErr, None, is_some, map, option_map, string_bytes};
 ghost use Rattle.std.specs.Option.{option_map_or};
 ghost use Rattle.clap.specs.Words.{found_of, kind_of, rows_of, subcommand_rows_of, takes};
-ghost use Rattle.command_line.specs.Asked.{asked, asked_by, read_as, subcommand_asked, usage, words_in, words_of};
+ghost use Rattle.command_line.specs.Asked.{asked, asked_by, count_in, read_as, subcommand_asked, usage, words_in, words_of};
 ghost use Rattle.command_line.specs.Grammar.{grammar};
-ghost use Rattle.command_line.specs.Subcommands.{checks, replays, verifies};
+ghost use Rattle.command_line.specs.Subcommands.{checks, explains, generates, replays, verifies};
 ghost use Rattle.command_line.specs.Plain.{plainly_asked};
 
 use crate::grammar::program_command;
@@ -37,11 +37,39 @@ fn words_of(alloc: Global, matches: &ArgMatches<'_>) -> Result<Option<FourWords>
     }))
 }
 
+// The word of the subcommand that takes a number.
+fn count_of(alloc: Global, matches: &ArgMatches<'_>) -> Result<Option<String>, AllocError>
+    ensures { IfOk result (λ count. option_map (λ word. string_bytes word ∷ []) count ≡ count_in (rows_of (found_of matches.now))) }
+{
+    match matches.get_str("N") {
+        Some(count) => Ok(Some(String::from_str(alloc, count)?)),
+        None => Ok(None),
+    }
+}
+
 fn check_of(words: Option<FourWords>) -> Option<Command>
     ensures { read_as result ≡ asked_by checks (option_map words_of words) }
 {
     match words {
         Some(words) => Some(Command::Check(words)),
+        None => None,
+    }
+}
+
+fn explain_of(words: Option<FourWords>) -> Option<Command>
+    ensures { read_as result ≡ asked_by explains (option_map words_of words) }
+{
+    match words {
+        Some(words) => Some(Command::Explain(words)),
+        None => None,
+    }
+}
+
+fn gen_of(count: Option<String>) -> Option<Command>
+    ensures { read_as result ≡ asked_by generates (option_map (λ word. string_bytes word ∷ []) count) }
+{
+    match count {
+        Some(count) => Some(Command::Gen(count)),
         None => None,
     }
 }
@@ -70,6 +98,8 @@ fn command_of(alloc: Global, matches: &ArgMatches<'_>) -> Result<Option<Command>
 {
     match matches.subcommand() {
         Some(("check", given)) => Ok(check_of(words_of(alloc, given)?)),
+        Some(("explain", given)) => Ok(explain_of(words_of(alloc, given)?)),
+        Some(("gen", given)) => Ok(gen_of(count_of(alloc, given)?)),
         Some(("replay", given)) => Ok(replay_of(words_of(alloc, given)?)),
         Some(("verify", given)) => Ok(verify_of(words_of(alloc, given)?)),
         _ => Ok(None),

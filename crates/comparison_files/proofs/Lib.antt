@@ -1,2 +1,3 @@
+pub mod ReadTexts
 pub mod Refusals
 pub mod Once

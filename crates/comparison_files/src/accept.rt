@@ -2,7 +2,6 @@
 ghost use Rattle.std.specs.Prelude.{◌≡◌, true, IfOk, IfErr, List, ℕ};
 ghost use Rattle.program_tree.specs.View.{program_view};
 ghost use Rattle.rules.specs.declared.rule.Rule.TheVariants.{TooLong};
-ghost use Rattle.scan_model.specs.InRange.{IsProgram as IsFitToRun};
 ghost use Rattle.scan_model.specs.Pairs.{relation_view, BelongsTo};
 ghost use Rattle.node_core.specs.Scans.{scan_view};
 ghost use Rattle.node_end.specs.NodeTexts.{HasManyNodes};
@@ -11,7 +10,7 @@ ghost use Rattle.relation_file.specs.Stated.{has_few_candidates};
 ghost use Rattle.relation_file.specs.WellFormed.{IsWellFormed};
 ghost use Rattle.query_formula_laws.specs.TypedComparisons.{IsScanOf};
 ghost use Rattle.product_build.specs.Limits.{HasFewLines};
-ghost use Rattle.comparison_typing.specs.Readings.{IsRead};
+ghost use Rattle.typed_relations.specs.Readings.{IsReadProgram, IsStated, IsRead};
 ghost use Rattle.command_files.specs.Kept.{IsKept};
 ghost use Rattle.command_files.specs.KeptTexts.{AreKept};
 ghost use Rattle.command_files.specs.Texts.{Texts};
@@ -54,7 +53,7 @@ fn program_in(
 ) -> Result<Accepted, CompareFault>
     ensures ok { (bytes : List ℕ) → IsKept text.now bytes → IfOk result (λ a. StatesProgram bytes (program_view a.program)) }
     ensures nodes { IfOk result (λ a. scan_view a.scan ≡ nodes_of (program_view a.program)) }
-    ensures fit { IfOk result (λ a. IsFitToRun (program_view a.program)) }
+    ensures read { IfOk result (λ a. IsReadProgram (program_view a.program)) }
     ensures meaning { IfOk result (λ a. IsScanOf (program_view a.program) (scan_view a.scan)) }
     ensures refused { (bytes : List ℕ) → IsKept text.now bytes → IfErr result (IfFaultOf source (HasNoFlatForm bytes) (λ l. (l ≡ Limit.Nodes) × HasManyNodes bytes)) }
 {
@@ -75,6 +74,7 @@ fn relation_of(
     text: &[u8],
 ) -> Result<Relation, CompareFault>
     ensures ok { IfOk result (λ r. StatesSmallRelation (program_view old.now) (program_view new.now) text.now (relation_view r)) }
+    ensures stated { IfOk result (λ r. IsStated (program_view old.now) (program_view new.now) (relation_view r)) }
     ensures belongs { IfOk result (λ r. BelongsTo (program_view old.now) (program_view new.now) (relation_view r)) }
     ensures well_formed { IfOk result (λ r. IsWellFormed (program_view old.now) (program_view new.now) (relation_view r)) }
     ensures few { IfOk result (λ r. has_few_candidates (relation_view r) ≡ true) }
@@ -99,6 +99,7 @@ fn relation_in(
     text: &Option<Vec<u8>>,
 ) -> Result<Relation, CompareFault>
     ensures ok { (bytes : List ℕ) → IsKept text.now bytes → IfOk result (λ r. StatesSmallRelation (program_view old.now) (program_view new.now) bytes (relation_view r)) }
+    ensures stated { IfOk result (λ r. IsStated (program_view old.now) (program_view new.now) (relation_view r)) }
     ensures belongs { IfOk result (λ r. BelongsTo (program_view old.now) (program_view new.now) (relation_view r)) }
     ensures well_formed { IfOk result (λ r. IsWellFormed (program_view old.now) (program_view new.now) (relation_view r)) }
     ensures few { IfOk result (λ r. has_few_candidates (relation_view r) ≡ true) }

@@ -4,7 +4,7 @@ ghost use Rattle.program_tree.specs.View.{program_view};
 ghost use Rattle.node_core.specs.Scans.{scan_view};
 ghost use Rattle.queries.specs.Comparisons.{IsComparison};
 ghost use Rattle.query_formula_laws.specs.TypedComparisons.{IsScanOf};
-ghost use Rattle.comparison_typing.specs.Readings.{IsRead};
+ghost use Rattle.typed_relations.specs.Readings.{IsRead};
 ghost use Rattle.product_build.specs.Limits.{HasFewLines, HasFewGates, HasManyGates};
 ghost use Rattle.product_build.specs.MadeCircuits.{comparison_between, comparison_of, formula_of};
 ghost use Rattle.comparison_files.specs.Comparing.{formulas_by};
@@ -12,7 +12,6 @@ ghost use Rattle.comparison_files.specs.Faults.{IfFaultOf};
 
 use crate::fault::CompareFault;
 use command_answers::{Limit, Source};
-use comparison_typing::is_typed_comparison;
 use gates::GateFault;
 use node_core::Scan;
 use product_build::{Circuits, product};
@@ -20,8 +19,7 @@ use program_tree::Program;
 use scan_model::Relation;
 use std::alloc::Global;
 
-/// The circuits of what is compared, or that they have too many gates. What is not typed, which no text states as far as tests show, counts
-/// as want of memory.
+/// The circuits of what is compared, or that they have too many gates. What was read is typed, so nothing tests for that.
 pub fn circuits_of<'p>(
     alloc: Global,
     old: &'p Program,
@@ -40,12 +38,6 @@ pub fn circuits_of<'p>(
     ensures few { OnOk result (HasFewGates (comparison_between old.now new.now relation.now) (scan_view old_scan) (scan_view new_scan)) }
     ensures refused { IfErr result (IfFaultOf Source.Relation (λ r. ⊥) (λ l. (l ≡ Limit.Gates) × HasManyGates (comparison_between old.now new.now relation.now) (scan_view old_scan) (scan_view new_scan))) }
 {
-    let Ok(typed) = is_typed_comparison(alloc, old, new, relation) else {
-        return Err(CompareFault::Memory);
-    };
-    if !typed {
-        return Err(CompareFault::Memory);
-    }
     match product(alloc, old, old_scan, new, new_scan, relation) {
         Ok(circuits) => Ok(circuits),
         Err(GateFault::TooMany) => Err(CompareFault::TooLarge(Source::Relation, Limit::Gates)),

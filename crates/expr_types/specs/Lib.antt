@@ -1,2 +1,2 @@
 pub mod Parameters
-pub mod Sides
+pub mod ValueMeanings

@@ -4,3 +4,4 @@ pub mod CaseLemmas
 pub mod ChartLemmas
 pub mod PouLemmas
 pub mod TurnLemmas
+pub mod TypedForms

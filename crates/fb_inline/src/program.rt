@@ -1,47 +1,49 @@
 // The flat form of a program.
 ghost use Rattle.std.specs.Prelude.{◌≡◌, IfOk, MatchResult, IsTrue};
 ghost use Rattle.program_tree.specs.View.{cells_view, program_view};
+ghost use Rattle.rules.specs.Faults.{IfRefused};
 ghost use Rattle.scan_model.specs.InRange.{IsProgram};
 ghost use Rattle.flat_core.specs.FlatView.{flat_program_view};
 ghost use Rattle.flat_form.specs.FlatLaws.{LeavesTheSame};
 ghost use Rattle.flat_form.specs.FlatPrograms.{flat_program, is_short};
-ghost use Rattle.flat_form.specs.WellTyped.{IsWellTyped};
-ghost use Rattle.fb_inline.specs.Faults.{IsFault};
+ghost use Rattle.node_core.specs.TypedFlats.{IsTypedFlat};
+ghost use Rattle.typed_programs.specs.Programs.{IsTypedProgram};
+ghost use Rattle.fb_inline.specs.Refusals.{IsTooLong};
 
-use crate::fault::FlatFault;
 use crate::puts::put_number;
 use crate::statements::flatten_all;
 use flat_charts::{FlatScope, Owner};
 use flat_core::Flat;
 use flat_count::is_short;
 use flat_form::idle_blocks;
-use flat_typing::check_program;
 use program_tree::{Cell, Program};
-use rules::{Refusal, Rule};
+use rules::{Fault, Refusal, Rule};
 use std::alloc::{AllocError, Global};
 
-/// The flat form of a program; none that has more than 200,000 statements, which are counted before any is built, and then none of a
-/// program that is not well typed. A FOR with a value that is no i64 counts as want of memory, and so does a place that is no usize.
-pub fn flatten(alloc: Global, program: &Program) -> Result<Flat, FlatFault>
+/// The flat form of a typed program, which is typed too; none of one that has more than 200,000 statements (M5), which are counted before
+/// any is built. A FOR with a value that is no i64 counts as want of memory, and so does a place that is no usize.
+pub fn flatten(alloc: Global, program: &Program) -> Result<Flat, Fault>
+    requires fit { IsProgram (program_view program.now) }
+    requires typed { IsTypedProgram (program_view program.now) }
     ensures list { IfOk result (λ f. flat_program_view f ≡ flat_program (program_view program.now)) }
-    ensures refused { MatchResult result (λ f. IsTrue (is_short (program_view program.now))) (λ e. IsFault (program_view program.now) e) }
+    ensures typed { IfOk result (λ f. IsTypedFlat (flat_program_view f)) }
     ensures meaning { IfOk result (λ f. LeavesTheSame (program_view program.now) (flat_program_view f)) }
+    ensures refused { MatchResult result (λ f. IsTrue (is_short (program_view program.now))) (IfRefused (IsTooLong (program_view program.now))) }
 {
     if !is_short(alloc, program)? {
-        return Err(FlatFault::Refused(Refusal {
+        return Err(Fault::Refused(Refusal {
             rule: Rule::TooManyStatements,
             at: 0,
         }));
     }
-    check_program(alloc, program)?;
     let flat = flat_program(alloc, program)?;
     Ok(flat)
 }
 
-// The flat form of a well-typed program, which keeps the rules of flat programs.
+// The flat form of a typed program, which keeps the rules of flat programs.
 fn flat_program(alloc: Global, program: &Program) -> Result<Flat, AllocError>
-    requires program { IsProgram (program_view program.now) }
-    requires typed { IsWellTyped (program_view program.now) }
+    requires fit { IsProgram (program_view program.now) }
+    requires typed { IsTypedProgram (program_view program.now) }
     ensures { IfOk result (λ f. flat_program_view f ≡ flat_program (program_view program.now)) }
 {
     let idle = idle_blocks(&program.called, alloc)?;

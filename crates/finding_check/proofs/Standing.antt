@@ -1,5 +1,5 @@
 -- Lines that were read, and what is said where one fails or none follows.
-use Rattle.std.proofs.Common.{◌≡◌, ◌≢◌, ℕ, ◌+◌, ◌<◌, ◌≤◌, List, [], ◌∷◌, ◌++◌, length, drop, refl, sym, ap, ◌∙◌, subst, arith, inl, inr, append_assoc, append-nil, length-append, true, false, Bool}
+use Rattle.std.proofs.Common.{◌≡◌, ◌≢◌, ℕ, ◌+◌, ◌<◌, ◌≤◌, List, [], ◌∷◌, ◌++◌, length, drop, refl, sym, ap, ◌∙◌, subst, arith, inl, inr, append_assoc, length-append, true, false, Bool}
 use Rattle.std.specs.Prelude.{Option, Some, None, Result, Ok, Err, IfSome, IfOk, codes, if◌then◌else◌, ◌==◌, min, ◌^◌, ◌-◌}
 use Rattle.clause_core.specs.Formula.{Formula}
 use Rattle.outside.specs.Causes.{Rose}
@@ -13,6 +13,7 @@ use Rattle.finding_file.specs.Writing.{all_written}
 use Rattle.finding_file.specs.declared.errors.ReadErr.{ReadErr}
 use Rattle.finding_file.specs.declared.errors.ReadErr.TheVariants as read
 use Rattle.queries.specs.Comparisons.{Comparison}
+use Rattle.finding_file.proofs.WritingLemmas.{all_written-append}
 use Rattle.queries.specs.Settings.{Setting}
 use Rattle.queries.specs.Questions.{QueryData}
 use Rattle.judgement.specs.Places.{Place, at_top, finished, goes, fails}
@@ -30,10 +31,6 @@ use Rattle.finding_check.specs.Readings.{IsReadTo}
 pub IfSome-both : {A : Type 0} {P Q R : A → Type 0} → (o : Option A) → ((x : A) → P x → Q x → R x) → IfSome o P → IfSome o Q → IfSome o R
 IfSome-both None h p q = tt
 IfSome-both (Some x) h p q = h x p q
-
-all_written-append : (lines : List Line) (line : Line) → all_written (lines ++ line ∷ []) ≡ all_written lines ++ written line
-all_written-append [] line = append-nil (written line)
-all_written-append (l ∷ ls) line = ap (λ bytes. written l ++ bytes) (all_written-append ls line) ∙ sym (append_assoc (written l) (all_written ls) (written line))
 
 -- each line has a byte or more
 length-written : (line : Line) → length (written line) ≡ length (spelled line) + 1

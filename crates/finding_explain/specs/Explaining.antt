@@ -22,10 +22,10 @@ use Rattle.finding_report.specs.Reports.{report_with, report_text}
 use Rattle.finding_explain.specs.declared.answers.Explained.{Explained}
 use Rattle.finding_explain.specs.declared.answers.Explained.TheVariants.{Valid, Bad}
 
--- What is said of a file: it is a finding, and this is the report on its lines and its verdict; else what the judge says.
+-- What is said of a file: it is a finding, its verdict is shown, and this is the report on its lines and its verdict; else what the judge says.
 abbrev pub IsExplained : Comparison → (QueryData → Formula) → ℕ → List ℕ → Result Explained JudgeErr → Type 0
 IsExplained c formula limit file (Ok (Valid text)) =
-    (ls : List Line) × (verdict : Conclusion) × Stands (setting_of c) formula limit file ls (finished verdict) [] × (string_bytes text ≡ report_text c ls verdict)
+    (ls : List Line) × (verdict : Conclusion) × Stands (setting_of c) formula limit file ls (finished verdict) [] × IsShown c formula verdict × (string_bytes text ≡ report_text c ls verdict)
 IsExplained c formula limit file (Ok (Bad line reason)) = IsJudged (setting_of c) formula limit file (Ok (judged.Bad line reason))
 IsExplained c formula limit file (Err error) = IsJudged (setting_of c) formula limit file (Err error)
 

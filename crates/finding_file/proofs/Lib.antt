@@ -3,3 +3,4 @@ pub mod AnswerLemmas
 pub mod WindowLemmas
 pub mod PieceLemmas
 pub mod ReaderLemmas
+pub mod WritingLemmas

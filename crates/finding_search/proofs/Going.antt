@@ -1,5 +1,5 @@
 -- Lines that are written one after another, and what an error leaves.
-use Rattle.std.proofs.Common.{◌≡◌, ℕ, ◌+◌, ◌-◌, ◌^◌, ◌<◌, ◌≤◌, List, [], ◌∷◌, ◌++◌, length, take, drop, map, get_or, suc, refl, sym, ap, ◌∙◌, subst, arith, inl, inr, append_assoc, append-nil, length-append}
+use Rattle.std.proofs.Common.{◌≡◌, ℕ, ◌+◌, ◌-◌, ◌^◌, ◌<◌, ◌≤◌, List, [], ◌∷◌, ◌++◌, length, take, drop, map, get_or, suc, refl, sym, ap, ◌∙◌, subst, arith, inl, inr, length-append}
 use Rattle.std.specs.Prelude.{Option, Some, None, Result, Ok, Err, IfSome, OnOk, OnErr, min}
 use Rattle.std.specs.Result.{IsErrAnd}
 use Rattle.std.proofs.Math.Seq.{drop-cons}
@@ -13,6 +13,7 @@ use Rattle.finding_file.specs.Causes.{IsCausedBy}
 use Rattle.finding_file.specs.Writing.{Writing, all_written}
 use Rattle.finding_file.specs.declared.errors.WriteErr.{WriteErr}
 use Rattle.finding_file.specs.declared.errors.WriteErr.TheVariants.{Fault, Memory, M8}
+use Rattle.finding_file.proofs.WritingLemmas.{all_written-append}
 use Rattle.queries.specs.Settings.{Setting}
 use Rattle.queries.specs.Questions.{QueryData}
 use Rattle.judgement.specs.Places.{Place}
@@ -20,10 +21,6 @@ use Rattle.judgement.specs.Findings.{on}
 use Rattle.finding_search.specs.Desks.{Desk, finding}
 use Rattle.finding_search.specs.Passing.{Passes, Runs, IsPartOfFinding}
 use Rattle.finding_search.specs.Writes.{StandsAt, StopsAt, Writes}
-
-all_written-append : (lines : List Line) (line : Line) → all_written (lines ++ line ∷ []) ≡ all_written lines ++ written line
-all_written-append [] line = append-nil (written line)
-all_written-append (l ∷ ls) line = ap (λ bytes. written l ++ bytes) (all_written-append ls line) ∙ sym (append_assoc (written l) (all_written ls) (written line))
 
 length-all_written : (lines : List Line) (line : Line) → length (all_written (lines ++ line ∷ [])) ≡ length (all_written lines) + length (written line)
 length-all_written lines line = ap length (all_written-append lines line) ∙ length-append (all_written lines) (written line)

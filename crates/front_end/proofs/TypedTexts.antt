@@ -11,7 +11,7 @@ joined_levels : (f g : FileData) → IsFileLevelled f → IsFileLevelled g → I
 joined_levels [] g h k = k
 joined_levels (i ∷ is) g h k = (h.0, joined_levels is g h.1 k)
 
-file_levelled : (text : List ℕ) (f : FileData) → HasFile text f → IsFileLevelled f
+pub file_levelled : (text : List ℕ) (f : FileData) → HasFile text f → IsFileLevelled f
 file_levelled text f h = subst IsFileLevelled (sym h.joined) (joined_levels h.blocks h.own h.prelude.levelled h.tree.levelled)
 
 pub text_typed : (text : List ℕ) (p : ProgramData) → IsProgram text p → IsTypedProgram p

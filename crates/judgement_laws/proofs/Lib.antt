@@ -3,3 +3,4 @@ pub mod RunLemmas
 pub mod EndLemmas
 pub mod Judgements
 pub mod SpentLemmas
+pub mod PrefixLemmas

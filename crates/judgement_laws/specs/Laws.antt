@@ -1,5 +1,5 @@
 -- Laws of judging.
-use Rattle.std.specs.Prelude.{◌≡◌, ℕ, ◌≤◌, ℤ, List, [], ◌∷◌, ◌++◌, map, length, Result, Ok, Err}
+use Rattle.std.specs.Prelude.{◌≡◌, ◌≢◌, ℕ, ◌≤◌, ℤ, List, [], ◌∷◌, ◌++◌, map, length, Result, Ok, Err}
 use Rattle.clause_core.specs.Formula.{Formula}
 use Rattle.clause_core.specs.declared.log.Entry.{Entry}
 use Rattle.clause_core.specs.declared.log.Entry.TheVariants.{Derived}
@@ -18,7 +18,8 @@ use Rattle.judgement.specs.Places.{finished}
 use Rattle.judgement.specs.Findings.{Leads, IsJudged}
 use Rattle.judgement.specs.Shown.{asked_of, Spends}
 use Rattle.judgement.specs.declared.answers.Judged.{Judged}
-use Rattle.judgement.specs.declared.answers.Judged.TheVariants.{Valid}
+use Rattle.judgement.specs.declared.answers.Judged.TheVariants.{Valid, Bad}
+use Rattle.judgement.specs.declared.answers.Reason.TheVariants.{B13}
 use Rattle.judgement.specs.declared.answers.JudgeErr.{JudgeErr}
 use Rattle.judgement.specs.declared.answers.JudgeErr.TheVariants.{Fault, Memory, M8}
 
@@ -67,3 +68,9 @@ SpentIsLogged =
     (c : Comparison) (formula : QueryData → Formula) → IsComparison c → ((query : QueryData) → IsQueryOf c query → Means c query (formula query))
     → (limit : ℕ) (file : List ℕ) (asked : Asked) (count : ℤ) → IsJudged (setting_of c) formula limit file (Ok (Valid (Spent asked count)))
     → HoldsSpentLog c formula file (Spent asked count)
+
+-- a finding that is cut off before its end is none: where it ends, the end of a line is missing
+abbrev pub PrefixIsCutOff : Type 0
+PrefixIsCutOff =
+    (s : Setting) (formula : QueryData → Formula) (limit : ℕ) (file front behind : List ℕ) (verdict : Conclusion) → IsJudged s formula limit file (Ok (Valid verdict))
+    → file ≡ front ++ behind → behind ≢ [] → (line : ℕ) × IsJudged s formula limit front (Ok (Bad line B13))

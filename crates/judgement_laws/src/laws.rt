@@ -1,5 +1,5 @@
 // The functions do nothing: their clauses are the laws.
-ghost use Rattle.judgement_laws.specs.Laws.{OneJudgement, WrittenIsValid, SpentIsLogged};
+ghost use Rattle.judgement_laws.specs.Laws.{OneJudgement, WrittenIsValid, SpentIsLogged, PrefixIsCutOff};
 
 /// One thing is said of a file.
 pub fn law_one_judgement()
@@ -14,4 +14,9 @@ pub fn law_written_is_valid()
 /// Where a finding is valid and its verdict SPENT, it ends with the log that spends the query.
 pub fn law_spent_is_logged()
     ensures { SpentIsLogged }
+{}
+
+/// A valid finding that is cut off anywhere before its end is judged INVALID, by the test that a line ends with its line feed.
+pub fn law_prefix_is_cut_off()
+    ensures { PrefixIsCutOff }
 {}

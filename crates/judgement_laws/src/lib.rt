@@ -1,6 +1,9 @@
-// Laws of judging: one thing is said of a file, what is written line by line is judged as it was written, and SPENT has its log.
+// Laws of judging: one thing is said of a file, what is written line by line is judged as it was written, SPENT has its log, and a finding
+// that is cut off is none.
 #![tactic(auto)]
 
 mod laws;
 
-pub use laws::{law_one_judgement, law_spent_is_logged, law_written_is_valid};
+pub use laws::{
+    law_one_judgement, law_prefix_is_cut_off, law_spent_is_logged, law_written_is_valid,
+};

@@ -7,7 +7,6 @@ mod formula_printing;
 mod gate_printing;
 mod node_printing;
 mod relation_printing;
-mod typed_printing;
 
 pub use flat_printing::print_flat;
 pub use formula_printing::print_formula;
@@ -16,4 +15,3 @@ pub use node_printing::print_nodes;
 pub use relation_printing::{
     add_name, cell_names, print_candidates, print_clauses, print_lines, print_parts,
 };
-pub use typed_printing::print_body;

@@ -2,8 +2,10 @@
 ghost use Rattle.std.specs.Prelude.{◌≡◌, Ok, IfOk, IsErr, OnErr, OnOk};
 ghost use Rattle.outside.specs.Causes.{HasCause};
 
+use crate::progress::Progress;
 use outside::OutErr;
 use std::io::{self, Eprint, ErrorKind};
+use std::time::Clock;
 
 // Tells what could not be done, and the system's reason: `cannot read trace.json: no such file`. Where this cannot be told either,
 // nothing more is tried.
@@ -15,8 +17,8 @@ fn tell(rt: &impl Eprint, doing: &str, name: &str, error: &io::Error) {
 }
 
 /// Hands on what the system answered. At an error the count rises, and stands still at its type's end; the first error is told.
-pub fn counted<T: Drop>(
-    rt: &impl Eprint,
+pub fn counted<R: Eprint + Clock, T: Drop>(
+    progress: &Progress<'_, R>,
     answer: io::Result<T>,
     doing: &str,
     name: &str,
@@ -31,7 +33,8 @@ pub fn counted<T: Drop>(
         Ok(value) => Ok(value),
         Err(error) => {
             if *faults == 0 {
-                tell(rt, doing, name, &error);
+                progress.clear();
+                tell(progress.system(), doing, name, &error);
             }
             *faults = faults.saturating_add(1);
             Err(OutErr::Fault)

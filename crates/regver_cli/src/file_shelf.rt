@@ -2,26 +2,28 @@
 ghost use Rattle.std.specs.Prelude.{◌≡◌, List, ℕ, None, IfOk, ◌≤◌, length};
 
 use crate::fault::counted;
+use crate::progress::Progress;
 use outside::{OutErr, Shelf};
 use std::fs::{File, OpenOptions};
 use std::io::{self, Eprint, Read, Seek, SeekFrom, Write};
 use std::rt::Files;
+use std::time::Clock;
 
 /// Files by their paths, which are those of the folder that the program runs in.
 #[derive(Drop)]
 pub struct FileShelf<'a, R> {
-    rt: &'a R,
+    progress: &'a Progress<'a, R>,
     read_faults: u64,
     write_faults: u64,
 }
 
-impl<'a, R: Eprint + Files> FileShelf<'a, R> {
-    pub fn new(rt: &'a R) -> Self
+impl<'a, R: Eprint + Files + Clock> FileShelf<'a, R> {
+    pub fn new(progress: &'a Progress<'a, R>) -> Self
         ensures reads { (name : List ℕ) → ⟦<FileShelf<'a, R> as Shelf>⟧.read_faults result name ≡ 0 }
         ensures writes { (name : List ℕ) → ⟦<FileShelf<'a, R> as Shelf>⟧.write_faults result name ≡ 0 }
     {
         FileShelf {
-            rt,
+            progress,
             read_faults: 0,
             write_faults: 0,
         }
@@ -48,7 +50,7 @@ fn add_to<R: Files>(rt: &R, name: &str, bytes: &[u8]) -> io::Result<()> {
     file.write_all(bytes)
 }
 
-impl<R: Eprint + Files> Shelf for FileShelf<'_, R> {
+impl<R: Eprint + Files + Clock> Shelf for FileShelf<'_, R> {
     ghost file = { λ s name. None };
 
     ghost read_faults = { λ s name. s.read_faults };
@@ -56,17 +58,20 @@ impl<R: Eprint + Files> Shelf for FileShelf<'_, R> {
     ghost write_faults = { λ s name. s.write_faults };
 
     fn read_at(&mut self, name: &str, from: u64, buf: &mut [u8]) -> Result<usize, OutErr> {
-        let answer = read_from(self.rt, name, from, buf);
-        counted(self.rt, answer, "read", name, &mut self.read_faults)
+        let answer = read_from(self.progress.system(), name, from, buf);
+        counted(self.progress, answer, "read", name, &mut self.read_faults)
     }
 
     fn create(&mut self, name: &str) -> Result<(), OutErr> {
-        let answer = make_empty(self.rt, name);
-        counted(self.rt, answer, "make", name, &mut self.write_faults)
+        let answer = make_empty(self.progress.system(), name);
+        counted(self.progress, answer, "make", name, &mut self.write_faults)
     }
 
     fn append(&mut self, name: &str, bytes: &[u8]) -> Result<(), OutErr> {
-        let answer = add_to(self.rt, name, bytes);
-        counted(self.rt, answer, "write", name, &mut self.write_faults)
+        let answer = add_to(self.progress.system(), name, bytes);
+        if answer.is_ok() {
+            self.progress.count(bytes);
+        }
+        counted(self.progress, answer, "write", name, &mut self.write_faults)
     }
 }

@@ -3,27 +3,41 @@
 
 mod fault;
 mod file_shelf;
+mod progress;
 mod std_sink;
 mod words;
 
 use file_shelf::FileShelf;
+use outside::{Shelf, Sink};
+use progress::Progress;
 use regver_top::{Status, regver};
-use std::io::ErrorKind;
+use std::alloc::Global;
+use std::io::{self, ErrorKind, IsTerminal};
 use std::process::ExitCode;
 use std_sink::StdSink;
 use words::words_of;
 
-fn main(rt: HostRuntime) -> ExitCode {
-    let alloc = rt.alloc();
-    let mut shelf = FileShelf::new(&rt);
-    let mut out = StdSink::new(&rt);
-    let status = match words_of(&rt) {
-        Ok(words) => regver(alloc, words, &mut shelf, &mut out),
-        // A word that is no text makes no command: the usage is answered, as to no words at all.
+// Does all that the program does. A word that is no text makes no command: the usage is answered, as to no words at all.
+fn answer<S: Shelf, K: Sink>(
+    alloc: Global,
+    words: io::Result<Vec<String>>,
+    shelf: &mut S,
+    out: &mut K,
+) -> Status {
+    match words {
+        Ok(words) => regver(alloc, words, shelf, out),
         Err(error) if error.kind() == ErrorKind::InvalidData => {
-            regver(alloc, Vec::new(alloc), &mut shelf, &mut out)
+            regver(alloc, Vec::new(alloc), shelf, out)
         }
         Err(_) => Status::Memory,
-    };
+    }
+}
+
+fn main(rt: HostRuntime) -> ExitCode {
+    let progress = Progress::new(&rt, rt.stderr().is_terminal());
+    let mut shelf = FileShelf::new(&progress);
+    let mut out = StdSink::new(&progress);
+    let status = answer(rt.alloc(), words_of(&rt), &mut shelf, &mut out);
+    progress.clear();
     ExitCode::from(status.code())
 }

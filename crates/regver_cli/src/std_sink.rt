@@ -2,33 +2,39 @@
 ghost use Rattle.std.specs.Prelude.{◌≡◌, None};
 
 use crate::fault::counted;
+use crate::progress::Progress;
 use outside::{OutErr, Sink};
 use std::io::Eprint;
+use std::time::Clock;
 
 /// Standard output, which keeps nothing back: a reader has the bytes of each put as soon as it is done.
 #[derive(Drop)]
 pub struct StdSink<'a, R> {
-    rt: &'a R,
+    progress: &'a Progress<'a, R>,
     faults: u64,
 }
 
-impl<'a, R: Eprint + Print> StdSink<'a, R> {
-    pub fn new(rt: &'a R) -> Self
+impl<'a, R: Eprint + Print + Clock> StdSink<'a, R> {
+    pub fn new(progress: &'a Progress<'a, R>) -> Self
         ensures { ⟦<StdSink<'a, R> as Sink>⟧.faults result ≡ 0 }
     {
-        StdSink { rt, faults: 0 }
+        StdSink {
+            progress,
+            faults: 0,
+        }
     }
 }
 
-impl<R: Eprint + Print> Sink for StdSink<'_, R> {
+impl<R: Eprint + Print + Clock> Sink for StdSink<'_, R> {
     ghost taken = { λ s. None };
 
     ghost faults = { λ s. s.faults };
 
     fn put(&mut self, bytes: &[u8]) -> Result<(), OutErr> {
-        let answer = self.rt.write_all(bytes);
+        self.progress.clear();
+        let answer = self.progress.system().write_all(bytes);
         counted(
-            self.rt,
+            self.progress,
             answer,
             "write",
             "standard output",

@@ -1,24 +1,35 @@
--- VALID comes from `check` alone, and a verdict from `verify` alone.
+-- The status of VALID comes from `check` and `explain` alone, and a verdict from `verify` alone.
 use Rattle.std.proofs.Common.{◌≡◌, ◌⊎◌, inl, inr, ℕ, List, Option, sym, ap, ◌∙◌, subst}
 use Rattle.scan_model.specs.declared.relation.Ending.{Ending}
 use Rattle.scan_model.specs.declared.relation.Ending.TheVariants.{Related, Unrelated as UnrelatedAt, NotAllowed as NotAllowedAt}
 use Rattle.judgement.specs.declared.answers.Judged.{Judged}
 use Rattle.judgement.specs.declared.answers.Judged.TheVariants as judgements
 use Rattle.command_answers.specs.declared.status.Status.{Status}
-use Rattle.command_answers.specs.declared.status.Status.TheVariants.{Valid, Usage, Refused, Replayed, Unrelated, NotAllowed, WriteFault}
+use Rattle.command_answers.specs.declared.status.Status.TheVariants.{Valid, Usage, Refused, Replayed, Unrelated, NotAllowed, WriteFault, Memory}
 use Rattle.command_answers.specs.Answers.{Answers, AnswersSoFar, IsExact}
 use Rattle.command_answers.specs.Reports.{Report}
 use Rattle.command_files.specs.Texts.{Texts}
-use Rattle.command_line.specs.Asked.{Asked, check, replay, verify, usage}
-use Rattle.check_command.specs.Lines.{judged_status}
-use Rattle.check_command.specs.Reports.{CheckReports, refused as check_refused, too_large as check_too_large, on_finding, judged, too_long}
+use Rattle.command_line.specs.Asked.{Asked, check, explain, gen, replay, verify, usage}
+use Rattle.finding_answers.specs.Lines.{judged_status}
+use Rattle.finding_answers.specs.Refusals.{ReportsRefusal}
+use Rattle.finding_answers.proofs.RefusalLemmas.{refusal_status}
+use Rattle.finding_commands.specs.Reports.{not_compared as not_to_judge, on_finding}
+use Rattle.check_command.specs.Reports.{CheckReports, judged, too_long}
 use Rattle.check_command.proofs.Answering.{exact_shown}
+use Rattle.explain_command.specs.Reports.{ExplainReports, explained, invalid, too_long as explained_too_long}
+use Rattle.explain_command.proofs.Answering.{exact_shown as exact_explained}
 use Rattle.replay_command.specs.Reports.{Reports, refused, replayed, ending_status}
 use Rattle.verify_command.specs.Lines.{IsOfVerdict}
-use Rattle.verify_command.specs.Reports.{Saving, VerifyReports, refused as verify_refused, too_large as verify_too_large, on_pair, decided, too_long as finding_too_long, not_written}
+use Rattle.verify_command.specs.Reports.{Saving, VerifyReports, not_compared, on_pair, ReportsVerdict, decided, too_long as finding_too_long, not_written}
 use Rattle.verify_command.proofs.Lines.{of_verdict, whole_of}
 use Rattle.verify_command.proofs.Answering.{saved_of}
-use Rattle.regver_top.specs.Asking.{Change, saving_in, IsAsked, IsShownBy, IsSavedBy}
+use Rattle.gen_command.specs.Made.{texts_of}
+use Rattle.gen_command.specs.Reports.{GenReports, not_compared as not_made, on_pair as made, not_saved, saved as all_saved, verified, no_memory}
+use Rattle.gen_command.proofs.Shown.{saved_of as made_of}
+use Rattle.clause_core.specs.Formula.{Formula}
+use Rattle.queries.specs.Comparisons.{Comparison}
+use Rattle.queries.specs.Questions.{QueryData}
+use Rattle.regver_top.specs.Asking.{Change, saving_in, making_in, number, IsAsked, IsShownBy, IsSavedBy}
 
 -- ---- VALID
 
@@ -31,17 +42,27 @@ not_of_replay : (t : Texts) (r : Report) → Reports t r → Valid ≡ r.status 
 not_of_replay t r (refused file refusal h e) s = let g : Valid ≡ Refused = s ∙ ap (λ x. x.status) e in cc
 not_of_replay t r (replayed old new rel rows run ending accepted is e) s = not_of_ending ending (s ∙ ap (λ x. x.status) e)
 
+not_of_verdict : (c : Comparison) (formula : QueryData → Formula) (s : Saving) (r : Report) → ReportsVerdict c formula s r → Valid ≡ r.status → ⊥
+not_of_verdict c formula s r (decided verdict saved shown e) v = subst IsOfVerdict (sym (v ∙ ap (λ x. x.status) e)) (of_verdict verdict)
+not_of_verdict c formula s r (finding_too_long full e) v = let g : Valid ≡ Refused = v ∙ ap (λ x. x.status) e in cc
+not_of_verdict c formula s r (not_written failed e) v = let g : Valid ≡ WriteFault = v ∙ ap (λ x. x.status) e in cc
+
+not_of_gen : (count : ℕ) (s : Saving) (r : Report) → GenReports count s r → Valid ≡ r.status → ⊥
+not_of_gen count s r (not_made h same) v = let g : Valid ≡ Refused = v ∙ refusal_status (texts_of count) r h in cc
+not_of_gen count s r (made c h (not_saved failed e)) v = let g : Valid ≡ WriteFault = v ∙ ap (λ x. x.status) e in cc
+not_of_gen count s r (made c h (all_saved hold (verified last l e))) v = not_of_verdict c _ s last l (v ∙ ap (λ x. x.status) e)
+not_of_gen count s r (made c h (all_saved hold (no_memory e))) v = let g : Valid ≡ Memory = v ∙ ap (λ x. x.status) e in cc
+
 not_of_verify : (t : Texts) (s : Saving) (r : Report) → VerifyReports t s r → Valid ≡ r.status → ⊥
-not_of_verify t s r (verify_refused file refusal h same e) v = let g : Valid ≡ Refused = v ∙ ap (λ x. x.status) e in cc
-not_of_verify t s r (verify_too_large file limit h same e) v = let g : Valid ≡ Refused = v ∙ ap (λ x. x.status) e in cc
-not_of_verify t s r (on_pair c h (decided verdict saved shown e)) v = subst IsOfVerdict (sym (v ∙ ap (λ x. x.status) e)) (of_verdict verdict)
-not_of_verify t s r (on_pair c h (finding_too_long full e)) v = let g : Valid ≡ Refused = v ∙ ap (λ x. x.status) e in cc
-not_of_verify t s r (on_pair c h (not_written failed e)) v = let g : Valid ≡ WriteFault = v ∙ ap (λ x. x.status) e in cc
+not_of_verify t s r (not_compared h same) v = let g : Valid ≡ Refused = v ∙ refusal_status t r h in cc
+not_of_verify t s r (on_pair c h reports) v = not_of_verdict c _ s r reports v
 
 pub shown_of : (k : Change) (a : Asked) (t : Texts) (before now : Option (List ℕ)) → IsExact (IsAsked k a t) Valid before now → IsShownBy a t before now
 shown_of k (check old new rel finding) t before now h = exact_shown t before now h
+shown_of k (explain old new rel finding) t before now h = exact_explained t before now h
 shown_of k (replay old new rel trace) t before now (r, h, s, put) = not_of_replay t r h s
 shown_of k (verify old new rel finding) t before now (r, h, s, put) = not_of_verify t (saving_in k finding) r h s
+shown_of k (gen count) t before now (r, h, s, put) = not_of_gen (number count) (making_in k (number count)) r h s
 shown_of k usage t before now (r, h, s, put) = let g : Valid ≡ Usage = s ∙ ap (λ x. x.status) h in cc
 
 -- ---- verdicts
@@ -59,11 +80,19 @@ not_ended (Related n) v = v
 not_ended (UnrelatedAt k) v = v
 not_ended (NotAllowedAt k) v = v
 
+none_of_refusal : (t : Texts) (status : Status) (r : Report) → IsOfVerdict status → ReportsRefusal t r → status ≡ r.status → ⊥
+none_of_refusal t status r v h s = subst IsOfVerdict (s ∙ refusal_status t r h) v
+
 none_of_check : (t : Texts) (status : Status) (r : Report) → IsOfVerdict status → CheckReports t r → status ≡ r.status → ⊥
-none_of_check t status r v (check_refused file refusal h e) s = no_verdict status r _ v s e (λ x. x)
-none_of_check t status r v (check_too_large file limit h e) s = no_verdict status r _ v s e (λ x. x)
+none_of_check t status r v (not_to_judge h) s = none_of_refusal t status r v h s
 none_of_check t status r v (on_finding c h (judged said is shown e)) s = no_verdict status r _ v s e (not_judged said)
 none_of_check t status r v (on_finding c h (too_long is e)) s = no_verdict status r _ v s e (λ x. x)
+
+none_of_explain : (t : Texts) (status : Status) (r : Report) → IsOfVerdict status → ExplainReports t r → status ≡ r.status → ⊥
+none_of_explain t status r v (not_to_judge h) s = none_of_refusal t status r v h s
+none_of_explain t status r v (on_finding c h (explained ls verdict stands shown e)) s = no_verdict status r _ v s e (λ x. x)
+none_of_explain t status r v (on_finding c h (invalid line reason is e)) s = no_verdict status r _ v s e (λ x. x)
+none_of_explain t status r v (on_finding c h (explained_too_long is e)) s = no_verdict status r _ v s e (λ x. x)
 
 none_of_replay : (t : Texts) (status : Status) (r : Report) → IsOfVerdict status → Reports t r → status ≡ r.status → ⊥
 none_of_replay t status r v (refused file refusal h e) s = no_verdict status r _ v s e (λ x. x)
@@ -78,10 +107,14 @@ pub saved_by : (k : Change) (a : Asked) (t : Texts) (faulted : Type 0) (status :
 saved_by k (check old new rel finding) t faulted status before now v a =
     let x = exact_by (IsAsked k (check old new rel finding) t) faulted status before now v a in
     none_of_check t status x.0 v x.1 x.2
+saved_by k (explain old new rel finding) t faulted status before now v a =
+    let x = exact_by (IsAsked k (explain old new rel finding) t) faulted status before now v a in
+    none_of_explain t status x.0 v x.1 x.2
 saved_by k (replay old new rel trace) t faulted status before now v a =
     let x = exact_by (IsAsked k (replay old new rel trace) t) faulted status before now v a in
     none_of_replay t status x.0 v x.1 x.2
 saved_by k (verify old new rel finding) t faulted status before now v a = saved_of t (saving_in k finding) faulted status before now v a
+saved_by k (gen count) t faulted status before now v a = made_of (number count) (making_in k (number count)) status before now v faulted a
 saved_by k usage t faulted status before now v a =
     let x = exact_by (IsAsked k usage t) faulted status before now v a in
     no_verdict status x.0 _ v x.2 x.1 (λ y. y)

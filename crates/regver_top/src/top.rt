@@ -1,18 +1,21 @@
 // The top call: all that the program does.
 ghost use Rattle.std.specs.Prelude.{◌≡◌, ◌≢◌, ◌≤◌, ◌⊎◌, Some, map, string_bytes, true, false};
 ghost use Rattle.clap.specs.Words.{takes};
-ghost use Rattle.command_line.specs.Asked.{asked, asked_of, read_as, words_of};
+ghost use Rattle.command_line.specs.Asked.{asked, asked_of, gen, read_as, words_of};
 ghost use Rattle.command_line.specs.Grammar.{grammar};
 ghost use Rattle.command_line.specs.Subcommands.{verifies};
 ghost use Rattle.outside.specs.Causes.{Rose, NoneFell};
 ghost use Rattle.command_answers.specs.Answers.{Answers, IsExact};
 ghost use Rattle.command_files.specs.Texts.{Texts};
 ghost use Rattle.verify_command.specs.Lines.{IsOfVerdict};
-ghost use Rattle.regver_top.specs.Asking.{change, writes_text, settled, AreTold, IsAsked, IsShownBy, IsSavedBy, SomeRose, WriteRose, KeepsFiles, LeavesFinding};
+ghost use Rattle.regver_top.specs.Asking.{change, is_refused, settled, AreTold, IsAsked, IsShownBy, IsSavedBy, SomeRose, WriteRose, KeepsFiles, LeavesFinding};
 
 use check_command::answer_check;
 use command_answers::{Status, put_last};
 use command_line::{Command, FourWords, read_words};
+use count_words::count_of;
+use explain_command::answer_explain;
+use gen_command::answer_gen;
 use outside::{Shelf, Sink};
 use replay_command::answer_replay;
 use std::alloc::Global;
@@ -22,7 +25,7 @@ const USAGE: &str = "USAGE verify OLD NEW REL FINDING, check, replay, explain or
 
 // Whether the last word is one of the others.
 fn repeats(words: &FourWords) -> bool
-    ensures { result ≡ writes_text (asked_of verifies (words_of words.now)) }
+    ensures { result ≡ is_refused (asked_of verifies (words_of words.now)) }
 {
     words.last == words.old || words.last == words.new || words.last == words.relation
 }
@@ -40,8 +43,8 @@ fn answer_saving<S: Shelf, K: Sink>(
         (t : Texts) → AreTold k asked t → LeavesFinding k asked t }
     ensures answer { let k = change (S.file shelf.old) (S.file shelf.new) (S.read_faults shelf.old) (S.read_faults shelf.new) (S.write_faults shelf.old) (S.write_faults shelf.new) in let asked = settled (asked_of verifies (words_of words.now)) in
         (t : Texts) → AreTold k asked t → Answers (IsAsked k asked t) (SomeRose k asked) result (K.taken out.old) (K.taken out.new) }
-    ensures usage { writes_text (asked_of verifies (words_of words.now)) ≡ false → result ≢ Status.Usage }
-    ensures only_usage { writes_text (asked_of verifies (words_of words.now)) ≡ true → result ≢ Status.WriteFault → result ≢ Status.Memory → result ≡ Status.Usage }
+    ensures usage { is_refused (asked_of verifies (words_of words.now)) ≡ false → result ≢ Status.Usage }
+    ensures only_usage { is_refused (asked_of verifies (words_of words.now)) ≡ true → result ≢ Status.WriteFault → result ≢ Status.Memory → result ≡ Status.Usage }
     ensures read_fault { let k = change (S.file shelf.old) (S.file shelf.new) (S.read_faults shelf.old) (S.read_faults shelf.new) (S.write_faults shelf.old) (S.write_faults shelf.new) in result ≡ Status.ReadFault → SomeRose k (settled (asked_of verifies (words_of words.now))) }
     ensures write_fault { let k = change (S.file shelf.old) (S.file shelf.new) (S.read_faults shelf.old) (S.read_faults shelf.new) (S.write_faults shelf.old) (S.write_faults shelf.new) in result ≡ Status.WriteFault → WriteRose k (settled (asked_of verifies (words_of words.now))) ⊎ Rose (K.faults out.old) (K.faults out.new) }
     ensures reads { NoneFell (S.read_faults shelf.old) (S.read_faults shelf.new) }
@@ -62,6 +65,33 @@ fn answer_saving<S: Shelf, K: Sink>(
     )
 }
 
+// Makes revisions, where the word is a number.
+fn answer_making<S: Shelf, K: Sink>(
+    alloc: Global,
+    count: &str,
+    shelf: &mut S,
+    out: &mut K,
+) -> Status
+    ensures kept { let k = change (S.file shelf.old) (S.file shelf.new) (S.read_faults shelf.old) (S.read_faults shelf.new) (S.write_faults shelf.old) (S.write_faults shelf.new) in KeepsFiles k (settled (gen count.now)) }
+    ensures untouched { (result ≡ Status.ReadFault) ⊎ (result ≡ Status.Usage) → S.file shelf.new ≡ S.file shelf.old }
+    ensures left { let k = change (S.file shelf.old) (S.file shelf.new) (S.read_faults shelf.old) (S.read_faults shelf.new) (S.write_faults shelf.old) (S.write_faults shelf.new) in let asked = settled (gen count.now) in
+        (t : Texts) → AreTold k asked t → LeavesFinding k asked t }
+    ensures answer { let k = change (S.file shelf.old) (S.file shelf.new) (S.read_faults shelf.old) (S.read_faults shelf.new) (S.write_faults shelf.old) (S.write_faults shelf.new) in let asked = settled (gen count.now) in
+        (t : Texts) → AreTold k asked t → Answers (IsAsked k asked t) (SomeRose k asked) result (K.taken out.old) (K.taken out.new) }
+    ensures usage { is_refused (gen count.now) ≡ false → result ≢ Status.Usage }
+    ensures only_usage { is_refused (gen count.now) ≡ true → result ≢ Status.WriteFault → result ≢ Status.Memory → result ≡ Status.Usage }
+    ensures read_fault { let k = change (S.file shelf.old) (S.file shelf.new) (S.read_faults shelf.old) (S.read_faults shelf.new) (S.write_faults shelf.old) (S.write_faults shelf.new) in result ≡ Status.ReadFault → SomeRose k (settled (gen count.now)) }
+    ensures write_fault { let k = change (S.file shelf.old) (S.file shelf.new) (S.read_faults shelf.old) (S.read_faults shelf.new) (S.write_faults shelf.old) (S.write_faults shelf.new) in result ≡ Status.WriteFault → WriteRose k (settled (gen count.now)) ⊎ Rose (K.faults out.old) (K.faults out.new) }
+    ensures reads { NoneFell (S.read_faults shelf.old) (S.read_faults shelf.new) }
+    ensures writes { NoneFell (S.write_faults shelf.old) (S.write_faults shelf.new) }
+    ensures faults { K.faults out.old ≤ K.faults out.new }
+{
+    match count_of(count) {
+        Some(count) => answer_gen(alloc, count, shelf, out),
+        None => put_last(out, USAGE, Status::Usage),
+    }
+}
+
 // Carries out a command, and says how that ends.
 fn answer_command<S: Shelf, K: Sink>(
     alloc: Global,
@@ -75,8 +105,8 @@ fn answer_command<S: Shelf, K: Sink>(
         (t : Texts) → AreTold k asked t → LeavesFinding k asked t }
     ensures answer { let k = change (S.file shelf.old) (S.file shelf.new) (S.read_faults shelf.old) (S.read_faults shelf.new) (S.write_faults shelf.old) (S.write_faults shelf.new) in let asked = settled (read_as (Some command.now)) in
         (t : Texts) → AreTold k asked t → Answers (IsAsked k asked t) (SomeRose k asked) result (K.taken out.old) (K.taken out.new) }
-    ensures usage { writes_text (read_as (Some command.now)) ≡ false → result ≢ Status.Usage }
-    ensures only_usage { writes_text (read_as (Some command.now)) ≡ true → result ≢ Status.WriteFault → result ≢ Status.Memory → result ≡ Status.Usage }
+    ensures usage { is_refused (read_as (Some command.now)) ≡ false → result ≢ Status.Usage }
+    ensures only_usage { is_refused (read_as (Some command.now)) ≡ true → result ≢ Status.WriteFault → result ≢ Status.Memory → result ≡ Status.Usage }
     ensures read_fault { let k = change (S.file shelf.old) (S.file shelf.new) (S.read_faults shelf.old) (S.read_faults shelf.new) (S.write_faults shelf.old) (S.write_faults shelf.new) in result ≡ Status.ReadFault → SomeRose k (settled (read_as (Some command.now))) }
     ensures write_fault { let k = change (S.file shelf.old) (S.file shelf.new) (S.read_faults shelf.old) (S.read_faults shelf.new) (S.write_faults shelf.old) (S.write_faults shelf.new) in result ≡ Status.WriteFault → WriteRose k (settled (read_as (Some command.now))) ⊎ Rose (K.faults out.old) (K.faults out.new) }
     ensures reads { NoneFell (S.read_faults shelf.old) (S.read_faults shelf.new) }
@@ -93,6 +123,16 @@ fn answer_command<S: Shelf, K: Sink>(
             shelf,
             out,
         ),
+        Command::Explain(words) => answer_explain(
+            alloc,
+            &words.old,
+            &words.new,
+            &words.relation,
+            &words.last,
+            shelf,
+            out,
+        ),
+        Command::Gen(count) => answer_making(alloc, count, shelf, out),
         Command::Replay(words) => answer_replay(
             alloc,
             &words.old,
@@ -119,8 +159,8 @@ fn answer_words<S: Shelf, K: Sink>(
         (t : Texts) → AreTold k asked t → LeavesFinding k asked t }
     ensures answer { let k = change (S.file shelf.old) (S.file shelf.new) (S.read_faults shelf.old) (S.read_faults shelf.new) (S.write_faults shelf.old) (S.write_faults shelf.new) in let asked = settled (asked (map string_bytes words.items)) in
         (t : Texts) → AreTold k asked t → Answers (IsAsked k asked t) (SomeRose k asked) result (K.taken out.old) (K.taken out.new) }
-    ensures usage { takes grammar (map string_bytes words.items) ≡ true → writes_text (asked (map string_bytes words.items)) ≡ false → result ≢ Status.Usage }
-    ensures only_usage { (takes grammar (map string_bytes words.items) ≡ false) ⊎ (writes_text (asked (map string_bytes words.items)) ≡ true) → result ≢ Status.WriteFault → result ≢ Status.Memory → result ≡ Status.Usage }
+    ensures usage { takes grammar (map string_bytes words.items) ≡ true → is_refused (asked (map string_bytes words.items)) ≡ false → result ≢ Status.Usage }
+    ensures only_usage { (takes grammar (map string_bytes words.items) ≡ false) ⊎ (is_refused (asked (map string_bytes words.items)) ≡ true) → result ≢ Status.WriteFault → result ≢ Status.Memory → result ≡ Status.Usage }
     ensures read_fault { let k = change (S.file shelf.old) (S.file shelf.new) (S.read_faults shelf.old) (S.read_faults shelf.new) (S.write_faults shelf.old) (S.write_faults shelf.new) in result ≡ Status.ReadFault → SomeRose k (settled (asked (map string_bytes words.items))) }
     ensures write_fault { let k = change (S.file shelf.old) (S.file shelf.new) (S.read_faults shelf.old) (S.read_faults shelf.new) (S.write_faults shelf.old) (S.write_faults shelf.new) in result ≡ Status.WriteFault → WriteRose k (settled (asked (map string_bytes words.items))) ⊎ Rose (K.faults out.old) (K.faults out.new) }
     ensures reads { NoneFell (S.read_faults shelf.old) (S.read_faults shelf.new) }
@@ -141,11 +181,13 @@ pub fn regver<S: Shelf, K: Sink>(
     shelf: &mut S,
     out: &mut K,
 ) -> Status
-    // No file changes but the finding that `verify` writes, and none where a read failed or the command line is none that there is.
+    // No file changes but the finding that `verify` writes and the four files of `gen`, and none where a read failed or the command line is
+    // none that there is.
     ensures kept { let k = change (S.file shelf.old) (S.file shelf.new) (S.read_faults shelf.old) (S.read_faults shelf.new) (S.write_faults shelf.old) (S.write_faults shelf.new) in KeepsFiles k (settled (asked (map string_bytes words.items))) }
     ensures untouched { (result ≡ Status.ReadFault) ⊎ (result ≡ Status.Usage) → S.file shelf.new ≡ S.file shelf.old }
 
-    // That finding is as at entry, or what is told of it is a part of a finding on what the texts state.
+    // A finding is as at entry, or what is told of it is a part of a finding on what the texts state; a text that `gen` makes is as at entry,
+    // or what is told of it is a front of the text.
     ensures left { let k = change (S.file shelf.old) (S.file shelf.new) (S.read_faults shelf.old) (S.read_faults shelf.new) (S.write_faults shelf.old) (S.write_faults shelf.new) in let asked = settled (asked (map string_bytes words.items)) in
         (t : Texts) → AreTold k asked t → LeavesFinding k asked t }
 
@@ -154,7 +196,8 @@ pub fn regver<S: Shelf, K: Sink>(
     ensures answer { let k = change (S.file shelf.old) (S.file shelf.new) (S.read_faults shelf.old) (S.read_faults shelf.new) (S.write_faults shelf.old) (S.write_faults shelf.new) in let asked = settled (asked (map string_bytes words.items)) in
         (t : Texts) → AreTold k asked t → Answers (IsAsked k asked t) (SomeRose k asked) result (K.taken out.old) (K.taken out.new) }
 
-    // Where the answer is VALID and a verdict, that is the verdict of the model on what the texts state, or SPENT with its log.
+    // Where the status is that of VALID, the finding is valid by what the texts state, its verdict, or the report on it, is what was put, and
+    // the verdict is that of the model, or SPENT with its log.
     ensures shown { let k = change (S.file shelf.old) (S.file shelf.new) (S.read_faults shelf.old) (S.read_faults shelf.new) (S.write_faults shelf.old) (S.write_faults shelf.new) in let asked = settled (asked (map string_bytes words.items)) in
         (t : Texts) → AreTold k asked t → result ≡ Status.Valid → IsShownBy asked t (K.taken out.old) (K.taken out.new) }
 
@@ -162,10 +205,10 @@ pub fn regver<S: Shelf, K: Sink>(
     ensures saved { let k = change (S.file shelf.old) (S.file shelf.new) (S.read_faults shelf.old) (S.read_faults shelf.new) (S.write_faults shelf.old) (S.write_faults shelf.new) in let asked = settled (asked (map string_bytes words.items)) in
         (t : Texts) → AreTold k asked t → IsOfVerdict result → IsSavedBy k asked t result (K.taken out.old) (K.taken out.new) }
 
-    // USAGE comes exactly where clap does not take the words, or `verify` would write one of the files that it reads, unless the
-    // sink or memory gives up.
-    ensures usage { takes grammar (map string_bytes words.items) ≡ true → writes_text (asked (map string_bytes words.items)) ≡ false → result ≢ Status.Usage }
-    ensures only_usage { (takes grammar (map string_bytes words.items) ≡ false) ⊎ (writes_text (asked (map string_bytes words.items)) ≡ true) → result ≢ Status.WriteFault → result ≢ Status.Memory → result ≡ Status.Usage }
+    // USAGE comes exactly where clap does not take the words, `verify` would write one of the files that it reads, or the word of `gen` is
+    // no number from 1 to 341, unless the sink or memory gives up.
+    ensures usage { takes grammar (map string_bytes words.items) ≡ true → is_refused (asked (map string_bytes words.items)) ≡ false → result ≢ Status.Usage }
+    ensures only_usage { (takes grammar (map string_bytes words.items) ≡ false) ⊎ (is_refused (asked (map string_bytes words.items)) ≡ true) → result ≢ Status.WriteFault → result ≢ Status.Memory → result ≡ Status.Usage }
 
     // A fault comes only where a count rose, and no count falls.
     ensures read_fault { let k = change (S.file shelf.old) (S.file shelf.new) (S.read_faults shelf.old) (S.read_faults shelf.new) (S.write_faults shelf.old) (S.write_faults shelf.new) in result ≡ Status.ReadFault → SomeRose k (settled (asked (map string_bytes words.items))) }

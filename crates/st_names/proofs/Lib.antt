@@ -2,6 +2,7 @@ pub mod Clean
 pub mod WholeDeclarations
 pub mod WholeVariables
 pub mod WholePous
+pub mod WholeNames
 pub mod PouUses
 pub mod BindingLemmas
 pub mod Kept

@@ -22,7 +22,7 @@ use Rattle.typed_cells.specs.Variables.{variable_places}
 use Rattle.typed_cells.specs.Premises.{IsUsedBlock, UsesItsBlocks, IsOrdered}
 use Rattle.typed_cells.proofs.Occurrences.{occurs_same, occurs_stands}
 use Rattle.typed_cells.proofs.Lengths.{length_block, used_below, has_size, instance_local}
-use Rattle.typed_cells.proofs.Sizes.{size_is}
+use Rattle.typing_laws.proofs.CellCounts.{size_is}
 use Rattle.typed_cells.proofs.Walks.{named_all}
 use Rattle.typed_cells.proofs.Numbers.{used_reached, is_called, number_before}
 use Rattle.typed_cells.proofs.Bounds.{from_first, before_chart}

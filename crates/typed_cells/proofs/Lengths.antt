@@ -23,7 +23,7 @@ use Rattle.typed_cells.specs.Variables.{plain_places, own_places, variable_place
 use Rattle.typed_cells.specs.Premises.{IsUsedBlock, UsesItsBlocks, IsOrdered}
 use Rattle.typed_cells.proofs.Lists.{all-each}
 use Rattle.typed_cells.proofs.BlockPlaces.{block_takes, cells_in_take}
-use Rattle.typed_cells.proofs.Sizes.{size_is, no_size}
+use Rattle.typing_laws.proofs.CellCounts.{size_is, no_size}
 use Rattle.typed_cells.proofs.Roles.{local_no_step}
 
 abbrev pub HasSize : FileData → Variable → Type 0

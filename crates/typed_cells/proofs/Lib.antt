@@ -2,7 +2,6 @@ pub mod Occurrences
 pub mod Lists
 pub mod Roles
 pub mod BlockPlaces
-pub mod Sizes
 pub mod Lengths
 pub mod Walks
 pub mod Owners

@@ -16,7 +16,7 @@ use Rattle.typing.specs.Reached.{reached}
 use Rattle.typed_scopes.specs.Uses.{Usable}
 use Rattle.typed_scopes.proofs.Wholes.{whole_also}
 use Rattle.bound_names.specs.BoundNames.{IsBodyWithin}
-use Rattle.bound_names.proofs.WholeNames.{pou_whole}
+use Rattle.st_names.proofs.WholeNames.{pou_whole}
 use Rattle.whole_files.specs.WholePous.{IsNamedBody}
 use Rattle.whole_files.proofs.Formed.{pou_levelled}
 use Rattle.whole_files.proofs.WholeLaw.{whole_pou}

@@ -231,6 +231,13 @@ module _ (f : FileData) (used : UsesItsBlocks f) where
         unmarked = λ b out. zeros_at (length (pous_of f)) b;
       })
 
+  -- a POU that is reached has as many cells as its names, and of any other none is counted
+  pub size_is : (k : ℕ) → is_among k order ≡ true → is_marked (reached f) k ≡ true → get_or (sizes_of f) k 0 ≡ count_of_cells f (sizes_of f) (variables_at f k)
+  size_is k here marked = final_sizes.counted k here marked
+
+  pub no_size : (k : ℕ) → is_marked (reached f) k ≡ false → get_or (sizes_of f) k 0 ≡ 0
+  no_size k out = final_sizes.unmarked k out
+
   -- ---- the cells of blocks
 
   abbrev IsGood : List ℕ → Type 0

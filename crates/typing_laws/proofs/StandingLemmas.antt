@@ -13,12 +13,12 @@ use Rattle.naming.specs.ScopeView.{types_view}
 use Rattle.typing.specs.Domains.{value_meaning, is_few, value_at}
 use Rattle.typing.specs.OwnDomains.{count_of_values}
 
-count_at : Option TypeDeclarationData → ℕ
+pub count_at : Option TypeDeclarationData → ℕ
 count_at None = 0
 count_at (Some d) = count_of_values d.specification
 
 -- a value's number is below the number of its type's values
-IsWithin : List TypeDeclarationData → Standing → Type 0
+pub IsWithin : List TypeDeclarationData → Standing → Type 0
 IsWithin all (standings.Type t) = Unit {0}
 IsWithin all (standings.Value t k) = k < count_at (slice_get all t)
 IsWithin all (standings.Pou p) = Unit {0}
@@ -79,7 +79,7 @@ once : (b : Bool) (o : Option Standing) (s : Standing) → (if b then None else 
 once true o s e = absurd (let h : ⊥ = cc in h)
 once false o s e = e
 
-standing_within : (f : FileData) (text : List ℕ) (s : Standing) → standing f text ≡ Some s → IsWithin (types_of f) s
+pub standing_within : (f : FileData) (text : List ℕ) (s : Standing) → standing f text ≡ Some s → IsWithin (types_of f) s
 unfolding standing
 standing_within f text s e =
     first_within (types_of f) text (names_of f) s (once (is_doubled_in_file f text) (first_standing text (names_of f)) s e) (items_within (types_of f) [] f 0 0 refl refl)

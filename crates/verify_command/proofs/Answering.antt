@@ -6,27 +6,13 @@ use Rattle.clause_core.specs.Formula.{Formula}
 use Rattle.queries.specs.Comparisons.{Comparison}
 use Rattle.queries.specs.Questions.{QueryData}
 use Rattle.command_answers.specs.declared.status.Status.{Status}
-use Rattle.command_answers.specs.declared.source.Source.TheVariants.{Relation}
-use Rattle.command_answers.specs.declared.limit.Limit.TheVariants.{Gates}
 use Rattle.command_answers.specs.Reports.{Report}
 use Rattle.command_answers.specs.Answers.{Answers, AnswersSoFar, all_put}
 use Rattle.command_files.specs.Texts.{Texts}
-use Rattle.product_build.specs.Limits.{HasManyGates}
-use Rattle.comparison_files.specs.declared.fault.CompareFault.{CompareFault}
-use Rattle.comparison_files.specs.declared.fault.CompareFault.TheVariants as faults
-use Rattle.comparison_files.specs.Faults.{IfFault, IfFaultOf}
-use Rattle.comparison_files.specs.Accepting.{nodes_of, AreStated, IsRefused, IsTooLarge, gates}
+use Rattle.finding_answers.proofs.RefusalLemmas.{rose_since, refusal_status}
 use Rattle.verify_command.specs.Lines.{IsOfVerdict}
-use Rattle.verify_command.specs.Reports.{saving, Saving, HasFailed, ReportsVerdict, decided, too_long, not_written, VerifyReports, refused, too_large, on_pair, LeavesPart, untouched, a_part, IsLeft, as_before, accepted, ShowsSaved}
+use Rattle.verify_command.specs.Reports.{saving, Saving, HasFailed, ReportsVerdict, decided, too_long, not_written, VerifyReports, not_compared, on_pair, LeavesPart, untouched, a_part, IsLeft, as_before, accepted, ShowsSaved}
 use Rattle.verify_command.proofs.Lines.{whole_of}
-use Rattle.verify_command.proofs.Saved.{rose_since}
-
--- too many gates are a fault of REL
-pub at_gates : (t : Texts) (c : Comparison) (fault : CompareFault) → AreStated t c
-    → IfFaultOf Relation (λ r. ⊥) (λ l. (l ≡ Gates) × HasManyGates c (nodes_of c.old) (nodes_of c.new)) fault → IfFault (IsRefused t) (IsTooLarge t) fault
-at_gates t c (faults.Refused file r) stated h = absurd h.1
-at_gates t c (faults.TooLarge file l) stated h = gates c stated h.1.1 h.0 h.1.0
-at_gates t c faults.Memory stated h = tt
 
 -- ---- from before the texts were read on: no file has changed, and no count has fallen
 
@@ -46,8 +32,7 @@ module _ (first before after : List ℕ → Option (List ℕ)) (none some now : 
   verdict_since c formula r (not_written failed e) = not_written (failed_since failed) e
 
   pub reports_since : (t : Texts) (r : Report) → VerifyReports t late r → VerifyReports t whole r
-  reports_since t r (refused file refusal h same e) = refused file refusal h (same ∙ kept) e
-  reports_since t r (too_large file limit h same e) = too_large file limit h (same ∙ kept) e
+  reports_since t r (not_compared h same) = not_compared h (same ∙ kept)
   reports_since t r (on_pair c h e) = on_pair c h (verdict_since c _ r e)
 
   part_since : (c : Comparison) (formula : QueryData → Formula) → LeavesPart c formula late → LeavesPart c formula whole
@@ -62,8 +47,7 @@ module _ (first before after : List ℕ → Option (List ℕ)) (none some now : 
 
 -- what was put is a verdict, which is shown
 verdict_shown : (t : Texts) (s : Saving) (status : Status) (r : Report) (old new : Option (List ℕ)) → IsOfVerdict status → VerifyReports t s r → status ≡ r.status → new ≡ extended old r.text → ShowsSaved t s status old new
-verdict_shown t s status r old new v (refused file refusal h same e) is put = absurd (subst IsOfVerdict (is ∙ ap (λ x. x.status) e) v)
-verdict_shown t s status r old new v (too_large file limit h same e) is put = absurd (subst IsOfVerdict (is ∙ ap (λ x. x.status) e) v)
+verdict_shown t s status r old new v (not_compared h same) is put = absurd (subst IsOfVerdict (is ∙ refusal_status t r h) v)
 verdict_shown t s status r old new v (on_pair c h (decided verdict saved shown e)) is put = record {
   compared = c;
   verdict = verdict;

@@ -1,3 +1,4 @@
 pub mod Lines
 pub mod Saved
 pub mod Answering
+pub mod Once

@@ -1,6 +1,5 @@
 -- What is left of a finding, and what is reported on it.
-use Rattle.std.proofs.Common.{◌≡◌, ◌≢◌, ◌≤◌, ◌∙◌, ℕ, List, [], Option, Some, None, IfSome, IfOk, OnErr, Result, Ok, Err, ◌⊎◌, inl, inr, refl, ap, arith, append-nil}
-use Rattle.outside.specs.Causes.{Rose}
+use Rattle.std.proofs.Common.{◌≡◌, ◌≢◌, ◌∙◌, ℕ, List, [], Option, Some, None, IfSome, IfOk, OnErr, Result, Ok, Err, ◌⊎◌, inl, inr, refl, ap, append-nil}
 use Rattle.outside.specs.Contents.{emptied, OthersStay}
 use Rattle.clause_core.specs.Formula.{Formula}
 use Rattle.finding_lines.specs.declared.line.Conclusion.{Conclusion}
@@ -19,14 +18,11 @@ use Rattle.command_answers.specs.declared.status.Status.{Status}
 use Rattle.command_answers.specs.declared.status.Status.TheVariants.{WriteFault}
 use Rattle.command_answers.specs.Reports.{Report}
 use Rattle.command_answers.specs.Answers.{Answers, AnswersSoFar, Extent, part_put, fault_told, all_put, extent_of, HasPut, a_report}
+use Rattle.finding_answers.specs.Lines.{most_bytes}
 use Rattle.verify_command.specs.Lines.{write_fault_report}
-use Rattle.verify_command.specs.Reports.{most_bytes, Saving, HasFailed, IsSaved, ReportsVerdict, decided, too_long, not_written, LeavesPart, untouched, a_part, ReportsSaved}
+use Rattle.verify_command.specs.Reports.{Saving, HasFailed, IsSaved, ReportsVerdict, decided, too_long, not_written, LeavesPart, untouched, a_part, ReportsSaved}
 
 -- ---- files
-
--- a count that rose rose from any that it had before
-pub rose_since : (first before now : ℕ) → first ≤ before → Rose before now → Rose first now
-rose_since first before now h r = omega (arith, h, r)
 
 pub stay_both : (first before after : List ℕ → Option (List ℕ)) (name : List ℕ) → OthersStay first before name → OthersStay before after name → OthersStay first after name
 stay_both first before after name h k = λ other differs. k other differs ∙ h other differs

@@ -2,7 +2,6 @@
 use Rattle.std.specs.Prelude.{◌≡◌, ℕ, List, Option, IfSome, Result, Ok, Err}
 use Rattle.outside.specs.Causes.{Rose}
 use Rattle.outside.specs.Contents.{extended}
-use Rattle.rules.specs.declared.rule.Refusal.{Refusal}
 use Rattle.clause_core.specs.Formula.{Formula}
 use Rattle.finding_lines.specs.declared.line.Conclusion.{Conclusion}
 use Rattle.finding_file.specs.declared.errors.WriteErr.{WriteErr}
@@ -14,20 +13,14 @@ use Rattle.judgement.specs.Findings.{IsJudged}
 use Rattle.judgement.specs.Shown.{IsShown}
 use Rattle.judgement.specs.declared.answers.Judged.TheVariants.{Valid}
 use Rattle.finding_search.specs.Passing.{IsPartOfFinding, IsFull}
-use Rattle.command_answers.specs.declared.source.Source.{Source}
-use Rattle.command_answers.specs.declared.source.Source.TheVariants as sources
-use Rattle.command_answers.specs.declared.limit.Limit.{Limit}
-use Rattle.command_answers.specs.declared.limit.Limit.TheVariants as limits
 use Rattle.command_answers.specs.declared.status.Status.{Status}
-use Rattle.command_answers.specs.Reports.{Report, refusal_report, limit_report}
+use Rattle.command_answers.specs.Reports.{Report}
 use Rattle.command_files.specs.Texts.{Texts}
-use Rattle.comparison_files.specs.Accepting.{AreAccepted, IsRefused, IsTooLarge}
+use Rattle.comparison_files.specs.Accepting.{AreAccepted}
 use Rattle.comparison_files.specs.Comparing.{formulas_of}
+use Rattle.finding_answers.specs.Lines.{most_bytes, too_long_report}
+use Rattle.finding_answers.specs.Refusals.{ReportsRefusal}
 use Rattle.verify_command.specs.Lines.{verdict_line, verdict_status, verdict_report, write_fault_report}
-
--- how many bytes a finding may have
-abbrev pub most_bytes : ℕ
-most_bytes = 1073741824
 
 -- what is told of all files before and after, how often writes of each have failed, and the name of the finding
 pub record Saving : Type 0 where
@@ -52,13 +45,12 @@ IsSaved c formula s verdict = IfSome (s.after s.name) (λ file. IsJudged (settin
 -- would be too long; or that a write of it has failed.
 pub data ReportsVerdict (c : Comparison) (formula : QueryData → Formula) (s : Saving) (r : Report) : Type 0 where
   decided : (verdict : Conclusion) → IsSaved c formula s verdict → IsShown c formula verdict → r ≡ verdict_report verdict → ReportsVerdict c formula s r
-  too_long : IsFull (setting_of c) formula (s.after s.name) most_bytes → r ≡ limit_report sources.Finding limits.Finding → ReportsVerdict c formula s r
+  too_long : IsFull (setting_of c) formula (s.after s.name) most_bytes → r ≡ too_long_report → ReportsVerdict c formula s r
   not_written : HasFailed s → r ≡ write_fault_report → ReportsVerdict c formula s r
 
--- The report on three texts: the rule or the limit that is the first broken, where no file has changed; or that on what they state.
+-- The report on three texts: that they are not compared, where no file has changed; or that on what they state.
 pub data VerifyReports (t : Texts) (s : Saving) (r : Report) : Type 0 where
-  refused : (file : Source) (refusal : Refusal) → IsRefused t file refusal → s.after ≡ s.before → r ≡ refusal_report file refusal → VerifyReports t s r
-  too_large : (file : Source) (limit : Limit) → IsTooLarge t file limit → s.after ≡ s.before → r ≡ limit_report file limit → VerifyReports t s r
+  not_compared : ReportsRefusal t r → s.after ≡ s.before → VerifyReports t s r
   on_pair : (c : Comparison) → AreAccepted t c → ReportsVerdict c (formulas_of c) s r → VerifyReports t s r
 
 -- what is left of the finding: all as before; or, where it is told, lines that all pass, or such lines and a prefix of one more that would pass
@@ -86,5 +78,5 @@ pub record ShowsSaved (t : Texts) (s : Saving) (status : Status) (old new : Opti
 abbrev pub ReportsSaved : Result Conclusion WriteErr → Report → Type 0
 ReportsSaved (Ok verdict) r = r ≡ verdict_report verdict
 ReportsSaved (Err Fault) r = r ≡ write_fault_report
-ReportsSaved (Err M8) r = r ≡ limit_report sources.Finding limits.Finding
+ReportsSaved (Err M8) r = r ≡ too_long_report
 ReportsSaved (Err Memory) r = ⊥

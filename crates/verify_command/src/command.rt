@@ -5,45 +5,30 @@ ghost use Rattle.outside.specs.Contents.{OthersStay};
 ghost use Rattle.program_tree.specs.View.{program_view};
 ghost use Rattle.node_core.specs.Scans.{scan_view};
 ghost use Rattle.query_formula_laws.specs.TypedComparisons.{IsScanOf};
-ghost use Rattle.comparison_typing.specs.Readings.{IsRead};
+ghost use Rattle.typed_relations.specs.Readings.{IsRead};
 ghost use Rattle.product_build.specs.Limits.{HasFewLines};
 ghost use Rattle.product_build.specs.MadeCircuits.{comparison_between};
 ghost use Rattle.command_answers.specs.Answers.{Answers, IsExact};
 ghost use Rattle.command_files.specs.Texts.{Texts, AreThreeTold, OneOfThreeRose};
 ghost use Rattle.command_files.specs.KeptTexts.{AreKept};
-ghost use Rattle.comparison_files.specs.Accepting.{nodes_of, AreStated, IsRefused, IsTooLarge};
+ghost use Rattle.comparison_files.specs.Accepting.{nodes_of, AreStated};
 ghost use Rattle.comparison_files.specs.Comparing.{comparison_in};
-ghost use Rattle.comparison_files.specs.Faults.{IfFault};
 ghost use Rattle.verify_command.specs.Lines.{IsOfVerdict};
-ghost use Rattle.verify_command.specs.Reports.{Saving, saving, HasFailed, IsLeft, VerifyReports, ShowsSaved};
+ghost use Rattle.verify_command.specs.Reports.{saving, HasFailed, IsLeft, VerifyReports, ShowsSaved};
 
 use crate::finding::answer_finding;
 use cdcl_watch::Watched;
 use clause_core::Decider;
-use command_answers::{Status, put_last, put_limit, put_refusal};
+use command_answers::{Status, put_last};
 use command_files::{KeptTexts, read_texts};
-use comparison_files::{CompareFault, Compared, accept_texts, circuits_of};
+use comparison_files::{Compared, accept_texts, circuits_of};
+use finding_answers::put_fault;
 use node_core::Scan;
 use node_end::Accepted;
 use outside::{OutErr, Shelf, Sink};
 use program_tree::Program;
 use scan_model::Relation;
 use std::alloc::Global;
-
-// Puts why texts are not compared, where no file has changed.
-fn put_fault<K: Sink>(alloc: Global, fault: CompareFault, out: &mut K) -> Status
-    ensures answer { (t : Texts) (s : Saving) → s.after ≡ s.before → IfFault (IsRefused t) (IsTooLarge t) fault → Answers (VerifyReports t s) ⊥ result (K.taken out.old) (K.taken out.new) }
-    ensures usage { result ≢ Status.Usage }
-    ensures read_fault { result ≢ Status.ReadFault }
-    ensures write_fault { result ≡ Status.WriteFault → Rose (K.faults out.old) (K.faults out.new) }
-    ensures faults { K.faults out.old ≤ K.faults out.new }
-{
-    match fault {
-        CompareFault::Refused(source, refusal) => put_refusal(alloc, source, refusal, out),
-        CompareFault::TooLarge(source, limit) => put_limit(alloc, source, limit, out),
-        CompareFault::Memory => put_last(out, "MEMORY\n", Status::Memory),
-    }
-}
 
 // Makes the circuits of what is compared, and saves the finding by them.
 fn answer_pair<D: Decider, S: Shelf, K: Sink>(

@@ -10,11 +10,13 @@ ghost use Rattle.judgement.specs.Shown.{IsShown};
 ghost use Rattle.finding_search.specs.Passing.{IsFull};
 ghost use Rattle.product_build.specs.MadeCircuits.{comparison_between};
 ghost use Rattle.command_answers.specs.Answers.{Answers};
-ghost use Rattle.verify_command.specs.Reports.{most_bytes, saving, HasFailed, IsSaved, LeavesPart, ReportsVerdict, ReportsSaved};
+ghost use Rattle.finding_answers.specs.Lines.{most_bytes};
+ghost use Rattle.verify_command.specs.Reports.{saving, HasFailed, IsSaved, LeavesPart, ReportsVerdict, ReportsSaved};
 
 use crate::show::{verdict_line, verdict_status};
 use clause_core::Decider;
 use command_answers::{Limit, Source, Status, put_last, put_limit, put_report};
+use finding_answers::MOST_BYTES;
 use finding_file::{FindingWriter, WriteErr};
 use finding_lines::Conclusion;
 use finding_search::save_finding;
@@ -24,9 +26,6 @@ use program_tree::Program;
 use queries::Queries;
 use scan_model::Relation;
 use std::alloc::Global;
-
-/// How many bytes a finding may have.
-const MOST_BYTES: u64 = 1_073_741_824;
 
 // Makes the file of the finding, and saves the finding in it.
 fn save<D: Decider, Q: Queries, S: Shelf>(
@@ -80,7 +79,7 @@ fn put_saved<K: Sink>(alloc: Global, saved: Result<Conclusion, WriteErr>, out: &
 }
 
 /// Saves the finding on what is compared, and puts how that ended.
-pub(crate) fn answer_finding<D: Decider, Q: Queries, S: Shelf, K: Sink>(
+pub fn answer_finding<D: Decider, Q: Queries, S: Shelf, K: Sink>(
     alloc: Global,
     decider: &mut D,
     old: &Program,

@@ -3,6 +3,9 @@
 
 mod command;
 mod finding;
+mod laws;
 mod show;
 
 pub use command::{answer_verify, answer_verify_with};
+pub use finding::answer_finding;
+pub use laws::{one_limit, one_refusal};

@@ -23,7 +23,7 @@ use Rattle.bound_names.specs.BoundNames.{is_function_called, bound_uses, IsBodyW
 use Rattle.whole_files.proofs.Told.{IsTold, nil_front, nil_behind}
 use Rattle.whole_files.proofs.ToldStatements.{stmts_told, parts_told}
 use Rattle.bound_names.proofs.Within.{body_within}
-use Rattle.bound_names.proofs.WholeNames.{pou_typed, pou_whole}
+use Rattle.st_names.proofs.WholeNames.{pou_typed, pou_whole}
 use Rattle.whole_files.proofs.Formed.{pou_levelled, variables_formed}
 use Rattle.whole_files.proofs.WholeDomains.{value_whole}
 use Rattle.whole_files.proofs.WholeVariables.{AreWholeVariables, variables_whole}

@@ -1,4 +1,4 @@
-use Rattle.check_command.specs.Reports.{most_bytes}
+use Rattle.finding_answers.specs.Lines.{most_bytes}
 use Rattle.check_command.proofs.Judging.{agrees_at_start}
 use Rattle.check_command.proofs.finding.judge_file.Goals as goal
 

@@ -1,4 +1,4 @@
-use Rattle.expr_types.proofs.SideLemmas.{after_front}
+use Rattle.clause_types.proofs.SideLemmas.{after_front}
 use Rattle.clause_types.proofs.sides.after.Goals as goal
 
 pub returns : goal.returns

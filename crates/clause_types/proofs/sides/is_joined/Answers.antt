@@ -2,7 +2,7 @@ use Rattle.std.proofs.Common.{◌≡◌, ◌+◌, ◌∷◌, ◌++◌, drop, ap,
 use Rattle.std.proofs.lemmas.Grind.{common_steps}
 use Rattle.source_tree.specs.SyntaxView.{name_view, names_view}
 use Rattle.typing.specs.Programs.{joined}
-use Rattle.expr_types.proofs.SideLemmas.{behind_points, joined-cons, one_behind, same_text, same_as}
+use Rattle.clause_types.proofs.SideLemmas.{behind_points, joined-cons, one_behind, same_text, same_as}
 use Rattle.clause_types.proofs.sides.is_joined.Goals as goal
 
 pub returns-in_default-after : goal.returns-in_default-after

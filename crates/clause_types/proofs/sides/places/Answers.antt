@@ -1,5 +1,5 @@
 use Rattle.std.proofs.Common.{arith}
-use Rattle.expr_types.proofs.SideLemmas.{finds_one_more}
+use Rattle.clause_types.proofs.SideLemmas.{finds_one_more}
 use Rattle.clause_types.proofs.sides.places.Goals as goal
 
 pub loop-index-preserved : goal.loop-index-preserved

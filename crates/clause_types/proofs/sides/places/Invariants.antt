@@ -1,7 +1,7 @@
 use Rattle.std.proofs.Common.{◌+◌, drop}
 use Rattle.program_tree.specs.View.{cells_view}
 use Rattle.typing.specs.Programs.{own_type}
-use Rattle.expr_types.specs.Sides.{Finds}
+use Rattle.clause_types.specs.Sides.{Finds}
 use Rattle.clause_types.proofs.sides.places.Given as goal
 
 abbrev pub invariant-loop-index : goal.invariant-loop-index

@@ -3,7 +3,7 @@ use Rattle.std.proofs.lemmas.Grind.{common_steps}
 use Rattle.source_tree.specs.SyntaxView.{names_view}
 use Rattle.program_tree.specs.View.{cell_view, cells_view}
 use Rattle.typing.specs.Programs.{joined, own_type, cell_among}
-use Rattle.expr_types.proofs.SideLemmas.{among_here, among_next}
+use Rattle.clause_types.proofs.SideLemmas.{among_here, among_next}
 use Rattle.clause_types.proofs.sides.search_cells.Goals as goal
 
 pub returns-then-is_joined : goal.returns-then-is_joined

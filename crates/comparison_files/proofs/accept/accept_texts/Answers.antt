@@ -1,5 +1,7 @@
 use Rattle.std.proofs.lemmas.Result.{err_from_is_err_and}
 use Rattle.program_tree.specs.View.{program_view}
+use Rattle.product_build.specs.MadeCircuits.{comparison_between}
+use Rattle.typed_relations.proofs.Readings.{is_read}
 use Rattle.comparison_files.proofs.Refusals.{at_old, at_new, at_relation}
 use Rattle.comparison_files.proofs.accept.accept_texts.Goals as goal
 
@@ -20,13 +22,14 @@ returns-in_err-relation-clause-refused c = λ t kept.
     (c.in_ok-old.ensures.ok t.old kept.old) (c.in_ok-new.ensures.ok t.new kept.new) (c.in_err-relation.ensures.refused t.rel kept.rel))
 
 pub returns-clause-read : goal.returns-clause-read
-returns-clause-read c = record {
-  old_is_program = c.in_ok-old.ensures.fit;
-  new_is_program = c.in_ok-new.ensures.fit;
+returns-clause-read c = is_read (comparison_between c.in_ok-old.old.program c.in_ok-new.new.program c.in_ok-relation.relation) (record {
+  old = c.in_ok-old.ensures.read;
+  new = c.in_ok-new.ensures.read;
+  stated = c.in_ok-relation.ensures.stated;
   belongs = c.in_ok-relation.ensures.belongs;
   well_formed = c.in_ok-relation.ensures.well_formed;
   few = c.in_ok-relation.ensures.few;
-}
+})
 
 pub returns-clause-ok : goal.returns-clause-ok
 returns-clause-ok c = λ t kept. record {

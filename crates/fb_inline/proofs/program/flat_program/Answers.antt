@@ -9,8 +9,8 @@ use Rattle.flat_form.specs.Owners.{program_owner}
 use Rattle.flat_form.specs.Pous.{bodies_of}
 use Rattle.flat_form.specs.FlatPrograms.{bodies_in, flat_program, flat_scan}
 use Rattle.flat_form.specs.FlatLists.{scratch_of_all, flat_of_all}
-use Rattle.flat_rule_laws.proofs.KeptRules.{flat_program-keeps_rules}
 use Rattle.fb_inline.proofs.PouLemmas.{idle-here}
+use Rattle.fb_inline.proofs.TypedForms.{form-typed}
 use Rattle.fb_inline.proofs.program.flat_program.Goals as goal
 
 pub flatten_all-requires : goal.flatten_all-requires
@@ -51,4 +51,5 @@ invariant_of-result c =
     let is : made ≡ flat_program p =
     ap (λ cs. record { cells = cs; scratch = s; body = flats_of b }) cells_are
     ∙ (ap (λ ss. record { cells = p.cells; scratch = ss; body = flats_of b }) scratch_is ∙ ap (λ bs. record { cells = p.cells; scratch = (flat_program p).scratch; body = flats_of bs }) body_is) in
-    record { rules = ∣ subst IsFlat (sym is) (flat_program-keeps_rules p (record { begins_with_fault = c.requires.program.begins_with_fault; start_in_range = c.requires.program.start_in_range }) c.requires.typed) ∣₁ }
+    let typed = form-typed p (record { begins_with_fault = c.requires.fit.begins_with_fault; start_in_range = c.requires.fit.start_in_range }) c.requires.typed in
+    record { rules = ∣ subst IsFlat (sym is) typed.flat ∣₁ }

@@ -2,10 +2,16 @@ use Rattle.std.proofs.Common.{subst, sym}
 use Rattle.program_tree.specs.View.{program_view}
 use Rattle.flat_core.specs.FlatTree.{FlatData}
 use Rattle.flat_form.specs.FlatLaws.{LeavesTheSame}
-use Rattle.flat_laws.proofs.Joined.{keeps_meaning}
+use Rattle.node_core.specs.TypedFlats.{IsTypedFlat}
+use Rattle.fb_inline.proofs.TypedForms.{form-typed, form-leaves}
 use Rattle.fb_inline.proofs.program.flatten.Goals as goal
+
+pub returns-clause-typed : goal.returns-clause-typed
+returns-clause-typed c =
+    let p = program_view c.args.program.now in
+    subst (λ (f : FlatData). IsTypedFlat f) (sym c.in_ok-flat.ensures) (form-typed p c.requires.fit c.requires.typed)
 
 pub returns-clause-meaning : goal.returns-clause-meaning
 returns-clause-meaning c =
     let p = program_view c.args.program.now in
-    subst (λ (f : FlatData). LeavesTheSame p f) (sym c.in_ok-flat.ensures) (keeps_meaning p c.in_ok-check_program.ensures.program c.in_ok-check_program.ensures.typed)
+    subst (λ (f : FlatData). LeavesTheSame p f) (sym c.in_ok-flat.ensures) (form-leaves p c.requires.fit c.requires.typed)

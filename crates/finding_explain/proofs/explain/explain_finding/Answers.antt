@@ -3,6 +3,7 @@ use Rattle.std.specs.Prelude.{Option, Result, Ok, IfSome}
 use Rattle.finding_lines.specs.declared.line.Line.{Line}
 use Rattle.queries.specs.Settings.{setting_of}
 use Rattle.judgement.specs.Findings.{IsJudged}
+use Rattle.judgement.specs.Shown.{ShowsVerdict}
 use Rattle.judgement.specs.declared.answers.Judged.{Judged}
 use Rattle.judgement.specs.declared.answers.Judged.TheVariants.{Valid}
 use Rattle.judgement.specs.declared.answers.JudgeErr.{JudgeErr}
@@ -23,4 +24,5 @@ returns-in-Valid-clause-exact g c =
     let is : c.judge_file.result ≡ Ok (Valid c.in-Valid.verdict) = c.in_ok-line.was ∙ ap Ok c.in-Valid.is in
     let judged = subst (λ (r : Result Judged JudgeErr). IfSome told (λ file. IsJudged (setting_of k) f limit file r)) is c.judge_file.ensures.exact in
     let reported = subst (λ (o : Option (List ℕ)). IfSome o (λ file. (ls : List Line) → IsFileOf (setting_of k) limit file ls → IsReported k ls c.in-Valid.verdict c.report_file.result)) same_file c.report_file.ensures.exact in
-    told_explained k f limit told c.in-Valid.verdict c.report_file.result judged reported
+    let shown = subst (λ (r : Result Judged JudgeErr). ShowsVerdict k f r) is c.judge_file.ensures.sound in
+    told_explained k f limit told c.in-Valid.verdict c.report_file.result judged shown reported

@@ -1,5 +1,4 @@
 use Rattle.program_tree.specs.View.{program_view}
-use Rattle.typed_flat_laws.proofs.WellTypedPrograms.{typed-well_typed}
 use Rattle.flat_end.specs.FlatTexts.HasNoFlatForm.{by_program, by_size}
 use Rattle.flat_end.proofs.flat.accept_flat.Goals as goal
 
@@ -10,9 +9,3 @@ pub returns-in-Err-Refused-flatten-clause-refused : goal.returns-in-Err-Refused-
 returns-in-Err-Refused-flatten-clause-refused c =
     let fault = rw c.in-Err-Refused-flatten.field-0-is at c.in-Err-Refused-flatten.ensures.refused in
     by_size (program_view c.in-Ok.program) c.in-Ok.ensures.program fault.0 fault.1
-
--- a typed program is well typed
-pub unreachable-requires : goal.unreachable-requires
-unreachable-requires c =
-    let fault = rw c.in-Err-Untyped.field-0-is at c.in-Err-Untyped.ensures.refused in
-    fault.1 (c.in-Ok.ensures.fit, typed-well_typed (program_view c.in-Ok.program) c.in-Ok.ensures.typed)

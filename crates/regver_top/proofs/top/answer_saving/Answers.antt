@@ -4,14 +4,14 @@ use Rattle.command_line.specs.Subcommands.{verifies}
 use Rattle.command_answers.specs.Reports.{usage_report}
 use Rattle.command_answers.specs.Answers.{Answers}
 use Rattle.command_answers.proofs.AnswerLemmas.{answered}
-use Rattle.regver_top.specs.Asking.{change, writes_text, AreTold, IsAsked, SomeRose, LeavesFinding}
+use Rattle.regver_top.specs.Asking.{change, is_refused, AreTold, IsAsked, SomeRose, LeavesFinding}
 use Rattle.regver_top.proofs.Settling.{settled_usage, settled_same}
 use Rattle.regver_top.proofs.top.answer_saving.Goals as goal
 
 pub returns-then-repeats-clause-answer : goal.returns-then-repeats-clause-answer
 returns-then-repeats-clause-answer g c = λ t.
     let a = asked_of verifies (words_of c.args.words.now) in
-    let is : writes_text a ≡ true = search rules in
+    let is : is_refused a ≡ true = search rules in
     let k = change (g.S.Shelf.file c.args.shelf.now) (g.S.Shelf.file c.args.shelf.now) (g.S.Shelf.read_faults c.args.shelf.now) (g.S.Shelf.read_faults c.args.shelf.now) (g.S.Shelf.write_faults c.args.shelf.now) (g.S.Shelf.write_faults c.args.shelf.now) in
     let P : Asked → Type 0 = λ x. AreTold k x t → Answers (IsAsked k x t) (SomeRose k x) c.put_last.result (g.K.Sink.taken c.args.out.now) (g.K.Sink.taken c.put_last.new.out) in
     subst P (sym (settled_usage a is)) (λ told. answered (IsAsked k usage t) ⊥ usage_report c.put_last.result _ _ refl refl c.put_last.ensures.put)
@@ -19,7 +19,7 @@ returns-then-repeats-clause-answer g c = λ t.
 pub returns-clause-left : goal.returns-clause-left
 returns-clause-left g c = λ t.
     let a = asked_of verifies (words_of c.args.words.now) in
-    let is : writes_text a ≡ false = search rules in
+    let is : is_refused a ≡ false = search rules in
     let words : verify c.deref.result.now c.deref-2.result.now c.deref-3.result.now c.deref-4.result.now ≡ a = search rules in
     let k = change (g.S.Shelf.file c.args.shelf.now) (g.S.Shelf.file c.answer_verify.new.shelf) (g.S.Shelf.read_faults c.args.shelf.now) (g.S.Shelf.read_faults c.answer_verify.new.shelf) (g.S.Shelf.write_faults c.args.shelf.now) (g.S.Shelf.write_faults c.answer_verify.new.shelf) in
     let P : Asked → Type 0 = λ x. AreTold k x t → LeavesFinding k x t in
@@ -28,7 +28,7 @@ returns-clause-left g c = λ t.
 pub returns-clause-answer : goal.returns-clause-answer
 returns-clause-answer g c = λ t.
     let a = asked_of verifies (words_of c.args.words.now) in
-    let is : writes_text a ≡ false = search rules in
+    let is : is_refused a ≡ false = search rules in
     let words : verify c.deref.result.now c.deref-2.result.now c.deref-3.result.now c.deref-4.result.now ≡ a = search rules in
     let k = change (g.S.Shelf.file c.args.shelf.now) (g.S.Shelf.file c.answer_verify.new.shelf) (g.S.Shelf.read_faults c.args.shelf.now) (g.S.Shelf.read_faults c.answer_verify.new.shelf) (g.S.Shelf.write_faults c.args.shelf.now) (g.S.Shelf.write_faults c.answer_verify.new.shelf) in
     let P : Asked → Type 0 = λ x. AreTold k x t → Answers (IsAsked k x t) (SomeRose k x) c.answer_verify.result (g.K.Sink.taken c.args.out.now) (g.K.Sink.taken c.answer_verify.new.out) in

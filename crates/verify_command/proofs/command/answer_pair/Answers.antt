@@ -5,8 +5,9 @@ use Rattle.product_build.specs.Limits.{HasFewGates}
 use Rattle.product_build.specs.MadeCircuits.{comparison_between, formula_of}
 use Rattle.comparison_files.specs.Accepting.{nodes_of}
 use Rattle.comparison_files.specs.Comparing.{formulas_by, formulas_of}
-use Rattle.verify_command.specs.Reports.{saving, VerifyReports, on_pair, ReportsVerdict, LeavesPart, accepted}
-use Rattle.verify_command.proofs.Answering.{at_gates}
+use Rattle.verify_command.specs.Reports.{saving, VerifyReports, not_compared, on_pair, ReportsVerdict, LeavesPart, accepted}
+use Rattle.finding_answers.specs.Refusals.{ReportsRefusal}
+use Rattle.finding_answers.proofs.RefusalLemmas.{at_gates}
 use Rattle.verify_command.proofs.command.answer_pair.Goals as goal
 
 pub returns-in-Ok-clause-left : goal.returns-in-Ok-clause-left
@@ -34,4 +35,5 @@ returns-in-Err-clause-answer g c = λ t stated.
     let compared = comparison_between c.args.old.now c.args.new.now c.args.relation.now in
     let refused = rw (c.requires.old_nodes, c.requires.new_nodes) at c.in-Err.ensures.refused in
     let s = saving (g.S.Shelf.file c.args.shelf.now) (g.S.Shelf.file c.args.shelf.now) (g.S.Shelf.write_faults c.args.shelf.now) (g.S.Shelf.write_faults c.args.shelf.now) c.args.finding.now in
-    c.put_fault.ensures.answer t s refl (at_gates t compared c.in-Err.fault stated refused)
+    answers-wider (ReportsRefusal t) (VerifyReports t s) ⊥ ⊥ c.put_fault.result _ _ (λ r h. not_compared h refl) (λ x. x)
+    (c.put_fault.ensures.answer t (at_gates t compared c.in-Err.fault stated refused))

@@ -1,4 +1,14 @@
+use Rattle.std.proofs.Common.{refl}
+use Rattle.command_answers.proofs.AnswerLemmas.{answers-wider}
+use Rattle.finding_answers.specs.Refusals.{ReportsRefusal}
+use Rattle.verify_command.specs.Reports.{saving, VerifyReports, not_compared}
 use Rattle.verify_command.proofs.command.answer_texts.Goals as goal
 
 pub returns-in-Ok-clause-left : goal.returns-in-Ok-clause-left
 returns-in-Ok-clause-left g c = λ t kept. c.answer_compared.ensures.left t (c.in-Ok.ensures.ok t kept)
+
+pub returns-in-Err-clause-answer : goal.returns-in-Err-clause-answer
+returns-in-Err-clause-answer g c = λ t kept.
+    let s = saving (g.S.Shelf.file c.args.shelf.now) (g.S.Shelf.file c.args.shelf.now) (g.S.Shelf.write_faults c.args.shelf.now) (g.S.Shelf.write_faults c.args.shelf.now) c.args.finding.now in
+    answers-wider (ReportsRefusal t) (VerifyReports t s) ⊥ ⊥ c.put_fault.result _ _ (λ r h. not_compared h refl) (λ x. x)
+    (c.put_fault.ensures.answer t (c.in-Err.ensures.refused t kept))

@@ -5,8 +5,8 @@ use Rattle.plc_types.specs.Enumerations.{value_named}
 use Rattle.source_tree.specs.SyntaxView.{names_view}
 use Rattle.program_tree.specs.View.{program_view}
 use Rattle.typing.specs.Programs.{own_type, value_member, value_among}
-use Rattle.expr_types.specs.Sides.{whole_value}
-use Rattle.expr_types.proofs.ValueLemmas.{whole_member, none_left}
+use Rattle.clause_types.specs.Sides.{whole_value}
+use Rattle.clause_types.proofs.ValueLemmas.{whole_member, none_left}
 use Rattle.clause_types.proofs.sides.Side.find_value.Goals as goal
 
 pub returns : goal.returns

@@ -2,7 +2,7 @@ use Rattle.std.proofs.Common.{option_map, ap, ◌∙◌}
 use Rattle.plc_types.specs.Enumerations.{value_named}
 use Rattle.program_tree.specs.View.{lists_of_texts}
 use Rattle.typing.specs.Programs.{own_type, cell_among}
-use Rattle.expr_types.specs.Sides.{kept_value}
+use Rattle.clause_types.specs.Sides.{kept_value}
 use Rattle.clause_types.proofs.sides.Side.new.Goals as goal
 
 pub invariant_of-result : goal.invariant_of-result

@@ -1,0 +1,42 @@
+#!/usr/bin/env python3
+"""Runs programs on the same words, one after the other and some times over, and prints for each the least processor time (user and
+system), the most memory, and the last line that it put; for all but the first the ratio of the first's time to its own.
+
+A program is written NAME=PATH. The word FINDING stands for a file of the program's own, which is named NAME.finding.
+Use: measure.py RUNS PROGRAM .. -- WORD ..
+"""
+import os
+import resource
+import sys
+import tempfile
+
+
+def run(path, words):
+    """Processor seconds, memory in MiB and the last line of one run."""
+    with tempfile.TemporaryFile() as out:
+        child = os.posix_spawn(path, [path, *words], os.environ, file_actions=[(os.POSIX_SPAWN_DUP2, out.fileno(), 1)])
+        _, _, usage = os.wait4(child, 0)
+        out.seek(0)
+        lines = out.read().decode(errors="replace").split("\n")
+    return usage.ru_utime + usage.ru_stime, usage.ru_maxrss / 1024, (lines[-2] if len(lines) > 1 else "")
+
+
+def main():
+    split = sys.argv.index("--")
+    runs, programs, words = int(sys.argv[1]), [word.split("=", 1) for word in sys.argv[2:split]], sys.argv[split + 1 :]
+    hard = resource.getrlimit(resource.RLIMIT_STACK)[1]
+    resource.setrlimit(resource.RLIMIT_STACK, (hard, hard))
+    found = {name: [] for name, _ in programs}
+    for _ in range(runs):
+        for name, path in programs:
+            found[name].append(run(path, [f"{name}.finding" if word == "FINDING" else word for word in words]))
+    first = None
+    for name, _ in programs:
+        seconds, memory, said = min(found[name])[0], max(one[1] for one in found[name]), found[name][-1][2]
+        ratio = f", ratio {first / seconds:.2f}" if first is not None and seconds > 0 else ""
+        first = seconds if first is None else first
+        print(f"  {name}: {seconds:.3f} s, {memory:.1f} MiB, {said}{ratio}", flush=True)
+
+
+if __name__ == "__main__":
+    main()

@@ -1,0 +1,15 @@
+-- The program that a text states is typed, and its cells are those of its types.
+use Rattle.std.proofs.Common.{ℕ, List, sym, subst}
+use Rattle.program_tree.specs.Tree.{ProgramData}
+use Rattle.scan_model.specs.InRange.{IsProgram as IsFitToRun}
+use Rattle.front_end.specs.Texts.{IsProgram}
+use Rattle.front_end.proofs.TypedTexts.{file_levelled, text_typed}
+use Rattle.stated_cells.specs.StatedCells.{HasStatedCells}
+use Rattle.stated_cells.proofs.StatedCells.{cells_stated}
+use Rattle.typed_relations.specs.Readings.{IsReadProgram}
+
+text_stated : (text : List ℕ) (p : ProgramData) → IsProgram text p → HasStatedCells p
+text_stated text p h = subst HasStatedCells (sym h.program) (cells_stated h.file h.names (file_levelled text h.file h.states) h.typing h.number h.pou h.one.there)
+
+pub program_read : (text : List ℕ) (p : ProgramData) → IsProgram text p → IsFitToRun p → IsReadProgram p
+program_read text p h fit = record { is_program = fit; typed = text_typed text p h; cells = text_stated text p h }

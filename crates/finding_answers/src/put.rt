@@ -1,0 +1,22 @@
+// What is said of a finding, on the sink.
+ghost use Rattle.std.specs.Prelude.{◌≡◌, ◌≢◌, ◌≤◌};
+ghost use Rattle.outside.specs.Causes.{Rose};
+ghost use Rattle.command_answers.specs.Answers.{Answers};
+ghost use Rattle.finding_answers.specs.Lines.{judged_report};
+
+use crate::show::{judged_line, judged_status};
+use command_answers::{Status, put_report};
+use judgement::Judged;
+use outside::Sink;
+use std::alloc::Global;
+
+/// Puts what is said of a finding.
+pub fn put_judged<K: Sink>(alloc: Global, judged: Judged, out: &mut K) -> Status
+    ensures answer { Answers (λ r. r ≡ judged_report judged) ⊥ result (K.taken out.old) (K.taken out.new) }
+    ensures usage { result ≢ Status.Usage }
+    ensures read_fault { result ≢ Status.ReadFault }
+    ensures write_fault { result ≡ Status.WriteFault → Rose (K.faults out.old) (K.faults out.new) }
+    ensures faults { K.faults out.old ≤ K.faults out.new }
+{
+    put_report(out, judged_line(alloc, judged), judged_status(judged))
+}

@@ -1,0 +1,159 @@
+// What a command on a finding does with the four files.
+ghost use Rattle.std.specs.Prelude.{◌≡◌, ◌≢◌, ◌≤◌, List, ℕ, Some};
+ghost use Rattle.outside.specs.Causes.{Rose, NoneFell};
+ghost use Rattle.program_tree.specs.View.{program_view};
+ghost use Rattle.node_core.specs.Scans.{scan_view};
+ghost use Rattle.query_formula_laws.specs.TypedComparisons.{IsScanOf};
+ghost use Rattle.typed_relations.specs.Readings.{IsRead};
+ghost use Rattle.product_build.specs.Limits.{HasFewLines};
+ghost use Rattle.product_build.specs.MadeCircuits.{comparison_between};
+ghost use Rattle.command_answers.specs.Answers.{Answers};
+ghost use Rattle.command_files.specs.Texts.{Texts, AreFourTold, OneOfFourRose};
+ghost use Rattle.command_files.specs.KeptTexts.{AreKept};
+ghost use Rattle.comparison_files.specs.Accepting.{nodes_of, AreStated};
+ghost use Rattle.comparison_files.specs.Comparing.{comparison_in};
+ghost use Rattle.finding_commands.specs.Reports.{ReportsOn};
+
+use crate::finding_command::FindingCommand;
+use command_answers::{Status, put_last};
+use command_files::{KeptTexts, read_texts};
+use comparison_files::{Compared, accept_texts, circuits_of};
+use finding_answers::put_fault;
+use node_core::Scan;
+use node_end::Accepted;
+use outside::{OutErr, Shelf, Sink};
+use program_tree::Program;
+use scan_model::Relation;
+use std::alloc::Global;
+
+// Makes the circuits of what is compared, and judges the finding by them.
+fn answer_pair<C: FindingCommand, S: Shelf, K: Sink>(
+    alloc: Global,
+    command: &C,
+    old: &Program,
+    old_scan: Scan,
+    new: &Program,
+    new_scan: Scan,
+    relation: &Relation,
+    finding: &str,
+    shelf: &mut S,
+    out: &mut K,
+) -> Status
+    requires read { IsRead (comparison_between old.now new.now relation.now) }
+    requires lines { HasFewLines (comparison_between old.now new.now relation.now) }
+    requires old_nodes { scan_view old_scan ≡ nodes_of (program_view old.now) }
+    requires new_nodes { scan_view new_scan ≡ nodes_of (program_view new.now) }
+    requires old_meaning { IsScanOf (program_view old.now) (scan_view old_scan) }
+    requires new_meaning { IsScanOf (program_view new.now) (scan_view new_scan) }
+    ensures kept { S.file shelf.new ≡ S.file shelf.old }
+    ensures answer { (t : Texts) → AreStated t (comparison_between old.now new.now relation.now) → S.file shelf.old finding.now ≡ Some t.finding
+        → Answers (ReportsOn C.reports t) (Rose (S.read_faults shelf.old finding.now) (S.read_faults shelf.new finding.now)) result (K.taken out.old) (K.taken out.new) }
+    ensures usage { result ≢ Status.Usage }
+    ensures read_fault { result ≡ Status.ReadFault → Rose (S.read_faults shelf.old finding.now) (S.read_faults shelf.new finding.now) }
+    ensures write_fault { result ≡ Status.WriteFault → Rose (K.faults out.old) (K.faults out.new) }
+    ensures reads { NoneFell (S.read_faults shelf.old) (S.read_faults shelf.new) }
+    ensures writes { NoneFell (S.write_faults shelf.old) (S.write_faults shelf.new) }
+    ensures faults { K.faults out.old ≤ K.faults out.new }
+{
+    match circuits_of(alloc, old, old_scan, new, new_scan, relation) {
+        Ok(circuits) => command.answer(alloc, old, new, relation, &circuits, finding, shelf, out),
+        Err(fault) => put_fault(alloc, fault, out),
+    }
+}
+
+// The same of what is compared, as it is held.
+fn answer_compared<C: FindingCommand, S: Shelf, K: Sink>(
+    alloc: Global,
+    command: &C,
+    compared: Compared,
+    finding: &str,
+    shelf: &mut S,
+    out: &mut K,
+) -> Status
+    requires read { IsRead (comparison_in compared) }
+    requires lines { HasFewLines (comparison_in compared) }
+    requires old_nodes { scan_view compared.old.scan ≡ nodes_of (program_view compared.old.program) }
+    requires new_nodes { scan_view compared.new.scan ≡ nodes_of (program_view compared.new.program) }
+    requires old_meaning { IsScanOf (program_view compared.old.program) (scan_view compared.old.scan) }
+    requires new_meaning { IsScanOf (program_view compared.new.program) (scan_view compared.new.scan) }
+    ensures kept { S.file shelf.new ≡ S.file shelf.old }
+    ensures answer { (t : Texts) → AreStated t (comparison_in compared) → S.file shelf.old finding.now ≡ Some t.finding
+        → Answers (ReportsOn C.reports t) (Rose (S.read_faults shelf.old finding.now) (S.read_faults shelf.new finding.now)) result (K.taken out.old) (K.taken out.new) }
+    ensures usage { result ≢ Status.Usage }
+    ensures read_fault { result ≡ Status.ReadFault → Rose (S.read_faults shelf.old finding.now) (S.read_faults shelf.new finding.now) }
+    ensures write_fault { result ≡ Status.WriteFault → Rose (K.faults out.old) (K.faults out.new) }
+    ensures reads { NoneFell (S.read_faults shelf.old) (S.read_faults shelf.new) }
+    ensures writes { NoneFell (S.write_faults shelf.old) (S.write_faults shelf.new) }
+    ensures faults { K.faults out.old ≤ K.faults out.new }
+{
+    let Compared { old, new, relation } = compared;
+    let Accepted {
+        program: old,
+        scan: old_scan,
+    } = old;
+    let Accepted {
+        program: new,
+        scan: new_scan,
+    } = new;
+    answer_pair(
+        alloc, command, &old, old_scan, &new, new_scan, &relation, finding, shelf, out,
+    )
+}
+
+// Judges the finding by kept texts.
+fn answer_texts<C: FindingCommand, S: Shelf, K: Sink>(
+    alloc: Global,
+    command: &C,
+    texts: &KeptTexts,
+    finding: &str,
+    shelf: &mut S,
+    out: &mut K,
+) -> Status
+    ensures kept { S.file shelf.new ≡ S.file shelf.old }
+    ensures answer { (t : Texts) → AreKept texts.now t → S.file shelf.old finding.now ≡ Some t.finding
+        → Answers (ReportsOn C.reports t) (Rose (S.read_faults shelf.old finding.now) (S.read_faults shelf.new finding.now)) result (K.taken out.old) (K.taken out.new) }
+    ensures usage { result ≢ Status.Usage }
+    ensures read_fault { result ≡ Status.ReadFault → Rose (S.read_faults shelf.old finding.now) (S.read_faults shelf.new finding.now) }
+    ensures write_fault { result ≡ Status.WriteFault → Rose (K.faults out.old) (K.faults out.new) }
+    ensures reads { NoneFell (S.read_faults shelf.old) (S.read_faults shelf.new) }
+    ensures writes { NoneFell (S.write_faults shelf.old) (S.write_faults shelf.new) }
+    ensures faults { K.faults out.old ≤ K.faults out.new }
+{
+    match accept_texts(alloc, texts) {
+        Ok(compared) => answer_compared(alloc, command, compared, finding, shelf, out),
+        Err(fault) => put_fault(alloc, fault, out),
+    }
+}
+
+/// Carries out a command on a finding. OLD, NEW and REL are read whole before any rule is tested.
+pub fn answer_on_finding<C: FindingCommand, S: Shelf, K: Sink>(
+    alloc: Global,
+    command: &C,
+    old: &str,
+    new: &str,
+    relation: &str,
+    finding: &str,
+    shelf: &mut S,
+    out: &mut K,
+) -> Status
+    // No file changes.
+    ensures kept { S.file shelf.new ≡ S.file shelf.old }
+
+    // The bytes on the sink and the status are those of the report on the four texts, where these are told.
+    ensures answer { (t : Texts) → AreFourTold (S.file shelf.old) old.now new.now relation.now finding.now t t.finding
+        → Answers (ReportsOn C.reports t) (OneOfFourRose (S.read_faults shelf.old) (S.read_faults shelf.new) old.now new.now relation.now finding.now) result (K.taken out.old) (K.taken out.new) }
+    ensures usage { result ≢ Status.Usage }
+
+    // A fault comes only where a count rose, and no count falls.
+    ensures read_fault { result ≡ Status.ReadFault → OneOfFourRose (S.read_faults shelf.old) (S.read_faults shelf.new) old.now new.now relation.now finding.now }
+    ensures write_fault { result ≡ Status.WriteFault → Rose (K.faults out.old) (K.faults out.new) }
+    ensures reads { NoneFell (S.read_faults shelf.old) (S.read_faults shelf.new) }
+    ensures writes { NoneFell (S.write_faults shelf.old) (S.write_faults shelf.new) }
+    ensures faults { K.faults out.old ≤ K.faults out.new }
+{
+    match read_texts(alloc, old, new, relation, shelf) {
+        Ok(texts) => answer_texts(alloc, command, &texts, finding, shelf, out),
+        Err(OutErr::Fault) => put_last(out, "READ FAULT\n", Status::ReadFault),
+        Err(OutErr::Memory) => put_last(out, "MEMORY\n", Status::Memory),
+    }
+}

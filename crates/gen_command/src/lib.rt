@@ -1,0 +1,9 @@
+// The command `gen`: revisions of a program made from a number, saved, and verified.
+#![tactic(auto)]
+
+mod command;
+mod line;
+mod made;
+mod saved;
+
+pub use command::{answer_gen, answer_gen_with};

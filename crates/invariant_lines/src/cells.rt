@@ -1,0 +1,79 @@
+// Cells and values of both programs, as clauses name them.
+use plc_types::DataType;
+use program_tree::{Cell, Program};
+use std::alloc::{AllocError, Global};
+
+/// The programs whose cells are numbered, OLD's from 0 on and NEW's behind them.
+#[derive(Clone, Copy)]
+pub struct Names<'a> {
+    pub alloc: Global,
+    pub old: &'a Program,
+    pub new: &'a Program,
+}
+
+// The cell of a number, and the word before its path.
+fn cell_at<'a>(names: &Names<'a>, number: usize) -> Option<(&'static str, &'a Cell)> {
+    let count = names.old.cells.len();
+    if number < count {
+        return match names.old.cells.get(number) {
+            Some(cell) => Some(("old.", cell)),
+            None => None,
+        };
+    }
+    match names.new.cells.get(number - count) {
+        Some(cell) => Some(("new.", cell)),
+        None => None,
+    }
+}
+
+/// Adds `old.PATH` or `new.PATH`.
+pub fn add_cell(names: &Names<'_>, number: usize, text: &mut String) -> Result<(), AllocError> {
+    if let Some((word, cell)) = cell_at(names, number) {
+        text.push_str(word)?;
+        text.push_str(cell.path.as_str())?;
+    }
+    Ok(())
+}
+
+/// Adds a number in decimal digits.
+pub fn add_number(names: &Names<'_>, value: i64, text: &mut String) -> Result<(), AllocError> {
+    let digits = format!(in names.alloc; "{value}")?;
+    text.push_str(digits.as_str())
+}
+
+// The name of a value of an enumeration.
+fn value_name<'a>(program: &'a Program, kind: DataType, value: i64) -> Option<&'a str> {
+    let DataType::Enumeration(number) = kind else {
+        return None;
+    };
+    let values = program.types.get(number)?;
+    let place = usize::try_from(value).ok()?;
+    match values.get(place) {
+        Some(name) => Some(name.as_str()),
+        None => None,
+    }
+}
+
+/// Adds a value of a cell: a number, or the name of a value of an enumeration.
+pub fn add_value(
+    names: &Names<'_>,
+    number: usize,
+    value: i64,
+    text: &mut String,
+) -> Result<(), AllocError> {
+    let Some((word, cell)) = cell_at(names, number) else {
+        return Ok(());
+    };
+    let program = if number < names.old.cells.len() {
+        names.old
+    } else {
+        names.new
+    };
+    match value_name(program, cell.kind, value) {
+        Some(name) => {
+            text.push_str(word)?;
+            text.push_str(name)
+        }
+        None => add_number(names, value, text),
+    }
+}

@@ -1,0 +1,157 @@
+// Lines: a clause, and a note on what was seen.
+use crate::cells::{Names, add_cell, add_number, add_value};
+use crate::counts::add_count;
+use crate::sums::add_sum;
+use line_trials::InvariantLine;
+use program_tree::Program;
+use proposals::{Junction, Proposal};
+use std::alloc::{AllocError, Global};
+
+fn add_has_value(
+    names: &Names<'_>,
+    flag: usize,
+    cell: usize,
+    value: i64,
+    negated: bool,
+    text: &mut String,
+) -> Result<(), AllocError> {
+    add_cell(names, flag, text)?;
+    text.push_str(" = (")?;
+    add_cell(names, cell, text)?;
+    text.push_str(if negated { " <> " } else { " = " })?;
+    add_value(names, cell, value, text)?;
+    text.push_str(")")
+}
+
+fn word_of(junction: Junction) -> &'static str {
+    match junction {
+        Junction::And => " AND ",
+        Junction::Or => " OR ",
+        Junction::AndNot => " AND NOT ",
+    }
+}
+
+fn add_joined(
+    names: &Names<'_>,
+    cell: usize,
+    first: usize,
+    second: usize,
+    junction: Junction,
+    text: &mut String,
+) -> Result<(), AllocError> {
+    add_cell(names, cell, text)?;
+    text.push_str(" = (")?;
+    add_cell(names, first, text)?;
+    text.push_str(word_of(junction))?;
+    add_cell(names, second, text)?;
+    text.push_str(")")
+}
+
+// Adds two cells with a word between them.
+fn add_two(
+    names: &Names<'_>,
+    first: usize,
+    word: &str,
+    second: usize,
+    text: &mut String,
+) -> Result<(), AllocError> {
+    add_cell(names, first, text)?;
+    text.push_str(word)?;
+    add_cell(names, second, text)
+}
+
+fn add_bound(
+    names: &Names<'_>,
+    cell: usize,
+    word: &str,
+    bound: i64,
+    text: &mut String,
+) -> Result<(), AllocError> {
+    add_cell(names, cell, text)?;
+    text.push_str(word)?;
+    add_number(names, bound, text)
+}
+
+fn add_not_both(
+    names: &Names<'_>,
+    first: usize,
+    second: usize,
+    text: &mut String,
+) -> Result<(), AllocError> {
+    text.push_str("NOT (")?;
+    add_two(names, first, " AND ", second, text)?;
+    text.push_str(")")
+}
+
+// The clause that a proposal stands for.
+fn add_clause(names: &Names<'_>, proposal: &Proposal, text: &mut String) -> Result<(), AllocError> {
+    match proposal {
+        Proposal::Equal(first, second) => add_two(names, *first, " = ", *second, text),
+        Proposal::Opposite(first, second) => add_two(names, *first, " = NOT ", *second, text),
+        Proposal::HasValue {
+            flag,
+            cell,
+            value,
+            negated,
+        } => add_has_value(names, *flag, *cell, *value, *negated, text),
+        Proposal::Sum { terms, constant } => {
+            add_sum(names, terms.as_slice(), *constant, ("", ""), text)
+        }
+        Proposal::Count { terms, constant } => add_count(names, terms.as_slice(), *constant, text),
+        Proposal::Joined {
+            cell,
+            first,
+            second,
+            junction,
+        } => add_joined(names, *cell, *first, *second, *junction, text),
+        Proposal::NotBoth(first, second) => add_not_both(names, *first, *second, text),
+        Proposal::AtLeast { cell, bound, .. } => add_bound(names, *cell, " >= ", *bound, text),
+        Proposal::AtMost { cell, bound, .. } => add_bound(names, *cell, " <= ", *bound, text),
+    }
+}
+
+// What was seen.
+fn note_of(names: &Names<'_>, proposal: &Proposal, pairs: usize) -> Result<String, AllocError> {
+    let alloc = names.alloc;
+    match proposal {
+        Proposal::Equal(_, _) => format!(in alloc; "one value on {pairs} pairs"),
+        Proposal::Opposite(_, _) => format!(in alloc; "never alike on {pairs} pairs"),
+        Proposal::NotBoth(_, _) => format!(in alloc; "never both on {pairs} pairs"),
+        Proposal::AtLeast { seen, .. } => format!(in alloc; "seen: {seen} and more"),
+        Proposal::AtMost { seen, .. } => format!(in alloc; "seen: up to {seen}"),
+        Proposal::Sum { .. } | Proposal::Count { .. } => {
+            format!(in alloc; "this sum on {pairs} pairs")
+        }
+        Proposal::HasValue { .. } | Proposal::Joined { .. } => {
+            format!(in alloc; "together on {pairs} pairs")
+        }
+    }
+}
+
+fn line_of(
+    names: &Names<'_>,
+    proposal: &Proposal,
+    pairs: usize,
+) -> Result<InvariantLine, AllocError> {
+    let mut clause = String::new(names.alloc);
+    add_clause(names, proposal, &mut clause)?;
+    let note = note_of(names, proposal, pairs)?;
+    Ok(InvariantLine { clause, note })
+}
+
+/// The lines of the first proposals, at most so many; each held on that many pairs.
+pub fn lines_of(
+    alloc: Global,
+    old: &Program,
+    new: &Program,
+    proposals: &[Proposal],
+    pairs: usize,
+    most: usize,
+) -> Result<Vec<InvariantLine>, AllocError> {
+    let names = Names { alloc, old, new };
+    let mut lines = Vec::new(alloc);
+    for proposal in proposals.iter().take(most) {
+        lines.push(line_of(&names, proposal, pairs)?)?;
+    }
+    Ok(lines)
+}

@@ -1,0 +1,43 @@
+// The text of a relation with INVARIANT lines behind it.
+ghost use Rattle.std.specs.Prelude.{◌≡◌, ◌++◌, IfOk, OnOk};
+ghost use Rattle.line_trials.specs.Lines.{line_view, lines_view, line_text, lines_text, with_lines};
+
+use crate::line::InvariantLine;
+use std::alloc::{AllocError, Global};
+
+fn add_line(text: &mut Vec<u8>, line: &InvariantLine) -> Result<(), AllocError>
+    ensures { OnOk result (text.new.items ≡ text.old.items ++ line_text (line_view line.now)) }
+{
+    text.extend_from_slice(b"INVARIANT ")?;
+    text.extend_from_slice(line.clause.as_bytes())?;
+    text.extend_from_slice(b"; (* ")?;
+    text.extend_from_slice(line.note.as_bytes())?;
+    text.extend_from_slice(b" *)\n")?;
+    Ok(())
+}
+
+fn add_lines(text: &mut Vec<u8>, lines: &[InvariantLine]) -> Result<(), AllocError>
+    ensures { OnOk result (text.new.items ≡ text.old.items ++ lines_text (lines_view lines.now)) }
+{
+    for line in lines {
+        add_line(text, line)?;
+    }
+    Ok(())
+}
+
+/// A text with lines behind it.
+pub fn with_lines(
+    alloc: Global,
+    text: &[u8],
+    lines: &[InvariantLine],
+) -> Result<Vec<u8>, AllocError>
+    ensures { IfOk result (λ made. made.items ≡ with_lines text.now (lines_view lines.now)) }
+{
+    let mut made = Vec::from_slice(alloc, text)?;
+    if lines.is_empty() {
+        return Ok(made);
+    }
+    made.extend_from_slice(b"\n")?;
+    add_lines(&mut made, lines)?;
+    Ok(made)
+}

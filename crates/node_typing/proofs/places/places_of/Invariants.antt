@@ -1,7 +1,0 @@
-use Rattle.std.proofs.Common.{◌≡◌, ◌++◌, drop, map}
-use Rattle.program_tree.specs.View.{cells_view}
-use Rattle.node_core.specs.Stores.{of_cell}
-use Rattle.node_typing.proofs.places.places_of.Given as goal
-
-abbrev pub invariant-loop-cell : goal.invariant-loop-cell
-invariant-loop-cell l = l.places.items ++ map of_cell (cells_view (drop l.cell-index l.cells)) ≡ map of_cell (cells_view l.cells)

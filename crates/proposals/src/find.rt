@@ -1,0 +1,63 @@
+// All kinds, the strongest first.
+use crate::bounds::add_bounds;
+use crate::equal::{add_equal, add_last_own, add_opposite};
+use crate::exclusive::add_exclusive;
+use crate::facts::{Facts, facts_of};
+use crate::flags::add_flags;
+use crate::junctions::add_junctions;
+use crate::proposal::Proposal;
+use crate::subject::Subject;
+use crate::sums::{add_counts, add_sums, add_sums_of_two};
+use scan_model::Side;
+use seen_values::Seen;
+use std::alloc::{AllocError, Global};
+
+// The kinds that tie the cells of one program to those of the other.
+fn add_ties(facts: &mut Facts<'_>, found: &mut Vec<Proposal>) -> Result<(), AllocError> {
+    add_equal(facts, found)?;
+    add_opposite(facts, found)?;
+    add_flags(facts, found)?;
+    let mut left = Vec::new(facts.alloc);
+    add_sums_of_two(facts, &mut left, found)?;
+    add_sums(facts, left.as_slice(), found)?;
+    add_junctions(facts, Side::New, found)?;
+    add_junctions(facts, Side::Old, found)
+}
+
+// The kinds on one program.
+fn add_others(
+    facts: &Facts<'_>,
+    edges: &[i64],
+    found: &mut Vec<Proposal>,
+) -> Result<(), AllocError> {
+    add_counts(facts, Side::Old, found)?;
+    add_counts(facts, Side::New, found)?;
+    add_bounds(facts, edges, 0, found)?;
+    add_exclusive(facts, Side::Old, found)?;
+    add_exclusive(facts, Side::New, found)?;
+    add_bounds(facts, edges, 1, found)
+}
+
+/// Clauses that held on all pairs that were seen, the strongest kinds first. The numbers that stand in the texts rise. Where there are
+/// more than `room`, the last own cells of each class come before all others, so that each class is tied before one is tied twice.
+pub fn proposals(
+    alloc: Global,
+    seen: &Seen,
+    subjects: &[Subject],
+    edges: &[i64],
+    room: usize,
+) -> Result<Vec<Proposal>, AllocError> {
+    let mut found = Vec::new(alloc);
+    let mut facts = facts_of(alloc, seen, subjects)?;
+    add_ties(&mut facts, &mut found)?;
+    add_others(&facts, edges, &mut found)?;
+    if found.len() <= room {
+        return Ok(found);
+    }
+    let mut first = Vec::new(alloc);
+    let mut facts = facts_of(alloc, seen, subjects)?;
+    add_last_own(&facts, &mut first)?;
+    add_ties(&mut facts, &mut first)?;
+    add_others(&facts, edges, &mut first)?;
+    Ok(first)
+}

@@ -1,0 +1,56 @@
+// What may be proposed.
+
+/// How a BOOL cell is made of two others.
+#[derive(Clone, Copy, PartialEq, Eq)]
+pub enum Junction {
+    And,
+    Or,
+    AndNot,
+}
+
+/// A clause over cells by their numbers, OLD's from 0 on and NEW's behind them.
+#[derive(Drop)]
+pub enum Proposal {
+    /// Two cells have one value.
+    Equal(usize, usize),
+    /// Of two BOOL cells exactly one is TRUE.
+    Opposite(usize, usize),
+    /// A BOOL cell is TRUE exactly where another cell has this value; or, negated, exactly where it has not.
+    HasValue {
+        flag: usize,
+        cell: usize,
+        value: i64,
+        negated: bool,
+    },
+    /// A sum of multiples of integer cells, the factors before the cells, is a constant.
+    Sum {
+        terms: Vec<(i64, usize)>,
+        constant: i64,
+    },
+    /// The same of BOOL cells as 0 and 1.
+    Count {
+        terms: Vec<(i64, usize)>,
+        constant: i64,
+    },
+    /// A BOOL cell is TRUE exactly where this is of two others.
+    Joined {
+        cell: usize,
+        first: usize,
+        second: usize,
+        junction: Junction,
+    },
+    /// Not both of two BOOL cells are TRUE.
+    NotBoth(usize, usize),
+    /// A cell is at least so great; the least value that it was seen to have.
+    AtLeast {
+        cell: usize,
+        bound: i64,
+        seen: i64,
+    },
+    /// A cell is at most so great; the greatest value that it was seen to have.
+    AtMost {
+        cell: usize,
+        bound: i64,
+        seen: i64,
+    },
+}

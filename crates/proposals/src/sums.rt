@@ -1,0 +1,153 @@
+// Sums of integer cells, and counts of BOOL cells.
+use crate::facts::{Facts, key_of};
+use crate::proposal::Proposal;
+use crate::subject::Sort;
+use affine_relations::affine_relations;
+use scan_model::Side;
+use seen_values::{Classes, Signature};
+use std::alloc::AllocError;
+
+// Of how many cells of a type sums are looked for.
+const MOST_CELLS: usize = 64;
+
+// Whether a number can be written where values have this integer type.
+fn can_be_written(group: u64, number: i64) -> bool {
+    let most = match group {
+        2 => 127,
+        3 => 32_767,
+        4 => 2_147_483_647,
+        5 => 255,
+        6 => 65_535,
+        _ => 4_294_967_295,
+    };
+    number <= most && number >= -most
+}
+
+// A cell, and a multiple of an earlier one, give a constant.
+fn add_two(
+    facts: &Facts<'_>,
+    group: u64,
+    cell: usize,
+    other: usize,
+    factor: i64,
+    found: &mut Vec<Proposal>,
+) -> Result<(), AllocError> {
+    let times = factor.wrapping_mul(facts.seen.value(0, other));
+    let constant = facts.seen.value(0, cell).wrapping_add(times);
+    if !can_be_written(group, constant) {
+        return Ok(());
+    }
+    let mut terms = Vec::new(facts.alloc);
+    terms.push((1i64, cell))?;
+    terms.push((factor, other))?;
+    found.push(Proposal::Sum { terms, constant })?;
+    Ok(())
+}
+
+// An earlier class whose cells differ from those of this one by a constant, or give one with them; and the factor.
+fn earlier(moved: &Classes, group: u64, signature: Signature) -> Option<(usize, i64)> {
+    if let Some(number) = moved.find(key_of(group, signature.above)) {
+        return Some((number, -1));
+    }
+    match moved.find(key_of(group, signature.below)) {
+        Some(number) => Some((number, 1)),
+        None => None,
+    }
+}
+
+/// Differences and sums of two integer cells; the others are put into a list for sums of more.
+pub fn add_sums_of_two(
+    facts: &mut Facts<'_>,
+    left: &mut Vec<usize>,
+    found: &mut Vec<Proposal>,
+) -> Result<(), AllocError> {
+    let mut moved = Classes::new(facts.alloc);
+    for class in 0..facts.classes.len() {
+        if facts.sort(class) != Sort::Integer {
+            continue;
+        }
+        let Some(signature) = facts.signature(class) else {
+            continue;
+        };
+        let group = facts.group(class);
+        match earlier(&moved, group, signature) {
+            Some((number, factor)) => {
+                let other = match moved.members(number).first() {
+                    Some(other) => *other,
+                    None => class,
+                };
+                let first = facts.first(other);
+                let cell = facts.across(class, first);
+                add_two(facts, group, cell, first, factor, found)?;
+            }
+            None => left.push(class)?,
+        }
+        moved.add(key_of(group, signature.above), class)?;
+    }
+    Ok(())
+}
+
+// The first cells of classes of one type.
+fn cells_of(facts: &Facts<'_>, classes: &[usize], group: u64) -> Result<Vec<usize>, AllocError> {
+    let mut cells = Vec::new(facts.alloc);
+    for class in classes {
+        if facts.group(*class) == group && cells.len() < MOST_CELLS {
+            cells.push(facts.first(*class))?;
+        }
+    }
+    Ok(cells)
+}
+
+/// Sums of more cells of one integer type.
+pub fn add_sums(
+    facts: &Facts<'_>,
+    left: &[usize],
+    found: &mut Vec<Proposal>,
+) -> Result<(), AllocError> {
+    for group in 2..8u64 {
+        let cells = cells_of(facts, left, group)?;
+        for affine in affine_relations(facts.alloc, facts.seen, cells.as_slice())? {
+            if can_be_written(group, affine.constant) {
+                found.push(Proposal::Sum {
+                    terms: affine.terms,
+                    constant: affine.constant,
+                })?;
+            }
+        }
+    }
+    Ok(())
+}
+
+// BOOL cells of a program that are no inputs, one of each class.
+fn flags_of(facts: &Facts<'_>, side: Side) -> Result<Vec<usize>, AllocError> {
+    let mut cells = Vec::new(facts.alloc);
+    for class in 0..facts.classes.len() {
+        if facts.sort(class) != Sort::Bool || facts.is_of_inputs(class) {
+            continue;
+        }
+        if let Some(cell) = facts.member_of(class, side)
+            && cells.len() < MOST_CELLS
+        {
+            cells.push(cell)?;
+        }
+    }
+    Ok(cells)
+}
+
+/// Counts of BOOL cells of one program that are TRUE. Those of two cells are opposite.
+pub fn add_counts(
+    facts: &Facts<'_>,
+    side: Side,
+    found: &mut Vec<Proposal>,
+) -> Result<(), AllocError> {
+    let cells = flags_of(facts, side)?;
+    for affine in affine_relations(facts.alloc, facts.seen, cells.as_slice())? {
+        if affine.terms.len() > 2 {
+            found.push(Proposal::Count {
+                terms: affine.terms,
+                constant: affine.constant,
+            })?;
+        }
+    }
+    Ok(())
+}

@@ -1,0 +1,7 @@
+pub mod Lasts
+pub mod OwnTypes
+pub mod Walks
+pub mod Cells
+pub mod ChartNames
+pub mod Flags
+pub mod StatedCells

@@ -1,0 +1,28 @@
+-- What is suggested for three texts.
+use Rattle.std.specs.Prelude.{◌≡◌, ℕ, List}
+use Rattle.rules.specs.declared.rule.Refusal.{Refusal}
+use Rattle.program_tree.specs.Tree.{ProgramData}
+use Rattle.front_end.specs.Texts.{IsProgram, IsNoProgram}
+use Rattle.command_answers.specs.declared.source.Source.{Source}
+use Rattle.command_answers.specs.declared.source.Source.TheVariants as sources
+use Rattle.command_files.specs.Stating.{StatesNoRelation}
+use Rattle.suggestion.specs.declared.making.Suggestion.{Suggestion}
+use Rattle.line_trials.specs.Lines.{lines_view, with_lines}
+use Rattle.line_trials.specs.Held.{runs_of}
+use Rattle.line_trials.specs.Suggested.{IsSuggestion}
+
+-- the text of REL with INVARIANT lines behind it, which held on all pairs of runs of the programs that OLD and NEW state
+pub record IsSuggestedFor (old_text new_text text : List ℕ) (s : Suggestion) : Type 0 where
+  pub old : ProgramData
+  pub new : ProgramData
+  pub old_is : IsProgram old_text old
+  pub new_is : IsProgram new_text new
+  pub made : s.text.items ≡ with_lines text (lines_view s.lines.items)
+  pub held : IsSuggestion old new text s.text.items (runs_of s.runs.items)
+
+-- the first rule that the first of the texts breaks that breaks one
+pub data IsRefusedFor (old_text new_text text : List ℕ) (file : Source) (r : Refusal) : Type 0 where
+  by_old : file ≡ sources.Old → IsNoProgram old_text r → IsRefusedFor old_text new_text text file r
+  by_new : (old : ProgramData) → IsProgram old_text old → file ≡ sources.New → IsNoProgram new_text r → IsRefusedFor old_text new_text text file r
+  by_relation : (old new : ProgramData) → IsProgram old_text old → IsProgram new_text new → file ≡ sources.Relation → StatesNoRelation old new text r
+      → IsRefusedFor old_text new_text text file r

@@ -1,0 +1,57 @@
+// What is suggested for three texts.
+ghost use Rattle.std.specs.Prelude.{IfOk, IfErr};
+ghost use Rattle.program_tree.specs.View.{program_view};
+ghost use Rattle.scan_model.specs.InRange.{IsProgram as IsFitToRun};
+ghost use Rattle.front_end.specs.Texts.{IsProgram, IsNoProgram};
+ghost use Rattle.command_files.specs.Refused.{IfRefused, IfRefusedOf};
+ghost use Rattle.suggest_command.specs.Suggested.{IsSuggestedFor, IsRefusedFor};
+
+use crate::numbers::numbers_in;
+use command_answers::Source;
+use command_files::{AcceptError, fault_of};
+use front_end::accept_text;
+use program_tree::Program;
+use std::alloc::Global;
+use suggestion::{Suggestion, suggest};
+
+// The program of a text.
+fn program_of(alloc: Global, source: Source, text: &[u8]) -> Result<Program, AcceptError>
+    ensures ok { IfOk result (λ p. IsProgram text.now (program_view p)) }
+    ensures fit { IfOk result (λ p. IsFitToRun (program_view p)) }
+    ensures refused { IfErr result (IfRefusedOf source (IsNoProgram text.now)) }
+{
+    match accept_text(alloc, text) {
+        Ok(program) => Ok(program),
+        Err(fault) => Err(fault_of(source, fault)),
+    }
+}
+
+// The numbers of texts that are accepted; were a text refused here, there would be none.
+fn numbers_or_none(alloc: Global, old: &[u8], new: &[u8], relation: &[u8]) -> Vec<i64> {
+    match numbers_in(alloc, old, new, relation) {
+        Ok(numbers) => numbers,
+        Err(_) => Vec::new(alloc),
+    }
+}
+
+/// The text of REL with INVARIANT lines behind it, each of which held on all pairs of runs of the programs that OLD and NEW state; or the
+/// first rule that the first of the texts breaks.
+pub fn suggest_for(
+    alloc: Global,
+    old: &[u8],
+    new: &[u8],
+    relation: &[u8],
+    seed: u64,
+) -> Result<Suggestion, AcceptError>
+    ensures suggested { IfOk result (IsSuggestedFor old.now new.now relation.now) }
+    ensures refused { IfErr result (IfRefused (IsRefusedFor old.now new.now relation.now)) }
+{
+    let old_program = program_of(alloc, Source::Old, old)?;
+    let new_program = program_of(alloc, Source::New, new)?;
+    let numbers = numbers_or_none(alloc, old, new, relation);
+    let numbers = numbers.as_slice();
+    match suggest(alloc, &old_program, &new_program, relation, numbers, seed) {
+        Ok(suggestion) => Ok(suggestion),
+        Err(fault) => Err(fault_of(Source::Relation, fault)),
+    }
+}

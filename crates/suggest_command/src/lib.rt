@@ -1,0 +1,11 @@
+// What the program that suggests makes of three texts: the third with INVARIANT lines behind it, and a note on it.
+#![tactic(auto)]
+
+mod accepted;
+mod endings;
+mod numbers;
+mod words;
+
+pub use accepted::suggest_for;
+pub use endings::{Ending, ending_of, ending_without};
+pub use words::{Asked, read_words};

@@ -1,0 +1,133 @@
+// What is suggested for the text of a relation.
+ghost use Rattle.std.specs.Prelude.{◌≡◌, IfOk, IfErr, IfSome, length};
+ghost use Rattle.program_tree.specs.View.{program_view};
+ghost use Rattle.scan_model.specs.InRange.{IsProgram};
+ghost use Rattle.scan_model.specs.Pairs.{relation_view};
+ghost use Rattle.scan_replay.specs.Duos.{AreComparable};
+ghost use Rattle.command_files.specs.Stating.{StatesRelation, StatesNoRelation};
+ghost use Rattle.rules.specs.Faults.{IfRefused};
+ghost use Rattle.line_trials.specs.Held.{runs_of};
+ghost use Rattle.line_trials.specs.Lines.{lines_view, with_lines};
+ghost use Rattle.line_trials.specs.Suggested.{HasHeld, IsSuggestion};
+
+use crate::dropping::{drop_failed, drop_refused};
+use crate::proposing::propose;
+use line_trials::{InvariantLine, Trial, read_given, try_lines};
+use program_tree::Program;
+use rules::Fault;
+use scan_model::Relation;
+use std::alloc::{AllocError, Global};
+
+/// A text with the lines that were added to it; the rows of the runs that were tried, and how many pairs these have; and where a scan
+/// of the last run left the pair unrelated, the number of that scan.
+#[derive(Drop)]
+pub struct Suggestion {
+    pub text: Vec<u8>,
+    pub lines: Vec<InvariantLine>,
+    pub runs: Vec<Vec<Vec<i64>>>,
+    pub pairs: usize,
+    pub unrelated: Option<usize>,
+}
+
+// A text, and the lines in it.
+#[derive(Drop)]
+struct Settled {
+    text: Vec<u8>,
+    lines: Vec<InvariantLine>,
+}
+
+// The lines that are taken, and the text with them; none where not even the text without lines is read back.
+fn settle(
+    alloc: Global,
+    old: &Program,
+    new: &Program,
+    given: usize,
+    text: &[u8],
+    lines: Vec<InvariantLine>,
+    runs: &[Vec<Vec<i64>>],
+) -> Result<Option<Settled>, AllocError>
+    requires old { IsProgram (program_view old.now) }
+    requires new { IsProgram (program_view new.now) }
+    ensures lines { IfOk result (λ o. IfSome o (λ s. s.text.items ≡ with_lines text.now (lines_view s.lines.items))) }
+    ensures held { IfOk result (λ o. IfSome o (λ s. HasHeld (program_view old.now) (program_view new.now) given s.text.items (runs_of runs.now))) }
+{
+    let mut lines = lines;
+    let start = text.len().saturating_add(1);
+    for _ in 0..lines.len().saturating_add(1) {
+        match try_lines(alloc, old, new, given, text, lines.as_slice(), runs)? {
+            Trial::Held(text) => return Ok(Some(Settled { text, lines })),
+            Trial::Refused(at) => drop_refused(&mut lines, start, at),
+            Trial::Failed(marks) => drop_failed(&mut lines, marks.as_slice()),
+        }
+    }
+    Ok(None)
+}
+
+// What is suggested for the text of a relation that is read.
+fn suggest_for(
+    alloc: Global,
+    old: &Program,
+    new: &Program,
+    relation: &Relation,
+    text: &[u8],
+    numbers: &[i64],
+    seed: u64,
+) -> Result<Suggestion, AllocError>
+    requires comparable { AreComparable old.now new.now relation.now }
+    requires stated { StatesRelation (program_view old.now) (program_view new.now) text.now (relation_view relation.now) }
+    ensures lines { IfOk result (λ s. s.text.items ≡ with_lines text.now (lines_view s.lines.items)) }
+    ensures held { IfOk result (λ s. HasHeld (program_view old.now) (program_view new.now) (length (relation_view relation.now).invariants) s.text.items (runs_of s.runs.items)) }
+{
+    let given = relation.invariant_clauses().len();
+    let proposed = propose(alloc, old, new, relation, numbers, seed)?;
+    let (pairs, unrelated) = (proposed.pairs, proposed.unrelated);
+    let runs = proposed.runs;
+    match settle(
+        alloc,
+        old,
+        new,
+        given,
+        text,
+        proposed.lines,
+        runs.as_slice(),
+    )? {
+        Some(settled) => Ok(Suggestion {
+            text: settled.text,
+            lines: settled.lines,
+            runs,
+            pairs,
+            unrelated,
+        }),
+        None => Ok(Suggestion {
+            text: Vec::from_slice(alloc, text)?,
+            lines: Vec::new(alloc),
+            runs: Vec::new(alloc),
+            pairs,
+            unrelated,
+        }),
+    }
+}
+
+/// Adds INVARIANT lines to the text of a relation: lines that held on all pairs of runs from the start on rows that are allowed, which
+/// are drawn from a seed, edges and the numbers of the texts first. Where a scan left a pair unrelated there is none.
+pub fn suggest(
+    alloc: Global,
+    old: &Program,
+    new: &Program,
+    text: &[u8],
+    numbers: &[i64],
+    seed: u64,
+) -> Result<Suggestion, Fault>
+    requires old { IsProgram (program_view old.now) }
+    requires new { IsProgram (program_view new.now) }
+
+    // The text is the one that was given, with the lines behind it.
+    ensures lines { IfOk result (λ s. s.text.items ≡ with_lines text.now (lines_view s.lines.items)) }
+
+    // Read again, each INVARIANT clause that was added holds on all pairs of the runs, all of whose rows are allowed.
+    ensures held { IfOk result (λ s. IsSuggestion (program_view old.now) (program_view new.now) text.now s.text.items (runs_of s.runs.items)) }
+    ensures refused { IfErr result (IfRefused (StatesNoRelation (program_view old.now) (program_view new.now) text.now)) }
+{
+    let relation = read_given(alloc, old, new, text)?;
+    Ok(suggest_for(alloc, old, new, &relation, text, numbers, seed)?)
+}

@@ -1,0 +1,57 @@
+// Lines that held on runs. Of all this nothing is asked: the lines and the runs are tested.
+ghost use Rattle.scan_replay.specs.Duos.{AreComparable};
+
+use crate::edges::edges_of;
+use invariant_lines::lines_of;
+use line_trials::InvariantLine;
+use program_tree::Program;
+use proposals::{proposals, subjects_of};
+use scan_model::Relation;
+use seen_values::Seen;
+use std::alloc::{AllocError, Global};
+use trial_runs::{Plan, try_runs};
+
+// How many candidates a relation may have.
+const MOST_CANDIDATES: usize = 4_096;
+
+/// Lines, the runs that they were found on, and how many pairs these have; and where a scan left the pair unrelated, its number in
+/// the last run.
+#[derive(Drop)]
+pub struct Proposed {
+    pub lines: Vec<InvariantLine>,
+    pub runs: Vec<Vec<Vec<i64>>>,
+    pub pairs: usize,
+    pub unrelated: Option<usize>,
+}
+
+/// Lines that held on all pairs of runs; none where a scan left a pair unrelated, since no line helps there.
+pub fn propose(
+    alloc: Global,
+    old: &Program,
+    new: &Program,
+    relation: &Relation,
+    numbers: &[i64],
+    seed: u64,
+) -> Result<Proposed, AllocError>
+    requires { AreComparable old.now new.now relation.now }
+{
+    let subjects = subjects_of(alloc, old, new)?;
+    let plan = Plan::of_cells(subjects.len(), seed);
+    let mut seen = Seen::new(alloc, subjects.len());
+    let tried = try_runs(alloc, old, new, relation, numbers, &plan, &mut seen)?;
+    let pairs = seen.rows();
+    let lines = if tried.unrelated.is_some() {
+        Vec::new(alloc)
+    } else {
+        let edges = edges_of(alloc, old, new, relation, numbers)?;
+        let room = MOST_CANDIDATES.saturating_sub(relation.candidates.len());
+        let found = proposals(alloc, &seen, subjects.as_slice(), edges.as_slice(), room)?;
+        lines_of(alloc, old, new, found.as_slice(), pairs, room)?
+    };
+    Ok(Proposed {
+        lines,
+        runs: tried.runs,
+        pairs,
+        unrelated: tried.unrelated,
+    })
+}

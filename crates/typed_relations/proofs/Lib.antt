@@ -1,0 +1,9 @@
+pub mod PairTypes
+pub mod Sides
+pub mod PairScopes
+pub mod Within
+pub mod OwnClauses
+pub mod Lines
+pub mod Programs
+pub mod Compared
+pub mod Readings
