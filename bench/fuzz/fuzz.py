@@ -1,21 +1,27 @@
 """Puts random texts to two programs that take the command lines of `regver`, and prints each difference as a case.
 
-fuzz.py CASES SECONDS SEED PROGRAM OTHER: CASES is a folder of case files, whose texts are what is changed; PROGRAM and
-OTHER are command lines, parted by spaces.
+fuzz.py CASES SECONDS SEED PROGRAM OTHER [SUGGEST]: CASES is a folder of case files, whose texts are what is changed; PROGRAM,
+OTHER and SUGGEST, the program that suggests INVARIANT lines, are command lines, parted by spaces.
 """
 
 import os
 import random
 import re
+import resource
+import signal
 import subprocess
 import sys
 import tempfile
 import time
 
+from texts import blown_up, made_pair
+
 SECTIONS = ("old", "new", "relation", "trace", "accept", "finding")
 TOKEN = re.compile(r"[A-Za-z_][A-Za-z_0-9]*#?|[0-9][0-9A-F_#]*|:=|=>|<=|>=|<>|\*\*|\.\.|\(\*|\*\)|\s+|.", re.S)
 EDGES = (0, 1, 2, 3, 7, 127, 128, 255, 256, 4095, 4096, 4097, 32767, 32768, 65535, 2147483647, 4294967295, 9223372036854775807)
-SLOW = 20.0
+SLOW = int(os.environ.get("SLOW", 20))
+STATUSES = range(0, 12)
+SOON = 1_000_000
 
 
 def plain(text):
@@ -142,50 +148,53 @@ class Changes:
                 lines[at] = " ".join(words)
         return "\n".join(lines).encode("utf-8")
 
+    def bits(self, text):
+        data = bytearray(text.encode("utf-8"))
+        for _ in range(self.random.randint(1, 2) if data else 0):
+            data[self.random.randrange(len(data))] ^= 1 << self.random.randrange(8)
+        return bytes(data)
+
     def text(self, text):
-        return self.random.choice((self.token_soup, self.token_soup, self.token_soup, self.bytes))(text)
+        """What was changed, and the text."""
+        what = self.random.choice(("tokens", "tokens", "tokens", "bytes"))
+        return what, {"tokens": self.token_soup, "bytes": self.bytes}[what](text)
+
+    def finding(self, text):
+        what = self.random.choice(("lines", "lines", "lines", "bits", "bytes"))
+        return what, {"lines": self.lines, "bits": self.bits, "bytes": self.bytes}[what](text)
 
 
-def blown_up(pick):
-    """Short texts whose counts explode: what they stand for must be refused, or answered, at once."""
-    n = pick.choice((3, 8, 12, 20, 33, 60))
-    kind = pick.randrange(5)
-    if kind == 0:
-        blocks = ["FUNCTION_BLOCK B0 VAR x : BOOL; END_VAR END_FUNCTION_BLOCK"]
-        blocks += [f"FUNCTION_BLOCK B{i} VAR a, b : B{i - 1}; END_VAR END_FUNCTION_BLOCK" for i in range(1, n)]
-        return "\n".join(blocks) + f"\nPROGRAM M VAR q : BOOL; x : B{n - 1}; END_VAR q := TRUE; END_PROGRAM"
-    if kind == 1:
-        depth = min(n, 12)
-        names = ", ".join(f"i{k}" for k in range(depth))
-        opened = " ".join(f"FOR i{k} := 0 TO {pick.choice((1, 3, 9, 4095))} DO" for k in range(depth))
-        return f"PROGRAM M VAR q : BOOL; {names} : INT; END_VAR {opened} q := NOT q; {'END_FOR; ' * depth}END_PROGRAM"
-    if kind == 2:
-        calls = [f"FUNCTION F0 : INT VAR_INPUT a : INT; END_VAR F0 := a + 1; END_FUNCTION"]
-        calls += [f"FUNCTION F{i} : INT VAR_INPUT a : INT; END_VAR F{i} := F{i - 1}(a) + F{i - 1}(a := a); END_FUNCTION" for i in range(1, n)]
-        return "\n".join(calls) + f"\nPROGRAM M VAR q : INT; END_VAR q := F{n - 1}(q); END_PROGRAM"
-    if kind == 3:
-        count = pick.choice((1, 255, 256, 257, 4096))
-        return f"TYPE E : ({', '.join(f'v{i}' for i in range(count))}); END_TYPE PROGRAM M VAR q : E; END_VAR END_PROGRAM"
-    labels = ", ".join(str(i) for i in range(pick.choice((1, 100, 4096, 9000))))
-    return f"PROGRAM M VAR q : INT; END_VAR CASE q OF {labels}: q := 0; END_CASE; END_PROGRAM"
+class Over(Exception):
+    """The time is over."""
 
 
-class Both:
-    """Two programs, and the folder in which both are run."""
+class Programs:
+    """The programs, and the folder in which all are run, one after the other."""
 
-    def __init__(self, program, other, folder):
-        self.commands, self.folder = (program.split(), other.split()), folder
+    def __init__(self, folder, end, *programs):
+        self.commands, self.folder, self.end = [program.split() for program in programs], folder, end
 
     def put(self, name, data):
         with open(os.path.join(self.folder, name), "wb") as file:
             file.write(data)
 
     def run(self, which, *words):
+        """What a program prints, its status, and how long it took. It is stopped after SLOW seconds of processor time, and at the end."""
         start = time.monotonic()
+        if start >= self.end:
+            raise Over("nothing was cut off")
         try:
-            done = subprocess.run([*self.commands[which], *words], cwd=self.folder, capture_output=True, timeout=SLOW)
+            done = subprocess.run(
+                [*self.commands[which], *words],
+                cwd=self.folder,
+                capture_output=True,
+                preexec_fn=lambda: resource.setrlimit(resource.RLIMIT_CPU, (SLOW, SLOW)),
+                timeout=self.end - start,
+            )
         except subprocess.TimeoutExpired:
-            return b"TIMEOUT", None, SLOW
+            raise Over(f"{' '.join([*self.commands[which], *words])}, cut off after {time.monotonic() - start:.0f} s") from None
+        if done.returncode in (-signal.SIGKILL, -signal.SIGXCPU):
+            return b"TIMEOUT", None, time.monotonic() - start
         return done.stdout, done.returncode, time.monotonic() - start
 
     def finding(self):
@@ -225,99 +234,164 @@ def is_same(first, second):
     return first[:2] == second[:2]
 
 
+def is_spent(run):
+    return run[0].startswith(b"SPENT")
+
+
 class Round:
-    """One random case after the other."""
+    """One random case after the other, counted by its kind."""
 
-    def __init__(self, both, pairs, texts, traces, changes):
-        self.both, self.pairs, self.texts, self.traces, self.changes = both, pairs, texts, traces, changes
-        self.counts, self.differences = {}, 0
+    def __init__(self, programs, pairs, texts, traces, changes):
+        self.programs, self.pairs, self.texts, self.traces, self.changes = programs, pairs, texts, traces, changes
+        self.counts, self.slowest, self.differences = {}, {}, 0
 
-    def compare(self, title, files, *words):
-        first, second = self.both.run(0, *words), self.both.run(1, *words)
-        self.counts[words[0]] = self.counts.get(words[0], 0) + 1
+    def count(self, kind, run):
+        """Counts a case, and keeps the longest time that the program took for one of its kind."""
+        self.counts[kind] = self.counts.get(kind, 0) + 1
+        self.slowest[kind] = max(self.slowest.get(kind, 0.0), run[2])
+
+    def differ(self, kind, files, first, second):
+        self.differences += 1
+        report(f"A difference: {kind}", files, first, second)
+
+    def compare(self, kind, files, *words):
+        """Both programs run, and answer the same."""
+        first, second = self.programs.run(0, *words), self.programs.run(1, *words)
+        self.count(kind, first)
         if not is_same(first, second):
-            self.differences += 1
-            report(title, files, first, second)
+            self.differ(kind, files, first, second)
 
     def files(self, pair, **changed):
         files = [(name, changed.get(name) or pair[name].encode("utf-8")) for name in ("old", "new", "relation")]
         for name, data in files:
-            self.both.put(name, data)
+            self.programs.put(name, data)
         return files
 
+    def pair(self):
+        """A pair of the cases, or one that is made."""
+        if self.changes.random.randrange(2):
+            return "stored", self.changes.random.choice(self.pairs)
+        return "made", made_pair(self.changes.random)
+
+    def replayed(self, kind, files, trace):
+        self.programs.put("trace", trace)
+        self.compare(kind, [*files, ("trace", trace)], "replay", "old", "new", "relation", "trace")
+
     def program(self):
-        """A program's text is changed, and replayed over no row."""
-        pick = self.changes.random
-        if pick.randrange(12) == 0:
-            text = blown_up(pick).encode("utf-8")
-        else:
-            text = self.changes.text(pick.choice(self.texts))
+        """A program's text is changed, and replayed over a row without numbers."""
+        what, text = self.changes.text(self.changes.random.choice(self.texts))
         pair = {"old": "", "new": "", "relation": "RELATION 1; FAULTS EQUAL; DEPTH 3; CONFLICTS 1000;"}
-        files = self.files(pair, old=text, new=text)
-        self.both.put("trace", b"[[]]")
-        self.compare("A program", [*files, ("trace", b"[[]]")], "replay", "old", "new", "relation", "trace")
+        self.replayed(f"programs with changed {what}", self.files(pair, old=text, new=text), b"[[]]")
+
+    def blown_up(self):
+        """Two short texts whose counts explode are verified, and replayed, if a scan of them ends soon."""
+        (old, steps), (new, others) = blown_up(self.changes.random), blown_up(self.changes.random)
+        pair = {"old": old, "new": new, "relation": "RELATION 1; FAULTS EQUAL; DEPTH 2; CONFLICTS 100; RELATE TRUE;"}
+        if max(steps, others) < SOON:
+            self.replayed("counts that explode, replayed", self.files(pair), b"[[]]")
+        self.decided("counts that explode, verified", self.files(pair))
 
     def rows(self):
         """A relation or a trace is changed."""
         pick = self.changes.random
-        pair = pick.choice(self.pairs)
-        files = self.files(pair, relation=self.changes.text(pair["relation"]) if pick.randrange(2) else None)
+        _, pair = self.pair()
         trace = pair.get("trace", pick.choice(self.traces))
-        data = self.changes.text(trace) if pick.randrange(2) else trace.encode("utf-8")
-        self.both.put("trace", data)
-        self.compare("A replay", [*files, ("trace", data)], "replay", "old", "new", "relation", "trace")
+        if pick.randrange(2):
+            what, text = self.changes.text(pair["relation"])
+            self.replayed(f"relations with changed {what}", self.files(pair, relation=text), trace.encode("utf-8"))
+        else:
+            what, text = self.changes.text(trace)
+            self.replayed(f"traces with changed {what}", self.files(pair), text)
 
-    def verdict(self):
+    def made(self):
+        pair = made_pair(self.changes.random)
+        self.replayed("made pairs, replayed", self.files(pair), pair["trace"].encode("utf-8"))
+
+    def judged(self):
         """A pair is verified by the other program; its finding is judged by both, whole and changed."""
-        pick = self.changes.random
-        pair = pick.choice(self.pairs)
+        origin, pair = self.pair()
         files = self.files(pair)
-        self.both.no_finding()
-        answer = self.both.run(1, "verify", "old", "new", "relation", "finding")
-        found = self.both.finding()
+        self.programs.no_finding()
+        answer = self.programs.run(1, "verify", "old", "new", "relation", "finding")
+        found = self.programs.finding()
         if answer[1] is None or found is None or len(found) > 200_000:
             return
-        self.compare("A finding", [*files, ("finding", found)], "check", "old", "new", "relation", "finding")
+        command = self.changes.random.choice(("check", "explain"))
+        self.compare(f"findings on {origin} pairs, {command}", [*files, ("finding", found)], command, "old", "new", "relation", "finding")
         for command in ("check", "check", "check", "explain"):
-            data = pick.choice((self.changes.lines, self.changes.lines, self.changes.bytes))(found.decode("utf-8"))
-            self.both.put("finding", data)
-            self.compare("A changed finding", [*files, ("finding", data)], command, "old", "new", "relation", "finding")
+            what, data = self.changes.finding(found.decode("utf-8"))
+            self.programs.put("finding", data)
+            self.compare(f"findings with changed {what}, {command}", [*files, ("finding", data)], command, "old", "new", "relation", "finding")
+
+    def decided(self, kind, files):
+        """Both verify: the verdicts are the same, but where one is SPENT; the other judges the program's finding."""
+        self.programs.no_finding()
+        second = self.programs.run(1, "verify", "old", "new", "relation", "finding")
+        self.programs.no_finding()
+        first = self.programs.run(0, "verify", "old", "new", "relation", "finding")
+        self.count(kind, first)
+        if second[1] is None and first[1] is None:
+            return
+        if first[1] not in STATUSES or second[1] is not None and not is_spent(first) and not is_spent(second) and not is_same(first, second):
+            self.differ(kind, files, first, second)
+        elif self.programs.finding() is not None:
+            judged = self.programs.run(1, "check", "old", "new", "relation", "finding")
+            if judged[1] is not None and judged[0] != b"VALID " + first[0]:
+                self.differ(f"{kind}, judged", files, first, judged)
 
     def verified(self):
-        """Both verify: the verdicts are the same, but where one is SPENT; the other judges the program's finding."""
-        pair = self.changes.random.choice(self.pairs)
-        files = self.files(pair)
-        self.both.no_finding()
-        second = self.both.run(1, "verify", "old", "new", "relation", "finding")
-        self.both.no_finding()
-        first = self.both.run(0, "verify", "old", "new", "relation", "finding")
-        self.counts["verify"] = self.counts.get("verify", 0) + 1
-        if any(run[1] is None or run[0].startswith(b"SPENT") for run in (first, second)):
+        origin, pair = self.pair()
+        self.decided(f"{origin} pairs, verified", self.files(pair))
+
+    def suggested(self):
+        """What is suggested for a pair is accepted by both, with the same verdict; what is refused, the other refuses too."""
+        if len(self.programs.commands) < 3:
             return
-        judged = self.both.run(1, "check", "old", "new", "relation", "finding") if self.both.finding() is not None else None
-        if not is_same(first, second) or (judged and judged[0] != b"VALID " + first[0]):
-            self.differences += 1
-            report("A pair", files, first, second)
+        origin, pair = self.pair()
+        kind = f"suggestions on {origin} pairs"
+        files = self.files(pair)
+        told = self.programs.run(2, "old", "new", "relation")
+        if told[1] in (0, 1):
+            self.decided(kind, self.files(pair, relation=told[0]))
+            return
+        self.count(kind, told)
+        self.programs.put("trace", b"[]")
+        second = self.programs.run(1, "replay", "old", "new", "relation", "trace")
+        if told[1] is not None and not is_same(told, second):
+            self.differ(kind, files, told, second)
 
 
-def main(folder, seconds, seed, program, other):
+# How often each kind of round comes.
+ROUNDS = ("program",) * 6 + ("made",) * 3 + ("rows",) * 3 + ("judged",) * 2 + ("verified",) * 2 + ("blown_up", "suggested")
+
+
+def tell(fuzz, out):
+    for kind in sorted(fuzz.counts):
+        print(f"% {fuzz.counts[kind]:7,} {kind}, {fuzz.slowest[kind]:.1f} s at most", file=out)
+    print(f"% {sum(fuzz.counts.values()):7,} cases, {fuzz.differences} differences", file=out, flush=True)
+
+
+def main(folder, seconds, seed, *programs):
+    end = time.monotonic() + float(seconds)
     pairs, texts, traces = corpus(folder)
     changes = Changes(int(seed), texts)
+    print(f"% seed {seed}", flush=True)
     with tempfile.TemporaryDirectory() as place:
-        fuzz = Round(Both(program, other, place), pairs, texts, traces, changes)
-        kinds = (fuzz.program, fuzz.program, fuzz.program, fuzz.rows, fuzz.verdict, fuzz.verified)
-        end, said = time.monotonic() + float(seconds), time.monotonic()
-        while time.monotonic() < end:
-            changes.random.choice(kinds)()
-            if time.monotonic() > said + 60:
-                said = time.monotonic()
-                print(f"% so far: {fuzz.counts}, {fuzz.differences} differences", file=sys.stderr, flush=True)
-    counts = ", ".join(f"{count} {name}" for name, count in sorted(fuzz.counts.items()))
-    print(f"% seed {seed}: {counts}, {fuzz.differences} differences")
+        fuzz = Round(Programs(place, end, *programs), pairs, texts, traces, changes)
+        said = time.monotonic()
+        try:
+            while True:
+                getattr(fuzz, changes.random.choice(ROUNDS))()
+                if time.monotonic() > said + 60:
+                    said = time.monotonic()
+                    tell(fuzz, sys.stderr)
+        except Over as over:
+            print(f"% at the end: {over}")
+            tell(fuzz, sys.stdout)
     return 1 if fuzz.differences else 0
 
 
 if __name__ == "__main__":
-    if len(sys.argv) != 6:
+    if len(sys.argv) not in (6, 7):
         sys.exit(__doc__)
     sys.exit(main(*sys.argv[1:]))

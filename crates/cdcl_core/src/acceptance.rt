@@ -8,10 +8,14 @@ ghost use Rattle.clause_core.specs.Freshness.{IsFresh};
 ghost use Rattle.clause_core.specs.Logs.{IsGoodStep};
 ghost use Rattle.clause_core.specs.declared.truth.Truth.TheVariants.{Open};
 ghost use Rattle.clause_pairs.specs.Pairs.{IsPaired};
+ghost use Rattle.clause_core.specs.Steps.{AllVariablesBelow};
 ghost use Rattle.cdcl_core.specs.Next.{assignment};
+ghost use Rattle.cdcl_core.specs.Noting.{Derives};
 
-use clause_core::{Clause, Outcome, Step, Truth, all_closed, check_step, clear, is_rising};
-use clause_pairs::{Pair, shows_fresh_by};
+use clause_core::{
+    Clause, Outcome, Step, Truth, all_closed, assume_false, clear, follow_hints, is_rising,
+};
+use clause_pairs::ClosedTest;
 
 /// Whether no variable is open.
 fn none_open(variables: u32, values: &[Truth]) -> bool
@@ -59,50 +63,61 @@ pub(crate) fn is_solution(
     satisfies(variables, held, values)
 }
 
-/// Whether the hints derive the clause, the last of them deciding.
+/// Whether the hints lead from the values to a false clause, and not before the last of them.
+fn last_decides(held: &[Clause], values: &mut [Truth], hints: &[u32]) -> bool
+    requires { AllVariablesBelow (length values.old) held.now }
+    ensures { IsTrue result → Derives held.now values.old hints.now }
+{
+    match hints.split_last() {
+        None => false,
+        Some((last, front)) => match follow_hints(held, values, front) {
+            Outcome::NoConflict => match follow_hints(held, values, &[*last]) {
+                Outcome::Accepted => true,
+                _ => false,
+            },
+            _ => false,
+        },
+    }
+}
+
+/// Whether the hints derive the clause, the last of them deciding. Each hint is followed once.
 fn derives(variables: u32, held: &[Clause], values: &mut [Truth], step: &Step) -> bool
     requires held { IsTrue (list_all (is_within variables) held.now) }
     requires size { length values.old ≡ variables + 1 }
     ensures good { IsTrue result → IsGoodStep variables held.now step.now }
 {
     let literals = step.clause.literals();
-    let numbers = step.hints.numbers();
     if !is_rising(variables, literals) {
         return false;
     }
     clear(values);
-    match numbers.split_last() {
-        None => false,
-        Some((_, front)) => {
-            check_step(held, values, literals, front) == Outcome::NoConflict
-                && check_step(held, values, literals, numbers) == Outcome::Accepted
-        }
-    }
+    assume_false(values, literals);
+    last_decides(held, values, step.hints.numbers())
 }
 
 /// Whether the values show that the clause is fresh.
 fn shows(
     variables: u32,
     held: &[Clause],
-    pairs: &mut Vec<Pair>,
+    test: &mut ClosedTest,
     values: &[Truth],
     step: &Step,
 ) -> bool
     requires held { IsTrue (list_all (is_within variables) held.now) }
     requires clause { IsTrue (rises variables step.now.clause) }
     requires size { length values.now ≡ variables + 1 }
-    requires paired { IsPaired held.now pairs.old.items }
+    requires paired { IsPaired held.now test.old }
     ensures fresh { IsTrue result → IsFresh held.now step.now.clause }
-    ensures paired { IsPaired held.now pairs.new.items }
+    ensures paired { IsPaired held.now test.new }
 {
-    shows_fresh_by(held, pairs.as_mut_slice(), values, step.clause.literals())
+    test.shows_fresh(held, values, step.clause.literals())
 }
 
 /// Whether a step that was proposed may be taken: it is derived, and fresh unless it is empty.
 pub(crate) fn may_take(
     variables: u32,
     held: &[Clause],
-    pairs: &mut Vec<Pair>,
+    test: &mut ClosedTest,
     values: &mut [Truth],
     shown: &[Truth],
     step: &Step,
@@ -110,10 +125,10 @@ pub(crate) fn may_take(
     requires held { IsTrue (list_all (is_within variables) held.now) }
     requires size { length values.old ≡ variables + 1 }
     requires small { variables < 2 ^ 32 - 1 }
-    requires paired { IsPaired held.now pairs.old.items }
+    requires paired { IsPaired held.now test.old }
     ensures good { IsTrue result → IsGoodStep variables held.now step.now }
     ensures fresh { IsTrue result → step.now.clause ≢ [] → IsFresh held.now step.now.clause }
-    ensures paired { IsPaired held.now pairs.new.items }
+    ensures paired { IsPaired held.now test.new }
 {
     if shown.len() != variables as usize + 1 {
         return false;
@@ -124,5 +139,5 @@ pub(crate) fn may_take(
     if step.clause.literals().is_empty() {
         return true;
     }
-    shows(variables, held, pairs, shown, step)
+    shows(variables, held, test, shown, step)
 }

@@ -11,7 +11,7 @@ use crate::acceptance::{is_solution, may_take};
 use crate::next::{Next, next_step};
 use crate::search::{Proposal, Search};
 use clause_core::{Assignment, Clause, Cnf, Decided, Log, Truth, copy_clauses, unassigned};
-use clause_pairs::{Pair, add_pair, no_pairs};
+use clause_pairs::ClosedTest;
 use std::alloc::{AllocError, Global};
 
 /// The next step: the one proposed where it passes the tests, else the one that is always there.
@@ -19,7 +19,7 @@ fn next_tested<S: Search>(
     alloc: Global,
     variables: u32,
     held: &[Clause],
-    pairs: &mut Vec<Pair>,
+    test: &mut ClosedTest,
     values: &mut [Truth],
     search: &mut S,
     refused: &mut u64,
@@ -28,9 +28,9 @@ fn next_tested<S: Search>(
     requires size { length values.old ≡ variables + 1 }
     requires few { length held.now < 2 ^ 32 - 1 }
     requires small { variables < 2 ^ 32 - 1 }
-    requires paired { IsPaired held.now pairs.old.items }
+    requires paired { IsPaired held.now test.old }
     ensures next { IfOk result (IsNext variables held.now values.new) }
-    ensures paired { IsPaired held.now pairs.new.items }
+    ensures paired { IsPaired held.now test.new }
 {
     match search.propose(held)? {
         Proposal::Solution => {
@@ -39,7 +39,7 @@ fn next_tested<S: Search>(
             }
         }
         Proposal::Derivation(step) => {
-            if may_take(variables, held, pairs, values, search.values(), &step) {
+            if may_take(variables, held, test, values, search.values(), &step) {
                 search.learn()?;
                 return Ok(Next::Derived(step));
             }
@@ -65,7 +65,7 @@ pub fn decide_by<S: Search>(
 {
     let variables = cnf.variables();
     let mut held = copy_clauses(alloc, cnf.clauses())?;
-    let mut pairs = no_pairs(alloc, held.len())?;
+    let mut test = ClosedTest::new(alloc, variables, held.len())?;
     let mut values = unassigned(alloc, variables)?;
     let mut log = Log::new(alloc);
     for _turn in 0..limit {
@@ -73,7 +73,7 @@ pub fn decide_by<S: Search>(
             alloc,
             variables,
             held.as_slice(),
-            &mut pairs,
+            &mut test,
             values.as_mut_slice(),
             search,
             refused,
@@ -89,7 +89,7 @@ pub fn decide_by<S: Search>(
                     return Ok(Decided::Refuted(log));
                 }
                 held.push(clause)?;
-                add_pair(&mut pairs)?;
+                test.add()?;
             }
         }
     }

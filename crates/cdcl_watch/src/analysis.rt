@@ -1,13 +1,11 @@
 // What a conflict teaches: the clause of its first unique implication point, made smaller.
 
-use crate::arena::{Arena, ClauseRef};
-use crate::code::Code;
 use crate::marks::Marks;
 use crate::order::Order;
 use crate::redundancy::{Redundancy, level_bit};
-use crate::table::{low, read, write};
-use crate::trail::Trail;
+use clause_pairs::{read, write};
 use std::alloc::{AllocError, Global};
+use watched_propagation::{Arena, ClauseRef, Code, Trail, low};
 
 #[derive(Drop)]
 pub(crate) struct Analysis {

@@ -1,11 +1,9 @@
 // What derives a learned clause: the clauses that were unit on the way to the conflict, and the false one.
 
-use crate::arena::{Arena, ClauseRef};
-use crate::code::Code;
 use crate::marks::Marks;
-use crate::trail::Trail;
 use clause_core::Hints;
 use std::alloc::{AllocError, Global};
+use watched_propagation::{Arena, ClauseRef, Code, Trail};
 
 /// The literals that the conflict rests on, and the reasons of them with their places on the trail.
 #[derive(Drop)]

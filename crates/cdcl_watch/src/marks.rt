@@ -1,8 +1,8 @@
 // Marks on variables.
 
-use crate::code::Code;
-use crate::table::{read, write};
+use clause_pairs::{read, write};
 use std::alloc::{AllocError, Global};
+use watched_propagation::Code;
 
 /// Variables that are marked, and the literals that marked them, in order.
 #[derive(Drop)]

@@ -1,7 +1,8 @@
 // The order of decisions: the open variable of the greatest activity, with the value that it had last.
 
-use crate::table::{low, read, write};
+use clause_pairs::{read, write};
 use std::alloc::{AllocError, Global};
+use watched_propagation::low;
 
 /// The place of a variable that is not in the heap.
 const NO_PLACE: u32 = u32::MAX;

@@ -1,10 +1,8 @@
 // Which literals of a learned clause follow from its others.
 
-use crate::arena::{Arena, ClauseRef};
-use crate::code::Code;
 use crate::marks::Marks;
-use crate::trail::Trail;
 use std::alloc::{AllocError, Global};
+use watched_propagation::{Arena, ClauseRef, Code, Trail};
 
 /// The clause minimization of MiniSat: a false literal may be left out where each way back from it along
 /// the reasons ends in literals that are marked, or that no decision stands behind.

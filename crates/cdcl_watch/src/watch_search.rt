@@ -1,16 +1,13 @@
 // The search of conflict-driven clause learning by watched literals.
 
 use crate::analysis::Analysis;
-use crate::arena::ClauseRef;
-use crate::code::Code;
 use crate::explanation::Explanation;
 use crate::order::Order;
-use crate::propagator::Propagator;
-use crate::table::low;
 use cdcl_core::{Proposal, Search};
 use clause_core::{Clause, Lit, Step, Truth};
 use std::alloc::{AllocError, Global};
 use std::mem;
+use watched_propagation::{ClauseRef, Code, Propagator, low};
 
 /// How many conflicts there are between two restarts.
 const CONFLICTS_A_RESTART: u32 = 100;

@@ -5,8 +5,8 @@ use Rattle.judgement.specs.declared.answers.Judged.TheVariants as judgements
 use Rattle.command_answers.specs.declared.status.Status.TheVariants.{Valid, Invalid, Refused}
 use Rattle.command_answers.specs.Reports.{Report}
 use Rattle.command_answers.specs.Answers.{IsExact}
-use Rattle.command_files.specs.Texts.{Texts}
-use Rattle.finding_answers.proofs.RefusalLemmas.{refusal_status}
+use Rattle.finding_commands.specs.Texts.{Texts}
+use Rattle.finding_commands.proofs.RefusalLemmas.{refusal_status}
 use Rattle.finding_commands.specs.Reports.{not_compared, on_finding}
 use Rattle.check_command.specs.Reports.{CheckReports, judged, too_long, ShowsValid}
 

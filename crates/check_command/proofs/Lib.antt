@@ -1,3 +1,4 @@
 pub mod Judging
 pub mod Answering
 pub mod Once
+pub use Rattle.finding_commands.proofs as finding_commands

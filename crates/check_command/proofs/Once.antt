@@ -10,7 +10,7 @@ use Rattle.queries.specs.Questions.{QueryData}
 use Rattle.queries.specs.Settings.{setting_of}
 use Rattle.command_answers.specs.Reports.{Report}
 use Rattle.command_answers.specs.Alike.{AreAlike}
-use Rattle.command_files.specs.Texts.{Texts}
+use Rattle.finding_commands.specs.Texts.{Texts}
 use Rattle.finding_answers.specs.Lines.{most_bytes, judged_report, too_long_report}
 use Rattle.finding_commands.proofs.Once as of_four
 use Rattle.check_command.specs.Reports.{CheckReports, ReportsFinding, judged, too_long}

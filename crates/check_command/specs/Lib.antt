@@ -1,1 +1,2 @@
 pub mod Reports
+pub use Rattle.finding_commands.specs as finding_commands

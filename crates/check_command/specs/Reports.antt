@@ -12,9 +12,9 @@ use Rattle.judgement.specs.declared.answers.Judged.{Judged}
 use Rattle.judgement.specs.declared.answers.Judged.TheVariants.{Valid}
 use Rattle.judgement.specs.declared.answers.JudgeErr.TheVariants.{M8}
 use Rattle.command_answers.specs.Reports.{Report}
-use Rattle.command_files.specs.Texts.{Texts}
-use Rattle.comparison_files.specs.Accepting.{AreAccepted}
-use Rattle.comparison_files.specs.Comparing.{formulas_of}
+use Rattle.finding_commands.specs.Texts.{Texts}
+use Rattle.finding_commands.specs.Accepting.{AreAccepted}
+use Rattle.finding_commands.specs.Comparing.{formulas_of}
 use Rattle.finding_answers.specs.Lines.{most_bytes, valid_line, judged_report, too_long_report}
 use Rattle.finding_commands.specs.Reports.{ReportsOn}
 

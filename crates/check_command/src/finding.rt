@@ -7,7 +7,7 @@ ghost use Rattle.queries.specs.Settings.{setting_of};
 ghost use Rattle.scan_replay.specs.Duos.{AreComparable};
 ghost use Rattle.judgement.specs.Findings.{IsJudged};
 ghost use Rattle.judgement.specs.Shown.{ShowsVerdict};
-ghost use Rattle.product_build.specs.MadeCircuits.{comparison_between};
+ghost use Rattle.finding_commands.specs.MadeCircuits.{comparison_between};
 ghost use Rattle.finding_answers.specs.Lines.{most_bytes};
 
 use command_answers::{Limit, Source, Status, put_last, put_limit};

@@ -21,6 +21,7 @@ pub enum Outcome {
 }
 
 /// The clause of that number, from 1.
+#[inline]
 pub fn clause_at(held: &[Clause], number: u32) -> Option<&Clause>
     ensures none { IfNone result (clause_at held.now number ≡ None) }
     ensures some { IfSome result (λ c. clause_at held.now number ≡ Some c.now) }

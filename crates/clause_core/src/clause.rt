@@ -42,6 +42,7 @@ impl Clause {
     }
 
     /// Adds a literal behind the others.
+    #[inline]
     pub fn push(&mut self, literal: Lit) -> Result<(), AllocError>
         ensures ok { OnOk result (self.new ≡ self.old ++ literal ∷ []) }
         ensures err { OnErr result (self.new ≡ self.old) }

@@ -37,6 +37,7 @@ impl Hints {
     }
 
     /// Adds a number behind the others.
+    #[inline]
     pub fn push(&mut self, number: u32) -> Result<(), AllocError>
         ensures ok { OnOk result (self.new ≡ self.old ++ number ∷ []) }
         ensures err { OnErr result (self.new ≡ self.old) }

@@ -17,6 +17,7 @@ pub enum Status {
 }
 
 /// Looks at the literals in order, and stops at the second that is not false.
+#[inline]
 pub fn clause_status(values: &[Truth], literals: &[Lit]) -> Status
     requires { VariablesBelow (length values.now) literals.now }
     ensures status { result ≡ clause_status values.now literals.now }
@@ -37,6 +38,7 @@ pub fn clause_status(values: &[Truth], literals: &[Lit]) -> Status
     }
 }
 
+#[inline]
 fn unit_or_neither(values: &[Truth], literal: Lit) -> Status
     requires variable { literal.variable < length values.now }
     ensures status { result ≡ status_of_one (value values.now literal) literal }

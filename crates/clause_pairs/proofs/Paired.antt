@@ -1,5 +1,5 @@
 -- Pairs of held clauses, when a pair or a clause is added or changed.
-use Rattle.std.proofs.Common.{◌≡◌, ◌≢◌, ℕ, zero, suc, ◌<◌, List, [], ◌∷◌, ◌++◌, length, get_or, set, replicate, Option, Some, refl, sym, ◌∙◌, ap, subst, arith}
+use Rattle.std.proofs.Common.{◌≡◌, ℕ, zero, suc, List, [], ◌∷◌, ◌++◌, get_or, set, replicate, Some, refl, sym, ◌∙◌, ap, subst}
 use Rattle.std.specs.List.{slice_get}
 use Rattle.clause_core.specs.declared.literal.Lit.{Lit}
 use Rattle.clause_pairs.specs.declared.pair.Pair.{Pair}

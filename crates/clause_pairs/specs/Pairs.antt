@@ -29,6 +29,10 @@ literal_of r = record { variable = r / 2; negative = nat_eq (r % 2) 1 }
 abbrev pub rank_weight : List Truth → ℕ → ℕ
 rank_weight vs r = weight (value vs (literal_of r))
 
+-- a table has what each literal weighs, by its rank; one past its end is open
+abbrev pub IsWeighed : List Truth → List ℕ → Type 0
+IsWeighed vs ws = (r : ℕ) → slice_index_or ws r 1 ≡ rank_weight vs r
+
 -- a rank other than 0 is that of the literal at this place
 abbrev pub IsRankAt : List Lit → ℕ → ℕ → Type 0
 IsRankAt c i r = (vs : List Truth) → r ≢ 0 → rank_weight vs r ≤ weight_at vs c i

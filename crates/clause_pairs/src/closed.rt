@@ -1,9 +1,8 @@
 ghost use Rattle.std.specs.Prelude.{◌≡◌, ◌↔◌, length, IsTrue, IsSome, IfSome, Some, slice_get};
-ghost use Rattle.clause_core.specs.Steps.{clause_status, IsUnit, VariablesBelow, AllVariablesBelow};
+ghost use Rattle.clause_core.specs.Steps.{clause_status, VariablesBelow, AllVariablesBelow};
 ghost use Rattle.clause_core.specs.Propagation.{IsClosed};
-ghost use Rattle.clause_core.specs.Freshness.{IsFresh};
 ghost use Rattle.clause_core.specs.declared.status.Status.TheVariants.{Neither};
-ghost use Rattle.clause_pairs.specs.Pairs.{IsPair, IsPaired};
+ghost use Rattle.clause_pairs.specs.Pairs.{IsPair, IsPaired, IsWeighed};
 
 use crate::pair::{Pair, is_heavy, pair_of};
 use crate::table::{read, write};
@@ -21,13 +20,14 @@ fn keep_pair(held: &[Clause], pairs: &mut [Pair], place: usize, literals: &[Lit]
 
 /// A pair of a clause that is neither false nor unit.
 #[inline(never)]
-fn pair_where_closed(values: &[Truth], literals: &[Lit]) -> Option<Pair>
-    requires { VariablesBelow (length values.now) literals.now }
+fn pair_where_closed(values: &[Truth], weights: &[u8], literals: &[Lit]) -> Option<Pair>
+    requires variables { VariablesBelow (length values.now) literals.now }
+    requires weighed { IsWeighed values.now weights.now }
     ensures closed { IsSome result ↔ (clause_status values.now literals.now ≡ Neither) }
     ensures pair { IfSome result (IsPair literals.now) }
 {
-    let pair = pair_of(values, literals);
-    if is_heavy(values, pair) {
+    let pair = pair_of(weights, literals);
+    if is_heavy(weights, pair) {
         return Some(pair);
     }
     match clause_status(values, literals) {
@@ -38,17 +38,23 @@ fn pair_where_closed(values: &[Truth], literals: &[Lit]) -> Option<Pair>
 
 /// Whether no held clause is false or unit. A clause whose pair does not show it is looked at, and has
 /// another pair from then on.
-pub fn all_closed_by(held: &[Clause], pairs: &mut [Pair], values: &[Truth]) -> bool
+pub(crate) fn all_closed_by(
+    held: &[Clause],
+    pairs: &mut [Pair],
+    values: &[Truth],
+    weights: &[u8],
+) -> bool
     requires held { AllVariablesBelow (length values.now) held.now }
     requires paired { IsPaired held.now pairs.old }
+    requires weighed { IsWeighed values.now weights.now }
     ensures exact { IsTrue result ↔ IsClosed held.now values.now }
     ensures paired { IsPaired held.now pairs.new }
 {
     for (place, clause) in held.iter().enumerate() {
-        if is_heavy(values, read(pairs, place, Pair::NONE)) {
+        if is_heavy(weights, read(pairs, place, Pair::NONE)) {
             continue;
         }
-        match pair_where_closed(values, clause.literals()) {
+        match pair_where_closed(values, weights, clause.literals()) {
             None => {
                 return false;
             }
@@ -56,26 +62,4 @@ pub fn all_closed_by(held: &[Clause], pairs: &mut [Pair], values: &[Truth]) -> b
         }
     }
     true
-}
-
-/// Whether the values themselves show that the clause is fresh: it is unit, and nothing held is unit or
-/// false.
-pub fn shows_fresh_by(
-    held: &[Clause],
-    pairs: &mut [Pair],
-    values: &[Truth],
-    literals: &[Lit],
-) -> bool
-    requires held { AllVariablesBelow (length values.now) held.now }
-    requires literals { VariablesBelow (length values.now) literals.now }
-    requires paired { IsPaired held.now pairs.old }
-    ensures exact { IsTrue result
-        ↔ (IsUnit (clause_status values.now literals.now) × IsClosed held.now values.now) }
-    ensures fresh { IsTrue result → IsFresh held.now literals.now }
-    ensures paired { IsPaired held.now pairs.new }
-{
-    match clause_status(values, literals) {
-        Status::Unit(_) => all_closed_by(held, pairs, values),
-        _ => false,
-    }
 }

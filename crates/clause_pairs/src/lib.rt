@@ -2,9 +2,11 @@
 #![tactic(auto)]
 
 mod closed;
+mod closed_test;
 mod pair;
 mod table;
+mod weights;
 
-pub use closed::{all_closed_by, shows_fresh_by};
-pub use pair::{Pair, add_pair, no_pairs};
+pub use closed_test::ClosedTest;
+pub use pair::Pair;
 pub use table::{read, write};

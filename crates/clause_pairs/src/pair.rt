@@ -1,10 +1,9 @@
-ghost use Rattle.std.specs.Prelude.{◌≡◌, ◌≤◌, List, IsTrue, IfOk, slice_get};
-ghost use Rattle.clause_core.specs.declared.literal.Lit.{Lit};
-ghost use Rattle.clause_pairs.specs.Pairs.{weight, rank_weight, IsRankAt, IsPair, IsPaired, IsHeavy};
+ghost use Rattle.std.specs.Prelude.{◌≡◌, ◌≤◌, List, IsTrue, slice_get, slice_index_or};
+ghost use Rattle.clause_core.specs.declared.truth.Truth.{Truth};
+ghost use Rattle.clause_pairs.specs.Pairs.{IsRankAt, IsPair, IsWeighed, IsHeavy};
 
 use crate::table::read;
-use clause_core::{Lit, Truth};
-use std::alloc::{AllocError, Global};
+use clause_core::Lit;
 
 /// Two literals of a clause, by their ranks. Where the first is 0 there are none.
 #[derive(Clone, Copy, PartialEq, Eq, Debug)]
@@ -21,36 +20,22 @@ impl Pair {
     };
 }
 
-/// What a literal of this value weighs.
+/// What the literal of a rank weighs, by the table of weights; 1 past its end. There is no branch on
+/// values, which no processor foresees.
 #[inline(always)]
-fn weight(truth: Truth) -> u32
-    ensures weight { result ≡ weight truth }
-    ensures small { result ≤ 2 }
+fn weight_of(weights: &[u8], rank: u32) -> u32
+    ensures weight { result ≡ slice_index_or weights.now rank 1 }
+    ensures small { result ≤ 255 }
 {
-    match truth {
-        Truth::False => 0,
-        Truth::Open => 1,
-        Truth::True => 2,
-    }
-}
-
-/// What the literal of a rank weighs. There is no branch on values, which no processor foresees.
-#[inline(always)]
-fn rank_weight(values: &[Truth], rank: u32) -> u32
-    ensures weight { result ≡ rank_weight values.now rank }
-    ensures small { result ≤ 2 }
-{
-    let plain = weight(read(values, (rank / 2) as usize, Truth::Open));
-    let is_negative = rank % 2 == 1;
-    if is_negative { 2 - plain } else { plain }
+    read(weights, rank as usize, 1) as u32
 }
 
 /// Whether the pair shows that its clause is neither false nor unit: one is true, or both are open.
 #[inline(always)]
-pub(crate) fn is_heavy(values: &[Truth], pair: Pair) -> bool
-    ensures { IsTrue result → IsHeavy values.now pair }
+pub(crate) fn is_heavy(weights: &[u8], pair: Pair) -> bool
+    ensures { (values : List Truth) → IsWeighed values weights.now → IsTrue result → IsHeavy values pair }
 {
-    pair.first != 0 && rank_weight(values, pair.first) + rank_weight(values, pair.second) >= 2
+    pair.first != 0 && weight_of(weights, pair.first) + weight_of(weights, pair.second) >= 2
 }
 
 fn literal_at(literals: &[Lit], place: usize) -> Option<Lit>
@@ -85,18 +70,15 @@ fn pair_at(literals: &[Lit], one: usize, other: usize) -> Pair
     }
 }
 
-fn is_false(values: &[Truth], literal: Lit) -> bool {
-    match read(values, literal.variable as usize, Truth::Open) {
-        Truth::Open => false,
-        Truth::True => literal.negative,
-        Truth::False => !literal.negative,
-    }
+#[inline(always)]
+fn is_false(weights: &[u8], literal: Lit) -> bool {
+    read(weights, literal.rank() as usize, 1) == 0
 }
 
 /// The first place from this one on of a literal that is not false.
-fn place_from(values: &[Truth], literals: &[Lit], start: usize) -> usize {
+fn place_from(weights: &[u8], literals: &[Lit], start: usize) -> usize {
     for place in start..literals.len() {
-        if !is_false(values, literals[place]) {
+        if !is_false(weights, literals[place]) {
             return place;
         }
     }
@@ -104,12 +86,12 @@ fn place_from(values: &[Truth], literals: &[Lit], start: usize) -> usize {
 }
 
 /// A pair of the clause: the first two literals that are not false, or the first one and its neighbor.
-pub(crate) fn pair_of(values: &[Truth], literals: &[Lit]) -> Pair
+pub(crate) fn pair_of(weights: &[u8], literals: &[Lit]) -> Pair
     ensures { IsPair literals.now result }
 {
-    let one = place_from(values, literals, 0);
+    let one = place_from(weights, literals, 0);
     let next = one.saturating_add(1);
-    let other = place_from(values, literals, next);
+    let other = place_from(weights, literals, next);
     if other < literals.len() {
         pair_at(literals, one, other)
     } else if next < literals.len() {
@@ -117,19 +99,4 @@ pub(crate) fn pair_of(values: &[Truth], literals: &[Lit]) -> Pair
     } else {
         pair_at(literals, one.saturating_sub(1), one)
     }
-}
-
-/// As many places for pairs, none of which has one.
-pub fn no_pairs(alloc: Global, count: usize) -> Result<Vec<Pair>, AllocError>
-    ensures { IfOk result (λ v. (held : List (List Lit)) → IsPaired held v.items) }
-{
-    vec![in alloc; Pair::NONE; count]
-}
-
-/// Adds a place for the pair of one more clause.
-pub fn add_pair(pairs: &mut Vec<Pair>) -> Result<(), AllocError>
-    ensures { (held : List (List Lit)) → IsPaired held pairs.old.items → IsPaired held pairs.new.items }
-{
-    pairs.push(Pair::NONE)?;
-    Ok(())
 }

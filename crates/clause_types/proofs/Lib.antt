@@ -1,2 +1,4 @@
 pub mod SideLemmas
+pub mod HashLemmas
+pub mod NumberLemmas
 pub mod ValueLemmas

@@ -1,41 +1,19 @@
 -- Cells by their paths.
-use Rattle.std.proofs.Common.{◌≡◌, ◌↔◌, ℕ, ◌+◌, ◌-◌, ◌<◌, ◌≤◌, Bool, true, false, IsTrue, cond, List, [], ◌∷◌, ◌++◌, length, get_or, take, drop, Option, Some, None, MatchOption, refl, sym, ap, ◌∙◌, arith, suc, drop-cons, append-nil, Bor}
+use Rattle.std.proofs.Common.{◌≡◌, ◌↔◌, ℕ, ◌+◌, ◌-◌, ◌<◌, ◌≤◌, Bool, true, false, IsTrue, List, [], ◌∷◌, ◌++◌, length, get_or, take, drop, Option, Some, None, MatchOption, refl, sym, ap, ◌∙◌, arith, suc, drop-cons, append-nil, Bor}
 use Rattle.std.specs.Str.{bytes_eq}
 use Rattle.std.specs.Bool.{one_answer}
 use Rattle.std.proofs.lemmas.Slice.Eq.{bytes_eq-Decides}
 use Rattle.std.proofs.lemmas.List.{append_cancel_left, take-append-drop}
 use Rattle.std.proofs.Math.Seq.{take-append_seam}
-use Rattle.std.proofs.lemmas.Map.Text.{hash_map_updates_str}
-use Rattle.indexmap.specs.IndexMap.{IndexMap, get_by, Updates}
-use Rattle.program_tree.specs.declared.typed.Cell.{Cell}
 use Rattle.source_tree.specs.Syntax.{Named}
 use Rattle.program_tree.specs.Tree.{CellData}
-use Rattle.program_tree.specs.View.{cell_view, cells_view}
-use Rattle.typing.specs.declared.scope.Meaning.{Meaning}
 use Rattle.typing.specs.Programs.{joined, own_type, cell_meaning, cell_among}
-use Rattle.clause_types.specs.Sides.{Finds}
 
 pub last_one : {A : Type 0} → (cs : List A) (place : ℕ) (d : A) → 0 < place → place ≤ length cs → drop (place - 1) cs ≡ get_or cs (place - 1) d ∷ drop place cs
 last_one cs place d some within =
     let e : suc (place - 1) ≡ place = omega arith in
     let s : place - 1 < length cs = omega arith in
     drop-cons cs (place - 1) d s ∙ ap (λ n. get_or cs (place - 1) d ∷ drop n cs) e
-
--- one more cell, before those that are found
-pub finds_one_more : {S : Type 0} (start : ℕ) (cs : List Cell) (place : ℕ) (path : Bor (List ℕ)) (cell : Cell) (m : Meaning) (old new : IndexMap (Bor (List ℕ)) Meaning S)
-    → 0 < place → place ≤ length cs → cell ≡ get_or cs (place - 1) cell → path.now ≡ (cell_view cell).path → m ≡ cell_meaning own_type (start + (place - 1)) (cell_view cell)
-    → Updates (λ x y. bytes_eq x.now y.now) old new path (Some m) → Finds old own_type (start + place) (cells_view (drop place cs)) → Finds new own_type (start + (place - 1)) (cells_view (drop (place - 1) cs))
-finds_one_more start cs place path cell m old new some within same named meant updates finds text =
-    let c : CellData = cell_view cell in
-    let rest : List CellData = cells_view (drop place cs) in
-    let next : start + place ≡ start + (place - 1) + 1 = omega arith in
-    let listed : cells_view (drop (place - 1) cs) ≡ c ∷ rest = ap cells_view (last_one cs place cell some within) ∙ ap (λ x. cell_view x ∷ rest) (sym same) in
-    let one : get_by (λ k. bytes_eq text k.now) new ≡ cond (bytes_eq path.now text) (Some m) (get_by (λ k. bytes_eq text k.now) old) = hash_map_updates_str path.now old new (Some m) updates text in
-    let two : get_by (λ k. bytes_eq text k.now) old ≡ cell_among own_type text (start + (place - 1) + 1) rest = finds text ∙ ap (λ n. cell_among own_type text n rest) next in
-    one ∙ ap (λ o. cond (bytes_eq path.now text) (Some m) o) two
-    ∙ ap (λ (t : List ℕ). cond (bytes_eq t text) (Some m) (cell_among own_type text (start + (place - 1) + 1) rest)) named
-    ∙ ap (λ (x : Meaning). cond (bytes_eq c.path text) (Some x) (cell_among own_type text (start + (place - 1) + 1) rest)) meant
-    ∙ ap (cell_among own_type text (start + (place - 1))) (sym listed)
 
 -- ---- names joined by points
 

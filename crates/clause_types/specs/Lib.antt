@@ -1,3 +1,5 @@
+pub mod PairedNumbers
 pub mod PairedTypes
 pub mod Pairs
+pub mod PathHashes
 pub mod Sides

@@ -3,13 +3,10 @@ use Rattle.std.specs.Prelude.{◌≡◌, ℕ, List, true, Option, Some, None, op
 use Rattle.std.specs.Str.{bytes_eq}
 use denote.Ref.{Bor}
 use Rattle.indexmap.specs.IndexMap.{IndexMap, get_by}
-use Rattle.plc_types.specs.declared.data_type.DataType.{DataType}
 use Rattle.plc_types.specs.Enumerations.{value_named}
-use Rattle.program_tree.specs.Tree.{CellData}
 use Rattle.clause_types.specs.declared.enumeration_values.EnumerationValue.{EnumerationValue}
 use Rattle.expr_types.specs.ValueMeanings.{valued}
 use Rattle.typing.specs.declared.scope.Meaning.{Meaning}
-use Rattle.typing.specs.Programs.{cell_among}
 
 -- what a value stands for
 abbrev pub whole_value : EnumerationValue → Meaning
@@ -23,10 +20,6 @@ kept_value v = record { kind = v.0; value = pos v.1 }
 abbrev pub kept_or : Option ℕ → ℕ → Option EnumerationValue → Option EnumerationValue
 kept_or (Some k) number later = Some (kept_value (number, k))
 kept_or None number later = later
-
--- a map finds by each path the first of the cells that begin at a place
-abbrev pub Finds : {S : Type 0} → IndexMap (Bor (List ℕ)) Meaning S → (DataType → DataType) → ℕ → List CellData → Type 0
-Finds found paired place cs = (text : List ℕ) → get_by (λ path. bytes_eq text path.now) found ≡ cell_among paired text place cs
 
 -- a map finds by each name the first value of that name, of types that are counted from a number on
 abbrev pub FindsValues : {S : Type 0} → IndexMap (Bor (List ℕ)) EnumerationValue S → ℕ → List (List (List ℕ)) → Type 0

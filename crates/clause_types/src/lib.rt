@@ -5,6 +5,7 @@ mod clauses;
 mod enumeration_values;
 mod pair;
 mod paired_types;
+mod path_hashes;
 mod sides;
 
 pub use clauses::{judge_clause, typed_clause};

@@ -1,7 +1,8 @@
 // The data types of a pair of programs.
-ghost use Rattle.std.specs.Prelude.{◌≡◌, ◌<◌, length};
+ghost use Rattle.std.specs.Prelude.{◌≡◌, ◌<◌, length, slice_get, unwrap_or, IfOk};
 ghost use Rattle.plc_types.specs.Enumerations.{are_same_names, names_at};
 ghost use Rattle.program_tree.specs.View.{texts_view, lists_of_texts, program_view};
+ghost use Rattle.clause_types.specs.PairedNumbers.{paired_numbers};
 ghost use Rattle.clause_types.specs.Sides.{FindsValues};
 
 use crate::enumeration_values::{Values, find_value, values};
@@ -33,23 +34,106 @@ fn names_at(types: &[Vec<String>], number: usize) -> &[String]
     }
 }
 
+// The enumerations of OLD, whose values are known by their names.
+#[derive(Drop)]
+struct OldTypes<'p> {
+    program: &'p Program,
+    values: Values<'p>,
+    ghost found: { FindsValues values 0 (program_view program.now).types },
+}
+
+impl<'p> OldTypes<'p> {
+    ghost use Rattle.std.specs.Prelude.{◌≡◌, ◌<◌, ◌^◌, IfOk, option_map};
+    ghost use Rattle.plc_types.specs.Enumerations.{value_named, old_type_of, paired_number};
+    ghost use Rattle.program_tree.specs.View.{texts_view, program_view};
+
+    // The enumerations of a program.
+    fn new(alloc: Global, program: &'p Program) -> Result<OldTypes<'p>, AllocError>
+        ensures { IfOk result (λ types. types.program.now ≡ program.now) }
+    {
+        let values = values(alloc, &program.types)?;
+        Ok(OldTypes { program, values })
+    }
+
+    // The type that has a value of a name.
+    fn type_with(&self, name: &str) -> Option<usize>
+        ensures { result ≡ option_map (λ v. v.0) (value_named name.now 0 (program_view self.now.program.now).types) }
+    {
+        let value = find_value(&self.values, name)?;
+        Some(value.kind)
+    }
+
+    // The type that has these names.
+    fn type_of(&self, names: &[String]) -> Option<usize>
+        ensures { result ≡ old_type_of (program_view self.now.program.now).types (texts_view names.now) }
+    {
+        let first = names.first()?;
+        let kind = self.type_with(first.as_str())?;
+        if are_same_names(names_at(&self.program.types, kind), names) {
+            Some(kind)
+        } else {
+            None
+        }
+    }
+
+    // The enumeration of a number of NEW, which has these names.
+    fn paired_number(&self, number: usize, names: &[String]) -> DataType
+        requires { number < 2 ^ 63 }
+        ensures { result ≡ paired_number (program_view self.now.program.now).types number (texts_view names.now) }
+    {
+        if names.is_empty() {
+            return DataType::Unknown;
+        }
+        match self.type_of(names) {
+            Some(kind) => DataType::Enumeration(kind),
+            None => DataType::Enumeration(self.program.types.len() + number),
+        }
+    }
+}
+
+// The enumerations of NEW, as they are in the pair.
+fn paired_numbers(
+    alloc: Global,
+    old: &OldTypes<'_>,
+    types: &[Vec<String>],
+) -> Result<Vec<DataType>, AllocError>
+    ensures { IfOk result (λ numbers. numbers.items ≡ paired_numbers (program_view old.now.program.now).types 0 (lists_of_texts types.now)) }
+{
+    let mut numbers = Vec::new(alloc);
+    for (number, names) in types.iter().enumerate() {
+        let kind = old.paired_number(number, names);
+        numbers.push(kind)?;
+    }
+    Ok(numbers)
+}
+
+// The data type at a place, where there is one.
+fn kind_at(kinds: &[DataType], place: usize) -> DataType
+    ensures { result ≡ unwrap_or (slice_get kinds.now place) DataType.Unknown }
+{
+    match kinds.get(place) {
+        None => DataType::Unknown,
+        Some(kind) => *kind,
+    }
+}
+
 /// The data types of a pair: an enumeration of NEW that has the same names in the same order as one of OLD is OLD's, and
 /// any other is numbered behind those of OLD.
 #[derive(Drop)]
 pub struct PairedTypes<'p> {
     old: &'p Program,
     new: &'p Program,
-    values: Values<'p>,
-    ghost found: { FindsValues values 0 (program_view old.now).types },
+    numbers: Vec<DataType>,
+    ghost listed: { numbers.items ≡ paired_numbers (program_view old.now).types 0 (program_view new.now).types },
 }
 
 impl<'p> PairedTypes<'p> {
-    ghost use Rattle.std.specs.Prelude.{◌≡◌, IfOk, option_map};
-    ghost use Rattle.plc_types.specs.Enumerations.{value_named, old_type_of, paired_type};
-    ghost use Rattle.program_tree.specs.View.{texts_view, program_view};
+    ghost use Rattle.std.specs.Prelude.{◌≡◌, IfOk};
+    ghost use Rattle.plc_types.specs.Enumerations.{paired_type};
+    ghost use Rattle.program_tree.specs.View.{program_view};
     ghost use Rattle.clause_types.specs.PairedTypes.{paired_in};
 
-    /// The data types of a pair.
+    /// The data types of a pair. Takes as long as the names of its enumerations.
     pub fn new(
         alloc: Global,
         old: &'p Program,
@@ -57,46 +141,19 @@ impl<'p> PairedTypes<'p> {
     ) -> Result<PairedTypes<'p>, AllocError>
         ensures { IfOk result (λ types. paired_in types ≡ paired_type (program_view old.now).types (program_view new.now).types) }
     {
-        let values = values(alloc, &old.types)?;
-        Ok(PairedTypes { old, new, values })
-    }
-
-    // The type of OLD that has a value of a name.
-    fn type_with(&self, name: &str) -> Option<usize>
-        ensures { result ≡ option_map (λ v. v.0) (value_named name.now 0 (program_view self.now.old.now).types) }
-    {
-        let value = find_value(&self.values, name)?;
-        Some(value.kind)
-    }
-
-    // The type of OLD that has these names.
-    fn old_type_of(&self, names: &[String]) -> Option<usize>
-        ensures { result ≡ old_type_of (program_view self.now.old.now).types (texts_view names.now) }
-    {
-        let first = names.first()?;
-        let kind = self.type_with(first.as_str())?;
-        if are_same_names(names_at(&self.old.types, kind), names) {
-            Some(kind)
-        } else {
-            None
-        }
+        let of_old = OldTypes::new(alloc, old)?;
+        let numbers = paired_numbers(alloc, &of_old, &new.types)?;
+        Ok(PairedTypes { old, new, numbers })
     }
 
     // The enumeration of a number of NEW.
     fn paired_number(&self, number: usize) -> DataType
         ensures { result ≡ paired_in self.now (DataType.Enumeration number) }
     {
-        let names = names_at(&self.new.types, number);
-        if names.is_empty() {
-            return DataType::Unknown;
-        }
-        match self.old_type_of(names) {
-            Some(kind) => DataType::Enumeration(kind),
-            None => DataType::Enumeration(self.old.types.len() + number),
-        }
+        kind_at(&self.numbers, number)
     }
 
-    /// A data type of NEW in the pair. Takes as long as the two lists of names at most.
+    /// A data type of NEW in the pair.
     pub fn paired(&self, kind: DataType) -> DataType
         ensures { result ≡ paired_in self.now kind }
     {

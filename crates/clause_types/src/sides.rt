@@ -1,19 +1,17 @@
 // The cells of a program by their paths, and the values of its enumerations by their names.
-ghost use Rattle.std.specs.Prelude.{◌≡◌, ◌↔◌, ◌+◌, ◌<◌, ◌^◌, ℕ, List, ◌∷◌, ◌++◌, IsTrue, IfOk, MatchOption, length};
+ghost use Rattle.std.specs.Prelude.{◌≡◌, ◌↔◌, ◌+◌, ◌<◌, ◌^◌, ℕ, List, ◌∷◌, ◌++◌, IsTrue, IfOk, MatchOption, drop, length};
 ghost use Rattle.source_tree.specs.SyntaxView.{names_view};
 ghost use Rattle.program_tree.specs.View.{cell_view, cells_view, program_view};
 ghost use Rattle.typing.specs.Programs.{joined, own_type, cell_meaning, cell_among, value_among, member_of};
-ghost use Rattle.clause_types.specs.Sides.{Finds, FindsValues};
+ghost use Rattle.clause_types.specs.PathHashes.{FindsHashes};
+ghost use Rattle.clause_types.specs.Sides.{FindsValues};
 
 use crate::enumeration_values::{Values, find_meaning, values};
-use indexmap::IndexMap;
+use crate::path_hashes::{FirstPlaces, find_first, first_places};
 use program_tree::{Cell, Program};
 use source_tree::Name;
 use std::alloc::{AllocError, Global};
 use typing::{Meaning, Place};
-
-/// What paths of cells stand for.
-type Places<'p> = IndexMap<&'p str, Meaning>;
 
 // What the path of a cell at a place stands for.
 fn cell_meaning(cell: &Cell, place: usize) -> Meaning
@@ -27,19 +25,6 @@ fn cell_meaning(cell: &Cell, place: usize) -> Meaning
         assignable: false,
         control: false,
     }
-}
-
-// Of each path the first of the cells that begin at a place.
-fn places<'p>(alloc: Global, start: usize, cells: &'p [Cell]) -> Result<Places<'p>, AllocError>
-    requires { start + length cells.now < 2 ^ 64 }
-    ensures { IfOk result (λ found. Finds found own_type start (cells_view cells.now)) }
-{
-    let mut found = IndexMap::new(alloc);
-    for index in (0..cells.len()).rev() {
-        let cell = &cells[index];
-        found.insert(cell.path.as_str(), cell_meaning(cell, start + index))?;
-    }
-    Ok(found)
 }
 
 // What stands in a text behind a front of it.
@@ -94,14 +79,23 @@ fn search_cells(start: usize, cells: &[Cell], members: &[Name]) -> Option<Meanin
     None
 }
 
+// The same among those that stand from the first one with a hash on.
+fn search_from(first: usize, start: usize, cells: &[Cell], members: &[Name]) -> Option<Meaning>
+    requires room { start + length cells.now < 2 ^ 64 }
+    requires within { first < length cells.now }
+    ensures { result ≡ cell_among own_type (joined (names_view members.now)) (start + first) (cells_view (drop first cells.now)) }
+{
+    search_cells(start + first, &cells[first..], members)
+}
+
 /// The cells and values of one program of a pair, whose cells' places begin at a place.
 #[derive(Drop)]
 pub struct Side<'p> {
     pub start: usize,
     pub program: &'p Program,
-    places: Places<'p>,
+    first_places: FirstPlaces,
     values: Values<'p>,
-    ghost finds: { Finds places own_type start (program_view program.now).cells },
+    ghost finds: { FindsHashes first_places 0 (program_view program.now).cells },
     ghost finds_values: { FindsValues values 0 (program_view program.now).types },
     ghost room: { start + length (program_view program.now).cells < 2 ^ 64 },
 }
@@ -112,28 +106,22 @@ impl<'p> Side<'p> {
         requires { start + length (program_view program.now).cells < 2 ^ 64 }
         ensures { IfOk result (λ side. (side.start ≡ start) × (side.program.now ≡ program.now)) }
     {
-        let places = places(alloc, start, program.cells())?;
+        let first_places = first_places(alloc, program.cells())?;
         let values = values(alloc, &program.types)?;
         Ok(Side {
             start,
             program,
-            places,
+            first_places,
             values,
         })
     }
 
-    // The cell of these names, joined by points.
+    // The cell of these names, joined by points: the first of their hash, or where that has another path, one behind it.
     fn find_cell(&self, members: &[Name]) -> Option<Meaning>
         ensures { result ≡ cell_among own_type (joined (names_view members.now)) self.now.start (program_view self.now.program.now).cells }
     {
-        if members.len() > 1 {
-            return search_cells(self.start, self.program.cells(), members);
-        }
-        let text = match members.first() {
-            None => "",
-            Some(member) => member.text.as_str(),
-        };
-        self.places.get(text).copied()
+        let first = find_first(&self.first_places, members)?;
+        search_from(first, self.start, self.program.cells(), members)
     }
 
     // The value that the one of these names is.

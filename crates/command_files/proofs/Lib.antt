@@ -1,3 +1,4 @@
 pub mod Keeping
 pub mod Refusals
 pub mod Once
+pub use Rattle.front_end.proofs as front_end

@@ -3,3 +3,4 @@ pub mod Texts
 pub mod KeptTexts
 pub mod Stating
 pub mod Refused
+pub use Rattle.front_end.specs as front_end

@@ -8,5 +8,6 @@ mod texts;
 
 pub use accept::{program_in, relation_in};
 pub use files::read_text;
+pub use front_end::{accept_text, tokens_of};
 pub use refusal::{AcceptError, fault_of, refused};
 pub use texts::{KeptTexts, read_texts};

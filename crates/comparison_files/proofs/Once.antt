@@ -6,13 +6,13 @@ use Rattle.program_tree.specs.Tree.{ProgramData}
 use Rattle.scan_model.specs.Pairs.{RelationData}
 use Rattle.queries.specs.Comparisons.{Comparison}
 use Rattle.flat_form.specs.FlatPrograms.{flat_program, is_short}
-use Rattle.flat_end.specs.FlatTexts.{HasNoFlatForm, by_program, by_size}
+use Rattle.node_end.specs.FlatTexts.{HasNoFlatForm, by_program, by_size}
 use Rattle.node_core.specs.Scans.{is_small}
 use Rattle.node_end.specs.NodeTexts.{HasManyNodes}
 use Rattle.product_build.specs.Limits.{HasFewGates, HasManyGates, in_product, in_breaks}
-use Rattle.front_end.specs.Texts.{IsProgram}
-use Rattle.front_end.proofs.OneReading.{same_tokens, no_tokens_too, one_no_tokens}
-use Rattle.front_end.proofs.OneProgram.{one_program, no_program_too, one_refusal}
+use Rattle.command_files.specs.front_end.Texts.{IsProgram}
+use Rattle.command_files.proofs.front_end.OneReading.{same_tokens, no_tokens_too, one_no_tokens}
+use Rattle.command_files.proofs.front_end.OneProgram.{one_program, no_program_too, one_refusal}
 use Rattle.relation_file.proofs.OneRelation.{relation_once, no_small_relation_too, small_refused_once}
 use Rattle.command_answers.specs.declared.source.Source.{Source}
 use Rattle.command_answers.specs.declared.limit.Limit.{Limit}

@@ -2,10 +2,10 @@
 use Rattle.std.proofs.Common.{ℕ, List, sym, subst}
 use Rattle.program_tree.specs.Tree.{ProgramData}
 use Rattle.scan_model.specs.InRange.{IsProgram as IsFitToRun}
-use Rattle.front_end.specs.Texts.{IsProgram}
-use Rattle.front_end.proofs.TypedTexts.{file_levelled, text_typed}
-use Rattle.stated_cells.specs.StatedCells.{HasStatedCells}
-use Rattle.stated_cells.proofs.StatedCells.{cells_stated}
+use Rattle.command_files.specs.front_end.Texts.{IsProgram}
+use Rattle.command_files.proofs.front_end.TypedTexts.{file_levelled, text_typed}
+use Rattle.typed_relations.specs.StatedCells.{HasStatedCells}
+use Rattle.typed_relations.proofs.StatedCells.{cells_stated}
 use Rattle.typed_relations.specs.Readings.{IsReadProgram}
 
 text_stated : (text : List ℕ) (p : ProgramData) → IsProgram text p → HasStatedCells p

@@ -5,8 +5,8 @@ use Rattle.rules.specs.declared.fault.Fault.{Fault}
 use Rattle.rules.specs.declared.fault.Fault.TheVariants as faults
 use Rattle.rules.specs.Faults as of_rules
 use Rattle.program_tree.specs.Tree.{ProgramData}
-use Rattle.front_end.specs.Texts.{HasTokens, HasNoTokens}
-use Rattle.flat_end.specs.FlatTexts.{HasNoFlatForm}
+use Rattle.command_files.specs.front_end.Texts.{HasTokens, HasNoTokens}
+use Rattle.node_end.specs.FlatTexts.{HasNoFlatForm}
 use Rattle.node_end.specs.NodeTexts.{HasNoNodes, HasManyNodes}
 use Rattle.node_end.specs.declared.fault.AcceptFault.{AcceptFault}
 use Rattle.node_end.specs.declared.fault.AcceptFault.TheVariants as nodes

@@ -6,9 +6,9 @@ use Rattle.rules.specs.declared.rule.Refusal.{Refusal}
 use Rattle.program_tree.specs.Tree.{ProgramData}
 use Rattle.scan_model.specs.Pairs.{RelationData}
 use Rattle.queries.specs.Comparisons.{Comparison}
-use Rattle.front_end.specs.Texts.{IsProgram, HasTokens, HasNoTokens}
+use Rattle.command_files.specs.front_end.Texts.{IsProgram, HasTokens, HasNoTokens}
 use Rattle.flat_form.specs.FlatPrograms.{flat_program, is_short}
-use Rattle.flat_end.specs.FlatTexts.{HasNoFlatForm}
+use Rattle.node_end.specs.FlatTexts.{HasNoFlatForm}
 use Rattle.node_core.specs.Scans.{ScanData, scan_of, is_small}
 use Rattle.node_end.specs.NodeTexts.{HasManyNodes}
 use Rattle.relation_file.specs.Stated.{IsRelation, IsNoSmallRelation, has_few_candidates}

@@ -5,7 +5,7 @@ ghost use Rattle.rules.specs.declared.rule.Rule.TheVariants.{TooLong};
 ghost use Rattle.scan_model.specs.Pairs.{relation_view, BelongsTo};
 ghost use Rattle.node_core.specs.Scans.{scan_view};
 ghost use Rattle.node_end.specs.NodeTexts.{HasManyNodes};
-ghost use Rattle.flat_end.specs.FlatTexts.{HasNoFlatForm};
+ghost use Rattle.node_end.specs.FlatTexts.{HasNoFlatForm};
 ghost use Rattle.relation_file.specs.Stated.{has_few_candidates};
 ghost use Rattle.relation_file.specs.WellFormed.{IsWellFormed};
 ghost use Rattle.query_formula_laws.specs.TypedComparisons.{IsScanOf};
@@ -20,12 +20,10 @@ ghost use Rattle.comparison_files.specs.Faults.{IfFault, IfFaultOf};
 
 use crate::fault::{CompareFault, program_fault, relation_fault};
 use command_answers::{Limit, Source};
-use command_files::KeptTexts;
-use front_end::tokens_of;
+use command_files::{KeptTexts, tokens_of};
 use node_end::{Accepted, accept};
 use program_tree::Program;
 use relation_file::read_relation;
-use relation_sizes::law_few_lines;
 use rules::{Refusal, Rule};
 use scan_model::Relation;
 use std::alloc::Global;
@@ -81,7 +79,6 @@ fn relation_of(
     ensures lines { IfOk result (λ r. HasFewLines (record { old = program_view old.now; new = program_view new.now; relation = relation_view r })) }
     ensures refused { IfErr result (IfFaultOf Source.Relation (StatesNoSmallRelation (program_view old.now) (program_view new.now) text.now) (λ l. ⊥)) }
 {
-    law_few_lines();
     let toks = match tokens_of(alloc, text) {
         Ok(toks) => toks,
         Err(fault) => return Err(relation_fault(fault)),

@@ -6,7 +6,7 @@ ghost use Rattle.clause_core.specs.Freshness.{IsFresh};
 ghost use Rattle.derivation_check.specs.Checks.{held_of, Holds, FaultFits};
 
 use crate::fault::StepFault;
-use crate::fresh_test::FreshTest;
+use crate::lazy_test::LazyTest;
 use clause_core::{
     Clause, Cnf, Outcome, Step, Truth, check_step, clear, copy_clauses, is_fresh, unassigned,
 };
@@ -25,7 +25,7 @@ pub struct Checker {
     given: usize,
     held: Vec<Clause>,
     values: Vec<Truth>,
-    test: FreshTest,
+    test: LazyTest,
     is_refuted: bool,
 }
 
@@ -48,14 +48,13 @@ impl Checker {
     {
         let held = copy_clauses(alloc, cnf.clauses())?;
         let values = unassigned(alloc, cnf.variables())?;
-        let test = FreshTest::new(alloc, cnf.variables(), held.as_slice())?;
         Ok(Checker {
             alloc,
             variables: cnf.variables(),
             given: held.len(),
             held,
             values,
-            test,
+            test: LazyTest::new(),
             is_refuted: false,
         })
     }
@@ -106,9 +105,10 @@ impl Checker {
         }
     }
 
-    /// Whether the step's clause is fresh over what is held. Takes no memory. One that is fresh takes
-    /// little more than a pass over a pair of literals for each held clause; to one that is not, each of
-    /// its literals takes as many passes over the held clauses as unit propagation needs.
+    /// Whether the step's clause is fresh over what is held. The first call makes the test that shows it; where
+    /// memory is wanting the answer is as right, and takes longer. One that is fresh takes little more than a pass over a
+    /// pair of literals for each held clause; to one that is not, each of its literals takes as many passes over the
+    /// held clauses as unit propagation needs.
     pub fn fresh(&mut self, step: &Step) -> bool
         requires { IsTrue (rises self.old.formula.variables step.now.clause) }
         ensures exact { IsTrue result ↔ IsFresh (held_of self.old) step.now.clause }
@@ -117,7 +117,7 @@ impl Checker {
         let held = self.held.as_slice();
         if self
             .test
-            .shows(self.variables, held, step.clause.literals())
+            .shows(self.alloc, self.variables, held, step.clause.literals())
         {
             return true;
         }

@@ -9,7 +9,7 @@ ghost use Rattle.clause_pairs.specs.Pairs.{IsPaired};
 
 use crate::links::Links;
 use clause_core::{Clause, Lit, Truth};
-use clause_pairs::{Pair, add_pair, no_pairs, shows_fresh_by};
+use clause_pairs::ClosedTest;
 use std::alloc::{AllocError, Global};
 use std::marker::Model;
 
@@ -18,7 +18,7 @@ use std::marker::Model;
 #[derive(Drop)]
 pub(crate) struct FreshTest {
     links: Links,
-    pairs: Vec<Pair>,
+    closed: ClosedTest,
 }
 
 impl Model for FreshTest {
@@ -27,46 +27,46 @@ impl Model for FreshTest {
 
     ghost Value = { List Pair };
 
-    ghost view = { λ t. t.pairs.items };
+    ghost view = { λ t. t.closed };
 }
 
 /// Whether the values show that the clause is fresh.
 fn shows(
     variables: u32,
     held: &[Clause],
-    pairs: &mut [Pair],
+    closed: &mut ClosedTest,
     values: &[Truth],
     literals: &[Lit],
 ) -> bool
     requires held { IsTrue (list_all (is_within variables) held.now) }
     requires literals { IsTrue (rises variables literals.now) }
-    requires paired { IsPaired held.now pairs.old }
+    requires paired { IsPaired held.now closed.old }
     ensures fresh { IsTrue result → IsFresh held.now literals.now }
-    ensures paired { IsPaired held.now pairs.new }
+    ensures paired { IsPaired held.now closed.new }
 {
     if values.len() != variables as usize + 1 {
         return false;
     }
-    shows_fresh_by(held, pairs, values, literals)
+    closed.shows_fresh(held, values, literals)
 }
 
 /// Whether it is shown that the clause is fresh, by the last of its literals that shows it.
 fn shows_by_any(
     variables: u32,
     held: &[Clause],
-    pairs: &mut [Pair],
+    closed: &mut ClosedTest,
     links: &mut Links,
     literals: &[Lit],
 ) -> bool
     requires held { IsTrue (list_all (is_within variables) held.now) }
     requires literals { IsTrue (rises variables literals.now) }
-    requires paired { IsPaired held.now pairs.old }
+    requires paired { IsPaired held.now closed.old }
     ensures fresh { IsTrue result → IsFresh held.now literals.now }
-    ensures paired { IsPaired held.now pairs.new }
+    ensures paired { IsPaired held.now closed.new }
 {
     for place in (0..literals.len()).rev() {
         let is_open = links.assume_others(literals, place);
-        let is_shown = is_open && shows(variables, held, pairs, links.values(), literals);
+        let is_shown = is_open && shows(variables, held, closed, links.values(), literals);
         links.undo();
         if is_shown {
             return true;
@@ -80,12 +80,12 @@ impl FreshTest {
     pub fn new(alloc: Global, variables: u32, held: &[Clause]) -> Result<FreshTest, AllocError>
         ensures { IfOk result (λ t. (held : List (List Lit)) → IsPaired held t) }
     {
-        let pairs = no_pairs(alloc, held.len())?;
+        let closed = ClosedTest::new(alloc, variables, held.len())?;
         let mut links = Links::new(alloc, variables)?;
         for clause in held {
             links.add(clause.literals())?;
         }
-        Ok(FreshTest { links, pairs })
+        Ok(FreshTest { links, closed })
     }
 
     /// Makes ready for a clause that will be held behind the others.
@@ -93,7 +93,7 @@ impl FreshTest {
         ensures { (held : List (List Lit)) → IsPaired held self.old → IsPaired held self.new }
     {
         self.links.add(literals)?;
-        add_pair(&mut self.pairs)
+        self.closed.add()
     }
 
     /// Whether it is shown that the clause is fresh over what is held.
@@ -104,12 +104,6 @@ impl FreshTest {
         ensures fresh { IsTrue result → IsFresh held.now literals.now }
         ensures paired { IsPaired held.now self.new }
     {
-        shows_by_any(
-            variables,
-            held,
-            self.pairs.as_mut_slice(),
-            &mut self.links,
-            literals,
-        )
+        shows_by_any(variables, held, &mut self.closed, &mut self.links, literals)
     }
 }

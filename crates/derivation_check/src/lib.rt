@@ -4,6 +4,7 @@
 mod checker;
 mod fault;
 mod fresh_test;
+mod lazy_test;
 mod links;
 
 pub use checker::{Ack, Checker};

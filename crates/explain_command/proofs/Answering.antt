@@ -8,9 +8,9 @@ use Rattle.queries.specs.Questions.{QueryData}
 use Rattle.command_answers.specs.declared.status.Status.TheVariants.{Valid, Invalid, Refused}
 use Rattle.command_answers.specs.Reports.{Report}
 use Rattle.command_answers.specs.Answers.{IsExact}
-use Rattle.command_files.specs.Texts.{Texts}
+use Rattle.finding_commands.specs.Texts.{Texts}
 use Rattle.finding_answers.specs.Lines.{most_bytes}
-use Rattle.finding_answers.proofs.RefusalLemmas.{refusal_status}
+use Rattle.finding_commands.proofs.RefusalLemmas.{refusal_status}
 use Rattle.finding_commands.specs.Reports.{not_compared, on_finding}
 use Rattle.finding_explain.specs.declared.answers.Explained.{Explained}
 use Rattle.finding_explain.specs.declared.answers.Explained.TheVariants as explanations

@@ -20,7 +20,7 @@ use Rattle.queries.specs.Questions.{QueryData}
 use Rattle.queries.specs.Settings.{Setting, setting_of}
 use Rattle.command_answers.specs.Reports.{Report}
 use Rattle.command_answers.specs.Alike.{AreAlike}
-use Rattle.command_files.specs.Texts.{Texts}
+use Rattle.finding_commands.specs.Texts.{Texts}
 use Rattle.finding_explain.specs.Notable.{AreNotable}
 use Rattle.finding_explain.proofs.LeadLemmas.{finding_lines}
 use Rattle.finding_answers.specs.Lines.{most_bytes, judged_report}

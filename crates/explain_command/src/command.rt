@@ -2,7 +2,7 @@
 ghost use Rattle.std.specs.Prelude.{◌≡◌, ◌≢◌, ◌≤◌};
 ghost use Rattle.outside.specs.Causes.{Rose, NoneFell};
 ghost use Rattle.command_answers.specs.Answers.{Answers, IsExact};
-ghost use Rattle.command_files.specs.Texts.{Texts, AreFourTold, OneOfFourRose};
+ghost use Rattle.finding_commands.specs.Texts.{Texts, AreFourTold, OneOfFourRose};
 ghost use Rattle.explain_command.specs.Reports.{ExplainReports, ShowsExplained};
 
 use crate::finding::Explaining;

@@ -5,10 +5,10 @@ use Rattle.queries.specs.Comparisons.{Comparison}
 use Rattle.queries.specs.Questions.{QueryData}
 use Rattle.command_answers.specs.Reports.{Report}
 use Rattle.command_answers.specs.Alike.{AreAlike, same}
-use Rattle.command_files.specs.Texts.{Texts}
+use Rattle.comparison_files.specs.Texts.{Texts}
 use Rattle.comparison_files.specs.Comparing.{formulas_of}
 use Rattle.comparison_files.proofs.Once.{stated_once}
-use Rattle.finding_answers.proofs.RefusalLemmas.{refusals_alike, accepted_too}
+use Rattle.comparison_files.proofs.RefusalLemmas.{refusals_alike, accepted_too}
 use Rattle.finding_commands.specs.Reports.{ReportsOn, not_compared, on_finding}
 
 module _ (on : Comparison → (QueryData → Formula) → List ℕ → Report → Type 0)

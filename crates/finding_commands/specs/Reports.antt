@@ -4,10 +4,10 @@ use Rattle.clause_core.specs.Formula.{Formula}
 use Rattle.queries.specs.Comparisons.{Comparison}
 use Rattle.queries.specs.Questions.{QueryData}
 use Rattle.command_answers.specs.Reports.{Report}
-use Rattle.command_files.specs.Texts.{Texts}
+use Rattle.comparison_files.specs.Texts.{Texts}
 use Rattle.comparison_files.specs.Accepting.{AreAccepted}
 use Rattle.comparison_files.specs.Comparing.{formulas_of}
-use Rattle.finding_answers.specs.Refusals.{ReportsRefusal}
+use Rattle.comparison_files.specs.Refusals.{ReportsRefusal}
 
 -- The report on four texts: that on the first three, where they are not compared, or that on the finding, by what they state. What is reported
 -- on a finding is told by a comparison and the formula of each query.

@@ -3,24 +3,23 @@ ghost use Rattle.std.specs.Prelude.{◌≡◌, ◌≢◌, ◌≤◌, List, ℕ, 
 ghost use Rattle.outside.specs.Causes.{Rose, NoneFell};
 ghost use Rattle.program_tree.specs.View.{program_view};
 ghost use Rattle.node_core.specs.Scans.{scan_view};
-ghost use Rattle.query_formula_laws.specs.TypedComparisons.{IsScanOf};
-ghost use Rattle.typed_relations.specs.Readings.{IsRead};
-ghost use Rattle.product_build.specs.Limits.{HasFewLines};
-ghost use Rattle.product_build.specs.MadeCircuits.{comparison_between};
+ghost use Rattle.comparison_files.specs.TypedComparisons.{IsScanOf};
+ghost use Rattle.comparison_files.specs.Readings.{IsRead};
+ghost use Rattle.comparison_files.specs.Limits.{HasFewLines};
+ghost use Rattle.comparison_files.specs.MadeCircuits.{comparison_between};
 ghost use Rattle.command_answers.specs.Answers.{Answers};
-ghost use Rattle.command_files.specs.Texts.{Texts, AreFourTold, OneOfFourRose};
-ghost use Rattle.command_files.specs.KeptTexts.{AreKept};
+ghost use Rattle.comparison_files.specs.Texts.{Texts, AreFourTold, OneOfFourRose};
+ghost use Rattle.comparison_files.specs.KeptTexts.{AreKept};
 ghost use Rattle.comparison_files.specs.Accepting.{nodes_of, AreStated};
 ghost use Rattle.comparison_files.specs.Comparing.{comparison_in};
 ghost use Rattle.finding_commands.specs.Reports.{ReportsOn};
 
 use crate::finding_command::FindingCommand;
 use command_answers::{Status, put_last};
-use command_files::{KeptTexts, read_texts};
-use comparison_files::{Compared, accept_texts, circuits_of};
-use finding_answers::put_fault;
+use comparison_files::{
+    Accepted, Compared, KeptTexts, accept_texts, circuits_of, put_fault, read_texts,
+};
 use node_core::Scan;
-use node_end::Accepted;
 use outside::{OutErr, Shelf, Sink};
 use program_tree::Program;
 use scan_model::Relation;

@@ -5,7 +5,7 @@ ghost use Rattle.clause_core.specs.Formula.{Formula};
 ghost use Rattle.queries.specs.Comparisons.{Comparison, IsComparison};
 ghost use Rattle.queries.specs.Questions.{QueryData};
 ghost use Rattle.scan_replay.specs.Duos.{AreComparable};
-ghost use Rattle.product_build.specs.MadeCircuits.{comparison_between};
+ghost use Rattle.comparison_files.specs.MadeCircuits.{comparison_between};
 ghost use Rattle.command_answers.specs.Answers.{Answers};
 ghost use Rattle.command_answers.specs.Reports.{Report};
 

@@ -13,8 +13,8 @@ use Rattle.finding_lines.specs.declared.line.Line.{Line}
 use Rattle.finding_lines.specs.declared.line.Line.TheVariants.{Header, Seen, Dropping, Pair, Scan, Log, Query, Derived, End}
 use Rattle.finding_lines.specs.Form.{IsNumber, AreNumbers, AskedFits, ConclusionFits, IsLine, rises_from, all_positive}
 use Rattle.finding_lines.specs.Spelling.{spaced, spaced_all, asked, concluded, ended, derived, spelled}
-use Rattle.finding_lines.specs.Reading.{Opens, IsLabel, IsWord, IsTaken, NoneTaken, AreNonzero, HasNoRow, Reads}
-use Rattle.finding_lines.proofs.SpellingLemmas.{number-lacks_space, word-split, spaced-split, spaced-alone, Opens-label, asked-split, asked-alone}
+use Rattle.finding_lines.specs.Reading.{Opens, IsLabel, IsTaken, NoneTaken, AreNonzero, HasNoRow, Reads}
+use Rattle.finding_lines.proofs.SpellingLemmas.{spaced-split, spaced-alone, Opens-label, asked-split, asked-alone}
 use Rattle.finding_lines.proofs.RowLemmas.{Opens-ended, ended-split, literals-nonzero, hints-nonzero}
 
 -- whether something is left
@@ -35,16 +35,16 @@ label-shut bytes label rest whole some apart more opens e =
     shut rest some apart (subst Opens (sym (append_cancel_left label rest more (sym whole ∙ e))) opens)
 
 -- a number behind a space
-pub number-none : (bytes rest word back : List ℕ) → bytes ≡ codes " " ++ rest → IsWord rest word back → ((n : ℤ) → IsNumber n → word ≢ signed_decimal n) → NoneTaken IsNumber spaced bytes
-number-none bytes rest word back whole is none n more fits opens e =
-    let tails = append_cancel_left (codes " ") rest (signed_decimal n ++ more) (sym whole ∙ e) in
-    none n fits (word-split word back (signed_decimal n) more is.word (number-lacks_space n fits) is.opens opens (sym is.whole ∙ tails)).0
+pub number-none : (bytes rest : List ℕ) → bytes ≡ 32 ∷ rest → NoneTaken IsNumber signed_decimal rest → NoneTaken IsNumber spaced bytes
+number-none bytes rest whole none n more fits opens e =
+    let tails : rest ≡ signed_decimal n ++ more = cc in
+    none n more fits opens tails
 
-pub number-taken : (bytes rest word back : List ℕ) (n : ℤ) → bytes ≡ codes " " ++ rest → IsWord rest word back → IsNumber n → word ≡ signed_decimal n → IsTaken IsNumber spaced bytes n back
-number-taken bytes rest word back n whole is fits e = record {
-  good = fits;
-  opens = is.opens;
-  whole = whole ∙ ap (λ r. codes " " ++ r) (is.whole ∙ ap (λ w. w ++ back) e);
+pub number-taken : (bytes rest back : List ℕ) (n : ℤ) → bytes ≡ 32 ∷ rest → IsTaken IsNumber signed_decimal rest n back → IsTaken IsNumber spaced bytes n back
+number-taken bytes rest back n whole taken = record {
+  good = taken.good;
+  opens = taken.opens;
+  whole = whole ∙ ap (λ r. 32 ∷ r) taken.whole;
 }
 
 -- a number behind a label

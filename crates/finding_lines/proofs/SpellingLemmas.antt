@@ -18,7 +18,7 @@ digits-lack_space (d ∷ ds) h =
     let at = digit_from_value d h.0 in
     All-cons (λ b. b ≢ 32) d ds (λ e. omega (arith, at, e)) (digits-lack_space ds h.1)
 
-decimal-lacks_space : (n : ℕ) → n < 2 ^ 64 → LacksSpace (decimal n)
+pub decimal-lacks_space : (n : ℕ) → n < 2 ^ 64 → LacksSpace (decimal n)
 decimal-lacks_space n h = digits-lack_space (decimal n) (decimal_is_IsNumeral n h).0.1
 
 pub number-lacks_space : (n : ℤ) → IsNumber n → LacksSpace (signed_decimal n)

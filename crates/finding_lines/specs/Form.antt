@@ -1,5 +1,5 @@
 -- Which lines have the form of a finding's line.
-use Rattle.std.specs.Prelude.{ℕ, ℤ, pos, Bool, true, ◌&&◌, nat_lt, int_lt, IsTrue, List, [], ◌∷◌, All, FitsSigned}
+use Rattle.std.specs.Prelude.{ℕ, ◌≤◌, ◌^◌, ℤ, pos, Bool, true, ◌&&◌, nat_lt, int_lt, IsTrue, List, [], ◌∷◌, All, FitsSigned}
 use Rattle.std.specs.Int.{w64}
 use Rattle.std.specs.Int.RustNames.{unsigned_abs}
 use Rattle.finding_lines.specs.declared.line.Asked.{Asked}
@@ -12,6 +12,10 @@ use Rattle.finding_lines.specs.declared.line.Line.TheVariants.{Header, Seen, Dro
 -- a number of 64 bits with its sign
 abbrev pub IsNumber : ℤ → Type 0
 IsNumber n = FitsSigned w64 n
+
+-- the magnitude of a number of 64 bits with its sign
+abbrev pub IsMagnitude : ℕ → Type 0
+IsMagnitude n = n ≤ 2 ^ 63
 
 abbrev pub AreNumbers : List ℤ → Type 0
 AreNumbers ns = All IsNumber ns

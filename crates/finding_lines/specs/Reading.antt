@@ -27,12 +27,6 @@ abbrev pub IsLabel : List ℕ → Type 0
 IsLabel [] = ⊥
 IsLabel (b ∷ bs) = b ≡ 32
 
--- the bytes before the first space, and those from it on
-pub record IsWord (bytes front back : List ℕ) : Type 0 where
-  pub whole : bytes ≡ front ++ back
-  pub word : LacksSpace front
-  pub opens : Opens back
-
 -- a good value is spelled at the front, before a space or the end
 pub record IsTaken {T : Type 0} (IsGood : T → Type 0) (spell : T → List ℕ) (bytes : List ℕ) (x : T) (more : List ℕ) : Type 0 where
   pub good : IsGood x

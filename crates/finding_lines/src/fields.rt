@@ -5,16 +5,17 @@ ghost use Rattle.finding_lines.specs.Spelling.{spaced, asked, concluded};
 ghost use Rattle.finding_lines.specs.Reading.{Reads, Opens, IsLabel, IsTaken, NoneTaken};
 ghost use Rattle.finding_lines.specs.declared.line.Asked.{Asked};
 
+use crate::digits::{after_byte, take_signed};
 use crate::line::{Asked, Conclusion};
-use crate::words::{after, read_number, split_word, take_label};
+use crate::words::{after, take_label};
 
 /// The number in front, behind a space.
+#[inline]
 pub fn take_number(bytes: &[u8]) -> Option<(i64, &[u8])>
     ensures { MatchOption result (NoneTaken IsNumber spaced bytes.now) (λ p. IsTaken IsNumber spaced bytes.now p.0 p.1.now) }
 {
-    let rest = after(bytes, b" ")?;
-    let (word, more) = split_word(rest);
-    let number = read_number(word)?;
+    let rest = after_byte(bytes, b' ')?;
+    let (number, more) = take_signed(rest)?;
     Some((number, more))
 }
 

@@ -1,6 +1,7 @@
 // The lines of a finding, each with one spelling: written, and read as they were written.
 #![tactic(auto)]
 
+mod digits;
 mod fields;
 mod laws;
 mod line;

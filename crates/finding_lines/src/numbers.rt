@@ -1,4 +1,4 @@
-ghost use Rattle.std.specs.Prelude.{◌≡◌, ◌++◌, ◌∷◌, [], OnErr, OnOk};
+ghost use Rattle.std.specs.Prelude.{◌≡◌, ◌++◌, ◌∷◌, [], IfOk, OnErr, OnOk};
 
 use std::alloc::{AllocError, Global};
 use std::marker::Model;
@@ -27,6 +27,14 @@ impl Numbers {
         }
     }
 
+    /// No number, with room for some.
+    pub fn with_room(alloc: Global, count: usize) -> Result<Self, AllocError>
+        ensures { IfOk result (λ n. n ≡ []) }
+    {
+        let numbers = Vec::with_capacity(alloc, count)?;
+        Ok(Numbers { numbers })
+    }
+
     /// The numbers in their order.
     #[inline]
     pub fn as_slice(&self) -> &[i64]
@@ -36,6 +44,7 @@ impl Numbers {
     }
 
     /// Adds a number behind the others.
+    #[inline(always)]
     pub fn push(&mut self, number: i64) -> Result<(), AllocError>
         ensures ok { OnOk result (self.new ≡ self.old ++ number ∷ []) }
         ensures err { OnErr result (self.new ≡ self.old) }

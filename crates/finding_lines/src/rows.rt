@@ -9,11 +9,16 @@ use crate::numbers::Numbers;
 use crate::words::after;
 use std::alloc::{AllocError, Global};
 
+/// As many numbers as there mostly are in so many bytes, at most 256.
+fn numbers_in(bytes: &[u8]) -> usize {
+    (bytes.len() / 4).min(256)
+}
+
 /// Numbers to the end, each behind a space.
 fn read_numbers(alloc: Global, bytes: &[u8]) -> Result<Option<Numbers>, AllocError>
     ensures { IfOk result (λ o. Reads AreNumbers spaced_all bytes.now o) }
 {
-    let mut numbers = Numbers::new(alloc);
+    let mut numbers = Numbers::with_room(alloc, numbers_in(bytes))?;
     let mut rest = bytes;
     'row: while !rest.is_empty() {
         let Some((number, more)) = take_number(rest) else {
@@ -40,7 +45,7 @@ pub fn read_row(alloc: Global, bytes: &[u8], keyword: &[u8]) -> Result<Option<Nu
 fn take_list(alloc: Global, bytes: &[u8]) -> Result<Option<(Numbers, &[u8])>, AllocError>
     ensures { IfOk result (λ o. MatchOption o (NoneTaken AreNonzero ended bytes.now) (λ p. IsTaken AreNonzero ended bytes.now p.0 p.1.now)) }
 {
-    let mut numbers = Numbers::new(alloc);
+    let mut numbers = Numbers::with_room(alloc, numbers_in(bytes))?;
     let mut rest = bytes;
     'list: while let Some((number, more)) = take_number(rest) {
         if number == 0 {

@@ -1,6 +1,8 @@
 -- A row that drops candidates, read from what was found and tried on a pair.
 use Rattle.std.proofs.Common.{◌≡◌, ◌<◌, ◌∙◌, sym, ap, subst, true, List, length, get_or, ℤ}
+use Rattle.std.specs.Prelude.{Result, Ok}
 use Rattle.clause_core.specs.Formula.{Formula}
+use Rattle.finding_file.specs.declared.errors.WriteErr.{WriteErr}
 use Rattle.finding_lines.specs.declared.line.Line.TheVariants as lines
 use Rattle.scan_model.specs.InRange.{Row}
 use Rattle.scan_model.specs.Pairs.{Pair}
@@ -14,11 +16,26 @@ use Rattle.queries.specs.Meaning.{Answers}
 use Rattle.queries.specs.declared.decoded.Decoded.{Decoded}
 use Rattle.queries.proofs.SettingLemmas.{test-IsPairInRange}
 use Rattle.pair_trial.specs.Trials.{comparison_of, setting_in}
-use Rattle.judgement.specs.Places.{at_drops}
+use Rattle.judgement.specs.Places.{Place, at_drops}
 use Rattle.invariant_prune.specs.Answers.{pair_of}
+use Rattle.finding_search.specs.Desks.{Desk}
 use Rattle.finding_search.specs.Passing.{Passes}
 use Rattle.finding_search.specs.Shown.{numbers_of}
+use Rattle.finding_search.specs.Writes.{Writes}
+use Rattle.finding_search.proofs.Going.{Writes-then}
 use Rattle.finding_search.proofs.RowPasses.{allowed-setting, drop_passes, drop_found, read_row, leaves_fewer, same_pair}
+
+-- what is written behind lines that were written with another pair on trial
+pub drops_then : {T : Type 0} (formula : QueryData → Formula) (first trial : Compared) (old mid new : Desk) (from set : CandidateSet) (to : T → Place) (result : Result T WriteErr)
+    → trial ≡ with_pair trial.pair first → Writes (setting_in first) formula old (at_drops from) mid (λ (x : Unit {0}). at_drops set) (let r : Result (Unit {0}) WriteErr = Ok tt in r)
+    → Writes (setting_in trial) formula mid (at_drops set) new to result → Writes (setting_in first) formula old (at_drops from) new to result
+drops_then formula first trial old mid new from set to result same before after =
+    Writes-then (setting_in first) formula old mid new (at_drops from) (λ (x : Unit {0}). at_drops set) to tt result before
+    (subst (λ (d : Compared). Writes (setting_in d) formula mid (at_drops set) new to result) same after)
+
+-- only the pair on trial is another
+pub still : (first mid last : Compared) → mid ≡ with_pair mid.pair first → last ≡ with_pair last.pair mid → last ≡ with_pair last.pair first
+still first mid last one two = two ∙ ap (with_pair last.pair) one
 
 -- the set that a row leaves
 abbrev pub left_by : Compared → CandidateSet → Decoded → Row → CandidateSet

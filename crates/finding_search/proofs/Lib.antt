@@ -5,3 +5,4 @@ pub mod RowPasses
 pub mod Openings
 pub mod Whole
 pub mod DropLemmas
+pub mod GuessLemmas

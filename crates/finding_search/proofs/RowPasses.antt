@@ -79,6 +79,16 @@ pub row_back : (s : Setting) (pair : Pair) (row : Row) → length pair.old ≡ s
 row_back s pair row old new =
     ap (λ xs. drop s.new_cells xs) (rest_back s.old_cells pair.old (pair.new ++ row) old) ∙ rest_back s.new_cells pair.new row new
 
+-- the set is not met behind a row that leads out of it
+pub fails_after : (c : Comparison) → IsComparison c → (set : CandidateSet) (pair : Pair) (row : Row) → LeavesSet c.old c.new c.relation set pair row
+    → meets (setting_of c) set ((setting_of c).after row pair) ≡ false
+fails_after c is set pair row leaves =
+    let after = after_row c.old c.new c.relation row pair in
+    let n = leaves.fails.0 in
+    let below : n < (setting_of c).candidates = rw (candidates-setting c is) leaves.fails.1 in
+    subst (λ p. meets (setting_of c) set p ≡ false) (after-setting c row pair)
+    (meets-fails_at (setting_of c) set after n below leaves.fails.2 (holds-setting c is n after ∙ leaves.fails.3))
+
 module _ (c : Comparison) (formula : QueryData → Formula) (is : IsComparison c) where
   -- a first row
   pub seen_passes : (row : Row) → is_allowed c.relation row (start c.old c.new) ≡ true
@@ -93,15 +103,6 @@ module _ (c : Comparison) (formula : QueryData → Formula) (is : IsComparison c
     tight = tt;
   }
 
-  fails_after : (set : CandidateSet) (pair : Pair) (row : Row) → LeavesSet c.old c.new c.relation set pair row
-      → meets (setting_of c) set ((setting_of c).after row pair) ≡ false
-  fails_after set pair row leaves =
-      let after = after_row c.old c.new c.relation row pair in
-      let n = leaves.fails.0 in
-      let below : n < (setting_of c).candidates = rw (candidates-setting c is) leaves.fails.1 in
-      subst (λ p. meets (setting_of c) set p ≡ false) (after-setting c row pair)
-      (meets-fails_at (setting_of c) set after n below leaves.fails.2 (holds-setting c is n after ∙ leaves.fails.3))
-
   not-false : (b : Bool) → b ≡ false → not b ≡ true
   not-false b e = ap not e
 
@@ -115,7 +116,7 @@ module _ (c : Comparison) (formula : QueryData → Formula) (is : IsComparison c
       let passes : goes (at_drops (left_of (setting_of c) set ((setting_of c).after row pair))) ≡ drop_row (setting_of c) set pair row =
       when-true _ B2 _ _ (and_from ((setting_of c).in_range pair) ((setting_of c).fits row) (test-IsPairInRange c pair leaves.in_range) (fits-setting c row pair leaves.allowed))
       (when-true _ B3 _ _ (allowed-setting c row pair leaves.allowed) (when-true _ B4 _ _ (test-Meets c is set pair leaves.meets)
-      (when-true _ B5 _ _ (not-false (meets (setting_of c) set ((setting_of c).after row pair)) (fails_after set pair row leaves)) refl)))
+      (when-true _ B5 _ _ (not-false (meets (setting_of c) set ((setting_of c).after row pair)) (fails_after c is set pair row leaves)) refl)))
       in
       record {
         form = tt;

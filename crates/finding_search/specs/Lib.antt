@@ -3,3 +3,4 @@ pub mod Passing
 pub mod Shown
 pub mod Writes
 pub mod Places
+pub mod Guesses

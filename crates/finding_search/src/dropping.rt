@@ -1,5 +1,5 @@
 // Rows that drop candidates, up to a set that no row leads out of.
-ghost use Rattle.std.specs.Prelude.{◌≡◌, ◌<◌, IfOk, OnOk};
+ghost use Rattle.std.specs.Prelude.{◌≡◌, ◌<◌, ◌≤◌, IfOk, OnOk};
 ghost use Rattle.scan_model.specs.Verdicts.{size_below};
 ghost use Rattle.scan_replay.specs.Duos.{with_pair};
 ghost use Rattle.queries.specs.Comparisons.{IsComparison};
@@ -15,13 +15,14 @@ ghost use Rattle.finding_search.specs.Places.{IsPruned, place_of};
 ghost use Rattle.finding_search.specs.Writes.{StandsAt, Writes};
 
 use crate::conclusions::limit_of;
+use crate::guesses::drops;
 use crate::logs::{write_refutation, write_spent};
 use crate::numbers::pair_numbers;
 use crate::writing::write_line;
 use clause_core::Decider;
 use finding_file::{FindingWriter, WriteErr};
 use finding_lines::{Asked, Conclusion, Line};
-use invariant_prune::{Answer, next_drop};
+use invariant_prune::{Answer, Guesses, next_drop};
 use outside::Shelf;
 use pair_trial::{Trial, keep};
 use queries::{CandidateSet, Decoded, Queries};
@@ -61,12 +62,38 @@ fn drop_by<S: Shelf>(
     Ok(())
 }
 
-/// Drops candidates until no allowed row leads out of the set, and writes each row, and the log that shows the end.
-pub fn prune<D: Decider, Q: Queries, S: Shelf>(
+// Drops candidates by the rows that are proposed, as long as each of them drops some, and writes each.
+fn drop_guessed<G: Guesses, S: Shelf>(
+    alloc: Global,
+    trial: &mut Trial,
+    guesses: &mut G,
+    writer: &mut FindingWriter,
+    shelf: &mut S,
+    set: &mut CandidateSet,
+) -> Result<(), WriteErr>
+    requires comparison { IsComparison (comparison_of trial.old) }
+    ensures writes { (formula : QueryData → Formula) → Writes (setting_in trial.old) formula (desk (S.file shelf.old) (S.write_faults shelf.old) (S.read_faults shelf.old) writer.old) (at_drops (members set.old))
+        (desk (S.file shelf.new) (S.write_faults shelf.new) (S.read_faults shelf.new) writer.new) (λ _. at_drops (members set.new)) result }
+    ensures no_more { OnOk result (size_below (setting_in trial.old).candidates (members set.new) ≤ size_below (setting_in trial.old).candidates (members set.old)) }
+    ensures trial { trial.new ≡ with_pair trial.new.pair trial.old }
+{
+    'tries: while let Some(guess) = guesses.next(alloc, set)? {
+        if !drops(trial, set, &guess) {
+            return Ok(());
+        }
+        drop_by(alloc, trial, writer, shelf, &guess, set)?;
+    }
+    Ok(())
+}
+
+/// Drops candidates until no allowed row leads out of the set, and writes each row, and the log that shows the end. What is
+/// proposed is tried before each query.
+pub fn prune<D: Decider, Q: Queries, G: Guesses, S: Shelf>(
     alloc: Global,
     decider: &mut D,
     trial: &mut Trial,
     queries: &Q,
+    guesses: &mut G,
     writer: &mut FindingWriter,
     shelf: &mut S,
     mut set: CandidateSet,
@@ -83,8 +110,12 @@ pub fn prune<D: Decider, Q: Queries, S: Shelf>(
     queries.laws();
     let limit = limit_of(trial);
     'rows: loop {
+        drop_guessed(alloc, trial, guesses, writer, shelf, &mut set)?;
         match next_drop(alloc, decider, queries, &set, limit)? {
-            Answer::Found(found) => drop_by(alloc, trial, writer, shelf, &found, &mut set)?,
+            Answer::Found(found) => {
+                drop_by(alloc, trial, writer, shelf, &found, &mut set)?;
+                guesses.found(alloc, &found)?;
+            }
             Answer::Refuted(log) => {
                 write_refutation(alloc, writer, shelf, Asked::Step, &log)?;
                 return Ok(Pruned::Kept(set));

@@ -3,6 +3,7 @@
 // - writing: one line
 // - logs, scans: the lines of a log, and those of a break
 // - conclusions: the numbers that a verdict is written with
+// - guesses: the test of a row that is proposed
 // - dropping, deepening: the rows that drop candidates, and the depths that are searched
 // - saving: the whole
 #![tactic(auto)]
@@ -10,6 +11,7 @@
 mod conclusions;
 mod deepening;
 mod dropping;
+mod guesses;
 mod logs;
 mod numbers;
 mod saving;

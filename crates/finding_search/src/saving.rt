@@ -30,7 +30,7 @@ use crate::writing::{write_end, write_line};
 use clause_core::Decider;
 use finding_file::{FindingWriter, WriteErr};
 use finding_lines::{Asked, Conclusion, Line};
-use invariant_prune::{Answer, first, goal};
+use invariant_prune::{Answer, Guesses, first, goal};
 use outside::Shelf;
 use pair_trial::{Trial, first_set};
 use queries::{CandidateSet, Decoded, Queries};
@@ -83,11 +83,12 @@ fn save_from_kept<D: Decider, Q: Queries, S: Shelf>(
 }
 
 // From the set of what holds at the start on.
-fn save_from_start<D: Decider, Q: Queries, S: Shelf>(
+fn save_from_start<D: Decider, Q: Queries, G: Guesses, S: Shelf>(
     alloc: Global,
     decider: &mut D,
     trial: &mut Trial,
     queries: &Q,
+    guesses: &mut G,
     writer: &mut FindingWriter,
     shelf: &mut S,
 ) -> Result<Conclusion, WriteErr>
@@ -97,7 +98,7 @@ fn save_from_start<D: Decider, Q: Queries, S: Shelf>(
         (desk (S.file shelf.new) (S.write_faults shelf.new) (S.read_faults shelf.new) writer.new) finished result }
 {
     let set = first_set(alloc, trial)?;
-    match prune(alloc, decider, trial, queries, writer, shelf, set)? {
+    match prune(alloc, decider, trial, queries, guesses, writer, shelf, set)? {
         Pruned::Kept(kept) => save_from_kept(alloc, decider, trial, queries, writer, shelf, &kept),
         Pruned::Spent(verdict) => Ok(verdict),
     }
@@ -121,11 +122,12 @@ fn write_seen<S: Shelf>(
 }
 
 // From the header on.
-fn save_from_header<D: Decider, Q: Queries, S: Shelf>(
+fn save_from_header<D: Decider, Q: Queries, G: Guesses, S: Shelf>(
     alloc: Global,
     decider: &mut D,
     trial: &mut Trial,
     queries: &Q,
+    guesses: &mut G,
     writer: &mut FindingWriter,
     shelf: &mut S,
 ) -> Result<Conclusion, WriteErr>
@@ -138,7 +140,7 @@ fn save_from_header<D: Decider, Q: Queries, S: Shelf>(
     match first(alloc, decider, queries, limit)? {
         Answer::Found(found) => {
             write_seen(alloc, writer, shelf, &found)?;
-            save_from_start(alloc, decider, trial, queries, writer, shelf)
+            save_from_start(alloc, decider, trial, queries, guesses, writer, shelf)
         }
         Answer::Refuted(log) => {
             write_refutation(alloc, writer, shelf, Asked::First, &log)?;
@@ -149,11 +151,12 @@ fn save_from_header<D: Decider, Q: Queries, S: Shelf>(
 }
 
 // From before the header on.
-fn save_from_top<D: Decider, Q: Queries, S: Shelf>(
+fn save_from_top<D: Decider, Q: Queries, G: Guesses, S: Shelf>(
     alloc: Global,
     decider: &mut D,
     trial: &mut Trial,
     queries: &Q,
+    guesses: &mut G,
     writer: &mut FindingWriter,
     shelf: &mut S,
 ) -> Result<Conclusion, WriteErr>
@@ -163,17 +166,18 @@ fn save_from_top<D: Decider, Q: Queries, S: Shelf>(
         (desk (S.file shelf.new) (S.write_faults shelf.new) (S.read_faults shelf.new) writer.new) finished result }
 {
     write_line(writer, shelf, &Line::Header)?;
-    save_from_header(alloc, decider, trial, queries, writer, shelf)
+    save_from_header(alloc, decider, trial, queries, guesses, writer, shelf)
 }
 
 /// Searches for the verdict, and writes the finding that shows it into a file that is empty, line by line: each answer of the
 /// decider is written before the next is asked for. It asks one query for a first row, at most one for each candidate and one
 /// more for the set, one for the relation, and at most DEPTH for breaks.
-pub fn save_finding<D: Decider, Q: Queries, S: Shelf>(
+pub fn save_finding<D: Decider, Q: Queries, G: Guesses, S: Shelf>(
     alloc: Global,
     decider: &mut D,
     trial: &mut Trial,
     queries: &Q,
+    guesses: &mut G,
     writer: &mut FindingWriter,
     shelf: &mut S,
 ) -> Result<Conclusion, WriteErr>
@@ -191,5 +195,5 @@ pub fn save_finding<D: Decider, Q: Queries, S: Shelf>(
     ensures reads { NoneFell (S.read_faults shelf.old) (S.read_faults shelf.new) }
 {
     queries.laws();
-    save_from_top(alloc, decider, trial, queries, writer, shelf)
+    save_from_top(alloc, decider, trial, queries, guesses, writer, shelf)
 }

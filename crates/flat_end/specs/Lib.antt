@@ -1,1 +1,2 @@
 pub mod FlatTexts
+pub use Rattle.front_end.specs.Texts

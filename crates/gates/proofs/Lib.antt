@@ -2,6 +2,7 @@ pub mod Booleans
 pub mod PlanLaws
 pub mod GateTests
 pub mod NextGate
+pub mod Placing
 pub mod StoredGates
 pub mod NetLaws
 pub mod Growth

@@ -7,4 +7,6 @@ pub mod Order
 pub mod Models
 pub mod Clauses
 pub mod Stored
+pub mod Places
+pub mod StoreInside
 pub mod Inside

@@ -5,9 +5,9 @@ ghost use Rattle.gates.specs.Order.{end_of};
 ghost use Rattle.gates.specs.Rules.{and_of, or_of, xor_of, mux_of};
 
 use crate::plan::{Plan, and_plan, mux_plan, or_plan, xor_plan};
-use crate::stored::{StoredGate, gate_of, stored};
+use crate::store::GateStore;
+use crate::stored::{gate_of, stored};
 use clause_core::{Gate, Lit};
-use indexmap::IndexSet;
 use std::alloc::Global;
 use std::marker::Model;
 
@@ -27,7 +27,7 @@ pub enum GateFault {
 pub struct Circuit {
     first: u32,
     limit: u32,
-    gates: IndexSet<StoredGate>,
+    gates: GateStore,
 }
 
 impl Model for Circuit {
@@ -51,7 +51,7 @@ impl Circuit {
         Circuit {
             first: free + 2,
             limit,
-            gates: IndexSet::new(alloc),
+            gates: GateStore::new(alloc),
         }
     }
 
@@ -116,14 +116,21 @@ impl Circuit {
         ensures extends { IsExtensionOf self.old self.new }
     {
         let kept = stored(gate);
-        if self.gates.len() >= self.limit as usize && !self.gates.contains(&kept) {
+        if let Some(index) = self.gates.number(kept) {
+            return Ok(Lit {
+                variable: self.first + index as u32,
+                negative,
+            });
+        }
+        let count = self.gates.len();
+        if count >= self.limit as usize {
             return Err(GateFault::TooMany);
         }
-        let Ok((index, _)) = self.gates.insert_full(kept) else {
+        let Ok(()) = self.gates.push(kept) else {
             return Err(GateFault::Memory);
         };
         Ok(Lit {
-            variable: self.first + index as u32,
+            variable: self.first + count as u32,
             negative,
         })
     }

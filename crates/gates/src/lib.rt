@@ -6,6 +6,7 @@ mod clauses;
 mod law;
 mod literals;
 mod plan;
+mod store;
 mod stored;
 
 pub use circuit::{Circuit, GateFault};

@@ -8,7 +8,7 @@ use Rattle.command_answers.specs.Reports.{Report}
 use Rattle.command_answers.specs.Answers.{Answers, AnswersSoFar, all_put}
 use Rattle.comparison_files.specs.Accepting.{AreAccepted}
 use Rattle.comparison_files.specs.Comparing.{formulas_of}
-use Rattle.finding_answers.proofs.RefusalLemmas.{refusal_status}
+use Rattle.comparison_files.proofs.RefusalLemmas.{refusal_status}
 use Rattle.generated_files.specs.Files.{HoldTexts}
 use Rattle.verify_command.specs.Lines.{IsOfVerdict}
 use Rattle.verify_command.specs.Reports.{Saving, ReportsVerdict, decided, too_long, not_written}

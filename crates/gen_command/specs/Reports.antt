@@ -10,7 +10,7 @@ use Rattle.command_answers.specs.declared.status.Status.{Status}
 use Rattle.command_answers.specs.Reports.{Report}
 use Rattle.comparison_files.specs.Accepting.{AreAccepted}
 use Rattle.comparison_files.specs.Comparing.{formulas_of}
-use Rattle.finding_answers.specs.Refusals.{ReportsRefusal}
+use Rattle.comparison_files.specs.Refusals.{ReportsRefusal}
 use Rattle.generated_texts.specs.Names.{old_name, new_name, relation_name, finding_name}
 use Rattle.generated_files.specs.Files.{HoldTexts, LeaveTexts, OneTextFailed}
 use Rattle.verify_command.specs.Lines.{verdict_line, verdict_status, write_fault_report}

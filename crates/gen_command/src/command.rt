@@ -3,10 +3,10 @@ ghost use Rattle.std.specs.Prelude.{◌≡◌, ◌≢◌, ◌≤◌, ◌⊎◌};
 ghost use Rattle.outside.specs.Causes.{Rose, NoneFell};
 ghost use Rattle.program_tree.specs.View.{program_view};
 ghost use Rattle.node_core.specs.Scans.{scan_view};
-ghost use Rattle.query_formula_laws.specs.TypedComparisons.{IsScanOf};
-ghost use Rattle.typed_relations.specs.Readings.{IsRead};
-ghost use Rattle.product_build.specs.Limits.{HasFewLines};
-ghost use Rattle.product_build.specs.MadeCircuits.{comparison_between};
+ghost use Rattle.comparison_files.specs.TypedComparisons.{IsScanOf};
+ghost use Rattle.comparison_files.specs.Readings.{IsRead};
+ghost use Rattle.comparison_files.specs.Limits.{HasFewLines};
+ghost use Rattle.comparison_files.specs.MadeCircuits.{comparison_between};
 ghost use Rattle.command_answers.specs.Answers.{Answers, IsExact};
 ghost use Rattle.comparison_files.specs.Accepting.{nodes_of, AreStated};
 ghost use Rattle.comparison_files.specs.Comparing.{comparison_in};
@@ -18,13 +18,11 @@ ghost use Rattle.gen_command.specs.Reports.{GenReports, OneFailed, KeepsOthers, 
 
 use crate::made::{Made, make};
 use crate::saved::answer_accepted;
-use cdcl_watch::Watched;
 use clause_core::Decider;
 use command_answers::{Status, put_last};
-use comparison_files::{Compared, accept_texts, circuits_of};
-use finding_answers::put_fault;
+use comparison_files::{Accepted, Compared, accept_texts, circuits_of, put_fault};
+use drop_runs::Runs;
 use node_core::Scan;
-use node_end::Accepted;
 use outside::{Shelf, Sink};
 use program_tree::Program;
 use scan_model::Relation;
@@ -63,9 +61,12 @@ fn answer_pair<D: Decider, S: Shelf, K: Sink>(
     ensures faults { K.faults out.old ≤ K.faults out.new }
 {
     match circuits_of(alloc, old, old_scan, new, new_scan, relation) {
-        Ok(circuits) => answer_accepted(
-            alloc, decider, count, made, old, new, relation, &circuits, shelf, out,
-        ),
+        Ok(circuits) => {
+            let mut runs = Runs::new(alloc, circuits.parts(), circuits.product());
+            answer_accepted(
+                alloc, decider, count, made, old, new, relation, &circuits, &mut runs, shelf, out,
+            )
+        }
         Err(fault) => put_fault(alloc, fault, out),
     }
 }
@@ -164,7 +165,7 @@ fn answer_count<D: Decider, S: Shelf, K: Sink>(
 
 /// Makes the texts with so many inputs, saves them in files that are named by the number, and verifies what was saved by this decider. The
 /// texts are tested as any other, circuits included, before a file is made. No file is read.
-pub fn answer_gen_with<D: Decider, S: Shelf, K: Sink>(
+pub fn answer_gen<D: Decider, S: Shelf, K: Sink>(
     alloc: Global,
     decider: &mut D,
     count: u32,
@@ -198,41 +199,4 @@ pub fn answer_gen_with<D: Decider, S: Shelf, K: Sink>(
         → result ≢ Status.Memory → IsExact (GenReports count (saving (S.file shelf.old) (S.file shelf.new) (S.write_faults shelf.old) (S.write_faults shelf.new) (finding_name count))) result (K.taken out.old) (K.taken out.new) }
 {
     answer_count(alloc, decider, count, shelf, out)
-}
-
-/// The same by the decider with watched literals.
-pub fn answer_gen<S: Shelf, K: Sink>(
-    alloc: Global,
-    count: u32,
-    shelf: &mut S,
-    out: &mut K,
-) -> Status
-    // No file changes but the three of the texts and the finding.
-    ensures others { KeepsOthers count (S.file shelf.old) (S.file shelf.new) }
-
-    // Whatever the answer, each text's file is as at entry or has a front of its text, and the finding is as at entry or a part of a
-    // finding on what the texts state.
-    ensures left { LeavesFiles count (saving (S.file shelf.old) (S.file shelf.new) (S.write_faults shelf.old) (S.write_faults shelf.new) (finding_name count)) }
-
-    // The bytes on the sink and the status are those of a report on the texts.
-    ensures answer { Answers (GenReports count (saving (S.file shelf.old) (S.file shelf.new) (S.write_faults shelf.old) (S.write_faults shelf.new) (finding_name count))) ⊥ result (K.taken out.old) (K.taken out.new) }
-
-    // Where the status is that of a verdict, the files have the texts, the finding was saved and is judged valid with it, and it is the
-    // verdict of the model on what the texts state, or SPENT with its log.
-    ensures saved { IsOfVerdict result → ShowsMade count (saving (S.file shelf.old) (S.file shelf.new) (S.write_faults shelf.old) (S.write_faults shelf.new) (finding_name count)) result (K.taken out.old) (K.taken out.new) }
-    ensures usage { result ≢ Status.Usage }
-    ensures read_fault { result ≢ Status.ReadFault }
-
-    // A fault comes only where a count of one of the four files or of the sink rose, and no count falls.
-    ensures write_fault { result ≡ Status.WriteFault → OneFailed count (saving (S.file shelf.old) (S.file shelf.new) (S.write_faults shelf.old) (S.write_faults shelf.new) (finding_name count)) ⊎ Rose (K.faults out.old) (K.faults out.new) }
-    ensures reads { NoneFell (S.read_faults shelf.old) (S.read_faults shelf.new) }
-    ensures writes { NoneFell (S.write_faults shelf.old) (S.write_faults shelf.new) }
-    ensures faults { K.faults out.old ≤ K.faults out.new }
-
-    // Where no count rose, the answer is a whole report, or memory was wanting.
-    ensures complete { ¬ OneFailed count (saving (S.file shelf.old) (S.file shelf.new) (S.write_faults shelf.old) (S.write_faults shelf.new) (finding_name count)) → ¬ Rose (K.faults out.old) (K.faults out.new)
-        → result ≢ Status.Memory → IsExact (GenReports count (saving (S.file shelf.old) (S.file shelf.new) (S.write_faults shelf.old) (S.write_faults shelf.new) (finding_name count))) result (K.taken out.old) (K.taken out.new) }
-{
-    let mut decider = Watched::new();
-    answer_gen_with(alloc, &mut decider, count, shelf, out)
 }

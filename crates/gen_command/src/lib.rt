@@ -6,4 +6,4 @@ mod line;
 mod made;
 mod saved;
 
-pub use command::{answer_gen, answer_gen_with};
+pub use command::answer_gen;

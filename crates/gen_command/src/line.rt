@@ -1,7 +1,7 @@
 // GEN's line.
 ghost use Rattle.std.specs.Prelude.{◌≡◌, IfOk, string_bytes};
 ghost use Rattle.queries.specs.Comparisons.{IsComparison};
-ghost use Rattle.product_build.specs.MadeCircuits.{comparison_between};
+ghost use Rattle.comparison_files.specs.MadeCircuits.{comparison_between};
 ghost use Rattle.gen_command.specs.Lines.{made_line};
 
 use itoa::Buffer;

@@ -1,11 +1,11 @@
 // What is made from a number before it is tested.
 ghost use Rattle.std.specs.Prelude.{◌≡◌, IfOk};
-ghost use Rattle.command_files.specs.Kept.{IsKept};
-ghost use Rattle.command_files.specs.KeptTexts.{AreKept};
+ghost use Rattle.comparison_files.specs.Kept.{IsKept};
+ghost use Rattle.comparison_files.specs.KeptTexts.{AreKept};
 ghost use Rattle.generated_texts.specs.Texts.{AreGenerated};
 ghost use Rattle.gen_command.specs.Made.{texts_of, IsMade};
 
-use command_files::KeptTexts;
+use comparison_files::KeptTexts;
 use generated_texts::{FileNames, GeneratedTexts, file_names, generate};
 use std::alloc::{AllocError, Global};
 

@@ -4,7 +4,7 @@ ghost use Rattle.outside.specs.Causes.{Rose, NoneFell};
 ghost use Rattle.outside.specs.Contents.{OthersStay};
 ghost use Rattle.queries.specs.Comparisons.{IsComparison};
 ghost use Rattle.scan_replay.specs.Duos.{AreComparable};
-ghost use Rattle.product_build.specs.MadeCircuits.{comparison_between};
+ghost use Rattle.comparison_files.specs.MadeCircuits.{comparison_between};
 ghost use Rattle.command_answers.specs.Answers.{Answers};
 ghost use Rattle.generated_texts.specs.Names.{finding_name};
 ghost use Rattle.generated_files.specs.Files.{LeaveTexts};
@@ -18,6 +18,7 @@ use crate::made::Made;
 use clause_core::Decider;
 use command_answers::{Status, put_last, put_text};
 use generated_files::save_texts;
+use invariant_prune::Guesses;
 use outside::{OutErr, Shelf, Sink};
 use program_tree::Program;
 use queries::Queries;
@@ -26,7 +27,7 @@ use std::alloc::Global;
 use verify_command::answer_finding;
 
 // Puts GEN's line, and saves the finding.
-fn answer_behind<D: Decider, Q: Queries, S: Shelf, K: Sink>(
+fn answer_behind<D: Decider, Q: Queries, G: Guesses, S: Shelf, K: Sink>(
     alloc: Global,
     decider: &mut D,
     count: u32,
@@ -35,6 +36,7 @@ fn answer_behind<D: Decider, Q: Queries, S: Shelf, K: Sink>(
     new: &Program,
     relation: &Relation,
     queries: &Q,
+    guesses: &mut G,
     finding: &str,
     shelf: &mut S,
     out: &mut K,
@@ -55,7 +57,7 @@ fn answer_behind<D: Decider, Q: Queries, S: Shelf, K: Sink>(
 {
     match put_text(out, line) {
         Ok(()) => answer_finding(
-            alloc, decider, old, new, relation, queries, finding, shelf, out,
+            alloc, decider, old, new, relation, queries, guesses, finding, shelf, out,
         ),
         Err(OutErr::Fault) => Status::WriteFault,
         Err(OutErr::Memory) => Status::Memory,
@@ -63,7 +65,7 @@ fn answer_behind<D: Decider, Q: Queries, S: Shelf, K: Sink>(
 }
 
 // The same, with the line that is made of what is compared.
-fn answer_saved<D: Decider, Q: Queries, S: Shelf, K: Sink>(
+fn answer_saved<D: Decider, Q: Queries, G: Guesses, S: Shelf, K: Sink>(
     alloc: Global,
     decider: &mut D,
     count: u32,
@@ -71,6 +73,7 @@ fn answer_saved<D: Decider, Q: Queries, S: Shelf, K: Sink>(
     new: &Program,
     relation: &Relation,
     queries: &Q,
+    guesses: &mut G,
     finding: &str,
     shelf: &mut S,
     out: &mut K,
@@ -98,6 +101,7 @@ fn answer_saved<D: Decider, Q: Queries, S: Shelf, K: Sink>(
             new,
             relation,
             queries,
+            guesses,
             finding,
             shelf,
             out,
@@ -107,7 +111,7 @@ fn answer_saved<D: Decider, Q: Queries, S: Shelf, K: Sink>(
 }
 
 /// Saves the texts, puts GEN's line, and saves the finding.
-pub(crate) fn answer_accepted<D: Decider, Q: Queries, S: Shelf, K: Sink>(
+pub(crate) fn answer_accepted<D: Decider, Q: Queries, G: Guesses, S: Shelf, K: Sink>(
     alloc: Global,
     decider: &mut D,
     count: u32,
@@ -116,6 +120,7 @@ pub(crate) fn answer_accepted<D: Decider, Q: Queries, S: Shelf, K: Sink>(
     new: &Program,
     relation: &Relation,
     queries: &Q,
+    guesses: &mut G,
     shelf: &mut S,
     out: &mut K,
 ) -> Status
@@ -137,7 +142,7 @@ pub(crate) fn answer_accepted<D: Decider, Q: Queries, S: Shelf, K: Sink>(
     let finding = made.names.finding.as_str();
     match save_texts(count, &made.names, &made.texts, shelf) {
         Ok(()) => answer_saved(
-            alloc, decider, count, old, new, relation, queries, finding, shelf, out,
+            alloc, decider, count, old, new, relation, queries, guesses, finding, shelf, out,
         ),
         Err(OutErr::Fault) => put_last(out, "WRITE FAULT\n", Status::WriteFault),
         Err(OutErr::Memory) => put_last(out, "MEMORY\n", Status::Memory),

@@ -1,4 +1,5 @@
 // Each create, append and put failing in turn.
+use cdcl_watch::Watched;
 use gen_command::answer_gen;
 use outside::{CallKind, Failure, MemShelf, MemSink};
 use std::alloc::{AllocError, Global};
@@ -29,7 +30,8 @@ fn failing(
 fn whole(alloc: Global) -> MemShelf {
     let mut shelf = MemShelf::new(alloc, Vec::new(alloc));
     let mut out = MemSink::new(alloc, Vec::new(alloc));
-    let _status = answer_gen(alloc, 1, &mut shelf, &mut out);
+    let mut decider = Watched::new();
+    let _status = answer_gen(alloc, &mut decider, 1, &mut shelf, &mut out);
     shelf
 }
 
@@ -54,7 +56,8 @@ fn shelf_fails(
     let whole = whole(alloc);
     let mut shelf = MemShelf::new(alloc, failing(alloc, kind, number, kept)?);
     let mut out = MemSink::new(alloc, Vec::new(alloc));
-    let status = answer_gen(alloc, 1, &mut shelf, &mut out);
+    let mut decider = Watched::new();
+    let status = answer_gen(alloc, &mut decider, 1, &mut shelf, &mut out);
     for name in NAMES {
         assert!(rt; whole.bytes(name).starts_with(shelf.bytes(name)), "{name}");
     }
@@ -119,7 +122,8 @@ fn each_put_may_fail(rt: HostRuntime) -> Result<(), Fail> {
     for number in 1..4u64 {
         let mut shelf = MemShelf::new(alloc, Vec::new(alloc));
         let mut out = MemSink::new(alloc, failing(alloc, CallKind::Put, number, 5)?);
-        let status = answer_gen(alloc, 1, &mut shelf, &mut out);
+        let mut decider = Watched::new();
+        let status = answer_gen(alloc, &mut decider, 1, &mut shelf, &mut out);
         assert_eq!(rt; status.code(), if number < 3 { 8 } else { 0 });
         assert!(rt; LINES.as_bytes().starts_with(out.bytes()));
         for name in ["gen1.old", "gen1.new", "gen1.rel"] {
@@ -145,7 +149,8 @@ fn other_files_stay(rt: HostRuntime) -> Result<(), Fail> {
         shelf.fill("gen1.fnd", b"as before")?;
         shelf.fill("gen11.old", b"as before")?;
         let mut out = MemSink::new(alloc, Vec::new(alloc));
-        let status = answer_gen(alloc, 1, &mut shelf, &mut out);
+        let mut decider = Watched::new();
+        let status = answer_gen(alloc, &mut decider, 1, &mut shelf, &mut out);
         assert_eq!(rt; status.code(), 8);
         assert_eq!(rt; out.bytes(), FAULT.as_bytes());
         assert_eq!(rt; shelf.bytes("gen1.new"), left);

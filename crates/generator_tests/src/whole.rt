@@ -1,4 +1,5 @@
 // Runs in which no call fails.
+use cdcl_watch::Watched;
 use check_command::answer_check;
 use command_answers::Status;
 use count_words::count_of;
@@ -32,7 +33,8 @@ fn texts_are_saved_at_once(rt: HostRuntime) -> Result<(), Fail> {
     let alloc = rt.alloc();
     let mut shelf = MemShelf::new(alloc, Vec::new(alloc));
     let mut out = MemSink::new(alloc, Vec::new(alloc));
-    let status = answer_gen(alloc, 1, &mut shelf, &mut out);
+    let mut decider = Watched::new();
+    let status = answer_gen(alloc, &mut decider, 1, &mut shelf, &mut out);
     assert_eq!(rt; status, Status::Related);
     assert_eq!(rt; shelf.bytes("gen1.old"), OLD.as_bytes());
     assert_eq!(rt; shelf.bytes("gen1.new"), NEW.as_bytes());
@@ -60,7 +62,8 @@ fn related(
     let alloc = rt.alloc();
     let mut shelf = MemShelf::new(alloc, Vec::new(alloc));
     let mut out = MemSink::new(alloc, Vec::new(alloc));
-    let status = answer_gen(alloc, count, &mut shelf, &mut out);
+    let mut decider = Watched::new();
+    let status = answer_gen(alloc, &mut decider, count, &mut shelf, &mut out);
     assert_eq!(rt; status.code(), 0);
     let mut expected = Vec::from_slice(alloc, lines[0].as_bytes())?;
     expected.extend_from_slice(lines[1].as_bytes())?;

@@ -104,7 +104,7 @@ fn add_clause(names: &Names<'_>, proposal: &Proposal, text: &mut String) -> Resu
             second,
             junction,
         } => add_joined(names, *cell, *first, *second, *junction, text),
-        Proposal::NotBoth(first, second) => add_not_both(names, *first, *second, text),
+        Proposal::NotBoth { first, second, .. } => add_not_both(names, *first, *second, text),
         Proposal::AtLeast { cell, bound, .. } => add_bound(names, *cell, " >= ", *bound, text),
         Proposal::AtMost { cell, bound, .. } => add_bound(names, *cell, " <= ", *bound, text),
     }
@@ -116,7 +116,10 @@ fn note_of(names: &Names<'_>, proposal: &Proposal, pairs: usize) -> Result<Strin
     match proposal {
         Proposal::Equal(_, _) => format!(in alloc; "one value on {pairs} pairs"),
         Proposal::Opposite(_, _) => format!(in alloc; "never alike on {pairs} pairs"),
-        Proposal::NotBoth(_, _) => format!(in alloc; "never both on {pairs} pairs"),
+        Proposal::NotBoth { seen, .. } => {
+            let (first, second) = *seen;
+            format!(in alloc; "never both on {pairs} pairs; one on {first}, one on {second}")
+        }
         Proposal::AtLeast { seen, .. } => format!(in alloc; "seen: {seen} and more"),
         Proposal::AtMost { seen, .. } => format!(in alloc; "seen: up to {seen}"),
         Proposal::Sum { .. } | Proposal::Count { .. } => {

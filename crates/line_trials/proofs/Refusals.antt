@@ -5,7 +5,7 @@ use Rattle.rules.specs.declared.fault.Fault.{Fault}
 use Rattle.rules.specs.declared.fault.Fault.TheVariants.{Refused, Memory}
 use Rattle.rules.specs.Faults.{IfRefused}
 use Rattle.program_tree.specs.Tree.{ProgramData}
-use Rattle.front_end.specs.Texts.{HasTokens}
+use Rattle.command_files.specs.front_end.Texts.{HasTokens}
 use Rattle.relation_file.specs.Stated.{IsNoRelation}
 use Rattle.command_files.specs.Stating.{StatesNoRelation, by_lines}
 

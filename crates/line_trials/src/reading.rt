@@ -7,7 +7,7 @@ ghost use Rattle.scan_model.specs.Pairs.{relation_view};
 ghost use Rattle.scan_replay.specs.Duos.{AreComparable};
 ghost use Rattle.command_files.specs.Stating.{StatesRelation, StatesNoRelation};
 
-use front_end::tokens_of;
+use command_files::tokens_of;
 use program_tree::Program;
 use relation_file::{read_lines, read_relation};
 use rules::Fault;

@@ -1,6 +1,7 @@
 // Nodes as words of a circuit: each node in turn makes the word and the gates that its kind names, from the words before it.
 #![tactic(auto)]
 
+mod node_rows;
 mod nodes;
 mod operands;
 mod operators;

@@ -3,15 +3,14 @@ ghost use Rattle.gates.specs.declared.circuit.GateFault.{GateFault};
 ghost use Rattle.gates.specs.Netlists.{IsOverfull, IsWithinLimit, IsExtensionOf};
 ghost use Rattle.node_circuits.specs.NodeWords.{words_view, node_of, words_of_nodes};
 
-use crate::operands::operand;
-use crate::operators::{binary, unary};
-use crate::rows::{conversion, range_test, shifted, zero_test};
+use crate::node_rows::{
+    absolute_word, binary_word, constant_word, convert, greater, lesser, mux_word, outside_word,
+    shift_word, unary_word, zero_word,
+};
 use clause_core::Lit;
 use gates::{Circuit, GateFault};
 use node_core::Node;
-use plc_types::Elementary;
 use std::alloc::Global;
-use word_circuits::{abs, choose, constant, max, min, top};
 
 // The word of a node.
 fn node_word(
@@ -27,132 +26,40 @@ fn node_word(
     ensures extends { IsExtensionOf circuit.old circuit.new }
 {
     match node {
-        Node::Constant { kind, value } => {
-            let Ok(word) = constant(alloc, kind.width() as usize, i128::from(value)) else {
-                return Err(GateFault::Memory);
-            };
-            circuit.count();
-            Ok(word)
-        }
+        Node::Constant { kind, value } => constant_word(alloc, circuit, kind, value),
         Node::Unary {
             operator,
             kind,
-            operand: a,
-        } => {
-            let Ok(a) = operand(alloc, words, kind, a) else {
-                return Err(GateFault::Memory);
-            };
-            unary(alloc, circuit, operator, a.as_slice())
-        }
+            operand,
+        } => unary_word(alloc, circuit, words, operator, kind, operand),
         Node::Binary {
             operator,
             kind,
             left,
             right,
-        } => {
-            let Ok(a) = operand(alloc, words, kind, left) else {
-                return Err(GateFault::Memory);
-            };
-            let Ok(b) = operand(alloc, words, kind, right) else {
-                return Err(GateFault::Memory);
-            };
-            binary(
-                alloc,
-                circuit,
-                operator,
-                kind.is_signed(),
-                a.as_slice(),
-                b.as_slice(),
-            )
-        }
-        Node::Convert {
-            from,
-            to,
-            operand: a,
-        } => {
-            let Ok(a) = operand(alloc, words, from, a) else {
-                return Err(GateFault::Memory);
-            };
-            conversion(alloc, circuit, from, to, a.as_slice())
-        }
-        Node::Absolute { kind, operand: a } => {
-            let Ok(a) = operand(alloc, words, kind, a) else {
-                return Err(GateFault::Memory);
-            };
-            abs(alloc, circuit, kind.is_signed(), a.as_slice())
-        }
-        Node::Minimum { kind, left, right } => {
-            let Ok(a) = operand(alloc, words, kind, left) else {
-                return Err(GateFault::Memory);
-            };
-            let Ok(b) = operand(alloc, words, kind, right) else {
-                return Err(GateFault::Memory);
-            };
-            min(alloc, circuit, kind.is_signed(), a.as_slice(), b.as_slice())
-        }
-        Node::Maximum { kind, left, right } => {
-            let Ok(a) = operand(alloc, words, kind, left) else {
-                return Err(GateFault::Memory);
-            };
-            let Ok(b) = operand(alloc, words, kind, right) else {
-                return Err(GateFault::Memory);
-            };
-            max(alloc, circuit, kind.is_signed(), a.as_slice(), b.as_slice())
-        }
+        } => binary_word(alloc, circuit, words, operator, kind, left, right),
+        Node::Convert { from, to, operand } => convert(alloc, circuit, words, from, to, operand),
+        Node::Absolute { kind, operand } => absolute_word(alloc, circuit, words, kind, operand),
+        Node::Minimum { kind, left, right } => lesser(alloc, circuit, words, kind, left, right),
+        Node::Maximum { kind, left, right } => greater(alloc, circuit, words, kind, left, right),
         Node::Shift {
             shift,
             amount,
             kind,
-            operand: a,
-        } => {
-            let Ok(a) = operand(alloc, words, kind, a) else {
-                return Err(GateFault::Memory);
-            };
-            let Ok(word) = shifted(alloc, shift, amount as usize, a.as_slice()) else {
-                return Err(GateFault::Memory);
-            };
-            circuit.count();
-            Ok(word)
-        }
-        Node::IsZero { kind, operand: a } => {
-            let Ok(a) = operand(alloc, words, kind, a) else {
-                return Err(GateFault::Memory);
-            };
-            zero_test(alloc, circuit, a.as_slice())
-        }
+            operand,
+        } => shift_word(alloc, circuit, words, shift, amount, kind, operand),
+        Node::IsZero { kind, operand } => zero_word(alloc, circuit, words, kind, operand),
         Node::Outside {
             kind,
             range,
-            operand: a,
-        } => {
-            let Ok(a) = operand(alloc, words, kind, a) else {
-                return Err(GateFault::Memory);
-            };
-            range_test(alloc, circuit, kind.is_signed(), range, a.as_slice())
-        }
+            operand,
+        } => outside_word(alloc, circuit, words, kind, range, operand),
         Node::Mux {
             kind,
             condition,
             on,
             off,
-        } => {
-            let Ok(c) = operand(alloc, words, Elementary::Bool, condition) else {
-                return Err(GateFault::Memory);
-            };
-            let Ok(a) = operand(alloc, words, kind, on) else {
-                return Err(GateFault::Memory);
-            };
-            let Ok(b) = operand(alloc, words, kind, off) else {
-                return Err(GateFault::Memory);
-            };
-            choose(
-                alloc,
-                circuit,
-                top(c.as_slice()),
-                a.as_slice(),
-                b.as_slice(),
-            )
-        }
+        } => mux_word(alloc, circuit, words, kind, condition, on, off),
     }
 }
 

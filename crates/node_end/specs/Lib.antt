@@ -1,1 +1,2 @@
 pub mod NodeTexts
+pub use Rattle.flat_end.specs.FlatTexts

@@ -2,7 +2,7 @@
 use Rattle.std.specs.Prelude.{◌≡◌, ℕ, List, false, IsTrue}
 use Rattle.program_tree.specs.Tree.{ProgramData}
 use Rattle.flat_form.specs.FlatPrograms.{flat_program, is_short}
-use Rattle.front_end.specs.Texts.{IsProgram}
+use Rattle.flat_end.specs.Texts.{IsProgram}
 use Rattle.flat_end.specs.FlatTexts.{HasNoFlatForm}
 use Rattle.node_core.specs.Scans.{is_small}
 use Rattle.node_end.specs.declared.fault.AcceptFault.{AcceptFault}

@@ -3,7 +3,7 @@ ghost use Rattle.std.specs.Prelude.{◌≡◌, IfOk, IfErr, IsTrue};
 ghost use Rattle.program_tree.specs.View.{program_view};
 ghost use Rattle.scan_model.specs.InRange.{IsProgram as IsFitToRun};
 ghost use Rattle.flat_form.specs.FlatPrograms.{flat_program, is_short};
-ghost use Rattle.front_end.specs.Texts.{IsProgram};
+ghost use Rattle.flat_end.specs.Texts.{IsProgram};
 ghost use Rattle.node_core.specs.Scans.{scan_view, scan_of, is_small};
 ghost use Rattle.query_formula_laws.specs.TypedComparisons.{IsScanOf};
 ghost use Rattle.node_end.specs.NodeTexts.{HasNoNodes};

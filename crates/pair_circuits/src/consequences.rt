@@ -13,14 +13,15 @@ use clause_core::Lit;
 use gates::{Circuit, GateFault};
 use std::alloc::Global;
 
-/// Literals behind a scan: the candidates, and the RELATE clauses.
+/// The pair behind a scan, and literals on it: the candidates, and the RELATE clauses.
 #[derive(Drop)]
 pub(crate) struct Consequences {
+    pub pair: WordPair,
     pub after: Vec<Lit>,
     pub relates: Vec<Lit>,
 }
 
-/// The literals behind a scan of both programs.
+/// The pair behind a scan of both programs, and its literals.
 pub(crate) fn literals_behind(
     alloc: Global,
     circuit: &mut Circuit,
@@ -37,5 +38,9 @@ pub(crate) fn literals_behind(
     let behind = scanned_pair(alloc, circuit, &parts.old_scan, &parts.new_scan, pair)?;
     let after = pair_literals(alloc, circuit, parts.candidates.as_slice(), &behind)?;
     let relates = pair_literals(alloc, circuit, parts.relates.as_slice(), &behind)?;
-    Ok(Consequences { after, relates })
+    Ok(Consequences {
+        pair: behind,
+        after,
+        relates,
+    })
 }

@@ -28,28 +28,36 @@ pub struct ProductLits {
 }
 
 /// The circuit of one scan from any pair: its free words, which are the cells of both programs and the numbers of the INPUT lines,
-/// and its literals.
+/// its literals, and the words of both programs' cells behind the scan. No clause speaks of the last.
 #[derive(Drop)]
 pub struct Product {
     pub pair: WordPair,
     pub inputs: Vec<Vec<Lit>>,
     pub lits: ProductLits,
+    pub behind: WordPair,
     pub circuit: Circuit,
 }
 
-// The literals of one scan from a pair, in a circuit.
+/// The literals of one scan, and the pair behind it.
+#[derive(Drop)]
+struct ScannedLits {
+    lits: ProductLits,
+    behind: WordPair,
+}
+
+// The literals of one scan from a pair, in a circuit, and the pair behind it.
 fn product_from(
     alloc: Global,
     circuit: &mut Circuit,
     parts: &PairParts,
     pair: &WordPair,
     inputs: &[Vec<Lit>],
-) -> Result<ProductLits, GateFault>
-    ensures outside { IfOk result (λ r. r.outside.items ≡ (product_from (parts_view parts.now) (pair_view pair.now) (words_view inputs.now) circuit.old).outside) }
-    ensures before { IfOk result (λ r. r.before.items ≡ (product_from (parts_view parts.now) (pair_view pair.now) (words_view inputs.now) circuit.old).before) }
-    ensures environment { IfOk result (λ r. r.environment.items ≡ (product_from (parts_view parts.now) (pair_view pair.now) (words_view inputs.now) circuit.old).environment) }
-    ensures after { IfOk result (λ r. r.after.items ≡ (product_from (parts_view parts.now) (pair_view pair.now) (words_view inputs.now) circuit.old).after) }
-    ensures relates { IfOk result (λ r. r.relates.items ≡ (product_from (parts_view parts.now) (pair_view pair.now) (words_view inputs.now) circuit.old).relates) }
+) -> Result<ScannedLits, GateFault>
+    ensures outside { IfOk result (λ r. r.lits.outside.items ≡ (product_from (parts_view parts.now) (pair_view pair.now) (words_view inputs.now) circuit.old).outside) }
+    ensures before { IfOk result (λ r. r.lits.before.items ≡ (product_from (parts_view parts.now) (pair_view pair.now) (words_view inputs.now) circuit.old).before) }
+    ensures environment { IfOk result (λ r. r.lits.environment.items ≡ (product_from (parts_view parts.now) (pair_view pair.now) (words_view inputs.now) circuit.old).environment) }
+    ensures after { IfOk result (λ r. r.lits.after.items ≡ (product_from (parts_view parts.now) (pair_view pair.now) (words_view inputs.now) circuit.old).after) }
+    ensures relates { IfOk result (λ r. r.lits.relates.items ≡ (product_from (parts_view parts.now) (pair_view pair.now) (words_view inputs.now) circuit.old).relates) }
     ensures net { OnOk result (circuit.new ≡ (product_from (parts_view parts.now) (pair_view pair.now) (words_view inputs.now) circuit.old).net) }
     ensures fits { OnOk result (IsWithinLimit circuit.new) }
     ensures too_many { IfErr result (λ fault. fault ≡ GateFault.TooMany → IsOverfull (product_from (parts_view parts.now) (pair_view pair.now) (words_view inputs.now) circuit.old).net) }
@@ -61,12 +69,15 @@ fn product_from(
     };
     let row = loaded_row(alloc, circuit, parts, inputs, copy)?;
     let behind = literals_behind(alloc, circuit, parts, row.pair)?;
-    Ok(ProductLits {
-        outside: premises.outside,
-        before: premises.before,
-        environment: row.environment,
-        after: behind.after,
-        relates: behind.relates,
+    Ok(ScannedLits {
+        lits: ProductLits {
+            outside: premises.outside,
+            before: premises.before,
+            environment: row.environment,
+            after: behind.after,
+            relates: behind.relates,
+        },
+        behind: behind.pair,
     })
 }
 
@@ -91,11 +102,12 @@ pub fn product_circuit(alloc: Global, parts: &PairParts, limit: u32) -> Result<P
     };
     let pair = WordPair { old, new };
     let mut circuit = Circuit::new(alloc, of_old + of_new + of_lines, limit);
-    let lits = product_from(alloc, &mut circuit, parts, &pair, inputs.as_slice())?;
+    let scanned = product_from(alloc, &mut circuit, parts, &pair, inputs.as_slice())?;
     Ok(Product {
         pair,
         inputs,
-        lits,
+        lits: scanned.lits,
+        behind: scanned.behind,
         circuit,
     })
 }

@@ -1,9 +1,10 @@
 ghost use Rattle.std.specs.Prelude.{◌≡◌, IfOk, IfErr};
 ghost use Rattle.gates.specs.declared.circuit.GateFault.{GateFault};
+ghost use Rattle.gates.specs.Order.{IsOrdered};
 ghost use Rattle.program_tree.specs.View.{program_view};
 ghost use Rattle.node_core.specs.Scans.{scan_view};
 ghost use Rattle.pair_circuits.specs.Parts.{parts_of};
-ghost use Rattle.pair_circuits.specs.Products.{product_of};
+ghost use Rattle.pair_circuits.specs.Products.{product_of, product_view};
 ghost use Rattle.pair_circuits.specs.Breaks.{breaks_of};
 ghost use Rattle.query_formula_laws.specs.TypedComparisons.{IsTypedComparison, IsScanOf};
 ghost use Rattle.product_build.specs.Limits.{most_gates, HasFewGates, HasManyGates, HasFewLines};
@@ -47,6 +48,21 @@ impl<'p> Model for Circuits<'p> {
     ghost view = { λ m. record { old_program = m.old_program.now; new_program = m.new_program.now; relation = m.relation.now; product = product_view m.product; breaks = breaks_view m.breaks } };
 
     ghost invariant = { λ m. AreCircuitsOf (comparison_between m.old_program.now m.new_program.now m.relation.now) (parts_view m.parts) (product_view m.product) (breaks_view m.breaks) };
+}
+
+impl<'p> Circuits<'p> {
+    /// What the circuits are made from.
+    pub fn parts(&self) -> &PairParts {
+        &self.parts
+    }
+
+    /// The circuit of one scan from any pair.
+    pub fn product(&self) -> &Product
+        ensures product { product_view result.now ≡ self.now.product }
+        ensures ordered { IsOrdered result.now.circuit }
+    {
+        &self.product
+    }
 }
 
 /// The circuits of two programs under a relation, from the nodes of their scans. Each circuit has at most 16,777,216 gates (M7); that

@@ -1,4 +1,5 @@
 // The top call over files in memory: reads and puts that fail, files of any size, and words that are no command.
+use crate::savings::whole;
 use outside::{CallKind, Failure, MemShelf, MemSink};
 use regver_top::{Status, regver};
 use std::alloc::{AllocError, Global};
@@ -14,6 +15,32 @@ const PAIR: &str =
 
 // What a replay of `[[0],[1]]` puts.
 const BOTH: &str = "SCAN 1 OLD 0 0 NEW 0 0\nSCAN 2 OLD 0 1 NEW 0 1\nREPLAY scans 2 related\n";
+
+/// A command, the file that it takes behind the three texts, and what it puts where no call fails.
+#[derive(Clone, Copy)]
+struct Run {
+    command: &'static str,
+    file: &'static str,
+    lines: &'static str,
+}
+
+const REPLAY: Run = Run {
+    command: "replay",
+    file: "t",
+    lines: BOTH,
+};
+
+const CHECK: Run = Run {
+    command: "check",
+    file: "f",
+    lines: "VALID RELATED kept 7 of 11\n",
+};
+
+const EXPLAIN: Run = Run {
+    command: "explain",
+    file: "f",
+    lines: "{\"break\":null,\"kept\":[\"SAME FAULT\",\"SAME A\",\"SAME Q\",\"RELATE 1\",\"RELATE FAULTS\",\"OLD FAULT = 0\",\"NEW FAULT = 0\"],\"scans\":[],\"verdict\":\"RELATED kept 7 of 11\"}\n",
+};
 
 const USAGE: &str = "USAGE verify OLD NEW REL FINDING, check, replay, explain or gen\n";
 
@@ -51,40 +78,64 @@ fn shelf(alloc: Global, failures: Vec<Failure>) -> Result<MemShelf, AllocError> 
     Ok(shelf)
 }
 
-// One call fails: a read answers READ FAULT, and a put ends with WRITE FAULT and a front of the lines.
-// Says whether the call came.
+// One call fails: a read answers READ FAULT and is the last one, and a put ends with WRITE FAULT and a front of the lines, with no put
+// behind it. The finding stays. Says whether the call came.
 fn failing(
     rt: &(impl Abort + AllocGlobal),
+    run: Run,
+    finding: &[u8],
     kind: CallKind,
     number: u64,
-    kept: usize,
 ) -> Result<bool, Fail> {
     let alloc = rt.alloc();
-    let mut shelf = shelf(alloc, one(alloc, kind, number, kept)?)?;
-    let mut out = MemSink::new(alloc, one(alloc, kind, number, kept)?);
-    let status = regver(alloc, words(alloc, "replay", "t")?, &mut shelf, &mut out);
+    let mut shelf = shelf(alloc, one(alloc, kind, number, 7)?)?;
+    shelf.fill("f", finding)?;
+    let mut out = MemSink::new(alloc, one(alloc, kind, number, 7)?);
+    let words = words(alloc, run.command, run.file)?;
+    let status = regver(alloc, words, &mut shelf, &mut out);
+    assert_eq!(rt; shelf.bytes("f"), finding);
     match status {
-        Status::ReadFault => assert_eq!(rt; out.bytes(), b"READ FAULT\n".as_slice()),
-        Status::WriteFault => assert!(rt; BOTH.as_bytes().starts_with(out.bytes())),
-        _ => assert_eq!(rt; out.bytes(), BOTH.as_bytes()),
+        Status::ReadFault => {
+            assert_eq!(rt; out.bytes(), b"READ FAULT\n".as_slice());
+            assert_eq!(rt; shelf.counts().reads, number);
+            Ok(true)
+        }
+        Status::WriteFault => {
+            assert!(rt; run.lines.as_bytes().starts_with(out.bytes()));
+            assert_eq!(rt; out.counts().puts, number);
+            Ok(true)
+        }
+        _ => {
+            assert_eq!(rt; out.bytes(), run.lines.as_bytes());
+            Ok(false)
+        }
     }
-    Ok(status != Status::Replayed)
 }
 
 // How many calls of a kind there are: each of them fails in turn, until a run meets no failure.
-fn calls(rt: &(impl Abort + AllocGlobal), kind: CallKind, kept: usize) -> Result<u64, Fail> {
+fn calls(
+    rt: &(impl Abort + AllocGlobal),
+    run: Run,
+    finding: &[u8],
+    kind: CallKind,
+) -> Result<u64, Fail> {
     for number in 0..20 {
-        if !failing(rt, kind, number + 1, kept)? {
+        if !failing(rt, run, finding, kind, number + 1)? {
             return Ok(number);
         }
     }
     Ok(20)
 }
 
+// Each file is read to its end, and `explain` reads a finding that is valid once more.
 #[test]
 fn each_call_may_fail(rt: HostRuntime) -> Result<(), Fail> {
-    assert_eq!(rt; calls(&rt, CallKind::Read, 0)?, 8);
-    assert_eq!(rt; calls(&rt, CallKind::Put, 7)?, 3);
+    let finding = whole(&rt)?;
+    for (run, reads, puts) in [(REPLAY, 8, 3), (CHECK, 8, 1), (EXPLAIN, 10, 1u64)] {
+        let name = run.command;
+        assert_eq!(rt; calls(&rt, run, &finding, CallKind::Read)?, reads, "{name}");
+        assert_eq!(rt; calls(&rt, run, &finding, CallKind::Put)?, puts, "{name}");
+    }
     Ok(())
 }
 

@@ -6,7 +6,7 @@ use regver_top::{Status, regver};
 use std::alloc::{AllocError, Global};
 use std::process::Abort;
 use std::test::Fail;
-use verify_command::answer_verify_with;
+use verify_command::answer_verify;
 
 // A program that copies its input, and its relation to itself.
 const SAME: &str =
@@ -61,8 +61,8 @@ fn shelf(alloc: Global, failure: Option<(CallKind, u64, usize)>) -> Result<MemSh
     Ok(shelf)
 }
 
-// The finding of a run in which no call fails.
-fn whole(rt: &(impl Abort + AllocGlobal)) -> Result<Vec<u8>, Fail> {
+/// The finding of a run in which no call fails.
+pub fn whole(rt: &(impl Abort + AllocGlobal)) -> Result<Vec<u8>, Fail> {
     let alloc = rt.alloc();
     let mut shelf = shelf(alloc, None)?;
     let mut out = MemSink::new(alloc, Vec::new(alloc));
@@ -173,7 +173,7 @@ fn queries_are_few(rt: HostRuntime) -> Result<(), Fail> {
     };
     let mut shelf = shelf(alloc, None)?;
     let mut out = MemSink::new(alloc, Vec::new(alloc));
-    let status = answer_verify_with(
+    let status = answer_verify(
         alloc,
         &mut decider,
         "a",

@@ -5,10 +5,10 @@ use crate::subject::Sort;
 use scan_model::Side;
 use std::alloc::AllocError;
 
-// Whether a cell and its twin are in a class, and the cell comes behind it.
-fn comes_behind_twin(members: &[usize], cell: usize, twin: Option<usize>) -> bool {
-    match twin {
-        Some(twin) => twin < cell && members.contains(&twin),
+// Whether the twin of a cell is in a class, and the cell comes behind it.
+fn comes_behind_twin(facts: &Facts<'_>, class: usize, cell: usize) -> bool {
+    match facts.twin(cell) {
+        Some(twin) => twin < cell && facts.is_in(class, twin),
         None => false,
     }
 }
@@ -23,7 +23,7 @@ fn standing_for(facts: &Facts<'_>, class: usize) -> usize {
         let Some(twin) = facts.twin(*cell) else {
             continue;
         };
-        if !members.contains(&twin) {
+        if !facts.is_in(class, twin) {
             continue;
         }
         let is_input = *cell < facts.subjects.len() && facts.subjects[*cell].is_input;
@@ -44,35 +44,20 @@ fn partner(facts: &Facts<'_>, class: usize, chosen: usize, cell: usize) -> usize
         return chosen;
     }
     match facts.twin(chosen) {
-        Some(twin) if facts.classes.members(class).contains(&twin) => twin,
+        Some(twin) if facts.is_in(class, twin) => twin,
         _ => facts.across(class, cell),
     }
 }
 
-fn in_order(one: usize, other: usize) -> Proposal {
-    if one < other {
-        Proposal::Equal(one, other)
-    } else {
-        Proposal::Equal(other, one)
+// The two cells that are said to be equal for the sake of a member of a class, the lesser first. Cells of one path are equal by a
+// candidate of the product, so nothing is said for the twin of a cell for which it is, or which stands for the class.
+fn said_for(facts: &Facts<'_>, class: usize, chosen: usize, cell: usize) -> Option<(usize, usize)> {
+    if cell == chosen || facts.twin(cell) == Some(chosen) || comes_behind_twin(facts, class, cell) {
+        return None;
     }
-}
-
-// The members of a class are equal to one that stands for it. Cells of one path are equal by a candidate of the product.
-fn add_class(facts: &Facts<'_>, class: usize, found: &mut Vec<Proposal>) -> Result<(), AllocError> {
-    let members = facts.classes.members(class);
-    let chosen = standing_for(facts, class);
-    for cell in members {
-        let twin = facts.twin(*cell);
-        if *cell == chosen || twin == Some(chosen) || comes_behind_twin(members, *cell, twin) {
-            continue;
-        }
-        let other = partner(facts, class, chosen, *cell);
-        let other = if other == *cell { chosen } else { other };
-        if other != *cell {
-            found.push(in_order(*cell, other))?;
-        }
-    }
-    Ok(())
+    let other = partner(facts, class, chosen, cell);
+    let other = if other == cell { chosen } else { other };
+    Some((cell.min(other), cell.max(other)))
 }
 
 // The last cell of a class that is this program's own: no input, and without a twin in the other program.
@@ -87,6 +72,41 @@ fn last_own(facts: &Facts<'_>, class: usize, side: Side) -> Option<usize> {
     last
 }
 
+// The member of a class for which nothing more has to be said where the last own cells are equal: what is said for members makes a
+// tree, and with those two cells one branch of it is said twice.
+fn spared(facts: &Facts<'_>, class: usize, chosen: usize) -> Option<usize> {
+    let old = last_own(facts, class, Side::Old)?;
+    let new = last_own(facts, class, Side::New)?;
+    match said_for(facts, class, chosen, old) {
+        Some((_, second)) if second == new => Some(old),
+        _ => Some(new),
+    }
+}
+
+// The members of a class are equal to one that stands for it, but for one that is spared.
+fn add_class(
+    facts: &Facts<'_>,
+    class: usize,
+    is_second: bool,
+    found: &mut Vec<Proposal>,
+) -> Result<(), AllocError> {
+    let chosen = standing_for(facts, class);
+    let spared = if is_second {
+        spared(facts, class, chosen)
+    } else {
+        None
+    };
+    for cell in facts.classes.members(class) {
+        if spared == Some(*cell) {
+            continue;
+        }
+        if let Some((first, second)) = said_for(facts, class, chosen, *cell) {
+            found.push(Proposal::Equal(first, second))?;
+        }
+    }
+    Ok(())
+}
+
 /// Of each class the last cells that are the programs' own: what a program keeps stands behind what it takes in and gives out.
 pub fn add_last_own(facts: &Facts<'_>, found: &mut Vec<Proposal>) -> Result<(), AllocError> {
     for class in 0..facts.classes.len() {
@@ -98,10 +118,15 @@ pub fn add_last_own(facts: &Facts<'_>, found: &mut Vec<Proposal>) -> Result<(), 
     Ok(())
 }
 
-/// Equal cells, and which classes are tied to the other program by that.
-pub fn add_equal(facts: &mut Facts<'_>, found: &mut Vec<Proposal>) -> Result<(), AllocError> {
+/// Equal cells, and which classes are tied to the other program by that. In a second round, behind the last own cells, nothing is said
+/// that follows from these.
+pub fn add_equal(
+    facts: &mut Facts<'_>,
+    is_second: bool,
+    found: &mut Vec<Proposal>,
+) -> Result<(), AllocError> {
     for class in 0..facts.classes.len() {
-        add_class(facts, class, found)?;
+        add_class(facts, class, is_second, found)?;
         if facts.member_of(class, Side::Old).is_some()
             && facts.member_of(class, Side::New).is_some()
         {

@@ -9,12 +9,28 @@ use std::alloc::AllocError;
 // How many cells of a program are compared.
 const MOST_CELLS: usize = 64;
 
-// A cell, its values, and whether a cell of OLD has the same.
+// On how many pairs two cells would have met that have nothing to do with each other, at least, for it to tell something that they
+// never did.
+const LEAST_MEETINGS: usize = 20;
+
+// A cell, its values, on how many pairs it is TRUE, and whether a cell of OLD has the same values.
 #[derive(Drop)]
 struct Flag {
     cell: usize,
     bits: Bits,
+    seen: usize,
     is_in_old: bool,
+}
+
+// On how many pairs a cell is TRUE.
+fn seen_of(facts: &Facts<'_>, cell: usize) -> usize {
+    let mut count = 0usize;
+    for row in 0..facts.seen.rows() {
+        if facts.seen.value(row, cell) == 1 {
+            count = count.saturating_add(1);
+        }
+    }
+    count
 }
 
 // The BOOL cells of a program that are no inputs, one of each class.
@@ -31,6 +47,7 @@ fn flags_of(facts: &Facts<'_>, side: Side) -> Result<Vec<Flag>, AllocError> {
             flags.push(Flag {
                 cell,
                 bits: bits_of(facts.alloc, facts.seen, cell)?,
+                seen: seen_of(facts, cell),
                 is_in_old: facts.member_of(class, Side::Old).is_some(),
             })?;
         }
@@ -52,6 +69,13 @@ fn are_compared(facts: &Facts<'_>, one: usize, other: usize) -> bool {
     chart > 0 && chart == chart_of(facts, other)
 }
 
+// Whether it tells something that two cells never met: each was TRUE so often that they would have. Of opposite cells more is said.
+fn is_telling(facts: &Facts<'_>, one: &Flag, other: &Flag) -> bool {
+    let pairs = facts.seen.rows();
+    one.seen.saturating_add(other.seen) < pairs
+        && one.seen.saturating_mul(other.seen) >= pairs.saturating_mul(LEAST_MEETINGS)
+}
+
 // Two cells, unless they are of steps that the product compares by itself, or two cells of OLD have their values.
 fn add_two(
     facts: &Facts<'_>,
@@ -63,13 +87,20 @@ fn add_two(
     if side == Side::New && one.is_in_old && other.is_in_old {
         return Ok(());
     }
-    if !are_compared(facts, one.cell, other.cell) && one.bits.is_apart_from(&other.bits) {
-        found.push(Proposal::NotBoth(one.cell, other.cell))?;
+    if is_telling(facts, one, other)
+        && !are_compared(facts, one.cell, other.cell)
+        && one.bits.is_apart_from(&other.bits)
+    {
+        found.push(Proposal::NotBoth {
+            first: one.cell,
+            second: other.cell,
+            seen: (one.seen, other.seen),
+        })?;
     }
     Ok(())
 }
 
-/// Each two BOOL cells of a program that were never TRUE together.
+/// Each two BOOL cells of a program that were never TRUE together, though each was so often that they would have met by chance.
 pub fn add_exclusive(
     facts: &Facts<'_>,
     side: Side,

@@ -125,6 +125,21 @@ impl Facts<'_> {
         None
     }
 
+    /// The class of a cell; a cell that kept one value is in none.
+    pub fn class_of(&self, cell: usize) -> Option<usize> {
+        let signature = self.signatures.get(cell)?;
+        let subject = self.subjects.get(cell)?;
+        if signature.is_constant() {
+            return None;
+        }
+        self.classes.find(key_of(subject.group, signature.values))
+    }
+
+    /// Whether a cell is in a class.
+    pub fn is_in(&self, class: usize, cell: usize) -> bool {
+        self.class_of(cell) == Some(class)
+    }
+
     /// A cell of a class, one of the other program than this cell where there is one.
     pub fn across(&self, class: usize, cell: usize) -> usize {
         let found = match self.side(cell) {

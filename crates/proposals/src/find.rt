@@ -12,9 +12,13 @@ use scan_model::Side;
 use seen_values::Seen;
 use std::alloc::{AllocError, Global};
 
-// The kinds that tie the cells of one program to those of the other.
-fn add_ties(facts: &mut Facts<'_>, found: &mut Vec<Proposal>) -> Result<(), AllocError> {
-    add_equal(facts, found)?;
+// The kinds that tie the cells of one program to those of the other; in a second round, behind the last own cells.
+fn add_ties(
+    facts: &mut Facts<'_>,
+    is_second: bool,
+    found: &mut Vec<Proposal>,
+) -> Result<(), AllocError> {
+    add_equal(facts, is_second, found)?;
     add_opposite(facts, found)?;
     add_flags(facts, found)?;
     let mut left = Vec::new(facts.alloc);
@@ -49,7 +53,7 @@ pub fn proposals(
 ) -> Result<Vec<Proposal>, AllocError> {
     let mut found = Vec::new(alloc);
     let mut facts = facts_of(alloc, seen, subjects)?;
-    add_ties(&mut facts, &mut found)?;
+    add_ties(&mut facts, false, &mut found)?;
     add_others(&facts, edges, &mut found)?;
     if found.len() <= room {
         return Ok(found);
@@ -57,7 +61,7 @@ pub fn proposals(
     let mut first = Vec::new(alloc);
     let mut facts = facts_of(alloc, seen, subjects)?;
     add_last_own(&facts, &mut first)?;
-    add_ties(&mut facts, &mut first)?;
+    add_ties(&mut facts, true, &mut first)?;
     add_others(&facts, edges, &mut first)?;
     Ok(first)
 }

@@ -39,8 +39,12 @@ pub enum Proposal {
         second: usize,
         junction: Junction,
     },
-    /// Not both of two BOOL cells are TRUE.
-    NotBoth(usize, usize),
+    /// Not both of two BOOL cells are TRUE; on how many pairs each of them was.
+    NotBoth {
+        first: usize,
+        second: usize,
+        seen: (usize, usize),
+    },
     /// A cell is at least so great; the least value that it was seen to have.
     AtLeast {
         cell: usize,

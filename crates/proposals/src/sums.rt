@@ -2,7 +2,7 @@
 use crate::facts::{Facts, key_of};
 use crate::proposal::Proposal;
 use crate::subject::Sort;
-use affine_relations::affine_relations;
+use affine_relations::{Affine, affine_relations};
 use scan_model::Side;
 use seen_values::{Classes, Signature};
 use std::alloc::AllocError;
@@ -134,7 +134,43 @@ fn flags_of(facts: &Facts<'_>, side: Side) -> Result<Vec<usize>, AllocError> {
     Ok(cells)
 }
 
-/// Counts of BOOL cells of one program that are TRUE. Those of two cells are opposite.
+// The cell of OLD that is equal to a cell, where there is one, else the cell.
+fn in_old(facts: &Facts<'_>, cell: usize) -> usize {
+    let Some(class) = facts.class_of(cell) else {
+        return cell;
+    };
+    match facts.member_of(class, Side::Old) {
+        Some(old) => old,
+        None => cell,
+    }
+}
+
+// Whether each of these terms is among others, with cells of OLD in the place of cells that are equal to them.
+fn are_among(facts: &Facts<'_>, terms: &[(i64, usize)], others: &[(i64, usize)]) -> bool {
+    for (factor, cell) in terms.iter() {
+        let old = in_old(facts, *cell);
+        if !others.iter().any(|term| term.0 == *factor && term.1 == old) {
+            return false;
+        }
+    }
+    true
+}
+
+// Whether a count was proposed already, of cells that are equal to these.
+fn is_counted(facts: &Facts<'_>, affine: &Affine, found: &[Proposal]) -> bool {
+    for proposal in found {
+        if let Proposal::Count { terms, constant } = proposal
+            && *constant == affine.constant
+            && terms.len() == affine.terms.len()
+            && are_among(facts, affine.terms.as_slice(), terms.as_slice())
+        {
+            return true;
+        }
+    }
+    false
+}
+
+/// Counts of BOOL cells of one program that are TRUE, but for those that were proposed of equal cells. Those of two cells are opposite.
 pub fn add_counts(
     facts: &Facts<'_>,
     side: Side,
@@ -142,7 +178,7 @@ pub fn add_counts(
 ) -> Result<(), AllocError> {
     let cells = flags_of(facts, side)?;
     for affine in affine_relations(facts.alloc, facts.seen, cells.as_slice())? {
-        if affine.terms.len() > 2 {
+        if affine.terms.len() > 2 && !is_counted(facts, &affine, found.as_slice()) {
             found.push(Proposal::Count {
                 terms: affine.terms,
                 constant: affine.constant,

@@ -2,12 +2,12 @@
 ghost use Rattle.std.specs.Prelude.{◌≡◌};
 ghost use Rattle.scan_model.specs.Pairs.{relation_view};
 ghost use Rattle.queries.specs.Questions.{query_view, IsQueryOf};
-ghost use Rattle.product_build.specs.MadeCircuits.{comparison_of};
+ghost use Rattle.comparison_files.specs.MadeCircuits.{comparison_of};
 
 use case_files::{CaseFault, malformed, numbers_of};
 use cdcl_watch::Watched;
 use clause_core::{Decided, Decider};
-use product_build::Circuits;
+use comparison_files::Circuits;
 use program_printing::print_formula;
 use queries::{CandidateSet, Queries, Query};
 use scan_model::Relation;

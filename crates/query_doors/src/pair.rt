@@ -3,10 +3,10 @@ ghost use Rattle.std.specs.Prelude.{◌≡◌};
 ghost use Rattle.program_tree.specs.View.{program_view};
 ghost use Rattle.scan_model.specs.Pairs.{relation_view};
 ghost use Rattle.node_core.specs.Scans.{scan_view};
-ghost use Rattle.query_formula_laws.specs.TypedComparisons.{IsScanOf};
-ghost use Rattle.typed_relations.specs.Readings.{IsRead};
-ghost use Rattle.product_build.specs.Limits.{HasFewLines};
-ghost use Rattle.product_build.specs.MadeCircuits.{comparison_between, comparison_of};
+ghost use Rattle.comparison_files.specs.TypedComparisons.{IsScanOf};
+ghost use Rattle.comparison_files.specs.Readings.{IsRead};
+ghost use Rattle.comparison_files.specs.Limits.{HasFewLines};
+ghost use Rattle.comparison_files.specs.MadeCircuits.{comparison_between, comparison_of};
 ghost use Rattle.comparison_files.specs.Comparing.{comparison_in};
 
 use crate::asked::{Wanted, answer_to};
@@ -15,11 +15,10 @@ use case_files::{
     new_program_of, program_of, text_of, without_places,
 };
 use cdcl_watch::Watched;
-use command_files::KeptTexts;
-use comparison_files::{CompareFault, Compared, accept_texts, circuits_of};
+use comparison_files::{
+    Accepted, Circuits, CompareFault, Compared, KeptTexts, accept_texts, circuits_of,
+};
 use node_core::Scan;
-use node_end::Accepted;
-use product_build::Circuits;
 use program_tree::Program;
 use scan_model::Relation;
 use std::alloc::Global;

@@ -6,8 +6,9 @@ use std::io::Eprint;
 use std::process::ExitCode;
 use std::rt::{Env, Files};
 use std::{env, fs, io};
-use suggest_command::{Asked, Ending, ending_of, ending_without, read_words, suggest_for};
-use suggestion::Suggestion;
+use suggest_command::{
+    Asked, Ending, Suggestion, ending_of, ending_without, read_words, suggest_for,
+};
 
 // How the program ends, besides those of endings.
 const USAGE: u8 = 2;

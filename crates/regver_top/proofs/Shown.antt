@@ -11,9 +11,9 @@ use Rattle.command_answers.specs.Reports.{Report}
 use Rattle.command_files.specs.Texts.{Texts}
 use Rattle.command_line.specs.Asked.{Asked, check, explain, gen, replay, verify, usage}
 use Rattle.finding_answers.specs.Lines.{judged_status}
-use Rattle.finding_answers.specs.Refusals.{ReportsRefusal}
-use Rattle.finding_answers.proofs.RefusalLemmas.{refusal_status}
-use Rattle.finding_commands.specs.Reports.{not_compared as not_to_judge, on_finding}
+use Rattle.check_command.specs.finding_commands.Refusals.{ReportsRefusal}
+use Rattle.check_command.proofs.finding_commands.RefusalLemmas.{refusal_status}
+use Rattle.check_command.specs.finding_commands.Reports.{not_compared as not_to_judge, on_finding}
 use Rattle.check_command.specs.Reports.{CheckReports, judged, too_long}
 use Rattle.check_command.proofs.Answering.{exact_shown}
 use Rattle.explain_command.specs.Reports.{ExplainReports, explained, invalid, too_long as explained_too_long}

@@ -10,6 +10,7 @@ ghost use Rattle.command_files.specs.Texts.{Texts};
 ghost use Rattle.verify_command.specs.Lines.{IsOfVerdict};
 ghost use Rattle.regver_top.specs.Asking.{change, is_refused, settled, AreTold, IsAsked, IsShownBy, IsSavedBy, SomeRose, WriteRose, KeepsFiles, LeavesFinding};
 
+use cdcl_watch::Watched;
 use check_command::answer_check;
 use command_answers::{Status, put_last};
 use command_line::{Command, FourWords, read_words};
@@ -54,8 +55,10 @@ fn answer_saving<S: Shelf, K: Sink>(
     if repeats(words) {
         return put_last(out, USAGE, Status::Usage);
     }
+    let mut decider = Watched::new();
     answer_verify(
         alloc,
+        &mut decider,
         &words.old,
         &words.new,
         &words.relation,
@@ -87,7 +90,10 @@ fn answer_making<S: Shelf, K: Sink>(
     ensures faults { K.faults out.old ≤ K.faults out.new }
 {
     match count_of(count) {
-        Some(count) => answer_gen(alloc, count, shelf, out),
+        Some(count) => {
+            let mut decider = Watched::new();
+            answer_gen(alloc, &mut decider, count, shelf, out)
+        }
         None => put_last(out, USAGE, Status::Usage),
     }
 }

@@ -4,8 +4,8 @@ use Rattle.rules.specs.declared.rule.Refusal.{Refusal}
 use Rattle.rules.specs.Rules.{IsSame}
 use Rattle.program_tree.specs.Tree.{ProgramData}
 use Rattle.grammar_laws.proofs.Steps.{some_is}
-use Rattle.front_end.specs.Texts.{IsProgram}
-use Rattle.front_end.proofs.OneProgram.{one_program, no_program_too, one_refusal}
+use Rattle.command_files.specs.front_end.Texts.{IsProgram}
+use Rattle.command_files.proofs.front_end.OneProgram.{one_program, no_program_too, one_refusal}
 use Rattle.command_files.proofs.Once.{states_once, not_stated_too, not_stated_once}
 use Rattle.scan_model.specs.declared.relation.Ending.{Ending}
 use Rattle.scan_model.specs.InRange.{Row}

@@ -3,7 +3,7 @@ use Rattle.std.proofs.Common.{length}
 use Rattle.rules.specs.declared.rule.Refusal.{Refusal}
 use Rattle.program_tree.specs.Tree.{ProgramData}
 use Rattle.scan_model.specs.Pairs.{RelationData}
-use Rattle.front_end.specs.Texts.{IsProgram, IsNoProgram}
+use Rattle.command_files.specs.front_end.Texts.{IsProgram, IsNoProgram}
 use Rattle.command_answers.specs.declared.source.Source.TheVariants.{Old, New, Relation as RelationFile, Trace}
 use Rattle.command_files.specs.declared.refusal.AcceptError.{AcceptError}
 use Rattle.command_files.specs.declared.refusal.AcceptError.TheVariants.{Refused, Memory}

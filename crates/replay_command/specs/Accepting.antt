@@ -3,7 +3,7 @@ use Rattle.std.specs.Prelude.{◌≡◌, ◌<◌, ◌≤◌, ◌⊎◌, ℕ, Lis
 use Rattle.rules.specs.declared.rule.Rule.TheVariants.{TooLong, NoTrace}
 use Rattle.rules.specs.declared.rule.Refusal.{Refusal}
 use Rattle.program_tree.specs.Tree.{ProgramData}
-use Rattle.front_end.specs.Texts.{limit, IsProgram, IsNoProgram}
+use Rattle.command_files.specs.front_end.Texts.{limit, IsProgram, IsNoProgram}
 use Rattle.scan_model.specs.InRange.{Row}
 use Rattle.scan_model.specs.Pairs.{RelationData}
 use Rattle.command_answers.specs.declared.source.Source.{Source}

@@ -18,7 +18,7 @@ use Rattle.typing.specs.TypedPrograms.{value_texts, type_texts}
 use Rattle.typed_scopes.specs.Types.{IsKnown}
 use Rattle.typed_cells.specs.Places.{last_value, last}
 use Rattle.typed_cells.proofs.Constants.{within}
-use Rattle.whole_files.proofs.Told.{nil_front, nil_behind}
+use Rattle.typed_files.proofs.whole_files.Told.{nil_front, nil_behind}
 use Rattle.stated_cells.specs.StatedCells.{last_number, last_of, has_values}
 
 -- ---- one number

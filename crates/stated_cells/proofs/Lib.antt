@@ -5,3 +5,4 @@ pub mod Cells
 pub mod ChartNames
 pub mod Flags
 pub mod StatedCells
+pub use Rattle.typed_files.proofs.whole_files

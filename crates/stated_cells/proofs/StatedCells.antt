@@ -9,8 +9,8 @@ use Rattle.typing.specs.Domains.{judged_types}
 use Rattle.typing.specs.Pous.{judged_pous, broken_types}
 use Rattle.typing.specs.TypedPrograms.{typed_program}
 use Rattle.bound_names.proofs.UsedBlocks.{used_blocks, all_ordered}
-use Rattle.whole_files.proofs.WholeBodies.{no_names}
-use Rattle.whole_files.proofs.Told.{nil_front}
+use Rattle.typed_files.proofs.whole_files.WholeBodies.{no_names}
+use Rattle.typed_files.proofs.whole_files.Told.{nil_front}
 use Rattle.typed_files.proofs.SoundBodies.{variables_whole}
 use Rattle.stated_cells.specs.StatedCells.{HasStatedCells}
 use Rattle.stated_cells.proofs.Lasts.{all_few}

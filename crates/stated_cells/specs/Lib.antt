@@ -1,1 +1,2 @@
 pub mod StatedCells
+pub use Rattle.typed_files.specs.whole_files

@@ -5,7 +5,7 @@ use Rattle.rules.specs.declared.fault.Fault.TheVariants as faults
 use Rattle.rules.specs.declared.rule.Refusal.{Refusal}
 use Rattle.rules.specs.Faults as of_rules
 use Rattle.program_tree.specs.Tree.{ProgramData}
-use Rattle.front_end.specs.Texts.{IsProgram, IsNoProgram}
+use Rattle.command_files.specs.front_end.Texts.{IsProgram, IsNoProgram}
 use Rattle.command_answers.specs.declared.source.Source.{Source}
 use Rattle.command_answers.specs.declared.source.Source.TheVariants.{Old, New, Relation}
 use Rattle.command_files.specs.declared.refusal.AcceptError.{AcceptError}

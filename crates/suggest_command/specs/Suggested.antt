@@ -2,14 +2,14 @@
 use Rattle.std.specs.Prelude.{◌≡◌, ℕ, List}
 use Rattle.rules.specs.declared.rule.Refusal.{Refusal}
 use Rattle.program_tree.specs.Tree.{ProgramData}
-use Rattle.front_end.specs.Texts.{IsProgram, IsNoProgram}
+use Rattle.command_files.specs.front_end.Texts.{IsProgram, IsNoProgram}
 use Rattle.command_answers.specs.declared.source.Source.{Source}
 use Rattle.command_answers.specs.declared.source.Source.TheVariants as sources
 use Rattle.command_files.specs.Stating.{StatesNoRelation}
 use Rattle.suggestion.specs.declared.making.Suggestion.{Suggestion}
-use Rattle.line_trials.specs.Lines.{lines_view, with_lines}
-use Rattle.line_trials.specs.Held.{runs_of}
-use Rattle.line_trials.specs.Suggested.{IsSuggestion}
+use Rattle.suggestion.specs.line_trials.Lines.{lines_view, with_lines}
+use Rattle.suggestion.specs.line_trials.Held.{runs_of}
+use Rattle.suggestion.specs.line_trials.Suggested.{IsSuggestion}
 
 -- the text of REL with INVARIANT lines behind it, which held on all pairs of runs of the programs that OLD and NEW state
 pub record IsSuggestedFor (old_text new_text text : List ℕ) (s : Suggestion) : Type 0 where

@@ -2,14 +2,13 @@
 ghost use Rattle.std.specs.Prelude.{IfOk, IfErr};
 ghost use Rattle.program_tree.specs.View.{program_view};
 ghost use Rattle.scan_model.specs.InRange.{IsProgram as IsFitToRun};
-ghost use Rattle.front_end.specs.Texts.{IsProgram, IsNoProgram};
+ghost use Rattle.command_files.specs.front_end.Texts.{IsProgram, IsNoProgram};
 ghost use Rattle.command_files.specs.Refused.{IfRefused, IfRefusedOf};
 ghost use Rattle.suggest_command.specs.Suggested.{IsSuggestedFor, IsRefusedFor};
 
 use crate::numbers::numbers_in;
 use command_answers::Source;
-use command_files::{AcceptError, fault_of};
-use front_end::accept_text;
+use command_files::{AcceptError, accept_text, fault_of};
 use program_tree::Program;
 use std::alloc::Global;
 use suggestion::{Suggestion, suggest};

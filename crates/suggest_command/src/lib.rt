@@ -8,4 +8,5 @@ mod words;
 
 pub use accepted::suggest_for;
 pub use endings::{Ending, ending_of, ending_without};
+pub use suggestion::Suggestion;
 pub use words::{Asked, read_words};

@@ -1,5 +1,5 @@
 // The numbers that stand in the texts.
-use front_end::tokens_of;
+use command_files::tokens_of;
 use rules::Fault;
 use source_tree::{Mark, Terminal, Tok};
 use std::alloc::Global;

@@ -4,7 +4,7 @@ ghost use Rattle.program_tree.specs.View.{program_view};
 ghost use Rattle.scan_model.specs.InRange.{IsProgram};
 ghost use Rattle.scan_model.specs.Pairs.{relation_view};
 ghost use Rattle.scan_replay.specs.Duos.{AreComparable};
-ghost use Rattle.command_files.specs.Stating.{StatesRelation, StatesNoRelation};
+ghost use Rattle.line_trials.specs.Stating.{StatesRelation, StatesNoRelation};
 ghost use Rattle.rules.specs.Faults.{IfRefused};
 ghost use Rattle.line_trials.specs.Held.{runs_of};
 ghost use Rattle.line_trials.specs.Lines.{lines_view, with_lines};

@@ -22,7 +22,7 @@ use Rattle.whole_files.proofs.Formed.{pou_levelled}
 use Rattle.whole_files.proofs.WholeLaw.{whole_pou}
 use Rattle.whole_files.proofs.WholeBodies.{names_of_body}
 use Rattle.whole_files.proofs.ChartNames.{body_named}
-use Rattle.body_uses.proofs.SeenNames.{body_used}
+use Rattle.typed_files.proofs.SeenNames.{body_used}
 use Rattle.typed_cells.specs.Uses.{uses_of_pou}
 use Rattle.typed_cells.specs.Premises.{UsesItsBlocks, IsOrdered, AreWhole}
 use Rattle.typed_cells.specs.Bodies.{IsBodySound, IsTypedIn}

@@ -1,14 +1,21 @@
-// The function does nothing: its clause is the law.
+// The functions do nothing: their clauses are the laws.
 ghost use Rattle.std.specs.Prelude.{◌≡◌, ℕ, [], Some};
 ghost use Rattle.rules.specs.declared.rule.Refusal.{Refusal};
 ghost use Rattle.source_tree.specs.Syntax.{PouData, FileData};
 ghost use Rattle.source_tree.specs.Levels.{IsFileLevelled};
 ghost use Rattle.naming.specs.FileScope.{pou_at};
 ghost use Rattle.naming.specs.Circles.{IsBroken};
+ghost use Rattle.bound_names.specs.BoundNames.{IsBodyWithin};
 ghost use Rattle.st_names.specs.Bound.{program_number};
 ghost use Rattle.typing.specs.Pous.{broken_types};
 ghost use Rattle.typing.specs.TypedPrograms.{typed_program};
+ghost use Rattle.typed_cells.specs.Uses.{uses_of_pou};
 ghost use Rattle.typed_programs.specs.Programs.{IsTypedProgram};
+
+/// In a levelled file that breaks no rule on names, the body of each POU uses nothing but what it may use.
+pub fn law_uses()
+    ensures { (f : FileData) → ((r : Refusal) → IsBroken f r → ⊥) → IsFileLevelled f → (k : ℕ) (d : PouData) → pou_at f k ≡ Some d → IsBodyWithin (uses_of_pou f k) d.body }
+{}
 
 /// Where a levelled file breaks no rule on names and none on types, its PROGRAM is typed. The count of its cells is not asked for.
 pub fn law_typed()

@@ -3,4 +3,4 @@
 
 mod laws;
 
-pub use laws::law_typed;
+pub use laws::{law_typed, law_uses};

@@ -7,3 +7,4 @@ pub mod Lines
 pub mod Programs
 pub mod Compared
 pub mod Readings
+pub use Rattle.stated_cells.proofs.StatedCells

@@ -8,7 +8,7 @@ use Rattle.program_tree.specs.Tree.{Expression}
 use Rattle.queries.specs.Comparisons.{Comparison}
 use Rattle.typing.specs.Typed.{typed}
 use Rattle.typing.specs.Programs.{pair_scope}
-use Rattle.whole_files.proofs.Told.{nil_front, nil_behind}
+use Rattle.stated_cells.proofs.whole_files.Told.{nil_front, nil_behind}
 use Rattle.query_formula_laws.specs.TypedComparisons.{IsClauseOf}
 use Rattle.stated_cells.specs.StatedCells.{HasStatedCells}
 use Rattle.candidates.specs.Candidates.{before}

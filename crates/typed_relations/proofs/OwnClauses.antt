@@ -26,8 +26,8 @@ use Rattle.typed_scopes.proofs.Expressions.{value_is}
 use Rattle.typed_scopes.proofs.SameTypes.{same_type}
 use Rattle.typed_scopes.proofs.TypedValues.{of_type}
 use Rattle.typed_scopes.proofs.Wholes.{whole_require}
-use Rattle.whole_files.proofs.KnownTypes.{type_known}
-use Rattle.whole_files.proofs.ToldTrees.{condition_told}
+use Rattle.stated_cells.proofs.whole_files.KnownTypes.{type_known}
+use Rattle.stated_cells.proofs.whole_files.ToldTrees.{condition_told}
 use Rattle.query_formula_laws.specs.TypedComparisons.{IsClauseOf}
 use Rattle.stated_cells.specs.StatedCells.{HasStatedCells}
 use Rattle.relation_file.specs.Clauses.{broken_names}

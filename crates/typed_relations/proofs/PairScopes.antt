@@ -16,7 +16,7 @@ use Rattle.typed_programs.specs.Scopes.{Pous}
 use Rattle.typed_scopes.specs.Uses.{Usable}
 use Rattle.typed_scopes.specs.Fitting.{ScopeFits}
 use Rattle.typed_cells.proofs.Occurrences.{Occurs}
-use Rattle.whole_files.specs.WholeScopes.{is_whole_meaning, IsWholeScope}
+use Rattle.stated_cells.specs.whole_files.WholeScopes.{is_whole_meaning, IsWholeScope}
 use Rattle.stated_cells.specs.StatedCells.{last_of, HasStatedCells}
 use Rattle.typed_relations.proofs.PairTypes.{old_paired, new_paired}
 use Rattle.typed_relations.proofs.Sides.{over, Fits, side_fits}

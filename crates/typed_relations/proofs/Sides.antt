@@ -22,7 +22,7 @@ use Rattle.typed_scopes.specs.Types.{IsPlaceOf}
 use Rattle.typed_scopes.specs.Fitting.{MeaningFits}
 use Rattle.typed_cells.proofs.Constants.{within}
 use Rattle.typed_cells.proofs.Occurrences.{Occurs, occurs_first, occurs_right, occurs_within}
-use Rattle.whole_files.specs.WholeScopes.{is_whole_meaning}
+use Rattle.stated_cells.specs.whole_files.WholeScopes.{is_whole_meaning}
 use Rattle.stated_cells.specs.StatedCells.{last_number, last_of, has_values, IsOfTypes, IsStatedCell, HasStatedCells}
 use Rattle.typed_relations.proofs.PairTypes.{IsPaired, placed_too}
 

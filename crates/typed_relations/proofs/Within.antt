@@ -10,7 +10,7 @@ use Rattle.typing.specs.declared.scope.Meaning.{Meaning}
 use Rattle.typing.specs.Typing.{by_path}
 use Rattle.typing.specs.Programs.{pair_means, pair_scope}
 use Rattle.typed_scopes.specs.Uses.{IsWithin, AreLinksWithin, AreArgumentsWithin}
-use Rattle.whole_files.proofs.Told.{nil_front, nil_behind}
+use Rattle.stated_cells.proofs.whole_files.Told.{nil_front, nil_behind}
 use Rattle.relation_file.specs.Refusals.{breaks}
 use Rattle.relation_file.specs.Clauses.{is_side, no_side, unknown_unless, broken_members, broken_called, broken_argument, broken_names, broken_links, broken_arguments}
 use Rattle.typed_relations.proofs.PairScopes.{pair_uses}

@@ -1,1 +1,2 @@
 pub mod Readings
+pub use Rattle.stated_cells.specs.StatedCells

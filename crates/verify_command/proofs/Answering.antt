@@ -8,8 +8,8 @@ use Rattle.queries.specs.Questions.{QueryData}
 use Rattle.command_answers.specs.declared.status.Status.{Status}
 use Rattle.command_answers.specs.Reports.{Report}
 use Rattle.command_answers.specs.Answers.{Answers, AnswersSoFar, all_put}
-use Rattle.command_files.specs.Texts.{Texts}
-use Rattle.finding_answers.proofs.RefusalLemmas.{rose_since, refusal_status}
+use Rattle.comparison_files.specs.Texts.{Texts}
+use Rattle.comparison_files.proofs.RefusalLemmas.{rose_since, refusal_status}
 use Rattle.verify_command.specs.Lines.{IsOfVerdict}
 use Rattle.verify_command.specs.Reports.{saving, Saving, HasFailed, ReportsVerdict, decided, too_long, not_written, VerifyReports, not_compared, on_pair, LeavesPart, untouched, a_part, IsLeft, as_before, accepted, ShowsSaved}
 use Rattle.verify_command.proofs.Lines.{whole_of}

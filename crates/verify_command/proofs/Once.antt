@@ -5,11 +5,11 @@ use Rattle.command_answers.specs.declared.limit.Limit.{Limit}
 use Rattle.command_answers.specs.declared.source.Source.{Source}
 use Rattle.command_answers.specs.Alike.{AreAlike}
 use Rattle.command_answers.specs.Reports.{Report, refusal_report, limit_report}
-use Rattle.command_files.specs.Texts.{Texts}
+use Rattle.comparison_files.specs.Texts.{Texts}
 use Rattle.comparison_files.specs.Accepting.{IsRefused, IsTooLarge}
 use Rattle.comparison_files.proofs.Once.{refused_too, too_large_too, never_both, too_large_once}
-use Rattle.finding_answers.specs.Refusals.{ReportsRefusal, refused, too_large}
-use Rattle.finding_answers.proofs.RefusalLemmas.{refusals_alike}
+use Rattle.comparison_files.specs.Refusals.{ReportsRefusal, refused, too_large}
+use Rattle.comparison_files.proofs.RefusalLemmas.{refusals_alike}
 use Rattle.verify_command.specs.Reports.{Saving, VerifyReports, not_compared, on_pair}
 
 pub refusal_once : (t : Texts) (s : Saving) (file : Source) (refusal : Refusal) (r : Report) → IsRefused t file refusal → VerifyReports t s r → AreAlike r (refusal_report file refusal)

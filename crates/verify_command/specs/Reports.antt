@@ -15,11 +15,11 @@ use Rattle.judgement.specs.declared.answers.Judged.TheVariants.{Valid}
 use Rattle.finding_search.specs.Passing.{IsPartOfFinding, IsFull}
 use Rattle.command_answers.specs.declared.status.Status.{Status}
 use Rattle.command_answers.specs.Reports.{Report}
-use Rattle.command_files.specs.Texts.{Texts}
+use Rattle.comparison_files.specs.Texts.{Texts}
 use Rattle.comparison_files.specs.Accepting.{AreAccepted}
 use Rattle.comparison_files.specs.Comparing.{formulas_of}
 use Rattle.finding_answers.specs.Lines.{most_bytes, too_long_report}
-use Rattle.finding_answers.specs.Refusals.{ReportsRefusal}
+use Rattle.comparison_files.specs.Refusals.{ReportsRefusal}
 use Rattle.verify_command.specs.Lines.{verdict_line, verdict_status, verdict_report, write_fault_report}
 
 -- what is told of all files before and after, how often writes of each have failed, and the name of the finding

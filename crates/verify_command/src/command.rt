@@ -4,27 +4,26 @@ ghost use Rattle.outside.specs.Causes.{Rose, NoneFell};
 ghost use Rattle.outside.specs.Contents.{OthersStay};
 ghost use Rattle.program_tree.specs.View.{program_view};
 ghost use Rattle.node_core.specs.Scans.{scan_view};
-ghost use Rattle.query_formula_laws.specs.TypedComparisons.{IsScanOf};
-ghost use Rattle.typed_relations.specs.Readings.{IsRead};
-ghost use Rattle.product_build.specs.Limits.{HasFewLines};
-ghost use Rattle.product_build.specs.MadeCircuits.{comparison_between};
+ghost use Rattle.comparison_files.specs.TypedComparisons.{IsScanOf};
+ghost use Rattle.comparison_files.specs.Readings.{IsRead};
+ghost use Rattle.comparison_files.specs.Limits.{HasFewLines};
+ghost use Rattle.comparison_files.specs.MadeCircuits.{comparison_between};
 ghost use Rattle.command_answers.specs.Answers.{Answers, IsExact};
-ghost use Rattle.command_files.specs.Texts.{Texts, AreThreeTold, OneOfThreeRose};
-ghost use Rattle.command_files.specs.KeptTexts.{AreKept};
+ghost use Rattle.comparison_files.specs.Texts.{Texts, AreThreeTold, OneOfThreeRose};
+ghost use Rattle.comparison_files.specs.KeptTexts.{AreKept};
 ghost use Rattle.comparison_files.specs.Accepting.{nodes_of, AreStated};
 ghost use Rattle.comparison_files.specs.Comparing.{comparison_in};
 ghost use Rattle.verify_command.specs.Lines.{IsOfVerdict};
 ghost use Rattle.verify_command.specs.Reports.{saving, HasFailed, IsLeft, VerifyReports, ShowsSaved};
 
 use crate::finding::answer_finding;
-use cdcl_watch::Watched;
 use clause_core::Decider;
 use command_answers::{Status, put_last};
-use command_files::{KeptTexts, read_texts};
-use comparison_files::{Compared, accept_texts, circuits_of};
-use finding_answers::put_fault;
+use comparison_files::{
+    Accepted, Compared, KeptTexts, accept_texts, circuits_of, put_fault, read_texts,
+};
+use drop_runs::Runs;
 use node_core::Scan;
-use node_end::Accepted;
 use outside::{OutErr, Shelf, Sink};
 use program_tree::Program;
 use scan_model::Relation;
@@ -61,9 +60,12 @@ fn answer_pair<D: Decider, S: Shelf, K: Sink>(
     ensures faults { K.faults out.old ≤ K.faults out.new }
 {
     match circuits_of(alloc, old, old_scan, new, new_scan, relation) {
-        Ok(circuits) => answer_finding(
-            alloc, decider, old, new, relation, &circuits, finding, shelf, out,
-        ),
+        Ok(circuits) => {
+            let mut runs = Runs::new(alloc, circuits.parts(), circuits.product());
+            answer_finding(
+                alloc, decider, old, new, relation, &circuits, &mut runs, finding, shelf, out,
+            )
+        }
         Err(fault) => put_fault(alloc, fault, out),
     }
 }
@@ -166,7 +168,7 @@ fn answer_files<D: Decider, S: Shelf, K: Sink>(
 
 /// Decides two programs and a relation by this decider, saves the finding that shows the verdict, and says how that ends. OLD, NEW and
 /// REL are read whole before any rule is tested. The finding is made only once all three are accepted, and written line by line.
-pub fn answer_verify_with<D: Decider, S: Shelf, K: Sink>(
+pub fn answer_verify<D: Decider, S: Shelf, K: Sink>(
     alloc: Global,
     decider: &mut D,
     old: &str,
@@ -207,48 +209,4 @@ pub fn answer_verify_with<D: Decider, S: Shelf, K: Sink>(
         → result ≢ Status.Memory → IsExact (VerifyReports t (saving (S.file shelf.old) (S.file shelf.new) (S.write_faults shelf.old) (S.write_faults shelf.new) finding.now)) result (K.taken out.old) (K.taken out.new) }
 {
     answer_files(alloc, decider, old, new, relation, finding, shelf, out)
-}
-
-/// The same by the decider with watched literals.
-pub fn answer_verify<S: Shelf, K: Sink>(
-    alloc: Global,
-    old: &str,
-    new: &str,
-    relation: &str,
-    finding: &str,
-    shelf: &mut S,
-    out: &mut K,
-) -> Status
-    // No file but the finding changes, and none where a read failed.
-    ensures others { OthersStay (S.file shelf.old) (S.file shelf.new) finding.now }
-    ensures unread { result ≡ Status.ReadFault → S.file shelf.new ≡ S.file shelf.old }
-
-    // Whatever the answer, the finding is as at entry, or what is told of it is a part of a finding on what the texts state.
-    ensures left { (t : Texts) → AreThreeTold (S.file shelf.old) old.now new.now relation.now t → IsLeft t (saving (S.file shelf.old) (S.file shelf.new) (S.write_faults shelf.old) (S.write_faults shelf.new) finding.now) }
-
-    // The bytes on the sink and the status are those of a report on the three texts, where these are told.
-    ensures answer { (t : Texts) → AreThreeTold (S.file shelf.old) old.now new.now relation.now t
-        → Answers (VerifyReports t (saving (S.file shelf.old) (S.file shelf.new) (S.write_faults shelf.old) (S.write_faults shelf.new) finding.now)) (OneOfThreeRose (S.read_faults shelf.old) (S.read_faults shelf.new) old.now new.now relation.now) result (K.taken out.old) (K.taken out.new) }
-
-    // Where the status is that of a verdict, the finding was saved and is judged valid with it, and it is the verdict of the model on
-    // what the texts state, or SPENT with its log.
-    ensures saved { (t : Texts) → AreThreeTold (S.file shelf.old) old.now new.now relation.now t → IsOfVerdict result
-        → ShowsSaved t (saving (S.file shelf.old) (S.file shelf.new) (S.write_faults shelf.old) (S.write_faults shelf.new) finding.now) result (K.taken out.old) (K.taken out.new) }
-    ensures usage { result ≢ Status.Usage }
-
-    // A fault comes only where a count rose, and no count falls.
-    ensures read_fault { result ≡ Status.ReadFault → OneOfThreeRose (S.read_faults shelf.old) (S.read_faults shelf.new) old.now new.now relation.now }
-    ensures write_fault { result ≡ Status.WriteFault → HasFailed (saving (S.file shelf.old) (S.file shelf.new) (S.write_faults shelf.old) (S.write_faults shelf.new) finding.now) ⊎ Rose (K.faults out.old) (K.faults out.new) }
-    ensures reads { NoneFell (S.read_faults shelf.old) (S.read_faults shelf.new) }
-    ensures writes { NoneFell (S.write_faults shelf.old) (S.write_faults shelf.new) }
-    ensures faults { K.faults out.old ≤ K.faults out.new }
-
-    // Where no count rose, the answer is a whole report, or memory was wanting.
-    ensures complete { (t : Texts) → AreThreeTold (S.file shelf.old) old.now new.now relation.now t
-        → ¬ (OneOfThreeRose (S.read_faults shelf.old) (S.read_faults shelf.new) old.now new.now relation.now)
-        → ¬ HasFailed (saving (S.file shelf.old) (S.file shelf.new) (S.write_faults shelf.old) (S.write_faults shelf.new) finding.now) → ¬ Rose (K.faults out.old) (K.faults out.new)
-        → result ≢ Status.Memory → IsExact (VerifyReports t (saving (S.file shelf.old) (S.file shelf.new) (S.write_faults shelf.old) (S.write_faults shelf.new) finding.now)) result (K.taken out.old) (K.taken out.new) }
-{
-    let mut decider = Watched::new();
-    answer_verify_with(alloc, &mut decider, old, new, relation, finding, shelf, out)
 }

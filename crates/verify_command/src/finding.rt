@@ -8,7 +8,7 @@ ghost use Rattle.queries.specs.Settings.{setting_of};
 ghost use Rattle.scan_replay.specs.Duos.{AreComparable};
 ghost use Rattle.judgement.specs.Shown.{IsShown};
 ghost use Rattle.finding_search.specs.Passing.{IsFull};
-ghost use Rattle.product_build.specs.MadeCircuits.{comparison_between};
+ghost use Rattle.comparison_files.specs.MadeCircuits.{comparison_between};
 ghost use Rattle.command_answers.specs.Answers.{Answers};
 ghost use Rattle.finding_answers.specs.Lines.{most_bytes};
 ghost use Rattle.verify_command.specs.Reports.{saving, HasFailed, IsSaved, LeavesPart, ReportsVerdict, ReportsSaved};
@@ -20,6 +20,7 @@ use finding_answers::MOST_BYTES;
 use finding_file::{FindingWriter, WriteErr};
 use finding_lines::Conclusion;
 use finding_search::save_finding;
+use invariant_prune::Guesses;
 use outside::{OutErr, Shelf, Sink};
 use pair_trial::Trial;
 use program_tree::Program;
@@ -28,13 +29,14 @@ use scan_model::Relation;
 use std::alloc::Global;
 
 // Makes the file of the finding, and saves the finding in it.
-fn save<D: Decider, Q: Queries, S: Shelf>(
+fn save<D: Decider, Q: Queries, G: Guesses, S: Shelf>(
     alloc: Global,
     decider: &mut D,
     old: &Program,
     new: &Program,
     relation: &Relation,
     queries: &Q,
+    guesses: &mut G,
     finding: &str,
     shelf: &mut S,
 ) -> Result<Conclusion, WriteErr>
@@ -56,7 +58,15 @@ fn save<D: Decider, Q: Queries, S: Shelf>(
         return Err(WriteErr::Memory);
     };
     match shelf.create(finding) {
-        Ok(()) => save_finding(alloc, decider, &mut trial, queries, &mut writer, shelf),
+        Ok(()) => save_finding(
+            alloc,
+            decider,
+            &mut trial,
+            queries,
+            guesses,
+            &mut writer,
+            shelf,
+        ),
         Err(OutErr::Fault) => Err(WriteErr::Fault),
         Err(OutErr::Memory) => Err(WriteErr::Memory),
     }
@@ -78,14 +88,15 @@ fn put_saved<K: Sink>(alloc: Global, saved: Result<Conclusion, WriteErr>, out: &
     }
 }
 
-/// Saves the finding on what is compared, and puts how that ended.
-pub fn answer_finding<D: Decider, Q: Queries, S: Shelf, K: Sink>(
+/// Saves the finding on what is compared, and puts how that ended. Rows that are proposed are tried before a query is asked.
+pub fn answer_finding<D: Decider, Q: Queries, G: Guesses, S: Shelf, K: Sink>(
     alloc: Global,
     decider: &mut D,
     old: &Program,
     new: &Program,
     relation: &Relation,
     queries: &Q,
+    guesses: &mut G,
     finding: &str,
     shelf: &mut S,
     out: &mut K,
@@ -103,6 +114,8 @@ pub fn answer_finding<D: Decider, Q: Queries, S: Shelf, K: Sink>(
     ensures writes { NoneFell (S.write_faults shelf.old) (S.write_faults shelf.new) }
     ensures faults { K.faults out.old ≤ K.faults out.new }
 {
-    let saved = save(alloc, decider, old, new, relation, queries, finding, shelf);
+    let saved = save(
+        alloc, decider, old, new, relation, queries, guesses, finding, shelf,
+    );
     put_saved(alloc, saved, out)
 }

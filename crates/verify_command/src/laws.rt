@@ -5,7 +5,7 @@ ghost use Rattle.command_answers.specs.declared.limit.Limit.{Limit};
 ghost use Rattle.command_answers.specs.declared.source.Source.{Source};
 ghost use Rattle.command_answers.specs.Alike.{AreAlike};
 ghost use Rattle.command_answers.specs.Reports.{Report, refusal_report, limit_report};
-ghost use Rattle.command_files.specs.Texts.{Texts};
+ghost use Rattle.comparison_files.specs.Texts.{Texts};
 ghost use Rattle.comparison_files.specs.Accepting.{IsRefused, IsTooLarge};
 ghost use Rattle.verify_command.specs.Reports.{Saving, VerifyReports};
 

@@ -6,6 +6,6 @@ mod finding;
 mod laws;
 mod show;
 
-pub use command::{answer_verify, answer_verify_with};
+pub use command::answer_verify;
 pub use finding::answer_finding;
 pub use laws::{one_limit, one_refusal};

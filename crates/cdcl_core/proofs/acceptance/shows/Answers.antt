@@ -1,14 +1,10 @@
 use Rattle.std.proofs.Common.{◌+◌, sym, subst}
 use Rattle.clause_core.specs.Steps.{AllVariablesBelow, VariablesBelow}
 use Rattle.clause_core.proofs.Ranges.{AllVariablesBelow-within, VariablesBelow-fits}
-use Rattle.clause_pairs.specs.Pairs.{IsPaired}
 use Rattle.cdcl_core.proofs.acceptance.shows.Goals as goal
 
-pub shows_fresh_by-requires-clause-held : goal.shows_fresh_by-requires-clause-held
-shows_fresh_by-requires-clause-held c = subst (λ n. AllVariablesBelow n c.args.held.now) (sym c.requires.size) (AllVariablesBelow-within c.args.variables c.args.held.now c.requires.held)
+pub shows_fresh-requires-clause-held : goal.shows_fresh-requires-clause-held
+shows_fresh-requires-clause-held c = subst (λ n. AllVariablesBelow n c.args.held.now) (sym c.requires.size) (AllVariablesBelow-within c.args.variables c.args.held.now c.requires.held)
 
-pub shows_fresh_by-requires-clause-literals : goal.shows_fresh_by-requires-clause-literals
-shows_fresh_by-requires-clause-literals c = subst (λ n. VariablesBelow n c.literals.result.now) (sym c.requires.size) (subst (VariablesBelow (c.args.variables + 1)) (sym c.literals.ensures) (VariablesBelow-fits c.args.variables 0 c.args.step.now.clause c.requires.clause))
-
-pub shows_fresh_by-requires-clause-paired : goal.shows_fresh_by-requires-clause-paired
-shows_fresh_by-requires-clause-paired c = subst (λ z. IsPaired c.args.held.now z) (sym c.as_mut_slice.ensures.value) c.requires.paired
+pub shows_fresh-requires-clause-literals : goal.shows_fresh-requires-clause-literals
+shows_fresh-requires-clause-literals c = subst (λ n. VariablesBelow n c.literals.result.now) (sym c.requires.size) (subst (VariablesBelow (c.args.variables + 1)) (sym c.literals.ensures) (VariablesBelow-fits c.args.variables 0 c.args.step.now.clause c.requires.clause))

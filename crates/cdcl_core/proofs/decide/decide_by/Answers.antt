@@ -61,6 +61,6 @@ loop-turn-preserved g c =
       grown = Grown-push c.args.cnf.now.variables c.args.cnf.now.clauses i.held.items c.push-in-Derived.new.self.items i.log c.push.new.self s c.in_ok-clause-in-Derived.clause i.invariant.grown
           next.0 (next.1 some) some copied c.in_ok-push-in-Derived-2.ensures.items c.in_ok-push-in-Derived.ensures.ok;
       turns = omega (arith, ap length c.in_ok-push-in-Derived.ensures.ok, length-append i.log (Entered s ∷ []));
-      paired = c.add_pair.ensures c.push-in-Derived.new.self.items (subst (λ z. IsPaired z c.next_tested.new.pairs.items) (sym c.in_ok-push-in-Derived-2.ensures.items) (IsPaired-held i.held.items c.next_tested.new.pairs.items c.in_ok-clause-in-Derived.clause (subst (λ z. IsPaired z c.next_tested.new.pairs.items) c.as_slice.ensures.value c.next_tested.ensures.paired)));
+      paired = c.add.ensures c.push-in-Derived.new.self.items (subst (λ z. IsPaired z c.next_tested.new.test) (sym c.in_ok-push-in-Derived-2.ensures.items) (IsPaired-held i.held.items c.next_tested.new.test c.in_ok-clause-in-Derived.clause (subst (λ z. IsPaired z c.next_tested.new.test) c.as_slice.ensures.value c.next_tested.ensures.paired)));
       size = grind (arith, common_steps);
     }

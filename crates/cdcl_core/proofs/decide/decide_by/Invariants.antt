@@ -7,6 +7,6 @@ abbrev pub invariant-loop-turn : goal.invariant-loop-turn
 invariant-loop-turn g l = record {
   grown : Grown l.cnf.variables l.cnf.clauses l.held.items l.log;
   turns : length l.log ≡ l._turn;
-  paired : IsPaired l.held.items l.pairs.items;
+  paired : IsPaired l.held.items l.test;
   size : length l.values.items ≡ l.variables + 1;
 }

@@ -1,4 +1,4 @@
-use Rattle.std.proofs.Common.{◌≡◌, length, get_or, Some, refl, sym, ◌∙◌, ap, subst, arith}
+use Rattle.std.proofs.Common.{◌≡◌, length, Some, refl, sym, ◌∙◌, ap, subst, arith}
 use Rattle.std.proofs.lemmas.Option.{slice_get_read}
 use Rattle.clause_core.specs.Steps.{clause_status}
 use Rattle.clause_core.specs.declared.status.Status.TheVariants.{Neither}
@@ -13,7 +13,7 @@ loop-place-preserved-then-is_heavy c =
     let item = c.index-held-place.result in
     let own : IsPair item (pair_in i.pairs i.place) = subst (λ z. IsPair z (pair_in i.pairs i.place)) (sym c.index-held-place.is) (i.invariant.paired i.place item) in
     let read : IsPair item c.read.result = subst (λ p. IsPair item p) (sym c.read.ensures) own in
-    let status : clause_status c.args.values.now item ≡ Neither = clause_status-pair c.args.values.now item c.read.result read (c.is_heavy.ensures c.if-is_heavy.true) in
+    let status : clause_status c.args.values.now item ≡ Neither = clause_status-pair c.args.values.now item c.read.result read (c.is_heavy.ensures c.args.values.now c.requires.weighed c.if-is_heavy.true) in
     record {
       closed = IsClosed-more c.args.held.now c.args.values.now i.place item (omega arith) c.index-held-place.is i.invariant.closed status;
       paired = i.invariant.paired;

@@ -1,5 +1,5 @@
 use Rattle.std.proofs.Common.{◌≡◌, ◌∙◌, subst}
-use Rattle.flat_end.specs.FlatTexts.{HasNoFlatForm}
+use Rattle.node_end.specs.FlatTexts.{HasNoFlatForm}
 use Rattle.comparison_files.specs.Faults.{IfFaultOf}
 use Rattle.program_tree.specs.View.{program_view}
 use Rattle.comparison_files.proofs.ReadTexts.{program_read}

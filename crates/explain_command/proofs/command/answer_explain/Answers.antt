@@ -1,5 +1,5 @@
 use Rattle.std.proofs.Common.{subst}
-use Rattle.command_files.specs.Texts.{OneOfFourRose}
+use Rattle.finding_commands.specs.Texts.{OneOfFourRose}
 use Rattle.command_answers.specs.Answers.{Answers}
 use Rattle.command_answers.proofs.AnswerLemmas.{exact_of}
 use Rattle.explain_command.specs.Reports.{ExplainReports}

@@ -20,7 +20,7 @@ use Rattle.judgement.proofs.Soundness.{known_moved}
 use Rattle.finding_check.specs.Rooms.{IsSmall, HasRoomAfter}
 use Rattle.finding_check.specs.Stages.{place_of, moved_of}
 use Rattle.finding_check.proofs.RoomLemmas.{small, room_next}
-use Rattle.finding_check.proofs.Standing.{IfSome-all, read_none, told_end, told_stopped, told_fails, told_on, told_never, shows_stopped, stopped-fault, Rose-before}
+use Rattle.finding_check.proofs.Standing.{IfSome-all, read_none, told_end, told_stopped, told_fails, told_on, told_never, shows_end, shows_stopped, stopped-fault, Rose-before}
 use Rattle.finding_check.proofs.judging.judge.Goals as goal
 
 pub lines-init : goal.lines-init
@@ -83,6 +83,13 @@ returns-in_default-clause-exact g c =
     let answered = subst (λ (o : Option (List ℕ)). IfSome o (λ file. IsAnswer c.lines.reader (ahead (rest_of c.lines.reader file)) c.next.result)) same_file c.next.ensures.answer in
     subst (λ j. IfSome told (λ file. IsJudged s f limit file (Ok j))) (sym (c.end_of_file.ensures c.lines.trial.pair))
     (told_end s f limit told c.lines.reader c.lines.before place c.next.result c.lines.invariant.told c.lines.invariant.limit answered (c.in-Ok.is ∙ ap Ok c.in_default.is))
+
+pub returns-in_default-clause-sound : goal.returns-in_default-clause-sound
+returns-in_default-clause-sound g c =
+    let k = comparison_of c.args.trial.now in
+    let f = g.Q.Queries.formula c.args.queries.now in
+    subst (λ j. ShowsVerdict k f (Ok j)) (sym (c.end_of_file.ensures c.lines.trial.pair))
+    (shows_end k f (place_of c.lines.stage c.lines.trial.pair) (c.lines.before + 1) c.lines.invariant.known)
 
 pub returns-in-Fails-clause-exact : goal.returns-in-Fails-clause-exact
 returns-in-Fails-clause-exact g c =

@@ -1,6 +1,6 @@
 use Rattle.std.proofs.Common.{Err, ◌∙◌, ap, inl, inr}
 use Rattle.command_answers.proofs.AnswerLemmas.{answers-wider, fault_answered}
-use Rattle.finding_answers.proofs.RefusalLemmas.{rose_since}
+use Rattle.comparison_files.proofs.RefusalLemmas.{rose_since}
 use Rattle.finding_commands.specs.Reports.{ReportsOn}
 use Rattle.finding_commands.proofs.command.answer_on_finding.Goals as goal
 

@@ -1,12 +1,12 @@
 use Rattle.std.proofs.Common.{◌≡◌, ◌∙◌, ap₂, subst}
 use Rattle.node_core.specs.Scans.{scan_view}
 use Rattle.command_answers.proofs.AnswerLemmas.{answers-wider}
-use Rattle.product_build.specs.Limits.{HasFewGates}
-use Rattle.product_build.specs.MadeCircuits.{comparison_between, formula_of}
+use Rattle.comparison_files.specs.Limits.{HasFewGates}
+use Rattle.comparison_files.specs.MadeCircuits.{comparison_between, formula_of}
 use Rattle.comparison_files.specs.Accepting.{nodes_of}
 use Rattle.comparison_files.specs.Comparing.{formulas_by, formulas_of}
-use Rattle.finding_answers.specs.Refusals.{ReportsRefusal}
-use Rattle.finding_answers.proofs.RefusalLemmas.{at_gates}
+use Rattle.comparison_files.specs.Refusals.{ReportsRefusal}
+use Rattle.comparison_files.proofs.RefusalLemmas.{at_gates}
 use Rattle.finding_commands.specs.Reports.{ReportsOn, not_compared, on_finding}
 use Rattle.finding_commands.proofs.command.answer_pair.Goals as goal
 

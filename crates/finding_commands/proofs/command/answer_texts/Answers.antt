@@ -1,5 +1,5 @@
 use Rattle.command_answers.proofs.AnswerLemmas.{answers-wider}
-use Rattle.finding_answers.specs.Refusals.{ReportsRefusal}
+use Rattle.comparison_files.specs.Refusals.{ReportsRefusal}
 use Rattle.finding_commands.specs.Reports.{ReportsOn, not_compared}
 use Rattle.finding_commands.proofs.command.answer_texts.Goals as goal
 

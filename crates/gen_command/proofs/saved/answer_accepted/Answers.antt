@@ -1,6 +1,6 @@
 use Rattle.std.proofs.Common.{Err, inl, refl, ap}
 use Rattle.command_answers.proofs.AnswerLemmas.{answers-wider}
-use Rattle.product_build.specs.MadeCircuits.{comparison_between}
+use Rattle.comparison_files.specs.MadeCircuits.{comparison_between}
 use Rattle.generated_texts.specs.Names.{finding_name}
 use Rattle.verify_command.specs.Reports.{saving, untouched}
 use Rattle.verify_command.proofs.Saved.{write_fault_answered}

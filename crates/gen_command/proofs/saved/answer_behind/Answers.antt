@@ -1,5 +1,5 @@
 use Rattle.std.proofs.Common.{refl}
-use Rattle.product_build.specs.MadeCircuits.{comparison_between}
+use Rattle.comparison_files.specs.MadeCircuits.{comparison_between}
 use Rattle.verify_command.specs.Reports.{saving, ReportsVerdict}
 use Rattle.gen_command.specs.Lines.{made_line}
 use Rattle.gen_command.specs.Reports.{ReportsBehind, verified, no_memory}

@@ -1,7 +1,7 @@
 use Rattle.std.proofs.Common.{sym, subst}
 use Rattle.std.proofs.lemmas.Result.{err_from_is_err_and}
 use Rattle.program_tree.specs.View.{program_view}
-use Rattle.front_end.specs.Texts.{HasTokens}
+use Rattle.command_files.specs.front_end.Texts.{HasTokens}
 use Rattle.line_trials.proofs.Refusals.{refused_lines}
 use Rattle.line_trials.proofs.reading.read_given.Goals as goal
 

@@ -1,4 +1,4 @@
-use Rattle.front_end.specs.Texts.{IsNoProgram}
+use Rattle.command_files.specs.front_end.Texts.{IsNoProgram}
 use Rattle.suggest_command.proofs.Refusals.{fault_refused}
 use Rattle.suggest_command.proofs.accepted.program_of.Goals as goal
 

@@ -1,13 +1,13 @@
 use Rattle.std.proofs.Common.{◌≡◌, ◌∙◌, refl, ap₂, subst}
 use Rattle.node_core.specs.Scans.{scan_view}
 use Rattle.command_answers.proofs.AnswerLemmas.{answers-wider}
-use Rattle.product_build.specs.Limits.{HasFewGates}
-use Rattle.product_build.specs.MadeCircuits.{comparison_between, formula_of}
+use Rattle.comparison_files.specs.Limits.{HasFewGates}
+use Rattle.comparison_files.specs.MadeCircuits.{comparison_between, formula_of}
 use Rattle.comparison_files.specs.Accepting.{nodes_of}
 use Rattle.comparison_files.specs.Comparing.{formulas_by, formulas_of}
 use Rattle.verify_command.specs.Reports.{saving, VerifyReports, not_compared, on_pair, ReportsVerdict, LeavesPart, accepted}
-use Rattle.finding_answers.specs.Refusals.{ReportsRefusal}
-use Rattle.finding_answers.proofs.RefusalLemmas.{at_gates}
+use Rattle.comparison_files.specs.Refusals.{ReportsRefusal}
+use Rattle.comparison_files.proofs.RefusalLemmas.{at_gates}
 use Rattle.verify_command.proofs.command.answer_pair.Goals as goal
 
 pub returns-in-Ok-clause-left : goal.returns-in-Ok-clause-left

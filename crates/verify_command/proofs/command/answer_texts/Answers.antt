@@ -1,6 +1,6 @@
 use Rattle.std.proofs.Common.{refl}
 use Rattle.command_answers.proofs.AnswerLemmas.{answers-wider}
-use Rattle.finding_answers.specs.Refusals.{ReportsRefusal}
+use Rattle.comparison_files.specs.Refusals.{ReportsRefusal}
 use Rattle.verify_command.specs.Reports.{saving, VerifyReports, not_compared}
 use Rattle.verify_command.proofs.command.answer_texts.Goals as goal
 

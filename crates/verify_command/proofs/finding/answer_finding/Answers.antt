@@ -1,5 +1,5 @@
 use Rattle.command_answers.proofs.AnswerLemmas.{answers-wider}
-use Rattle.product_build.specs.MadeCircuits.{comparison_between}
+use Rattle.comparison_files.specs.MadeCircuits.{comparison_between}
 use Rattle.verify_command.specs.Reports.{saving, ReportsVerdict, ReportsSaved}
 use Rattle.verify_command.proofs.Saved.{reported}
 use Rattle.verify_command.proofs.finding.answer_finding.Goals as goal

@@ -1,4 +1,4 @@
-use Rattle.product_build.specs.MadeCircuits.{comparison_between}
+use Rattle.comparison_files.specs.MadeCircuits.{comparison_between}
 use Rattle.verify_command.specs.Reports.{saving}
 use Rattle.verify_command.proofs.Saved.{after_create, part_left}
 use Rattle.verify_command.proofs.finding.save.Goals as goal

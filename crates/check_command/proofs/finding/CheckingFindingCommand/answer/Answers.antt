@@ -3,7 +3,7 @@ use Rattle.command_answers.proofs.AnswerLemmas.{answers-wider, fault_answered}
 use Rattle.judgement.specs.declared.answers.JudgeErr.TheVariants.{M8}
 use Rattle.judgement.specs.Findings.{IsJudged}
 use Rattle.queries.specs.Settings.{setting_of}
-use Rattle.product_build.specs.MadeCircuits.{comparison_between}
+use Rattle.finding_commands.specs.MadeCircuits.{comparison_between}
 use Rattle.finding_answers.specs.Lines.{most_bytes, judged_report, too_long_report}
 use Rattle.check_command.specs.Reports.{ReportsFinding, judged, too_long}
 use Rattle.check_command.proofs.finding.CheckingFindingCommand.answer.Goals as goal

@@ -1,7 +1,7 @@
 use Rattle.std.proofs.Common.{◌≡◌, Err, Ok, IfSome, ap, subst}
 use Rattle.command_answers.proofs.AnswerLemmas.{answers-wider, fault_answered}
 use Rattle.judgement.specs.declared.answers.JudgeErr.TheVariants.{M8}
-use Rattle.product_build.specs.MadeCircuits.{comparison_between}
+use Rattle.finding_commands.specs.MadeCircuits.{comparison_between}
 use Rattle.finding_explain.specs.Explaining.{IsExplained}
 use Rattle.finding_answers.specs.Lines.{most_bytes, too_long_report}
 use Rattle.explain_command.specs.Lines.{explained_report}

@@ -1,6 +1,0 @@
-use Rattle.body_uses.proofs.SeenNames.{body_used}
-use Rattle.whole_files.proofs.WholeBodies.{no_names}
-use Rattle.body_uses.proofs.laws.law_uses.Goals as goal
-
-pub returns : goal.returns
-returns c = λ f names levels k d at. body_used f (no_names f names) levels k d at

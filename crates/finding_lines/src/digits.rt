@@ -1,0 +1,104 @@
+// Numbers, read in one pass over their digits.
+ghost use Rattle.std.specs.Prelude.{◌≡◌, ◌≢◌, ◌+◌, ◌∷◌, ◌^◌, ◌<◌, ◌≤◌, ℕ, List, pos, MatchOption};
+ghost use Rattle.std.specs.Char.{digit_value};
+ghost use Rattle.std.specs.Fmt.{decimal, signed_decimal};
+ghost use Rattle.finding_lines.specs.Form.{IsNumber, IsMagnitude};
+ghost use Rattle.finding_lines.specs.Reading.{IsTaken, NoneTaken};
+
+/// The magnitude of the least number of 64 bits with a sign.
+const MOST: u64 = 0x8000_0000_0000_0000;
+
+/// A number past this and one more digit are past the magnitudes of 64 bits with a sign.
+const MOST_WITH_DIGIT: u64 = 922_337_203_685_477_580;
+
+/// What follows the byte, if the bytes begin with it.
+#[inline(always)]
+pub fn after_byte(bytes: &[u8], byte: u8) -> Option<&[u8]>
+    ensures { MatchOption result ((more : List ℕ) → bytes.now ≢ byte ∷ more) (λ more. bytes.now ≡ byte ∷ more.now) }
+{
+    let (first, more) = bytes.split_first()?;
+    if *first == byte { Some(more) } else { None }
+}
+
+/// The digit that the byte is.
+#[inline(always)]
+fn digit_of(byte: u8) -> Option<u64>
+    ensures { MatchOption result (10 ≤ digit_value byte) (λ d. (d < 10) × (byte ≡ 48 + d) × (digit_value byte ≡ d)) }
+{
+    if byte < b'0' || byte > b'9' {
+        return None;
+    }
+    Some((byte - b'0') as u64)
+}
+
+#[inline(always)]
+fn up_to_most(number: u64, rest: &[u8]) -> Option<(u64, &[u8])>
+    ensures { MatchOption result (2 ^ 63 < number) (λ p. (p.0 ≡ number) × (p.1.now ≡ rest.now) × IsMagnitude number) }
+{
+    if number > MOST {
+        None
+    } else {
+        Some((number, rest))
+    }
+}
+
+/// The magnitude in front, without a zero before other digits.
+#[inline]
+fn take_magnitude(bytes: &[u8]) -> Option<(u64, &[u8])>
+    ensures { MatchOption result (NoneTaken IsMagnitude decimal bytes.now) (λ p. IsTaken IsMagnitude decimal bytes.now p.0 p.1.now) }
+{
+    let (first, behind) = bytes.split_first()?;
+    let mut number = digit_of(*first)?;
+    let mut rest = behind;
+    'digits: while let Some((byte, more)) = rest.split_first() {
+        if *byte == b' ' {
+            return up_to_most(number, rest);
+        }
+        let digit = digit_of(*byte)?;
+        if number == 0 || number > MOST_WITH_DIGIT {
+            return None;
+        }
+        number = number * 10 + digit;
+        rest = more;
+    }
+    up_to_most(number, rest)
+}
+
+/// The number of that magnitude below 0, unless the magnitude is 0.
+#[inline(always)]
+fn negative(magnitude: u64) -> Option<i64>
+    requires { IsMagnitude magnitude }
+    ensures { MatchOption result (magnitude ≡ 0) (λ n. IsNumber n × (signed_decimal n ≡ 45 ∷ decimal magnitude)) }
+{
+    if magnitude == 0 {
+        None
+    } else {
+        Some(-1 - (magnitude - 1) as i64)
+    }
+}
+
+/// The number of that magnitude from 0 on, if it has 64 bits.
+#[inline(always)]
+fn positive(magnitude: u64) -> Option<i64>
+    ensures { MatchOption result (2 ^ 63 ≤ magnitude) (λ n. IsNumber n × (n ≡ pos magnitude)) }
+{
+    if magnitude < MOST {
+        Some(magnitude as i64)
+    } else {
+        None
+    }
+}
+
+/// The number in front, with no sign but a minus.
+pub fn take_signed(bytes: &[u8]) -> Option<(i64, &[u8])>
+    ensures { MatchOption result (NoneTaken IsNumber signed_decimal bytes.now) (λ p. IsTaken IsNumber signed_decimal bytes.now p.0 p.1.now) }
+{
+    if let Some(digits) = after_byte(bytes, b'-') {
+        let (magnitude, rest) = take_magnitude(digits)?;
+        let number = negative(magnitude)?;
+        return Some((number, rest));
+    }
+    let (magnitude, rest) = take_magnitude(bytes)?;
+    let number = positive(magnitude)?;
+    Some((number, rest))
+}

@@ -1,0 +1,25 @@
+use Rattle.std.proofs.Common.{◌≡◌, ◌≤◌}
+use Rattle.std.specs.Prelude.{Ok, Result}
+use Rattle.clause_core.specs.Formula.{Formula}
+use Rattle.finding_file.specs.declared.errors.WriteErr.{WriteErr}
+use Rattle.scan_model.specs.Verdicts.{size_below}
+use Rattle.scan_replay.specs.Duos.{with_pair}
+use Rattle.queries.specs.Questions.{QueryData}
+use Rattle.queries.specs.Sets.{members}
+use Rattle.pair_trial.specs.Trials.{setting_in}
+use Rattle.judgement.specs.Places.{at_drops}
+use Rattle.finding_search.specs.Desks.{desk}
+use Rattle.finding_search.specs.Writes.{Writes}
+use Rattle.finding_search.proofs.dropping.drop_guessed.Given as goal
+
+abbrev pub invariant-tries : goal.invariant-tries
+invariant-tries g l = record {
+  writes : (formula : QueryData → Formula) → Writes (setting_in l.initial.trial) formula
+      (desk (g.S.Shelf.file l.initial.shelf) (g.S.Shelf.write_faults l.initial.shelf) (g.S.Shelf.read_faults l.initial.shelf) l.initial.writer) (at_drops (members l.initial.set))
+      (desk (g.S.Shelf.file l.shelf) (g.S.Shelf.write_faults l.shelf) (g.S.Shelf.read_faults l.shelf) l.writer) (λ (x : Unit {0}). at_drops (members l.set)) (let r : Result (Unit {0}) WriteErr = Ok tt in r);
+  no_more : size_below (setting_in l.initial.trial).candidates (members l.set) ≤ size_below (setting_in l.initial.trial).candidates (members l.initial.set);
+  trial : l.trial ≡ with_pair l.trial.pair l.initial.trial;
+}
+
+abbrev pub decreases-tries : goal.decreases-tries
+decreases-tries g l = size_below (setting_in l.initial.trial).candidates (members l.set)

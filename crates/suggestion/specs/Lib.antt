@@ -1,0 +1,1 @@
+pub use Rattle.line_trials.specs as line_trials

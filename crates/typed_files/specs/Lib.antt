@@ -1,0 +1,1 @@
+pub use Rattle.whole_files.specs as whole_files
