@@ -255,10 +255,12 @@ class Round:
         report(f"A difference: {kind}", files, first, second)
 
     def compare(self, kind, files, *words):
-        """Both programs run, and answer the same."""
+        """Both programs run, and answer the same, unless the other one takes too long."""
         first, second = self.programs.run(0, *words), self.programs.run(1, *words)
         self.count(kind, first)
-        if not is_same(first, second):
+        if first[1] is not None and second[1] is None:
+            self.count("answered by this program alone, while the other one was stopped", first)
+        elif not is_same(first, second):
             self.differ(kind, files, first, second)
 
     def files(self, pair, **changed):

@@ -1,10 +1,13 @@
 // Runs in which no call fails.
+use cdcl_core::Plain;
 use cdcl_watch::Watched;
 use check_command::answer_check;
+use clause_core::{Cnf, Decided, Decider};
 use command_answers::Status;
 use count_words::count_of;
 use gen_command::answer_gen;
 use outside::{MemShelf, MemSink};
+use std::alloc::{AllocError, Global};
 use std::process::Abort;
 use std::test::Fail;
 
@@ -52,7 +55,22 @@ fn texts_are_saved_at_once(rt: HostRuntime) -> Result<(), Fail> {
     Ok(())
 }
 
-// What is put, and that the finding is judged valid for the files that were saved.
+// Counts what it is asked.
+#[derive(Drop)]
+struct Counting {
+    inner: Watched,
+    queries: u64,
+}
+
+impl Decider for Counting {
+    fn decide(&mut self, alloc: Global, cnf: &Cnf, limit: u32) -> Result<Decided, AllocError> {
+        self.queries = self.queries.saturating_add(1);
+        self.inner.decide(alloc, cnf, limit)
+    }
+}
+
+// What is put, and that the finding is judged valid for the files that were saved. Runs drop each candidate that fails, so a first row,
+// the set and the relation are asked for, and nothing else.
 fn related(
     rt: &(impl Abort + AllocGlobal),
     count: u32,
@@ -62,9 +80,13 @@ fn related(
     let alloc = rt.alloc();
     let mut shelf = MemShelf::new(alloc, Vec::new(alloc));
     let mut out = MemSink::new(alloc, Vec::new(alloc));
-    let mut decider = Watched::new();
+    let mut decider = Counting {
+        inner: Watched::new(),
+        queries: 0,
+    };
     let status = answer_gen(alloc, &mut decider, count, &mut shelf, &mut out);
     assert_eq!(rt; status.code(), 0);
+    assert_eq!(rt; decider.queries, 3);
     let mut expected = Vec::from_slice(alloc, lines[0].as_bytes())?;
     expected.extend_from_slice(lines[1].as_bytes())?;
     assert_eq!(rt; out.bytes(), expected.as_slice());
@@ -132,4 +154,18 @@ fn sixteen_inputs(rt: HostRuntime) -> Result<(), Fail> {
             "RELATED kept 68 of 196\n",
         ],
     )
+}
+
+// The plain decider gives the same verdict.
+#[test]
+fn other_decider(rt: HostRuntime) -> Result<(), Fail> {
+    let alloc = rt.alloc();
+    let mut shelf = MemShelf::new(alloc, Vec::new(alloc));
+    let mut out = MemSink::new(alloc, Vec::new(alloc));
+    let mut decider = Plain::new();
+    let status = answer_gen(alloc, &mut decider, 16, &mut shelf, &mut out);
+    assert_eq!(rt; status, Status::Related);
+    let lines = b"GEN 16 cells 49 81 candidates 196\nRELATED kept 68 of 196\n";
+    assert_eq!(rt; out.bytes(), lines.as_slice());
+    Ok(())
 }

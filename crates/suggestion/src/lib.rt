@@ -5,6 +5,7 @@ mod dropping;
 mod edges;
 mod making;
 mod proposing;
+mod standing;
 
 pub use edges::numbers_of;
 pub use making::{Suggestion, suggest};

@@ -79,7 +79,7 @@ fn suggest_for(
     ensures held { IfOk result (λ s. HasHeld (program_view old.now) (program_view new.now) (length (relation_view relation.now).invariants) s.text.items (runs_of s.runs.items)) }
 {
     let given = relation.invariant_clauses().len();
-    let proposed = propose(alloc, old, new, relation, numbers, seed)?;
+    let proposed = propose(alloc, old, new, relation, text, numbers, seed)?;
     let (pairs, unrelated) = (proposed.pairs, proposed.unrelated);
     let runs = proposed.runs;
     match settle(

@@ -2,6 +2,7 @@
 ghost use Rattle.scan_replay.specs.Duos.{AreComparable};
 
 use crate::edges::edges_of;
+use crate::standing::new_lines;
 use invariant_lines::lines_of;
 use line_trials::InvariantLine;
 use program_tree::Program;
@@ -24,12 +25,14 @@ pub struct Proposed {
     pub unrelated: Option<usize>,
 }
 
-/// Lines that held on all pairs of runs; none where a scan left a pair unrelated, since no line helps there.
+/// Lines that held on all pairs of runs and do not stand in the text already; none where a scan left a pair unrelated, since no line
+/// helps there.
 pub fn propose(
     alloc: Global,
     old: &Program,
     new: &Program,
     relation: &Relation,
+    text: &[u8],
     numbers: &[i64],
     seed: u64,
 ) -> Result<Proposed, AllocError>
@@ -45,8 +48,11 @@ pub fn propose(
     } else {
         let edges = edges_of(alloc, old, new, relation, numbers)?;
         let room = MOST_CANDIDATES.saturating_sub(relation.candidates.len());
-        let found = proposals(alloc, &seen, subjects.as_slice(), edges.as_slice(), room)?;
-        lines_of(alloc, old, new, found.as_slice(), pairs, room)?
+        // As many lines more as may stand in the text already.
+        let most = room.saturating_add(relation.invariants);
+        let found = proposals(alloc, &seen, subjects.as_slice(), edges.as_slice(), most)?;
+        let lines = lines_of(alloc, old, new, found.as_slice(), pairs, most)?;
+        new_lines(alloc, text, lines, room)?
     };
     Ok(Proposed {
         lines,
