@@ -1,7 +1,8 @@
 #!/usr/bin/env bash
 # Replays two rows over programs with themselves, and prints the bytes of each text, the processor seconds and the most memory of the
-# replay: rows of blocks that each have two instances of the one before, rows of FUNCTIONs that call one another, and rows of blocks that
-# run one another. The stack keeps its usual limit of 8 MiB, which 12,000 FUNCTIONs overflow: there the last line of the replay is
+# replay: rows of blocks that each have two instances of the one before, in a PROGRAM and in the frame of a FUNCTION, rows of FUNCTIONs that call
+# one another, and rows of blocks that run one another. A frame of 2 to the power of 40 cells is answered by MEMORY. The stack keeps its
+# usual limit of 8 MiB, which 12,000 FUNCTIONs overflow: there the last line of the replay is
 # missing. Needs python3. Use: bench/blocks.sh
 set -euo pipefail
 

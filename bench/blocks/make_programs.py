@@ -15,6 +15,15 @@ def doubling(levels, calls, runs):
     yield f"PROGRAM M VAR_INPUT c : BOOL; END_VAR VAR_OUTPUT p : BOOL; END_VAR VAR k : B{levels}; END_VAR {'k();' if runs else ''} p := c; END_PROGRAM"
 
 
+def framed(levels):
+    """Blocks of which each but the first has two of the block before, and a FUNCTION that is called and has an instance of the last one."""
+    yield "FUNCTION_BLOCK B0 VAR x : BOOL; END_VAR ; END_FUNCTION_BLOCK"
+    for level in range(1, levels + 1):
+        yield f"FUNCTION_BLOCK B{level} VAR a, b : B{level - 1}; END_VAR ; END_FUNCTION_BLOCK"
+    yield f"FUNCTION F : BOOL VAR_INPUT c : BOOL; END_VAR VAR k : B{levels}; END_VAR F := c; END_FUNCTION"
+    yield "PROGRAM M VAR_INPUT c : BOOL; END_VAR VAR_OUTPUT p : BOOL; END_VAR p := F(c); END_PROGRAM"
+
+
 def functions(count):
     """FUNCTIONs each of which calls the one before it."""
     yield "FUNCTION F0 : INT VAR_INPUT x : INT; END_VAR F0 := x + 1; END_FUNCTION"
@@ -38,6 +47,9 @@ def main():
         "16_levels": doubling(16, True, True),
         "18_levels": doubling(18, True, True),
         "20_levels": doubling(20, True, True),
+        "12_levels_in_a_frame": framed(12),
+        "20_levels_in_a_frame": framed(20),
+        "40_levels_in_a_frame": framed(40),
         "1000_functions": functions(1000),
         "5000_functions": functions(5000),
         "9000_functions": functions(9000),

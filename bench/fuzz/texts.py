@@ -243,8 +243,7 @@ def blown_up(pick):
         labels = ", ".join(str(i) for i in range(pick.choice((1, 100, 4096, 9000))))
         return f"PROGRAM M VAR q : INT; END_VAR CASE q OF {labels}: q := 0; END_CASE; END_PROGRAM", 1
     if kind == 5:
-        # The frame of a FUNCTION is spread, so its size goes with the cells: docs/DECISIONS.md says what is open there.
-        n, count = min(n, 17), pick.choice((1, 2, 50))
+        count = pick.choice((1, 2, 50))
         held = f"FUNCTION F : INT VAR_INPUT a : INT; END_VAR VAR x : B{n - 1}; END_VAR x(); F := a; END_FUNCTION"
         called = " + ".join(["F(q)"] * count)
         return doubling_blocks(pick, n) + f"\n{held}\nPROGRAM M VAR q : INT; END_VAR q := {called}; END_PROGRAM", 2**n * count

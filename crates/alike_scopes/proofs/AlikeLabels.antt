@@ -8,7 +8,7 @@ use Rattle.rules.specs.Judgements.{Judgement, also, require}
 use Rattle.source_tree.specs.Syntax.{Tree, LabelData, IterationData}
 use Rattle.naming.specs.Broken.{alone}
 use Rattle.typing.specs.Typing.{Scope, by_path, kind_at, or_dint, place_of}
-use Rattle.typing.specs.Constants.{broken_by_turns}
+use Rattle.typing.specs.Constants.{broken_by_turns, turn_count}
 use Rattle.typing.specs.Labels.{high_value, label_range, judged_high, high_is_of_type, overlaps, judged_label, judged_labels, seen_with, seen_behind}
 use Rattle.typing.specs.JudgedStatements.{judged_bound, judged_step, is_typed, step_is_typed, value_or_zero, bound_value, step_value, range_at, turns_rule, may_select, judged_selector, judged_labels_if}
 use Rattle.alike_scopes.specs.AlikeScopes.{AreAlike}
@@ -112,3 +112,9 @@ module _ (s t : Scope) (alike : AreAlike s t) where
         let range = range_alike (s.means (by_path (alone it.control))) (t.means (by_path (alone it.control))) (alike.means (by_path (alone it.control))) in
         (λ i. broken_by_turns (range i) (value_alike k it.first i) (value_alike k it.last i) (step_value_alike k it.step i))
         ∙ ap (λ (x : DataType). broken_by_turns (range_at (t.means (by_path (alone it.control)))) (bound_value t x it.first) (bound_value t x it.last) (step_value t x it.step)) control_kind
+
+    pub turn_count_alike : (let k = or_dint (kind_at (s.means (by_path (alone it.control)))) in turn_count (bound_value s k it.first) (bound_value s k it.last) (step_value s k it.step))
+        ≡ (let k = or_dint (kind_at (t.means (by_path (alone it.control)))) in turn_count (bound_value t k it.first) (bound_value t k it.last) (step_value t k it.step))
+    turn_count_alike =
+        let k = or_dint (kind_at (s.means (by_path (alone it.control)))) in
+        (λ i. turn_count (value_alike k it.first i) (value_alike k it.last i) (step_value_alike k it.step i)) ∙ ap (λ (x : DataType). turn_count (bound_value t x it.first) (bound_value t x it.last) (step_value t x it.step)) control_kind

@@ -10,12 +10,13 @@ use Rattle.typing.specs.declared.scope.Place.TheVariants as places
 use Rattle.typing.specs.declared.scope.Meaning.{Meaning}
 use Rattle.typing.specs.declared.scope.Port.{Port}
 use Rattle.typing.specs.declared.scope.Signature.{Signature}
+use Rattle.typing.specs.declared.scope.Instance.{Instance}
 use Rattle.typing.specs.declared.next.Next.{Next}
 use Rattle.typing.specs.declared.member.Member.{Member}
 use Rattle.typing.specs.Typing.{Reference, by_path, by_value}
 use Rattle.typing.specs.Variables.{domain_of_variable, judged_variable, initial_of}
 use Rattle.typing.specs.Places.{has_cell, size_among, cells_taken, count_of_cells, in_front, first_places, first_place, places_behind}
-use Rattle.typing.specs.Members.{may_be_assigned, may_control, place_at, meaning_of, member_of, members_of, member_among, member_in, member_at, seen_from, in_instance, meant_by, variable_or_value, named_in, called_number, port_of, ports_of, result_of, members_if, members_at, signature_of, is_function, function_number, signature_at, place_of_input, scope_of}
+use Rattle.typing.specs.Members.{may_be_assigned, may_control, place_at, meaning_of, member_of, members_of, member_among, member_in, member_at, seen_from, in_instance, meant_by, variable_or_value, named_in, called_number, port_of, ports_of, result_of, members_if, members_at, signature_of, is_function, function_number, signature_at, place_of_input, instance_of, scope_of}
 use Rattle.bound_names.proofs.Roles.{input_or_result, no_block}
 use Rattle.alike_scopes.specs.AlikeScopes.{unplaced, cleared, AreAlike}
 
@@ -191,3 +192,14 @@ module _ (f : FileData) (a b : List ℕ) where
     port = λ number place. ap (λ (l : List Port). slice_get l place) (ports_alike number);
     input = input_alike;
   }
+
+  -- ---- instances
+
+  block_alike : (c d : ℕ) (o : Option ℕ) → (let by = λ (cell : ℕ). option_map (λ (b : ℕ). let i : Instance = record { block = called_number f b; offset = cell } in i) o in option_map (λ (i : Instance). i.block) (by c) ≡ option_map (λ (i : Instance). i.block) (by d))
+  block_alike c d None = refl
+  block_alike c d (Some b) = refl
+
+  -- an instance is one of the same block
+  pub blocks_alike : (k : ℕ) (text : List ℕ) → option_map (λ (i : Instance). i.block) ((scope_of f a k).instance text) ≡ option_map (λ (i : Instance). i.block) ((scope_of f b k).instance text)
+  blocks_alike k text =
+      both_at k text (λ x y. option_map (λ (i : Instance). i.block) (option_and_then (instance_of f) x) ≡ option_map (λ (i : Instance). i.block) (option_and_then (instance_of f) y)) refl (λ v c d. block_alike c d (block_of f v))

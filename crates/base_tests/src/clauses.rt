@@ -1,7 +1,5 @@
 // Clauses as sets of literals, and assignments.
-use clause_core::{
-    Assignment, Clause, Cnf, Lit, Truth, copy_clauses, is_rising, is_within, unassigned,
-};
+use clause_core::{Assignment, Clause, Cnf, Lit, Truth, is_rising, is_within, unassigned};
 use std::alloc::{AllocError, Global};
 use std::process::Abort;
 use std::test::Fail;
@@ -77,7 +75,6 @@ fn a_clause_grows_by_rising_literals(rt: HostRuntime) -> Result<(), Fail> {
     clause.push(literal(3))?;
     assert!(&rt; is_rising(3, clause.literals()));
     assert!(&rt; !is_rising(2, clause.literals()));
-    assert_eq!(&rt; copy_clauses(alloc, &[clause])?.len(), 1);
     // two literals of one variable do not rise, and neither do falling ones
     let both_signs = literals(alloc, &[2, -2])?;
     assert!(&rt; !is_rising(3, both_signs.as_slice()));

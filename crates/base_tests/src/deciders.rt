@@ -2,7 +2,7 @@
 use crate::clauses::{formula, literal};
 use crate::judged::{Answer, check_answer};
 use cdcl_core::{Plain, Proposal, Search, decide_by};
-use clause_core::{Clause, Decided, Decider, Entry, Hints, Log, Step, Truth};
+use clause_core::{Clause, Decided, Decider, Entry, Hints, Log, Step, Truth, all_closed};
 use std::alloc::{AllocError, Global};
 use std::process::Abort;
 use std::test::Fail;
@@ -14,12 +14,12 @@ fn decided(
     clauses: &[&[i32]],
     limit: u32,
 ) -> Result<Decided, AllocError> {
-    let cnf = formula(rt, alloc, 3, clauses)?;
+    let mut cnf = formula(rt, alloc, 3, clauses)?;
     assert!(rt; cnf.clauses().len() < 100);
     assert!(rt; 1 <= limit);
     assert!(rt; limit < 100);
     let mut plain = Plain::new();
-    let answer = plain.decide(alloc, &cnf, limit)?;
+    let answer = plain.decide(alloc, &mut cnf, limit)?;
     assert_eq!(rt; plain.refused_proposals(), 0);
     Ok(answer)
 }
@@ -83,7 +83,14 @@ struct Fixed {
 }
 
 impl Search for Fixed {
-    fn propose(&mut self, _held: &[Clause]) -> Result<Proposal, AllocError> {
+    ghost has_taken = { λ _ _. Unit {0} };
+
+    ghost values = { λ s. s.values.now };
+
+    ghost places = { λ _. 4 };
+
+    fn propose(&mut self, held: &[Clause]) -> Result<Proposal, AllocError> {
+        let _ = held;
         if self.claims {
             return Ok(Proposal::Solution);
         }
@@ -100,6 +107,10 @@ impl Search for Fixed {
 
     fn values(&self) -> &[Truth] {
         self.values
+    }
+
+    fn is_closed(&self, held: &[Clause]) -> bool {
+        self.values.len() == 4 && all_closed(held, self.values)
     }
 
     fn learn(&mut self) -> Result<(), AllocError> {
@@ -128,8 +139,9 @@ fn taken(
     hints: &'static [u32],
     values: &'static [Truth],
 ) -> Result<Option<u64>, AllocError> {
-    let cnf = formula(rt, alloc, 3, &[&[1, 2], &[1, -2], &[-1, 2], &[-1, -2]])?;
+    let mut cnf = formula(rt, alloc, 3, &[&[1, 2], &[1, -2], &[-1, 2], &[-1, -2]])?;
     assert!(rt; cnf.clauses().len() < 100);
+    assert_eq!(rt; cnf.variables(), 3);
     let mut search = Fixed {
         alloc,
         claims,
@@ -138,8 +150,8 @@ fn taken(
         values,
     };
     let mut refused = 0;
-    let decided = decide_by(alloc, &mut search, &cnf, 10, &mut refused)?;
-    match check_answer(alloc, &cnf, &decided, 10)? {
+    let decided = decide_by(alloc, &mut search, &mut cnf, 10, &mut refused)?;
+    match check_answer(alloc, cnf, &decided, 10)? {
         Answer::Refuted(steps) => Ok((steps as u64).checked_sub(refused)),
         _ => Ok(None),
     }

@@ -37,7 +37,7 @@ fn take(
 #[test]
 fn refused_steps_leave_the_checker_as_it_was(rt: HostRuntime) -> Result<(), Fail> {
     let alloc = rt.alloc();
-    let mut checker = Checker::new(alloc, &formula(&rt, alloc, 3, &[&[1], &[2, 3], &[-1]])?)?;
+    let mut checker = Checker::new(alloc, formula(&rt, alloc, 3, &[&[1], &[2, 3], &[-1]])?)?;
     let faults: [(&[u32], StepFault); 4] = [
         (&[1, 2], StepFault::NotUnit(2)),
         (&[1], StepFault::NoConflict),
@@ -72,7 +72,7 @@ const PIGEONS: [&[i32]; 9] = [
 #[test]
 fn refutes_pigeons(rt: HostRuntime) -> Result<(), Fail> {
     let alloc = rt.alloc();
-    let mut checker = Checker::new(alloc, &formula(&rt, alloc, 6, &PIGEONS)?)?;
+    let mut checker = Checker::new(alloc, formula(&rt, alloc, 6, &PIGEONS)?)?;
     // Each step with its hints, whether it is fresh, and whether the formula is refuted after it.
     let steps: [(&[i32], &[u32], bool, bool); 4] = [
         (&[-1], &[4, 5, 2, 3, 9], true, false),
@@ -104,7 +104,7 @@ fn takes_a_clause_as_a_set(rt: HostRuntime) -> Result<(), Fail> {
         (&[&[1], &[1, 2]], &[], &[1, 2], Some(StepFault::NotUnit(2))),
     ];
     for (clauses, clause, hints, fault) in &rows {
-        let mut checker = Checker::new(alloc, &formula(&rt, alloc, 3, clauses)?)?;
+        let mut checker = Checker::new(alloc, formula(&rt, alloc, 3, clauses)?)?;
         let (_, answer) = take(&rt, alloc, &mut checker, clause, hints)?;
         assert_eq!(&rt; answer.err(), *fault);
     }

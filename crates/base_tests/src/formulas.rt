@@ -8,19 +8,19 @@ use std::process::Abort;
 use std::test::Fail;
 
 // The checked answer of the plain decider, whose search is refused nothing.
-fn decide(rt: &impl Abort, alloc: Global, cnf: &Cnf, limit: u32) -> Result<Answer, AllocError> {
+fn decide(rt: &impl Abort, alloc: Global, mut cnf: Cnf, limit: u32) -> Result<Answer, AllocError> {
     assert!(rt; cnf.clauses().len() < 100_000);
     assert!(rt; 1 <= limit);
     assert!(rt; limit <= 1_000_000);
     let mut plain = Plain::new();
-    let decided = plain.decide(alloc, cnf, limit)?;
+    let decided = plain.decide(alloc, &mut cnf, limit)?;
     let answer = check_answer(alloc, cnf, &decided, limit)?;
     assert_eq!(rt; plain.refused_proposals(), 0);
     Ok(answer)
 }
 
 // How many steps refute the formula.
-fn refutation(rt: &impl Abort, alloc: Global, cnf: &Cnf) -> Result<u32, AllocError> {
+fn refutation(rt: &impl Abort, alloc: Global, cnf: Cnf) -> Result<u32, AllocError> {
     let answer = decide(rt, alloc, cnf, 1_000_000)?;
     let steps = match answer {
         Answer::Refuted(steps) => steps,
@@ -122,7 +122,7 @@ fn answers_random_formulas(rt: HostRuntime) -> Result<(), Fail> {
     let alloc = rt.alloc();
     for seed in 0..40u64 {
         let cnf = random(&rt, alloc, 9, 40, seed)?;
-        let answer = decide(&rt, alloc, &cnf, 1000)?;
+        let answer = decide(&rt, alloc, cnf, 1000)?;
         assert!(&rt;
             matches!(answer, Answer::Found | Answer::Refuted(_)),
             "seed {seed}"
@@ -135,7 +135,7 @@ fn answers_random_formulas(rt: HostRuntime) -> Result<(), Fail> {
 fn refutes_pigeons(rt: HostRuntime) -> Result<(), Fail> {
     for holes in 4..6u32 {
         let cnf = pigeons(&rt, rt.alloc(), holes)?;
-        let _steps = refutation(&rt, rt.alloc(), &cnf)?;
+        let _steps = refutation(&rt, rt.alloc(), cnf)?;
     }
     Ok(())
 }
@@ -143,14 +143,13 @@ fn refutes_pigeons(rt: HostRuntime) -> Result<(), Fail> {
 #[test]
 fn stops_at_its_limit(rt: HostRuntime) -> Result<(), Fail> {
     let alloc = rt.alloc();
-    let cnf = pigeons(&rt, alloc, 3)?;
-    let steps = refutation(&rt, alloc, &cnf)?;
+    let steps = refutation(&rt, alloc, pigeons(&rt, alloc, 3)?)?;
     assert!(&rt; 2 < steps);
     for limit in [1, 2, steps - 1] {
-        let answer = decide(&rt, alloc, &cnf, limit)?;
+        let answer = decide(&rt, alloc, pigeons(&rt, alloc, 3)?, limit)?;
         assert_eq!(&rt; answer, Answer::Spent(limit as usize));
     }
-    let answer = decide(&rt, alloc, &cnf, steps)?;
+    let answer = decide(&rt, alloc, pigeons(&rt, alloc, 3)?, steps)?;
     assert_eq!(&rt; answer, Answer::Refuted(steps as usize));
     Ok(())
 }
@@ -167,7 +166,7 @@ fn answers_the_smallest_formulas(rt: HostRuntime) -> Result<(), Fail> {
     ];
     for (number, (variables, clauses, expected)) in rows.iter().enumerate() {
         let cnf = formula(&rt, alloc, *variables, clauses)?;
-        let answer = decide(&rt, alloc, &cnf, 1)?;
+        let answer = decide(&rt, alloc, cnf, 1)?;
         assert_eq!(&rt; answer, *expected, "row {number}");
     }
     Ok(())

@@ -47,7 +47,7 @@ fn is_fresh(
     held: &[&[i32]],
     clause: &[i32],
 ) -> Result<bool, AllocError> {
-    let mut checker = Checker::new(alloc, &formula(rt, alloc, 4, held)?)?;
+    let mut checker = Checker::new(alloc, formula(rt, alloc, 4, held)?)?;
     let literals = literals(alloc, clause)?;
     let step = Step {
         clause: Clause::from_slice(alloc, literals.as_slice())?,

@@ -20,12 +20,12 @@ pub enum Answer {
 /// Checks what a decider answered within the limit.
 pub fn check_answer(
     alloc: Global,
-    cnf: &Cnf,
+    cnf: Cnf,
     answer: &Decided,
     limit: u32,
 ) -> Result<Answer, AllocError> {
     match answer {
-        Decided::Found(values) => Ok(if satisfies(cnf, values) {
+        Decided::Found(values) => Ok(if satisfies(&cnf, values) {
             Answer::Found
         } else {
             Answer::Wrong
@@ -57,7 +57,7 @@ fn takes_fresh(checker: &mut Checker, log: &Log, end: usize) -> bool {
     true
 }
 
-fn refuted(alloc: Global, cnf: &Cnf, log: &Log) -> Result<Answer, AllocError> {
+fn refuted(alloc: Global, cnf: Cnf, log: &Log) -> Result<Answer, AllocError> {
     let mut checker = Checker::new(alloc, cnf)?;
     let count = log.entries().len();
     if !takes_fresh(&mut checker, log, count.saturating_sub(1)) || checker.refuted() {
@@ -79,7 +79,7 @@ fn refuted(alloc: Global, cnf: &Cnf, log: &Log) -> Result<Answer, AllocError> {
     }
 }
 
-fn spent(alloc: Global, cnf: &Cnf, log: &Log, limit: u32) -> Result<Answer, AllocError> {
+fn spent(alloc: Global, cnf: Cnf, log: &Log, limit: u32) -> Result<Answer, AllocError> {
     let mut checker = Checker::new(alloc, cnf)?;
     let count = log.entries().len();
     if count != limit as usize || !takes_fresh(&mut checker, log, count) || checker.refuted() {

@@ -21,7 +21,7 @@ pub fn run(rt: &HostRuntime, path: &str, is_timed: bool) -> io::Result<()> {
     let text = fs::read_to_string(rt, path)?;
     let Derivation { cnf, steps } = read_derivation(alloc, text.as_str())?;
     let start = Instant::now(rt)?;
-    match check(alloc, &cnf, steps.as_slice())? {
+    match check(alloc, cnf, steps.as_slice())? {
         End::Malformed(i) => println!(rt; "step {i} behind the first is malformed")?,
         End::Refused(i, fault) => println!(rt; "step {i} behind the first is refused: {fault}")?,
         End::Accepted { is_refuted } => {
@@ -36,7 +36,7 @@ pub fn run(rt: &HostRuntime, path: &str, is_timed: bool) -> io::Result<()> {
     Ok(())
 }
 
-fn check(alloc: Global, cnf: &Cnf, steps: &[Step]) -> Result<End, AllocError> {
+fn check(alloc: Global, cnf: Cnf, steps: &[Step]) -> Result<End, AllocError> {
     let mut checker = Checker::new(alloc, cnf)?;
     for (i, step) in steps.iter().enumerate() {
         if !is_rising(checker.variables(), step.clause.literals()) {

@@ -14,10 +14,10 @@ const LIMIT: u32 = 1_000_000;
 pub fn run(rt: &HostRuntime, path: &str, is_timed: bool) -> io::Result<()> {
     let alloc = rt.alloc();
     let text = fs::read_to_string(rt, path)?;
-    let cnf = read_formula(alloc, text.as_str())?;
+    let mut cnf = read_formula(alloc, text.as_str())?;
     let mut plain = Plain::new();
     let start = Instant::now(rt)?;
-    let Some(answer) = decide(alloc, &mut plain, &cnf)? else {
+    let Some(answer) = decide(alloc, &mut plain, &mut cnf)? else {
         return println!(rt; "c too large");
     };
     let milliseconds = start.elapsed(rt)?.as_millis();
@@ -31,7 +31,7 @@ pub fn run(rt: &HostRuntime, path: &str, is_timed: bool) -> io::Result<()> {
 }
 
 /// What the plain decider answers, or None where the formula is too large.
-fn decide(alloc: Global, plain: &mut Plain, cnf: &Cnf) -> Result<Option<Decided>, AllocError> {
+fn decide(alloc: Global, plain: &mut Plain, cnf: &mut Cnf) -> Result<Option<Decided>, AllocError> {
     if cnf.clauses().len() > 1_000_000_000 {
         return Ok(None);
     }

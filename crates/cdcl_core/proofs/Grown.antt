@@ -1,23 +1,20 @@
 -- A log that grows by one good step.
 use Rattle.std.proofs.Common.{◌≡◌, ◌≢◌, ℕ, ◌<◌, ◌+◌, Bool, true, List, [], ◌∷◌, ◌++◌, length, refl, sym, ◌∙◌, ap, subst, arith, length-append}
-use Rattle.std.specs.List.{list_all}
 use Rattle.clause_core.specs.declared.literal.Lit.{Lit}
 use Rattle.clause_core.specs.declared.step.Step.{Step}
 use Rattle.clause_core.specs.Satisfaction.{formula_true, clause_true}
-use Rattle.clause_core.specs.Clauses.{is_within}
 use Rattle.clause_core.specs.Logs.{IsGoodStep, IsGoodLog, IsFreshLog, held_after}
 use Rattle.clause_core.specs.Freshness.{IsFresh}
 use Rattle.clause_core.specs.Formula.{Formula}
 use Rattle.clause_core.specs.Decisions.{IsRefutation, IsSpent}
 use Rattle.clause_core.specs.declared.log.Entry.{Entry}
 use Rattle.clause_core.specs.declared.log.Entry.TheVariants.{Derived}
-use Rattle.clause_core.proofs.Ranges.{list_all-push, list_all-front, is_within-rises}
+use Rattle.clause_core.proofs.Ranges.{list_all-front}
 
 pub record Grown (variables : ℕ) (formula held : List (List Lit)) (log : List Entry) : Type 0 where
   pub good : IsGoodLog variables formula log
   pub fresh : IsFreshLog formula log
   pub same : held ≡ held_after formula log
-  pub within : list_all (is_within variables) held ≡ true
   pub many : length held ≡ length formula + length log
 
 good-push : (variables : ℕ) (f : List (List Lit)) (log : List Entry) (s : Step) → IsGoodLog variables f log → IsGoodStep variables (held_after f log) s → IsGoodLog variables f (log ++ Derived s ∷ [])
@@ -32,17 +29,16 @@ after-push : (f : List (List Lit)) (log : List Entry) (s : Step) → held_after 
 after-push f [] s = refl
 after-push f (Derived t ∷ ts) s = after-push (f ++ t.clause ∷ []) ts s
 
-pub Grown-start : (variables : ℕ) (f held : List (List Lit)) → held ≡ f → list_all (is_within variables) f ≡ true → Grown variables f held []
-Grown-start variables f held e r = record { good = tt; fresh = tt; same = e; within = ap (list_all (is_within variables)) e ∙ r; many = omega (arith, ap length e) }
+pub Grown-start : (variables : ℕ) (f held : List (List Lit)) → held ≡ f → Grown variables f held []
+Grown-start variables f held e = record { good = tt; fresh = tt; same = e; many = omega (arith, ap length e) }
 
-pub Grown-push : (variables : ℕ) (f held held' : List (List Lit)) (log log' : List Entry) (s : Step) (c : List Lit) → Grown variables f held log → IsGoodStep variables held s → IsFresh held s.clause → s.clause ≢ [] → c ≡ s.clause → held' ≡ held ++ c ∷ [] → log' ≡ log ++ Derived s ∷ [] → Grown variables f held' log'
-Grown-push variables f held held' log log' s c g h fr n ec eh el =
-    subst (Grown variables f held') (sym el) (subst (λ z. Grown variables f z (log ++ Derived s ∷ [])) (sym (eh ∙ ap (λ z. held ++ z ∷ []) ec))
+pub Grown-push : (variables : ℕ) (f held held' : List (List Lit)) (log log' : List Entry) (s : Step) → Grown variables f held log → IsGoodStep variables held s → IsFresh held s.clause → s.clause ≢ [] → held' ≡ held ++ s.clause ∷ [] → log' ≡ log ++ Derived s ∷ [] → Grown variables f held' log'
+Grown-push variables f held held' log log' s g h fr n eh el =
+    subst (Grown variables f held') (sym el) (subst (λ z. Grown variables f z (log ++ Derived s ∷ [])) (sym eh)
     (record {
       good = good-push variables f log s g.good (subst (λ z. IsGoodStep variables z s) g.same h);
       fresh = fresh-push f log s g.fresh (subst (λ z. IsFresh z s.clause) g.same fr) n;
       same = ap (λ z. z ++ s.clause ∷ []) g.same ∙ sym (after-push f log s);
-      within = list_all-push (is_within variables) held s.clause g.within (is_within-rises variables s.clause h.rises);
       many = omega (arith, g.many, length-append held (s.clause ∷ []), length-append log (Derived s ∷ []));
     }))
 

@@ -4,18 +4,17 @@ ghost use Rattle.std.specs.Prelude.{◌≡◌, ◌≢◌, ℕ, ◌<◌, ◌≤�
 ghost use Rattle.std.specs.List.{list_all};
 ghost use Rattle.clause_core.specs.Clauses.{rises, is_within};
 ghost use Rattle.clause_core.specs.Satisfaction.{formula_true};
+ghost use Rattle.clause_core.specs.Propagation.{IsClosed};
 ghost use Rattle.clause_core.specs.Freshness.{IsFresh};
 ghost use Rattle.clause_core.specs.Logs.{IsGoodStep};
 ghost use Rattle.clause_core.specs.declared.truth.Truth.TheVariants.{Open};
-ghost use Rattle.clause_pairs.specs.Pairs.{IsPaired};
 ghost use Rattle.clause_core.specs.Steps.{AllVariablesBelow};
 ghost use Rattle.cdcl_core.specs.Next.{assignment};
 ghost use Rattle.cdcl_core.specs.Noting.{Derives};
 
 use clause_core::{
-    Clause, Outcome, Step, Truth, all_closed, assume_false, clear, follow_hints, is_rising,
+    Clause, Outcome, Step, Truth, all_closed, assume_false, clear, follow_hints, is_rising, is_unit,
 };
-use clause_pairs::ClosedTest;
 
 /// Whether no variable is open.
 fn none_open(variables: u32, values: &[Truth]) -> bool
@@ -95,40 +94,21 @@ fn derives(variables: u32, held: &[Clause], values: &mut [Truth], step: &Step) -
     last_decides(held, values, step.hints.numbers())
 }
 
-/// Whether the values show that the clause is fresh.
-fn shows(
-    variables: u32,
-    held: &[Clause],
-    test: &mut ClosedTest,
-    values: &[Truth],
-    step: &Step,
-) -> bool
-    requires held { IsTrue (list_all (is_within variables) held.now) }
-    requires clause { IsTrue (rises variables step.now.clause) }
-    requires size { length values.now ≡ variables + 1 }
-    requires paired { IsPaired held.now test.old }
-    ensures fresh { IsTrue result → IsFresh held.now step.now.clause }
-    ensures paired { IsPaired held.now test.new }
-{
-    test.shows_fresh(held, values, step.clause.literals())
-}
-
-/// Whether a step that was proposed may be taken: it is derived, and fresh unless it is empty.
+/// Whether a step that was proposed may be taken: it is derived, and fresh unless it is empty. The values that are
+/// shown may be known to be closed.
 pub(crate) fn may_take(
     variables: u32,
     held: &[Clause],
-    test: &mut ClosedTest,
     values: &mut [Truth],
     shown: &[Truth],
+    is_closed: bool,
     step: &Step,
 ) -> bool
     requires held { IsTrue (list_all (is_within variables) held.now) }
     requires size { length values.old ≡ variables + 1 }
-    requires small { variables < 2 ^ 32 - 1 }
-    requires paired { IsPaired held.now test.old }
+    requires closed { IsTrue is_closed → IsClosed held.now shown.now }
     ensures good { IsTrue result → IsGoodStep variables held.now step.now }
     ensures fresh { IsTrue result → step.now.clause ≢ [] → IsFresh held.now step.now.clause }
-    ensures paired { IsPaired held.now test.new }
 {
     if shown.len() != variables as usize + 1 {
         return false;
@@ -136,8 +116,9 @@ pub(crate) fn may_take(
     if !derives(variables, held, values, step) {
         return false;
     }
-    if step.clause.literals().is_empty() {
+    let literals = step.clause.literals();
+    if literals.is_empty() {
         return true;
     }
-    shows(variables, held, test, shown, step)
+    is_closed && is_unit(shown, literals)
 }

@@ -41,7 +41,7 @@ impl Plain {
 }
 
 impl Decider for Plain {
-    fn decide(&mut self, alloc: Global, cnf: &Cnf, limit: u32) -> Result<Decided, AllocError> {
+    fn decide(&mut self, alloc: Global, cnf: &mut Cnf, limit: u32) -> Result<Decided, AllocError> {
         let mut search = ListSearch::new(alloc, cnf.variables())?;
         self.refused = 0;
         decide_by(alloc, &mut search, cnf, limit, &mut self.refused)

@@ -1,5 +1,7 @@
 // The trail of a search: the literals that are true, in the order in which they became so.
 
+ghost use Rattle.std.specs.Prelude.{◌≡◌};
+
 use crate::table::{read, write};
 use clause_core::{Clause, Lit, Status, Truth};
 use std::alloc::{AllocError, Global};
@@ -51,7 +53,9 @@ impl Trail {
         })
     }
 
-    pub fn values(&self) -> &[Truth] {
+    pub fn values(&self) -> &[Truth]
+        ensures { result.now ≡ self.now.values.items }
+    {
         self.values.as_slice()
     }
 

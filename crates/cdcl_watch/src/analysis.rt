@@ -3,9 +3,8 @@
 use crate::marks::Marks;
 use crate::order::Order;
 use crate::redundancy::{Redundancy, level_bit};
-use clause_pairs::{read, write};
 use std::alloc::{AllocError, Global};
-use watched_propagation::{Arena, ClauseRef, Code, Trail, low};
+use watched_propagation::{ClauseRef, Code, Propagator, low, read, write};
 
 #[derive(Drop)]
 pub(crate) struct Analysis {
@@ -39,37 +38,35 @@ impl Analysis {
     /// Learns from a false clause. Where no decision stands nothing is left of it.
     pub fn analyze(
         &mut self,
-        arena: &Arena,
-        trail: &Trail,
+        propagator: &Propagator,
         order: &mut Order,
         conflict: ClauseRef,
     ) -> Result<(), AllocError> {
         self.learned.clear();
         self.back = 0;
-        if trail.level() == 0 {
+        if propagator.level() == 0 {
             return Ok(());
         }
         self.learned.push(Code::NONE)?;
-        let point = self.find_point(arena, trail, order, conflict)?;
+        let point = self.find_point(propagator, order, conflict)?;
         write(self.learned.as_mut_slice(), 0, point.negated());
-        self.minimize(arena, trail)?;
+        self.minimize(propagator)?;
         self.marks.keep(0);
-        self.find_back(trail);
+        self.find_back(propagator);
         Ok(())
     }
 
     /// Resolves along the trail, to the first unique implication point.
     fn find_point(
         &mut self,
-        arena: &Arena,
-        trail: &Trail,
+        propagator: &Propagator,
         order: &mut Order,
         conflict: ClauseRef,
     ) -> Result<Code, AllocError> {
         let mut point = Code::NONE;
-        let mut open = self.meet(arena, trail, order, conflict)?;
-        for place in (0..trail.len()).rev() {
-            let code = trail.literal_at(place);
+        let mut open = self.meet(propagator, order, conflict)?;
+        for place in (0..propagator.len()).rev() {
+            let code = propagator.literal_at(place);
             if !self.marks.has(code) {
                 continue;
             }
@@ -78,7 +75,7 @@ impl Analysis {
             if open == 0 {
                 break;
             }
-            open = open.wrapping_add(self.meet(arena, trail, order, trail.cause(code).reason)?);
+            open = open.wrapping_add(self.meet(propagator, order, propagator.cause(code).reason)?);
         }
         Ok(point)
     }
@@ -87,21 +84,20 @@ impl Analysis {
     /// the learned clause. Answers how many are of the last level.
     fn meet(
         &mut self,
-        arena: &Arena,
-        trail: &Trail,
+        propagator: &Propagator,
         order: &mut Order,
         clause: ClauseRef,
     ) -> Result<u32, AllocError> {
         let mut count = 0u32;
-        for number in arena.codes(clause) {
+        for number in propagator.codes(clause) {
             let code = Code { number: *number };
-            let level = trail.cause(code).level;
+            let level = propagator.cause(code).level;
             if level == 0 || self.marks.has(code) {
                 continue;
             }
             self.marks.mark(code)?;
             order.raise(low(code.variable()));
-            if level == trail.level() {
+            if level == propagator.level() {
                 count = count.wrapping_add(1);
             } else {
                 self.learned.push(code)?;
@@ -111,10 +107,10 @@ impl Analysis {
     }
 
     /// Leaves out the literals that follow from the others.
-    fn minimize(&mut self, arena: &Arena, trail: &Trail) -> Result<(), AllocError> {
+    fn minimize(&mut self, propagator: &Propagator) -> Result<(), AllocError> {
         let mut levels = 0u32;
         for code in self.learned.iter() {
-            levels |= level_bit(trail.cause(*code).level);
+            levels |= level_bit(propagator.cause(*code).level);
         }
         let mut kept = 1usize;
         for place in 1..self.learned.len() {
@@ -122,7 +118,7 @@ impl Analysis {
             let marks = &mut self.marks;
             if !self
                 .redundancy
-                .is_redundant(arena, trail, marks, levels, code)?
+                .is_redundant(propagator, marks, levels, code)?
             {
                 write(self.learned.as_mut_slice(), kept, code);
                 kept = kept.wrapping_add(1);
@@ -133,10 +129,10 @@ impl Analysis {
     }
 
     /// Puts a literal of the highest level below the last behind the first.
-    fn find_back(&mut self, trail: &Trail) {
+    fn find_back(&mut self, propagator: &Propagator) {
         for place in 1..self.learned.len() {
             let code = read(self.learned.as_slice(), place, Code::NONE);
-            let level = trail.cause(code).level;
+            let level = propagator.cause(code).level;
             if level > self.back {
                 self.back = level;
                 let second = read(self.learned.as_slice(), 1, Code::NONE);

@@ -3,9 +3,9 @@
 use crate::marks::Marks;
 use clause_core::Hints;
 use std::alloc::{AllocError, Global};
-use watched_propagation::{Arena, ClauseRef, Code, Trail};
+use watched_propagation::{ClauseRef, Code, Propagator};
 
-/// The literals that the conflict rests on, and the reasons of them with their places on the trail.
+/// The literals that the conflict rests on, and the reasons of them with their places on the propagator.
 #[derive(Drop)]
 pub(crate) struct Explanation {
     alloc: Global,
@@ -29,8 +29,7 @@ impl Explanation {
     /// is refused, and another is derived in its place.
     pub fn hints(
         &mut self,
-        arena: &Arena,
-        trail: &Trail,
+        propagator: &Propagator,
         learned: &[Code],
         conflict: ClauseRef,
     ) -> Result<Hints, AllocError> {
@@ -40,22 +39,21 @@ impl Explanation {
             self.marks.mark(*code)?;
         }
         let first = self.marks.len();
-        self.meet(arena, conflict)?;
-        for place in first..trail.values().len().saturating_mul(2) {
+        self.meet(propagator, conflict)?;
+        for place in first..propagator.values().len().saturating_mul(2) {
             let Some(code) = self.marks.get(place) else {
                 break;
             };
-            let cause = trail.cause(code);
-            self.reasons
-                .push((cause.place, arena.number(cause.reason)))?;
-            self.meet(arena, cause.reason)?;
+            let cause = propagator.cause(code);
+            self.reasons.push((cause.place, cause.reason.number))?;
+            self.meet(propagator, cause.reason)?;
         }
-        self.sorted(arena.number(conflict))
+        self.sorted(conflict.number)
     }
 
     /// Marks the literals of a clause.
-    fn meet(&mut self, arena: &Arena, clause: ClauseRef) -> Result<(), AllocError> {
-        for number in arena.codes(clause) {
+    fn meet(&mut self, propagator: &Propagator, clause: ClauseRef) -> Result<(), AllocError> {
+        for number in propagator.codes(clause) {
             let code = Code { number: *number };
             if !self.marks.has(code) {
                 self.marks.mark(code)?;

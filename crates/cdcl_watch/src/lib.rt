@@ -3,6 +3,7 @@
 
 mod analysis;
 mod explanation;
+mod goals;
 mod marks;
 mod order;
 mod redundancy;

@@ -1,8 +1,7 @@
 // Marks on variables.
 
-use clause_pairs::{read, write};
 use std::alloc::{AllocError, Global};
-use watched_propagation::Code;
+use watched_propagation::{Code, read, write};
 
 /// Variables that are marked, and the literals that marked them, in order.
 #[derive(Drop)]

@@ -1,8 +1,8 @@
 // The order of decisions: the open variable of the greatest activity, with the value that it had last.
 
-use clause_pairs::{read, write};
+use crate::goals::Goals;
 use std::alloc::{AllocError, Global};
-use watched_propagation::low;
+use watched_propagation::{low, read, write};
 
 /// The place of a variable that is not in the heap.
 const NO_PLACE: u32 = u32::MAX;
@@ -13,7 +13,8 @@ const DECAY: f64 = 0.95;
 /// Above this all activities are made smaller.
 const GREATEST: f64 = 1e100;
 
-/// Activities of the variables in a binary heap, as Chaff's successors have them, and saved phases.
+/// Activities of the variables in a binary heap, as Chaff's successors have them, saved phases, and what is decided
+/// before all variables.
 #[derive(Drop)]
 pub(crate) struct Order {
     activities: Vec<f64>,
@@ -23,6 +24,7 @@ pub(crate) struct Order {
     places: Vec<u32>,
     /// The value that each variable had last; false at first.
     phases: Vec<bool>,
+    pub goals: Goals,
 }
 
 impl Order {
@@ -33,6 +35,7 @@ impl Order {
             heap: Vec::new(alloc),
             places: Vec::new(alloc),
             phases: Vec::new(alloc),
+            goals: Goals::new(alloc),
         }
     }
 

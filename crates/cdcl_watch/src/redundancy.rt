@@ -2,7 +2,7 @@
 
 use crate::marks::Marks;
 use std::alloc::{AllocError, Global};
-use watched_propagation::{Arena, ClauseRef, Code, Trail};
+use watched_propagation::{ClauseRef, Code, Propagator};
 
 /// The clause minimization of MiniSat: a false literal may be left out where each way back from it along
 /// the reasons ends in literals that are marked, or that no decision stands behind.
@@ -27,13 +27,12 @@ impl Redundancy {
     /// that meets another level is not gone. What was found to follow stays marked.
     pub fn is_redundant(
         &mut self,
-        arena: &Arena,
-        trail: &Trail,
+        propagator: &Propagator,
         marks: &mut Marks,
         levels: u32,
         code: Code,
     ) -> Result<bool, AllocError> {
-        if trail.cause(code).reason == ClauseRef::NONE {
+        if propagator.cause(code).reason == ClauseRef::NONE {
             return Ok(false);
         }
         let before = marks.len();
@@ -43,7 +42,7 @@ impl Redundancy {
             let Some(top) = self.stack.pop() else {
                 break;
             };
-            if !self.follow(arena, trail, marks, levels, top)? {
+            if !self.follow(propagator, marks, levels, top)? {
                 marks.keep(before);
                 return Ok(false);
             }
@@ -54,15 +53,14 @@ impl Redundancy {
     /// Goes one step back from a literal; whether all that it meets may follow.
     fn follow(
         &mut self,
-        arena: &Arena,
-        trail: &Trail,
+        propagator: &Propagator,
         marks: &mut Marks,
         levels: u32,
         top: Code,
     ) -> Result<bool, AllocError> {
-        for number in arena.codes(trail.cause(top).reason) {
+        for number in propagator.codes(propagator.cause(top).reason) {
             let code = Code { number: *number };
-            let cause = trail.cause(code);
+            let cause = propagator.cause(code);
             if marks.has(code) || cause.level == 0 || code.variable() == top.variable() {
                 continue;
             }

@@ -1,5 +1,10 @@
 // The search of conflict-driven clause learning by watched literals.
 
+ghost use Rattle.std.specs.Prelude.{◌≡◌, ◌+◌, ◌^◌, ◌<◌, ◌++◌, ◌∷◌, [], List, length, IfOk, OnOk};
+ghost use Rattle.clause_core.specs.declared.literal.Lit.{Lit};
+ghost use Rattle.clause_core.specs.Steps.{VariablesBelow, AllVariablesBelow};
+ghost use Rattle.cdcl_watch.specs.Kept.{Keeps, HasTaken};
+
 use crate::analysis::Analysis;
 use crate::explanation::Explanation;
 use crate::order::Order;
@@ -7,7 +12,7 @@ use cdcl_core::{Proposal, Search};
 use clause_core::{Clause, Lit, Step, Truth};
 use std::alloc::{AllocError, Global};
 use std::mem;
-use watched_propagation::{ClauseRef, Code, Propagator, low};
+use watched_propagation::{ClauseRef, Code, Propagator, low, read};
 
 /// How many conflicts there are between two restarts.
 const CONFLICTS_A_RESTART: u32 = 100;
@@ -15,8 +20,7 @@ const CONFLICTS_A_RESTART: u32 = 100;
 /// Decides, propagates, and at a conflict learns the clause of the first unique implication point, as
 /// Chaff and MiniSat; after each 100th conflict it begins anew, with activities and phases kept.
 ///
-/// A restart that forgot the level of a reason, or a watch that was lost, would cost time only: what is
-/// proposed is tested, and replaced where it fails.
+/// A clause that does not follow would cost time only: what is proposed is tested, and replaced where it fails.
 #[derive(Drop)]
 pub(crate) struct WatchSearch {
     alloc: Global,
@@ -26,110 +30,60 @@ pub(crate) struct WatchSearch {
     order: Order,
     /// How many of the held clauses were taken in.
     count: usize,
+    /// Whether the next of them is the one that was learned last.
+    is_learned: bool,
     conflicts: u32,
 }
 
-impl WatchSearch {
-    pub fn new(alloc: Global, variables: u32, order: Order) -> Result<WatchSearch, AllocError> {
-        let mut search = WatchSearch {
-            alloc,
-            propagator: Propagator::new(alloc, variables)?,
-            analysis: Analysis::new(alloc, variables)?,
-            explanation: Explanation::new(alloc, variables)?,
-            order,
-            count: 0,
-            conflicts: 0,
+/// Takes back the decisions above a level, and keeps the values that they led to.
+fn go_back(propagator: &mut Propagator, order: &mut Order, level: u32) -> Result<(), AllocError>
+    ensures { Keeps propagator.old propagator.new }
+{
+    for place in (propagator.start_above(level)..propagator.len()).rev() {
+        let code = propagator.literal_at(place);
+        order.keep_phase(code.variable(), !code.is_negative());
+        order.insert(low(code.variable()))?;
+    }
+    propagator.go_back(level);
+    Ok(())
+}
+
+/// Takes the goals of a formula, where no clause of it was taken in yet.
+fn begin_goals(
+    order: &mut Order,
+    values: &[Truth],
+    count: usize,
+    held: &[Clause],
+) -> Result<(), AllocError> {
+    if count == 0 {
+        order.goals.renew(values.len().saturating_mul(2), held)?;
+    }
+    Ok(())
+}
+
+/// Decides the next goal, else the open variable of the greatest activity; whether there is one.
+fn decide(
+    propagator: &mut Propagator,
+    order: &mut Order,
+    held: &[Clause],
+) -> Result<bool, AllocError>
+    ensures { Keeps propagator.old propagator.new }
+{
+    if let Some(goal) = order.goals.choose(propagator, held)
+        && propagator.decide(goal)?
+    {
+        return Ok(true);
+    }
+    for _ in 0..propagator.values().len() {
+        let Some(variable) = order.pop() else {
+            break;
         };
-        search.order.renew(variables)?;
-        Ok(search)
-    }
-
-    /// Takes the activities and phases out of the search.
-    pub fn take_order(&mut self) -> Order {
-        mem::replace(&mut self.order, Order::new(self.alloc))
-    }
-
-    /// Takes back the decisions above a level, and keeps the values that they led to.
-    fn go_back(&mut self, level: u32) -> Result<(), AllocError> {
-        let start = self.propagator.trail.start_above(level as usize);
-        for _ in start..self.propagator.trail.len() {
-            if let Some(code) = self.propagator.trail.pop_above(start) {
-                self.order.keep_phase(code.variable(), !code.is_negative());
-                self.order.insert(low(code.variable()))?;
-            }
+        let negative = !order.phase(variable);
+        if propagator.decide(Code::of(Lit { variable, negative }))? {
+            return Ok(true);
         }
-        self.propagator.trail.cut(level as usize);
-        Ok(())
     }
-
-    /// Takes in the held clauses that are not known yet. The answer is one that is false by itself.
-    fn take_in(&mut self, held: &[Clause]) -> Result<Option<ClauseRef>, AllocError> {
-        if self.count >= held.len() {
-            return Ok(None);
-        }
-        self.go_back(0)?;
-        self.propagator.trail.rewind();
-        let mut conflict = None;
-        for place in self.count..held.len() {
-            self.count = place + 1;
-            let number = low(self.count);
-            let added = self.propagator.add_given(number, held[place].literals())?;
-            if added.is_some() {
-                conflict = added;
-            }
-        }
-        Ok(conflict)
-    }
-
-    /// Learns from a false clause, and takes the last decision back.
-    fn derive(&mut self, conflict: ClauseRef) -> Result<Proposal, AllocError> {
-        self.analysis.analyze(
-            &self.propagator.arena,
-            &self.propagator.trail,
-            &mut self.order,
-            conflict,
-        )?;
-        self.order.end_conflict();
-        let hints = self.explanation.hints(
-            &self.propagator.arena,
-            &self.propagator.trail,
-            self.analysis.learned(),
-            conflict,
-        )?;
-        let clause = rising_clause(self.alloc, self.analysis.learned())?;
-        let below = self.propagator.trail.level().saturating_sub(1);
-        self.go_back(below)?;
-        self.conflicts = self.conflicts.wrapping_add(1);
-        Ok(Proposal::Derivation(Step { clause, hints }))
-    }
-
-    /// Decides the open variable of the greatest activity; whether there is one.
-    fn decide(&mut self) -> Result<bool, AllocError> {
-        for _ in 0..self.propagator.trail.values().len() {
-            let Some(variable) = self.order.pop() else {
-                break;
-            };
-            let negative = !self.order.phase(variable);
-            let code = Code::of(Lit { variable, negative });
-            match self.propagator.trail.value(code) {
-                Truth::Open => {
-                    self.propagator.trail.decide(code)?;
-                    return Ok(true);
-                }
-                _ => {}
-            }
-        }
-        Ok(false)
-    }
-
-    /// Begins anew where it is time to.
-    fn restart_in_time(&mut self) -> Result<(), AllocError> {
-        if self.conflicts >= CONFLICTS_A_RESTART {
-            self.conflicts = 0;
-            self.go_back(0)?;
-        }
-        Ok(())
-    }
+    Ok(false)
 }
 
 /// The clause of some literals, in the order of its variables.
@@ -146,36 +100,142 @@ fn rising_clause(alloc: Global, codes: &[Code]) -> Result<Clause, AllocError> {
     Clause::from_slice(alloc, literals.as_slice())
 }
 
-impl Search for WatchSearch {
-    fn propose(&mut self, held: &[Clause]) -> Result<Proposal, AllocError> {
-        if let Some(conflict) = self.take_in(held)? {
-            return self.derive(conflict);
+impl WatchSearch {
+    pub fn new(alloc: Global, variables: u32, order: Order) -> Result<WatchSearch, AllocError>
+        requires { variables < 2 ^ 31 }
+        ensures taken { IfOk result (λ s. HasTaken s.propagator s.count []) }
+        ensures places { IfOk result (λ s. length s.propagator.values ≡ variables + 1) }
+    {
+        let mut order = order;
+        order.renew(variables)?;
+        Ok(WatchSearch {
+            alloc,
+            propagator: Propagator::new(alloc, variables)?,
+            analysis: Analysis::new(alloc, variables)?,
+            explanation: Explanation::new(alloc, variables)?,
+            order,
+            count: 0,
+            is_learned: false,
+            conflicts: 0,
+        })
+    }
+
+    /// Takes the activities and phases out of the search.
+    pub fn take_order(&mut self) -> Order {
+        mem::replace(&mut self.order, Order::new(self.alloc))
+    }
+
+    /// Takes in a clause behind the others, at the level at which it is unit where it is the one that was learned.
+    /// The answer is the clause where it is false by itself.
+    fn take(&mut self, literals: &[Lit]) -> Result<Option<ClauseRef>, AllocError>
+        requires { VariablesBelow (length self.old.propagator.values) literals.now }
+        ensures held { OnOk result (self.new.propagator.held ≡ self.old.propagator.held ++ literals.now ∷ []) }
+        ensures size { length self.new.propagator.values ≡ length self.old.propagator.values }
+    {
+        if !self.is_learned {
+            go_back(&mut self.propagator, &mut self.order, 0)?;
+            return self.propagator.add_given(literals);
         }
-        for _ in 0..u64::MAX {
-            if let Some(conflict) = self.propagator.propagate()? {
-                return self.derive(conflict);
+        self.is_learned = false;
+        let learned = self.analysis.learned();
+        let one = read(learned, 0, Code::NONE);
+        let other = read(learned, 1, Code::NONE);
+        self.propagator.add_learned(literals, one, other)?;
+        Ok(None)
+    }
+
+    /// Takes in the held clauses that are not known yet. The answer is one that is false by itself.
+    fn take_in(&mut self, held: &[Clause]) -> Result<Option<ClauseRef>, AllocError>
+        requires taken { (taken more : List (List Lit)) × HasTaken self.old.propagator self.old.count taken × (held.now ≡ taken ++ more) }
+        requires within { AllVariablesBelow (length self.old.propagator.values) held.now }
+        ensures taken { OnOk result (HasTaken self.new.propagator self.new.count held.now) }
+        ensures size { length self.new.propagator.values ≡ length self.old.propagator.values }
+    {
+        let mut conflict = None;
+        for place in self.count..held.len() {
+            let added = self.take(held[place].literals())?;
+            if added.is_some() {
+                conflict = added;
             }
-            self.restart_in_time()?;
-            if !self.decide()? {
+        }
+        self.count = held.len();
+        Ok(conflict)
+    }
+
+    /// Learns from a false clause, and takes the last decision back.
+    fn derive(&mut self, conflict: ClauseRef) -> Result<Proposal, AllocError>
+        ensures kept { Keeps self.old.propagator self.new.propagator }
+        ensures count { self.new.count ≡ self.old.count }
+    {
+        self.analysis
+            .analyze(&self.propagator, &mut self.order, conflict)?;
+        self.order.end_conflict();
+        let learned = self.analysis.learned();
+        let hints = self.explanation.hints(&self.propagator, learned, conflict)?;
+        let clause = rising_clause(self.alloc, learned)?;
+        let below = self.propagator.level().saturating_sub(1);
+        go_back(&mut self.propagator, &mut self.order, below)?;
+        self.conflicts = self.conflicts.wrapping_add(1);
+        Ok(Proposal::Derivation(Step { clause, hints }))
+    }
+
+    /// Goes on to the next conflict, or to where no variable is open; begins anew where it is time to.
+    fn go_on(&mut self, held: &[Clause]) -> Result<Option<ClauseRef>, AllocError>
+        ensures kept { Keeps self.old.propagator self.new.propagator }
+        ensures count { self.new.count ≡ self.old.count }
+    {
+        for _ in 0..u64::MAX {
+            let conflict = self.propagator.propagate()?;
+            if conflict.is_some() {
+                return Ok(conflict);
+            }
+            if self.conflicts >= CONFLICTS_A_RESTART {
+                self.conflicts = 0;
+                go_back(&mut self.propagator, &mut self.order, 0)?;
+            }
+            if !decide(&mut self.propagator, &mut self.order, held)? {
                 break;
             }
         }
-        Ok(Proposal::Solution)
+        Ok(None)
+    }
+}
+
+impl Search for WatchSearch {
+    ghost has_taken = { λ s. HasTaken s.propagator s.count };
+
+    ghost values = { λ s. s.propagator.values };
+
+    ghost places = { λ s. length s.propagator.values };
+
+    fn propose(&mut self, held: &[Clause]) -> Result<Proposal, AllocError> {
+        begin_goals(&mut self.order, self.propagator.values(), self.count, held)?;
+        let mut conflict = self.take_in(held)?;
+        if conflict.is_none() {
+            conflict = self.go_on(held)?;
+        }
+        match conflict {
+            Some(clause) => self.derive(clause),
+            None => Ok(Proposal::Solution),
+        }
     }
 
     fn values(&self) -> &[Truth] {
-        self.propagator.trail.values()
+        self.propagator.values()
+    }
+
+    fn is_closed(&self, held: &[Clause]) -> bool {
+        let _ = held;
+        self.propagator.is_closed()
     }
 
     fn learn(&mut self) -> Result<(), AllocError> {
-        let level = self.analysis.back();
-        self.go_back(level)?;
-        self.count = self.count.wrapping_add(1);
-        let number = low(self.count);
-        self.propagator.add_learned(number, self.analysis.learned())
+        self.is_learned = true;
+        go_back(&mut self.propagator, &mut self.order, self.analysis.back())
     }
 
     fn restart(&mut self) -> Result<(), AllocError> {
-        self.go_back(0)
+        self.is_learned = false;
+        go_back(&mut self.propagator, &mut self.order, 0)
     }
 }

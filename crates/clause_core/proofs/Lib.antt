@@ -5,5 +5,6 @@ pub mod ClosedLists
 pub mod Assumed
 pub mod OneOpen
 pub mod Sets
+pub mod Fronts
 pub mod Refuting
 pub mod Undone

@@ -1,7 +1,7 @@
 -- Clauses whose variables rise have variables below one more than the number of variables.
-use Rattle.std.proofs.Common.{◌≡◌, ℕ, ◌<◌, ◌+◌, Bool, true, ◌&&◌, ◌||◌, List, [], ◌∷◌, ◌++◌, refl, ◌∙◌, ap, arith, nat_lt, nat_le, sym}
+use Rattle.std.proofs.Common.{◌≡◌, ℕ, zero, suc, ◌<◌, ◌+◌, Bool, true, ◌&&◌, ◌||◌, List, [], ◌∷◌, ◌++◌, refl, ◌∙◌, ap, arith, nat_lt, nat_le, sym, take}
 use Rattle.std.proofs.Math.Bool.{or-false, or_assoc}
-use Rattle.std.proofs.lemmas.Bool.{and_parts}
+use Rattle.std.proofs.lemmas.Bool.{and_parts, and_from}
 use Rattle.std.specs.List.{list_any, list_all}
 use Rattle.std.proofs.lemmas.Bool.Decides.{nat_tests}
 use Rattle.std.proofs.lemmas.List.Elements.{All-nil, All-cons}
@@ -60,6 +60,13 @@ list_all-front p (x ∷ xs) y h =
     let q = and_parts (p x) (list_all p (xs ++ y ∷ [])) h in
     let r = list_all-front p xs y q.1 in
     (ap (λ z. z && list_all p xs) q.0 ∙ r.0, r.1)
+
+pub list_all-take : {X : Type 0} (p : X → Bool) (n : ℕ) (xs : List X) → list_all p xs ≡ true → list_all p (take n xs) ≡ true
+list_all-take p zero xs h = refl
+list_all-take p (suc n) [] h = refl
+list_all-take p (suc n) (x ∷ xs) h =
+    let q = and_parts (p x) (list_all p xs) h in
+    and_from (p x) (list_all p (take n xs)) q.0 (list_all-take p n xs q.1)
 
 pub list_any-push : {X : Type 0} (p : X → Bool) (xs : List X) (y : X) → list_any p (xs ++ y ∷ []) ≡ (list_any p xs || p y)
 list_any-push p [] y = or-false (p y)

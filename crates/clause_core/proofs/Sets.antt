@@ -1,11 +1,11 @@
 -- The set of some literals stands in order, and holds those literals and no others.
-use Rattle.std.proofs.Common.{◌≡◌, ◌≢◌, ℕ, zero, suc, ◌<◌, ◌≤◌, ◌+◌, ◌*◌, Bool, true, false, ◌||◌, inl, inr, List, [], ◌∷◌, length, get_or, refl, sym, ◌∙◌, ap, subst, arith, cond, nat_lt, nat_le}
+use Rattle.std.proofs.Common.{◌≡◌, ◌≢◌, ℕ, zero, suc, ◌<◌, ◌≤◌, ◌+◌, ◌*◌, Bool, true, false, ◌||◌, inl, inr, List, [], ◌∷◌, length, get_or, ◌&&◌, refl, sym, ◌∙◌, ap, subst, arith, cond, nat_lt, nat_le}
 use Rattle.std.proofs.Math.Bool.{or-false, or_assoc, or_self_left}
 use Rattle.std.proofs.lemmas.Bool.{and_parts, cases_Bool, and_from}
 use Rattle.std.specs.List.{list_all, list_any, insert}
 use Rattle.std.proofs.lemmas.Bool.Decides.{nat_tests}
 use Rattle.clause_core.specs.declared.literal.Lit.{Lit}
-use Rattle.clause_core.specs.Clauses.{rank, ascends, is_set, inserted, with_all, set_of, place_in}
+use Rattle.clause_core.specs.Clauses.{rank, ascends, is_set, rises, fits_in, inserted, with_all, set_of, place_in}
 
 lower : (a b : ℕ) → nat_lt a b ≡ true → a < b
 lower a b h = grind (arith, nat_tests)
@@ -163,3 +163,22 @@ list_any-with_all p c (l ∷ ls) =
 
 pub list_any-set_of : (p : Lit → Bool) (ls : List Lit) → list_any p (set_of ls) ≡ list_any p ls
 list_any-set_of p ls = list_any-with_all p [] ls ∙ or-false (list_any p ls)
+
+rank_from : (low bound v : ℕ) (b : Bool) → bound ≤ 2 * low + 2 → nat_lt low v ≡ true → nat_le bound (2 * v + cond b 1 0) ≡ true
+rank_from low bound v true le h = let lt = lower low v h in grind (arith, nat_tests)
+rank_from low bound v false le h = let lt = lower low v h in grind (arith, nat_tests)
+
+rank_to : (v : ℕ) (b : Bool) → 2 * v + cond b 1 0 + 1 ≤ 2 * v + 2
+rank_to v true = omega arith
+rank_to v false = omega arith
+
+ascends-fits : (variables low bound : ℕ) (c : List Lit) → bound ≤ 2 * low + 2 → fits_in variables low c ≡ true → ascends bound c ≡ true
+ascends-fits variables low bound [] le h = refl
+ascends-fits variables low bound (l ∷ ls) le h =
+    let p = and_parts (nat_lt low l.variable) (nat_le l.variable variables && fits_in variables l.variable ls) h in
+    let q = and_parts (nat_le l.variable variables) (fits_in variables l.variable ls) p.1 in
+    and_from (nat_le bound (rank l)) (ascends (rank l + 1) ls) (rank_from low bound l.variable l.negative le p.0) (ascends-fits variables l.variable (rank l + 1) ls (rank_to l.variable l.negative) q.1)
+
+-- a clause whose variables rise is a set
+pub is_set-rises : (variables : ℕ) (c : List Lit) → rises variables c ≡ true → is_set c ≡ true
+is_set-rises variables c h = ascends-fits variables 0 0 c (omega arith) h

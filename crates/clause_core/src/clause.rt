@@ -114,18 +114,6 @@ impl Clause {
     }
 }
 
-/// Copies of these clauses, in their order.
-pub fn copy_clauses(alloc: Global, clauses: &[Clause]) -> Result<Vec<Clause>, AllocError>
-    ensures { IfOk result (λ copies. copies.items ≡ clauses.now) }
-{
-    let mut copies = Vec::with_capacity(alloc, clauses.len())?;
-    for clause in clauses {
-        let copy = Clause::from_slice(alloc, clause.literals())?;
-        copies.push(copy)?;
-    }
-    Ok(copies)
-}
-
 /// The set of some literals has a literal of any kind exactly where they have.
 pub fn law_set_of()
     ensures same { (literals : List Lit) (test : Lit → Bool)

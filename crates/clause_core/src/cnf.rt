@@ -1,7 +1,7 @@
 ghost use Rattle.std.specs.Prelude.{◌≡◌, ℕ, ◌<◌, ◌+◌, ◌-◌, ◌^◌, ◌++◌, ◌∷◌, [], IsTrue, OnErr, OnOk, length};
 ghost use Rattle.std.specs.List.{list_all};
-ghost use Rattle.clause_core.specs.Clauses.{is_within, is_set, set_of};
-ghost use Rattle.clause_core.specs.Formula.{with_clause};
+ghost use Rattle.clause_core.specs.Clauses.{is_within, is_set, set_of, rises};
+ghost use Rattle.clause_core.specs.Formula.{with_clause, first_clauses};
 
 use crate::clause::Clause;
 use crate::literal::Lit;
@@ -61,6 +61,19 @@ impl Cnf {
         self.clauses.as_slice()
     }
 
+    // Adds a clause that is a set of the formula's literals.
+    fn keep(&mut self, clause: Clause) -> Result<(), AllocError>
+        requires within { IsTrue (is_within self.old.variables clause) }
+        requires set { IsTrue (is_set clause) }
+        ensures ok { OnOk result (self.new ≡ with_clause self.old clause) }
+        ensures err { OnErr result (self.new ≡ self.old) }
+    {
+        let Ok(()) = self.clauses.push(clause) else {
+            return Err(AllocError);
+        };
+        Ok(())
+    }
+
     /// Adds a clause. The literals may stand in any order, and equal ones count once.
     pub fn push(&mut self, literals: &[Lit]) -> Result<(), AllocError>
         requires { IsTrue (is_within self.old.variables literals.now) }
@@ -68,9 +81,23 @@ impl Cnf {
         ensures err { OnErr result (self.new ≡ self.old) }
     {
         let clause = Clause::from_set(self.alloc, literals)?;
-        let Ok(()) = self.clauses.push(clause) else {
-            return Err(AllocError);
-        };
-        Ok(())
+        self.keep(clause)
+    }
+
+    /// Adds a clause whose variables rise, as it stands.
+    pub fn push_rising(&mut self, literals: &[Lit]) -> Result<(), AllocError>
+        requires { IsTrue (rises self.old.variables literals.now) }
+        ensures ok { OnOk result (self.new ≡ with_clause self.old literals.now) }
+        ensures err { OnErr result (self.new ≡ self.old) }
+    {
+        let clause = Clause::from_slice(self.alloc, literals)?;
+        self.keep(clause)
+    }
+
+    /// Keeps the first clauses, so many of them.
+    pub fn truncate(&mut self, count: usize)
+        ensures { self.new ≡ first_clauses count self.old }
+    {
+        self.clauses.truncate(count);
     }
 }

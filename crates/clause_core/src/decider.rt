@@ -19,9 +19,10 @@ pub enum Decided {
 
 /// A procedure that decides formulas within a limit of derived clauses.
 pub trait Decider {
-    /// Decides the formula by at most `limit` steps.
-    fn decide(&mut self, alloc: Global, cnf: &Cnf, limit: u32) -> Result<Decided, AllocError>
+    /// Decides the formula by at most `limit` steps. It may put clauses behind those of the formula as long as it decides.
+    fn decide(&mut self, alloc: Global, cnf: &mut Cnf, limit: u32) -> Result<Decided, AllocError>
         requires limit { 1 ≤ limit }
-        requires few { length cnf.now.clauses + limit < 2 ^ 32 }
-        ensures decided { IfOk result (IsDecided cnf.now limit) };
+        requires few { length cnf.old.clauses + limit < 2 ^ 32 }
+        ensures decided { IfOk result (IsDecided cnf.old limit) }
+        ensures same { cnf.new ≡ cnf.old };
 }

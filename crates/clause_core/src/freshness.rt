@@ -27,6 +27,18 @@ pub fn shows_fresh(held: &[Clause], values: &[Truth], literals: &[Lit]) -> bool
     }
 }
 
+/// Whether the clause is unit under the values. It is fresh over what is held where nothing that is held is unit or false.
+pub fn is_unit(values: &[Truth], literals: &[Lit]) -> bool
+    requires { VariablesBelow (length values.now) literals.now }
+    ensures unit { IsTrue result ↔ IsUnit (clause_status values.now literals.now) }
+    ensures fresh { (held : List (List Lit)) → IsClosed held values.now → IsTrue result → IsFresh held literals.now }
+{
+    match clause_status(values, literals) {
+        Status::Unit(_) => true,
+        _ => false,
+    }
+}
+
 /// Whether the literal between `front` and `back` shows that the clause is fresh.
 fn shows_between(
     variables: u32,

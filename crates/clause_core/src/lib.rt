@@ -18,10 +18,10 @@ mod truth;
 
 pub use assignment::Assignment;
 pub use check::{Outcome, check_step, clause_at, follow_hints};
-pub use clause::{Clause, copy_clauses, is_rising, is_within, law_set_of};
+pub use clause::{Clause, is_rising, is_within, law_set_of};
 pub use cnf::Cnf;
 pub use decider::{Decided, Decider};
-pub use freshness::{is_fresh, shows_fresh};
+pub use freshness::{is_fresh, is_unit, shows_fresh};
 pub use gate::Gate;
 pub use hints::Hints;
 pub use literal::Lit;

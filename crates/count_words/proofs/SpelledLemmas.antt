@@ -1,5 +1,5 @@
 -- One number more.
-use Rattle.std.proofs.Common.{◌≡◌, ◌∙◌, ◌<◌, ◌-◌, ◌+◌, ℕ, true, false, zero, suc, List, Option, Some, None, decimal, bytes_eq, if◌then◌else◌, refl, sym, ap, arith}
+use Rattle.std.proofs.Common.{◌≡◌, ◌∙◌, ◌<◌, ◌-◌, ◌+◌, ℕ, false, suc, List, Some, decimal, bytes_eq, if◌then◌else◌, sym, ap, arith}
 use Rattle.count_words.specs.Counts.{first_spelled}
 
 one_more : (less most : ℕ) → less < most → most - less ≡ suc (most - (less + 1))
@@ -8,20 +8,9 @@ one_more less most lt = omega (arith, lt)
 next : (less : ℕ) → less + 1 ≡ suc less
 next less = omega arith
 
--- it is this one
-pub found : (less most : ℕ) (word : List ℕ) → less < most → bytes_eq (decimal (less + 1)) word ≡ true → first_spelled less (most - less) word ≡ Some (less + 1)
-found less most word lt e =
-    ap (λ n. first_spelled less n word) (one_more less most lt)
-    ∙ ap (λ b. if b then Some (suc less) else first_spelled (suc less) (most - (less + 1)) word) (sym (ap (λ n. bytes_eq (decimal n) word) (next less)) ∙ e)
-    ∙ ap Some (sym (next less))
-
 -- it is none so far
 pub passed : (less most : ℕ) (word : List ℕ) → less < most → bytes_eq (decimal (less + 1)) word ≡ false → first_spelled (less + 1) (most - (less + 1)) word ≡ first_spelled less (most - less) word
 passed less most word lt e =
     ap (λ n. first_spelled n (most - (less + 1)) word) (next less)
     ∙ sym (ap (λ n. first_spelled less n word) (one_more less most lt)
     ∙ ap (λ b. if b then Some (suc less) else first_spelled (suc less) (most - (less + 1)) word) (sym (ap (λ n. bytes_eq (decimal n) word) (next less)) ∙ e))
-
--- none is left
-pub none_left : (most : ℕ) (word : List ℕ) → first_spelled most (most - most) word ≡ None
-none_left most word = ap (λ n. first_spelled most n word) (let e : most - most ≡ 0 = omega arith in e)

@@ -1,6 +1,6 @@
 -- What stays true of a checker when an accepted step's clause is held too.
 use Rattle.std.proofs.Common.{◌≡◌, ℕ, zero, suc, ◌<◌, ◌≤◌, ◌+◌, Bool, true, false, ◌||◌, List, [], ◌∷◌, ◌++◌, length, take, drop, get_or, replicate, refl, sym, ◌∙◌, ap, subst, arith, length-append}
-use Rattle.std.specs.List.{list_any, list_all, Contains}
+use Rattle.std.specs.List.{list_any, Contains}
 use Rattle.std.proofs.lemmas.Bool.{false≢true, and_parts, false_from_ne_true}
 use Rattle.std.proofs.lemmas.List.{take-append-le, drop-append-le, length-replicate}
 use Rattle.clause_core.specs.declared.literal.Lit.{Lit}
@@ -9,9 +9,8 @@ use Rattle.clause_core.specs.declared.truth.Truth.TheVariants.{Open}
 use Rattle.clause_core.specs.declared.check.Outcome.{Outcome}
 use Rattle.clause_core.specs.declared.check.Outcome.TheVariants.{Accepted}
 use Rattle.clause_core.specs.Satisfaction.{formula_true, clause_true}
-use Rattle.clause_core.specs.Clauses.{rises, is_within}
 use Rattle.clause_core.specs.Steps.{follow_hints, assume_false, outcome}
-use Rattle.clause_core.proofs.Ranges.{is_within-rises, list_all-push, list_any-push}
+use Rattle.clause_core.proofs.Ranges.{list_all-push, list_any-push}
 use Rattle.clause_core.proofs.Sound.{clause_true-accepted}
 use Rattle.derivation_check.specs.Inside.{is_empty}
 
@@ -19,19 +18,17 @@ pub open-length : (variables : ℕ) (vs : List Truth) → vs ≡ replicate (vari
 open-length variables vs e = ap length e ∙ length-replicate (variables + 1) Open
 
 -- what a checker keeps of the first `given` clauses and those that are held
-pub record Pushed (variables given : ℕ) (held' : List (List Lit)) (now : Bool) : Type 0 where
+pub record Pushed (given : ℕ) (held' : List (List Lit)) (now : Bool) : Type 0 where
   pub few : given ≤ length held'
-  pub within : list_all (is_within variables) held' ≡ true
   pub implied : (v : ℕ → Bool) → formula_true v (take given held') ≡ true → formula_true v held' ≡ true
   pub refuted : now ≡ list_any is_empty (drop given held')
 
-pub Pushed-accepted : (variables given : ℕ) (held held' : List (List Lit)) (was now : Bool) (c : List Lit) (hs : List ℕ) → Pushed variables given held was → held' ≡ held ++ c ∷ [] → rises variables c ≡ true → outcome variables held c hs ≡ Accepted → now ≡ (was || is_empty c) → Pushed variables given held' now
-Pushed-accepted variables given held held' was now c hs p e rc acc n =
+pub Pushed-accepted : (variables given : ℕ) (held held' : List (List Lit)) (was now : Bool) (c : List Lit) (hs : List ℕ) → Pushed given held was → held' ≡ held ++ c ∷ [] → outcome variables held c hs ≡ Accepted → now ≡ (was || is_empty c) → Pushed given held' now
+Pushed-accepted variables given held held' was now c hs p e acc n =
     let g = p.few in
-    subst (λ h. Pushed variables given h now) (sym e)
+    subst (λ h. Pushed given h now) (sym e)
     (record {
       few = omega (arith, length-append held (c ∷ []));
-      within = list_all-push (is_within variables) held c p.within (is_within-rises variables c rc);
       implied = λ v f.
           let all : formula_true v held ≡ true = p.implied v (rw take-append-le at f) in
           list_all-push (clause_true v) held c all (clause_true-accepted variables held c hs acc v all);

@@ -1,8 +1,13 @@
--- The pairs of a test that may not be made yet.
-use Rattle.std.specs.Prelude.{List, [], Option, Some, None}
-use Rattle.clause_pairs.specs.declared.pair.Pair.{Pair}
+-- What the test of fresh clauses holds.
+use Rattle.std.specs.Prelude.{◌≡◌, ◌+◌, Option, IfSome, length}
+use Rattle.clause_core.specs.Formula.{Formula}
+use Rattle.watched_propagation.specs.Propagations.{Propagation}
 
--- none before it is made
-abbrev pub pairs_of : Option (List Pair) → List Pair
-pairs_of None = []
-pairs_of (Some pairs) = pairs
+-- the clauses of the formula, with a value for each variable
+pub record IsOver (f : Formula) (p : Propagation) : Type 0 where
+  pub held : p.held ≡ f.clauses
+  pub size : length p.values ≡ f.variables + 1
+
+-- the test, if it is made, is over the formula
+abbrev pub IsTestOf : Formula → Option Propagation → Type 0
+IsTestOf f test = IfSome test (IsOver f)

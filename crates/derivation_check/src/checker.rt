@@ -6,12 +6,11 @@ ghost use Rattle.clause_core.specs.Freshness.{IsFresh};
 ghost use Rattle.derivation_check.specs.Checks.{held_of, Holds, FaultFits};
 
 use crate::fault::StepFault;
-use crate::lazy_test::LazyTest;
-use clause_core::{
-    Clause, Cnf, Outcome, Step, Truth, check_step, clear, copy_clauses, is_fresh, unassigned,
-};
+use crate::lazy_test::{add, shows};
+use clause_core::{Cnf, Outcome, Step, Truth, check_step, clear, is_fresh, unassigned};
 use std::alloc::{AllocError, Global};
 use std::marker::Model;
+use watched_propagation::Propagator;
 
 /// A step was accepted.
 #[derive(Clone, Copy, PartialEq, Eq, Debug)]
@@ -21,11 +20,11 @@ pub struct Ack;
 #[derive(Drop)]
 pub struct Checker {
     alloc: Global,
-    variables: u32,
+    held: Cnf,
+    /// How many of the clauses are those of the formula.
     given: usize,
-    held: Vec<Clause>,
     values: Vec<Truth>,
-    test: LazyTest,
+    test: Option<Propagator>,
     is_refuted: bool,
 }
 
@@ -42,19 +41,18 @@ impl Model for Checker {
 }
 
 impl Checker {
-    /// Holds the formula's clauses, copied.
-    pub fn new(alloc: Global, cnf: &Cnf) -> Result<Checker, AllocError>
-        ensures { IfOk result (λ checker. checker ≡ record { formula = cnf.now; derived = [] }) }
+    /// Holds the formula's clauses.
+    pub fn new(alloc: Global, cnf: Cnf) -> Result<Checker, AllocError>
+        ensures { IfOk result (λ checker. checker ≡ record { formula = cnf; derived = [] }) }
     {
-        let held = copy_clauses(alloc, cnf.clauses())?;
         let values = unassigned(alloc, cnf.variables())?;
+        let given = cnf.clauses().len();
         Ok(Checker {
             alloc,
-            variables: cnf.variables(),
-            given: held.len(),
-            held,
+            held: cnf,
+            given,
             values,
-            test: LazyTest::new(),
+            test: None,
             is_refuted: false,
         })
     }
@@ -63,7 +61,7 @@ impl Checker {
     pub fn variables(&self) -> u32
         ensures { result ≡ self.now.formula.variables }
     {
-        self.variables
+        self.held.variables()
     }
 
     /// Takes a step that is accepted, in time proportional to the literals of its clause and of the
@@ -81,22 +79,19 @@ impl Checker {
         ensures unchanged { OnErr result (self.new ≡ self.old) }
     {
         let outcome = check_step(
-            self.held.as_slice(),
+            self.held.clauses(),
             self.values.as_mut_slice(),
             step.clause.literals(),
             step.hints.numbers(),
         );
         match outcome {
             Outcome::Accepted => {
-                let Ok(clause) = Clause::from_slice(self.alloc, step.clause.literals()) else {
-                    return Err(StepFault::Memory);
-                };
-                let Ok(()) = self.held.push(clause) else {
+                let Ok(()) = self.held.push_rising(step.clause.literals()) else {
                     return Err(StepFault::Memory);
                 };
                 self.is_refuted = self.is_refuted | step.clause.literals().is_empty();
                 // Where memory is wanting here, `fresh` is as right as ever, and takes longer.
-                let _ = self.test.add(step.clause.literals());
+                add(&mut self.test, step.clause.literals());
                 Ok(Ack)
             }
             Outcome::UnknownHint(number) => Err(StepFault::UnknownHint(number)),
@@ -106,23 +101,21 @@ impl Checker {
     }
 
     /// Whether the step's clause is fresh over what is held. The first call makes the test that shows it; where
-    /// memory is wanting the answer is as right, and takes longer. One that is fresh takes little more than a pass over a
-    /// pair of literals for each held clause; to one that is not, each of its literals takes as many passes over the
-    /// held clauses as unit propagation needs.
+    /// memory is wanting the answer is as right, and takes longer. One that is fresh takes unit propagation from its
+    /// literals; to one that is not, each of its literals takes as many passes over the held clauses as unit propagation
+    /// needs.
     pub fn fresh(&mut self, step: &Step) -> bool
         requires { IsTrue (rises self.old.formula.variables step.now.clause) }
         ensures exact { IsTrue result ↔ IsFresh (held_of self.old) step.now.clause }
         ensures unchanged { self.new ≡ self.old }
     {
-        let held = self.held.as_slice();
-        if self
-            .test
-            .shows(self.alloc, self.variables, held, step.clause.literals())
-        {
+        let literals = step.clause.literals();
+        if shows(self.alloc, &mut self.test, &self.held, literals) {
             return true;
         }
-        let values = self.values.as_mut_slice();
-        let answer = is_fresh(self.variables, held, values, step.clause.literals());
+        let variables = self.held.variables();
+        let held = self.held.clauses();
+        let answer = is_fresh(variables, held, self.values.as_mut_slice(), literals);
         clear(self.values.as_mut_slice());
         answer
     }

@@ -1,109 +1,92 @@
-// A test that shows most fresh clauses to be so in little time.
+// Most fresh clauses are shown to be so in little time: by unit propagation that knows when nothing is left to propagate.
 
-ghost use Rattle.std.specs.Prelude.{◌≡◌, ◌+◌, List, length, IsTrue, IfOk};
-ghost use Rattle.std.specs.List.{list_all};
-ghost use Rattle.clause_core.specs.Clauses.{is_within, rises};
+ghost use Rattle.std.specs.Prelude.{◌≡◌, ◌^◌, ◌<◌, length, IsTrue, IfOk};
+ghost use Rattle.clause_core.specs.Steps.{VariablesBelow};
 ghost use Rattle.clause_core.specs.Freshness.{IsFresh};
-ghost use Rattle.clause_core.specs.declared.literal.Lit.{Lit};
-ghost use Rattle.clause_pairs.specs.Pairs.{IsPaired};
+ghost use Rattle.derivation_check.specs.Tests.{IsOver};
 
-use crate::links::Links;
-use clause_core::{Clause, Lit, Truth};
-use clause_pairs::ClosedTest;
+use clause_core::{Cnf, Lit, is_unit};
 use std::alloc::{AllocError, Global};
-use std::marker::Model;
+use watched_propagation::{Code, Propagator};
 
-/// Propagates by watches, of which nothing is asked, and shows by the pairs of the held clauses that
-/// nothing is left to propagate. Contracts see the pairs.
-#[derive(Drop)]
-pub(crate) struct FreshTest {
-    links: Links,
-    closed: ClosedTest,
-}
-
-impl Model for FreshTest {
-    ghost use Rattle.std.specs.Prelude.{List};
-    ghost use Rattle.clause_pairs.specs.declared.pair.Pair.{Pair};
-
-    ghost Value = { List Pair };
-
-    ghost view = { λ t. t.closed };
-}
-
-/// Whether the values show that the clause is fresh.
-fn shows(
-    variables: u32,
-    held: &[Clause],
-    closed: &mut ClosedTest,
-    values: &[Truth],
-    literals: &[Lit],
-) -> bool
-    requires held { IsTrue (list_all (is_within variables) held.now) }
-    requires literals { IsTrue (rises variables literals.now) }
-    requires paired { IsPaired held.now closed.old }
-    ensures fresh { IsTrue result → IsFresh held.now literals.now }
-    ensures paired { IsPaired held.now closed.new }
+/// A propagator over the clauses of a formula.
+pub(crate) fn propagator_over(alloc: Global, cnf: &Cnf) -> Result<Propagator, AllocError>
+    requires { cnf.now.variables < 2 ^ 31 }
+    ensures { IfOk result (IsOver cnf.now) }
 {
-    if values.len() != variables as usize + 1 {
-        return false;
+    let mut propagator = Propagator::new(alloc, cnf.variables())?;
+    let clauses = cnf.clauses();
+    for clause in clauses {
+        propagator.add_given(clause.literals())?;
     }
-    closed.shows_fresh(held, values, literals)
+    Ok(propagator)
 }
 
-/// Whether it is shown that the clause is fresh, by the last of its literals that shows it.
-fn shows_by_any(
-    variables: u32,
-    held: &[Clause],
-    closed: &mut ClosedTest,
-    links: &mut Links,
-    literals: &[Lit],
-) -> bool
-    requires held { IsTrue (list_all (is_within variables) held.now) }
-    requires literals { IsTrue (rises variables literals.now) }
-    requires paired { IsPaired held.now closed.old }
-    ensures fresh { IsTrue result → IsFresh held.now literals.now }
-    ensures paired { IsPaired held.now closed.new }
+// Makes a literal true where it has no value, in the level that was begun, or in one that it begins; whether there is a level now.
+fn assume(propagator: &mut Propagator, code: Code, has_level: bool) -> Result<bool, AllocError>
+    ensures held { propagator.new.held ≡ propagator.old.held }
+    ensures size { length propagator.new.values ≡ length propagator.old.values }
 {
+    if has_level {
+        propagator.assume(code)?;
+        Ok(true)
+    } else {
+        propagator.decide(code)
+    }
+}
+
+// Makes all literals but the one at a place false, where they have no value, and propagates.
+fn assume_others(
+    propagator: &mut Propagator,
+    literals: &[Lit],
+    place: usize,
+) -> Result<(), AllocError>
+    ensures held { propagator.new.held ≡ propagator.old.held }
+    ensures size { length propagator.new.values ≡ length propagator.old.values }
+{
+    let mut has_level = false;
+    for (index, literal) in literals.iter().enumerate() {
+        if index != place {
+            has_level = assume(propagator, Code::of(*literal).negated(), has_level)?;
+        }
+    }
+    propagator.propagate()?;
+    Ok(())
+}
+
+// Whether the values show that the clause is fresh.
+fn is_shown(propagator: &Propagator, literals: &[Lit]) -> bool
+    requires { VariablesBelow (length propagator.now.values) literals.now }
+    ensures { IsTrue result → IsFresh propagator.now.held literals.now }
+{
+    propagator.is_closed() && is_unit(propagator.values(), literals)
+}
+
+// Whether it is shown by the literal at a place that the clause is fresh.
+fn shows_at(propagator: &mut Propagator, literals: &[Lit], place: usize) -> Result<bool, AllocError>
+    requires { VariablesBelow (length propagator.old.values) literals.now }
+    ensures fresh { IfOk result (λ yes. IsTrue yes → IsFresh propagator.old.held literals.now) }
+    ensures held { propagator.new.held ≡ propagator.old.held }
+    ensures size { length propagator.new.values ≡ length propagator.old.values }
+{
+    assume_others(propagator, literals, place)?;
+    let is_shown = is_shown(propagator, literals);
+    propagator.go_back(0);
+    Ok(is_shown)
+}
+
+/// Whether it is shown that the clause is fresh over what is held, by the last of its literals that shows it.
+pub(crate) fn shows_fresh(propagator: &mut Propagator, literals: &[Lit]) -> Result<bool, AllocError>
+    requires { VariablesBelow (length propagator.old.values) literals.now }
+    ensures fresh { IfOk result (λ yes. IsTrue yes → IsFresh propagator.old.held literals.now) }
+    ensures held { propagator.new.held ≡ propagator.old.held }
+    ensures size { length propagator.new.values ≡ length propagator.old.values }
+{
+    propagator.propagate()?;
     for place in (0..literals.len()).rev() {
-        let is_open = links.assume_others(literals, place);
-        let is_shown = is_open && shows(variables, held, closed, links.values(), literals);
-        links.undo();
-        if is_shown {
-            return true;
+        if shows_at(propagator, literals, place)? {
+            return Ok(true);
         }
     }
-    false
-}
-
-impl FreshTest {
-    /// The test over these clauses.
-    pub fn new(alloc: Global, variables: u32, held: &[Clause]) -> Result<FreshTest, AllocError>
-        ensures { IfOk result (λ t. (held : List (List Lit)) → IsPaired held t) }
-    {
-        let closed = ClosedTest::new(alloc, variables, held.len())?;
-        let mut links = Links::new(alloc, variables)?;
-        for clause in held {
-            links.add(clause.literals())?;
-        }
-        Ok(FreshTest { links, closed })
-    }
-
-    /// Makes ready for a clause that will be held behind the others.
-    pub fn add(&mut self, literals: &[Lit]) -> Result<(), AllocError>
-        ensures { (held : List (List Lit)) → IsPaired held self.old → IsPaired held self.new }
-    {
-        self.links.add(literals)?;
-        self.closed.add()
-    }
-
-    /// Whether it is shown that the clause is fresh over what is held.
-    pub fn shows(&mut self, variables: u32, held: &[Clause], literals: &[Lit]) -> bool
-        requires held { IsTrue (list_all (is_within variables) held.now) }
-        requires literals { IsTrue (rises variables literals.now) }
-        requires paired { IsPaired held.now self.old }
-        ensures fresh { IsTrue result → IsFresh held.now literals.now }
-        ensures paired { IsPaired held.now self.new }
-    {
-        shows_by_any(variables, held, &mut self.closed, &mut self.links, literals)
-    }
+    Ok(false)
 }

@@ -1,80 +1,75 @@
-// The test of fresh clauses, made when it is first asked.
-ghost use Rattle.std.specs.Prelude.{List, IsTrue};
-ghost use Rattle.std.specs.List.{list_all};
-ghost use Rattle.clause_core.specs.Clauses.{is_within, rises};
+// The test of fresh clauses, made when it is first asked, so that a log of which no clause is to be fresh has none.
+
+ghost use Rattle.std.specs.Prelude.{◌≡◌, None, IsTrue, IfSome, length};
+ghost use Rattle.clause_core.specs.Clauses.{rises};
+ghost use Rattle.clause_core.specs.Formula.{Formula, with_clause};
 ghost use Rattle.clause_core.specs.Freshness.{IsFresh};
-ghost use Rattle.clause_core.specs.declared.literal.Lit.{Lit};
-ghost use Rattle.clause_pairs.specs.Pairs.{IsPaired};
+ghost use Rattle.clause_core.specs.Steps.{VariablesBelow};
+ghost use Rattle.derivation_check.specs.Tests.{IsTestOf};
 
-use crate::fresh_test::FreshTest;
-use clause_core::{Clause, Lit};
-use std::alloc::{AllocError, Global};
-use std::marker::Model;
+use crate::fresh_test::{propagator_over, shows_fresh};
+use clause_core::{Cnf, Lit};
+use std::alloc::Global;
+use watched_propagation::Propagator;
 
-/// A test that costs nothing before it is asked, so that a log of which no clause is to be fresh has none.
-/// Contracts see its pairs, none before it is made.
-#[derive(Drop)]
-pub(crate) struct LazyTest {
-    made: Option<FreshTest>,
-}
+/// Formulas of this many variables or more have no test.
+const MOST_VARIABLES: u32 = 0x8000_0000;
 
-impl Model for LazyTest {
-    ghost use Rattle.std.specs.Prelude.{List};
-    ghost use Rattle.clause_pairs.specs.declared.pair.Pair.{Pair};
-    ghost use Rattle.derivation_check.specs.Tests.{pairs_of};
-
-    ghost Value = { List Pair };
-
-    ghost view = { λ t. pairs_of t.made };
-}
-
-impl LazyTest {
-    /// A test that is not made yet.
-    pub fn new() -> LazyTest
-        ensures { (held : List (List Lit)) → IsPaired held result }
-    {
-        LazyTest { made: None }
-    }
-
-    /// Makes ready for a clause that will be held behind the others.
-    pub fn add(&mut self, literals: &[Lit]) -> Result<(), AllocError>
-        ensures { (held : List (List Lit)) → IsPaired held self.old → IsPaired held self.new }
-    {
-        match &mut self.made {
-            None => Ok(()),
-            Some(test) => test.add(literals),
+/// Takes in a clause that is held behind the others. Where memory is wanting there is no test any more.
+pub(crate) fn add(test: &mut Option<Propagator>, literals: &[Lit])
+    requires { IfSome test.old (λ p. VariablesBelow (length p.values) literals.now) }
+    ensures { (f : Formula) → IsTestOf f test.old → IsTestOf (with_clause f literals.now) test.new }
+{
+    match test.take() {
+        None => {}
+        Some(mut propagator) => {
+            if let Ok(_) = propagator.add_given(literals) {
+                *test = Some(propagator);
+            }
         }
     }
+}
 
-    // Makes the test over what is held, where there is memory.
-    fn make(&mut self, alloc: Global, variables: u32, held: &[Clause])
-        ensures { (held : List (List Lit)) → IsPaired held self.old → IsPaired held self.new }
-    {
-        if self.made.is_none()
-            && let Ok(test) = FreshTest::new(alloc, variables, held)
-        {
-            self.made = Some(test);
+// Takes the test out, or makes it where there is memory.
+fn take_or_make(alloc: Global, test: &mut Option<Propagator>, cnf: &Cnf) -> Option<Propagator>
+    requires { IsTestOf cnf.now test.old }
+    ensures made { IsTestOf cnf.now result }
+    ensures left { test.new ≡ None }
+{
+    match test.take() {
+        Some(propagator) => Some(propagator),
+        None => {
+            if cnf.variables() >= MOST_VARIABLES {
+                return None;
+            }
+            match propagator_over(alloc, cnf) {
+                Ok(propagator) => Some(propagator),
+                Err(_) => None,
+            }
         }
     }
+}
 
-    /// Whether it is shown that the clause is fresh over what is held.
-    pub fn shows(
-        &mut self,
-        alloc: Global,
-        variables: u32,
-        held: &[Clause],
-        literals: &[Lit],
-    ) -> bool
-        requires held { IsTrue (list_all (is_within variables) held.now) }
-        requires literals { IsTrue (rises variables literals.now) }
-        requires paired { IsPaired held.now self.old }
-        ensures fresh { IsTrue result → IsFresh held.now literals.now }
-        ensures paired { IsPaired held.now self.new }
-    {
-        self.make(alloc, variables, held);
-        match &mut self.made {
-            None => false,
-            Some(test) => test.shows(variables, held, literals),
+/// Whether it is shown that a clause is fresh over what is held.
+pub(crate) fn shows(
+    alloc: Global,
+    test: &mut Option<Propagator>,
+    cnf: &Cnf,
+    literals: &[Lit],
+) -> bool
+    requires literals { IsTrue (rises cnf.now.variables literals.now) }
+    requires test { IsTestOf cnf.now test.old }
+    ensures fresh { IsTrue result → IsFresh cnf.now.clauses literals.now }
+    ensures test { IsTestOf cnf.now test.new }
+{
+    let Some(mut propagator) = take_or_make(alloc, test, cnf) else {
+        return false;
+    };
+    match shows_fresh(&mut propagator, literals) {
+        Err(_) => false,
+        Ok(is_shown) => {
+            *test = Some(propagator);
+            is_shown
         }
     }
 }

@@ -5,7 +5,6 @@ mod checker;
 mod fault;
 mod fresh_test;
 mod lazy_test;
-mod links;
 
 pub use checker::{Ack, Checker};
 pub use fault::StepFault;

@@ -32,7 +32,7 @@ pub fn open_checker<Q: Queries>(
     ensures { IfOk result (λ checker. checker ≡ opened (Q.formula queries.now (query_view query.now))) }
 {
     let cnf = queries.query(alloc, query)?;
-    Checker::new(alloc, &cnf)
+    Checker::new(alloc, cnf)
 }
 
 fn stage_behind(behind: Behind) -> Stage

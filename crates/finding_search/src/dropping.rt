@@ -10,6 +10,7 @@ ghost use Rattle.queries.specs.Sets.{members};
 ghost use Rattle.pair_trial.specs.Trials.{comparison_of, setting_in};
 ghost use Rattle.judgement.specs.Places.{at_drops};
 ghost use Rattle.invariant_prune.specs.Answers.{pair_of};
+ghost use Rattle.invariant_prune.specs.Kept.{IsKept};
 ghost use Rattle.finding_search.specs.Desks.{desk};
 ghost use Rattle.finding_search.specs.Places.{IsPruned, place_of};
 ghost use Rattle.finding_search.specs.Writes.{StandsAt, Writes};
@@ -19,7 +20,7 @@ use crate::guesses::drops;
 use crate::logs::{write_refutation, write_spent};
 use crate::numbers::pair_numbers;
 use crate::writing::write_line;
-use clause_core::Decider;
+use clause_core::{Cnf, Decider};
 use finding_file::{FindingWriter, WriteErr};
 use finding_lines::{Asked, Conclusion, Line};
 use invariant_prune::{Answer, Guesses, next_drop};
@@ -93,6 +94,7 @@ pub fn prune<D: Decider, Q: Queries, G: Guesses, S: Shelf>(
     decider: &mut D,
     trial: &mut Trial,
     queries: &Q,
+    kept: &mut Option<Cnf>,
     guesses: &mut G,
     writer: &mut FindingWriter,
     shelf: &mut S,
@@ -100,8 +102,10 @@ pub fn prune<D: Decider, Q: Queries, G: Guesses, S: Shelf>(
 ) -> Result<Pruned, WriteErr>
     requires compared { Q.compared queries.now ≡ comparison_of trial.old }
     requires comparison { IsComparison (comparison_of trial.old) }
+    requires kept { IsKept (Q.front queries.now) kept.old }
     ensures writes { Writes (setting_in trial.old) (Q.formula queries.now) (desk (S.file shelf.old) (S.write_faults shelf.old) (S.read_faults shelf.old) writer.old) (at_drops (members set))
         (desk (S.file shelf.new) (S.write_faults shelf.new) (S.read_faults shelf.new) writer.new) place_of result }
+    ensures kept { IsKept (Q.front queries.now) kept.new }
     // Where the lines before it pass, the set that is kept is the greatest inductive one.
     ensures greatest { StandsAt (setting_in trial.old) (Q.formula queries.now) (desk (S.file shelf.old) (S.write_faults shelf.old) (S.read_faults shelf.old) writer.old) (at_drops (members set))
         → IfOk result (IsPruned (comparison_of trial.old) (Q.formula queries.now)) }
@@ -111,7 +115,7 @@ pub fn prune<D: Decider, Q: Queries, G: Guesses, S: Shelf>(
     let limit = limit_of(trial);
     'rows: loop {
         drop_guessed(alloc, trial, guesses, writer, shelf, &mut set)?;
-        match next_drop(alloc, decider, queries, &set, limit)? {
+        match next_drop(alloc, decider, queries, kept, &set, limit)? {
             Answer::Found(found) => {
                 drop_by(alloc, trial, writer, shelf, &found, &mut set)?;
                 guesses.found(alloc, &found)?;

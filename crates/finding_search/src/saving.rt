@@ -12,6 +12,7 @@ ghost use Rattle.queries.specs.Questions.{QueryData};
 ghost use Rattle.queries.specs.Sets.{members};
 ghost use Rattle.pair_trial.specs.Trials.{comparison_of, setting_in};
 ghost use Rattle.invariant_prune.specs.Answers.{pair_of};
+ghost use Rattle.invariant_prune.specs.Kept.{IsKept};
 ghost use Rattle.judgement.specs.Places.{Place, at_top, at_header, at_drops, at_kept, finished};
 ghost use Rattle.judgement.specs.Findings.{IsJudged};
 ghost use Rattle.judgement.specs.Shown.{IsShown};
@@ -27,7 +28,7 @@ use crate::dropping::{Pruned, prune};
 use crate::logs::{write_refutation, write_spent};
 use crate::numbers::{pair_numbers, row_numbers};
 use crate::writing::{write_end, write_line};
-use clause_core::Decider;
+use clause_core::{Cnf, Decider};
 use finding_file::{FindingWriter, WriteErr};
 use finding_lines::{Asked, Conclusion, Line};
 use invariant_prune::{Answer, Guesses, first, goal};
@@ -59,18 +60,22 @@ fn save_from_kept<D: Decider, Q: Queries, S: Shelf>(
     decider: &mut D,
     trial: &Trial,
     queries: &Q,
+    kept: &mut Option<Cnf>,
     writer: &mut FindingWriter,
     shelf: &mut S,
     set: &CandidateSet,
 ) -> Result<Conclusion, WriteErr>
     requires compared { Q.compared queries.now ≡ comparison_of trial.now }
     requires comparison { IsComparison (comparison_of trial.now) }
+    requires kept { IsKept (Q.front queries.now) kept.old }
     ensures { Writes (setting_in trial.now) (Q.formula queries.now) (desk (S.file shelf.old) (S.write_faults shelf.old) (S.read_faults shelf.old) writer.old) (at_kept (members set.now))
         (desk (S.file shelf.new) (S.write_faults shelf.new) (S.read_faults shelf.new) writer.new) finished result }
 {
     let limit = limit_of(trial);
-    match goal(alloc, decider, queries, set, limit)? {
+    match goal(alloc, decider, queries, kept, set, limit)? {
         Answer::Found(found) => {
+            // What the formulas of the queries to come begin with is another.
+            *kept = None;
             write_pair(alloc, writer, shelf, &found)?;
             search(alloc, decider, trial, queries, writer, shelf, set)
         }
@@ -98,8 +103,13 @@ fn save_from_start<D: Decider, Q: Queries, G: Guesses, S: Shelf>(
         (desk (S.file shelf.new) (S.write_faults shelf.new) (S.read_faults shelf.new) writer.new) finished result }
 {
     let set = first_set(alloc, trial)?;
-    match prune(alloc, decider, trial, queries, guesses, writer, shelf, set)? {
-        Pruned::Kept(kept) => save_from_kept(alloc, decider, trial, queries, writer, shelf, &kept),
+    let mut kept = None;
+    match prune(
+        alloc, decider, trial, queries, &mut kept, guesses, writer, shelf, set,
+    )? {
+        Pruned::Kept(set) => save_from_kept(
+            alloc, decider, trial, queries, &mut kept, writer, shelf, &set,
+        ),
         Pruned::Spent(verdict) => Ok(verdict),
     }
 }

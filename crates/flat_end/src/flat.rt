@@ -1,11 +1,13 @@
 // The program that a text states, handed on to its flat form.
-ghost use Rattle.std.specs.Prelude.{◌≡◌, IfOk, IfErr, IsTrue};
+ghost use Rattle.std.specs.Prelude.{◌≡◌, ℕ, List, IfOk, IfErr, IsTrue};
 ghost use Rattle.program_tree.specs.View.{program_view};
 ghost use Rattle.scan_model.specs.InRange.{IsProgram as IsFitToRun};
 ghost use Rattle.flat_core.specs.FlatView.{flat_program_view};
 ghost use Rattle.flat_form.specs.FlatPrograms.{flat_program, is_short};
 ghost use Rattle.flat_form.specs.FlatLaws.{LeavesTheSame};
-ghost use Rattle.front_end.specs.Texts.{IsProgram};
+ghost use Rattle.source_tree.specs.SyntaxView.{file_view};
+ghost use Rattle.rules.specs.declared.rule.Rule.TheVariants.{TooManyStatements};
+ghost use Rattle.front_end.specs.Texts.{HasFile, AreNamesSound, IsProgram};
 ghost use Rattle.node_core.specs.TypedFlats.{IsTypedFlat};
 ghost use Rattle.rules.specs.Faults.{IfRefused};
 ghost use Rattle.typed_programs.specs.Programs.{IsTypedProgram};
@@ -13,16 +15,69 @@ ghost use Rattle.flat_end.specs.FlatTexts.{HasNoFlatForm};
 
 use fb_inline::flatten;
 use flat_core::Flat;
-use front_end::accept_text;
+use flat_count::is_short;
+use front_end::{names_of, program_of};
 use program_tree::Program;
-use rules::Fault;
-use std::alloc::Global;
+use rules::{Fault, Refusal, Rule};
+use st_names::Resolved;
+use st_types::outline;
+use std::alloc::{AllocError, Global};
 
 /// A program and its flat form.
 #[derive(Drop)]
 pub struct Accepted {
     pub program: Program,
     pub flat: Flat,
+}
+
+// Whether a file's program is too long by the outline of its FUNCTIONs with long frames, so that these need not be spread.
+fn is_outline_long(alloc: Global, names: &Resolved) -> Result<bool, AllocError>
+    requires { AreNamesSound (file_view names.now.file) }
+    ensures { IfOk result (λ long. IsTrue long → (text : List ℕ) → HasFile text (file_view names.now.file) → HasNoFlatForm text (record { rule = TooManyStatements; at = 0 })) }
+{
+    match outline(alloc, names)? {
+        None => Ok(false),
+        Some(program) => {
+            let short = is_short(alloc, &program)?;
+            Ok(!short)
+        }
+    }
+}
+
+// The program of a text's file whose names are bound, unless its outline is too long.
+fn short_program(alloc: Global, names: Resolved) -> Result<Program, Fault>
+    requires { AreNamesSound (file_view names.file) }
+    ensures program { IfOk result (λ p. (text : List ℕ) → HasFile text (file_view names.file) → IsProgram text (program_view p)) }
+    ensures fit { IfOk result (λ p. IsFitToRun (program_view p)) }
+    ensures typed { IfOk result (λ p. (text : List ℕ) → HasFile text (file_view names.file) → IsTypedProgram (program_view p)) }
+    ensures refused { IfErr result (λ e. (text : List ℕ) → HasFile text (file_view names.file) → IfRefused (HasNoFlatForm text) e) }
+{
+    let long = is_outline_long(alloc, &names)?;
+    if long {
+        return Err(Fault::Refused(Refusal {
+            rule: Rule::TooManyStatements,
+            at: 0,
+        }));
+    }
+    match program_of(alloc, names) {
+        Ok(program) => Ok(program),
+        Err(Fault::Refused(refusal)) => Err(Fault::Refused(refusal)),
+        Err(Fault::Memory) => Err(Fault::Memory),
+    }
+}
+
+// The program that a text states, unless its outline is too long.
+fn accept_short(alloc: Global, text: &[u8]) -> Result<Program, Fault>
+    ensures program { IfOk result (λ p. IsProgram text.now (program_view p)) }
+    ensures fit { IfOk result (λ p. IsFitToRun (program_view p)) }
+    ensures typed { IfOk result (λ p. IsTypedProgram (program_view p)) }
+    ensures refused { IfErr result (IfRefused (HasNoFlatForm text.now)) }
+{
+    match names_of(alloc, text) {
+        Ok(names) => short_program(alloc, names),
+        Err(Fault::Refused(refusal)) => Err(Fault::Refused(refusal)),
+        Err(Fault::Memory) => Err(Fault::Memory),
+    }
 }
 
 /// The program that a text states and its flat form, or the first rule that it breaks: those of `accept_text`, and then that on the
@@ -37,11 +92,7 @@ pub fn accept_flat(alloc: Global, text: &[u8]) -> Result<Accepted, Fault>
     ensures meaning { IfOk result (λ a. LeavesTheSame (program_view a.program) (flat_program_view a.flat)) }
     ensures refused { IfErr result (IfRefused (HasNoFlatForm text.now)) }
 {
-    let program = match accept_text(alloc, text) {
-        Ok(program) => program,
-        Err(Fault::Refused(refusal)) => return Err(Fault::Refused(refusal)),
-        Err(Fault::Memory) => return Err(Fault::Memory),
-    };
+    let program = accept_short(alloc, text)?;
     match flatten(alloc, &program) {
         Ok(flat) => Ok(Accepted { program, flat }),
         Err(Fault::Refused(refusal)) => Err(Fault::Refused(refusal)),

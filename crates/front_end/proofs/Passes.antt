@@ -1,15 +1,19 @@
 -- What each pass says of a text.
-use Rattle.std.proofs.Common.{◌≡◌, [], ◌++◌, List, ℕ, true, Some, subst, inl, inr}
+use Rattle.std.proofs.Common.{◌≡◌, [], ◌++◌, List, ℕ, true, Some, Result, Ok, Err, subst, inl, inr}
+use Rattle.std.specs.Prelude.{IfOk, IfErr, OnOk}
 use Rattle.source_tree.specs.declared.token.Tok.{Tok}
 use Rattle.rules.specs.declared.fault.Fault.{Fault}
 use Rattle.source_tree.specs.Syntax.{PouData, FileData}
 use Rattle.program_tree.specs.Tree.{ProgramData}
+use Rattle.program_tree.specs.declared.typed.Program.{Program}
+use Rattle.program_tree.specs.View.{program_view}
 use Rattle.grammar.specs.WholeFile.{IsFile, IsFileFault}
 use Rattle.call_order.specs.Uses.{Reaches}
 use Rattle.rules.specs.Rules.{IsAmong}
 use Rattle.naming.specs.FileScope.{pou_at}
 use Rattle.naming.specs.Broken.{broken_names}
 use Rattle.naming.specs.Circles.{uses_of}
+use Rattle.naming.proofs.CircleLemmas.{nothing_left}
 use Rattle.st_names.specs.Bound.{program_number}
 use Rattle.st_names.specs.Bound as naming
 use Rattle.typing.specs.Pous.{broken_types, has_room}
@@ -46,6 +50,9 @@ pub sound_names : (f : FileData) → broken_names f ≡ [] → ((k : ℕ) → ¬
 sound_names f none acyclic r (inl among) = subst (IsAmong r) none among
 sound_names f none acyclic r (inr circle) = acyclic circle.number circle.reaches
 
+pub none_broken : (f : FileData) → AreNamesSound f → broken_names f ≡ []
+none_broken f names = nothing_left (broken_names f) (λ r among. names r (inl among))
+
 pub types_refused : (text : List ℕ) (f : FileData) (number : ℕ) (e : Fault) → HasFile text f → AreNamesSound f → program_number f ≡ Some number → typing.IsFaultOf f number e
     → IfRefused (IsNoProgram text) e
 types_refused text f number (faults.Refused r) h n one (inl k) = by_types f h n k
@@ -59,11 +66,17 @@ pub program_of : (text : List ℕ) (f : FileData) (number : ℕ) (pou : PouData)
 program_of text f number pou p h n one types room typed =
     record { file = f; number = number; pou = pou; states = h; names = n; one = one; typing = types; room = room number one.is; program = typed number pou one.is one.there }
 
--- the same, of a file that is another's copy, whose names break no rule
-pub program_read : (text : List ℕ) (f g : FileData) (p : ProgramData) → HasFile text g → g ≡ f → broken_names g ≡ [] → ((k : ℕ) → ¬ (Reaches (uses_of g) k k)) → broken_types f ≡ []
-    → ((n : ℕ) → program_number f ≡ Some n → has_room f n ≡ true) → ((n : ℕ) (q : PouData) → program_number f ≡ Some n → pou_at f n ≡ Some q → p ≡ typed_program f n q) → IsProgram text p
-program_read text f g p h same none acyclic types room typed =
-    let kept = subst (λ (x : FileData). broken_names x ≡ []) same none in
-    let no_circle = subst (λ (x : FileData). (k : ℕ) → ¬ (Reaches (uses_of x) k k)) same acyclic in
-    let one = one_pou f kept in
-    program_of text f one.number one.pou p (subst (HasFile text) same h) (sound_names f kept no_circle) one.one types room typed
+-- facts of what is given, and of faults
+pub ok_more : {A E : Type 0} → (r : Result A E) (P Q : A → Type 0) → ((a : A) → P a → Q a) → IfOk r P → IfOk r Q
+ok_more (Ok a) P Q each h = each a h
+ok_more (Err e) P Q each h = h
+
+pub err_more : {A E : Type 0} → (r : Result A E) (P Q : E → Type 0) → ((e : E) → P e → Q e) → IfErr r P → IfErr r Q
+err_more (Ok a) P Q each h = h
+err_more (Err e) P Q each h = each e h
+
+-- what the typing of a file says of each text of that file
+pub program_read : (f : FileData) (r : Result Program Fault) → AreNamesSound f → OnOk r (broken_types f ≡ []) → OnOk r ((n : ℕ) → program_number f ≡ Some n → has_room f n ≡ true)
+    → IfOk r (λ p. (n : ℕ) (q : PouData) → program_number f ≡ Some n → pou_at f n ≡ Some q → program_view p ≡ typed_program f n q) → IfOk r (λ p. (text : List ℕ) → HasFile text f → IsProgram text (program_view p))
+program_read f (Ok p) names types room typed = λ text h. let one = one_pou f (none_broken f names) in program_of text f one.number one.pou (program_view p) h names one.one types room typed
+program_read f (Err e) names types room typed = typed

@@ -1,10 +1,10 @@
 // The passes, one after the other.
-ghost use Rattle.std.specs.Prelude.{◌≡◌, IfOk, IfErr};
+ghost use Rattle.std.specs.Prelude.{◌≡◌, ℕ, List, IfOk, IfErr};
 ghost use Rattle.program_tree.specs.View.{program_view};
 ghost use Rattle.source_tree.specs.SyntaxView.{file_view};
 ghost use Rattle.rules.specs.declared.fault.Fault.TheVariants.{Memory};
 ghost use Rattle.front_end.specs.StandardBlocks.{prelude_text};
-ghost use Rattle.front_end.specs.Texts.{HasTokens, HasNoTokens, HasTree, HasNoTree, HasFile, IsProgram, IsNoProgram};
+ghost use Rattle.front_end.specs.Texts.{HasTokens, HasNoTokens, HasTree, HasNoTree, HasFile, AreNamesSound, IsProgram, IsNoProgram};
 ghost use Rattle.rules.specs.Faults.{IfRefused};
 ghost use Rattle.scan_model.specs.InRange.{IsProgram as IsFitToRun};
 ghost use Rattle.typed_programs.specs.Programs.{IsTypedProgram};
@@ -14,7 +14,7 @@ use program_tree::Program;
 use rules::{Fault, Refusal, Rule};
 use source_tree::{SourceFile, Tok};
 use st_lexer::lex;
-use st_names::resolve;
+use st_names::{Resolved, resolve};
 use st_parser::parse_file;
 use st_types::check;
 use std::alloc::Global;
@@ -68,6 +68,27 @@ fn file_of(alloc: Global, text: &[u8]) -> Result<SourceFile, Fault>
     Ok(file)
 }
 
+/// The file of a text with its names bound, or the first rule up to those on names that the text breaks.
+pub fn names_of(alloc: Global, text: &[u8]) -> Result<Resolved, Fault>
+    ensures file { IfOk result (λ n. HasFile text.now (file_view n.file)) }
+    ensures names { IfOk result (λ n. AreNamesSound (file_view n.file)) }
+    ensures refused { IfErr result (IfRefused (IsNoProgram text.now)) }
+{
+    let file = file_of(alloc, text)?;
+    Ok(resolve(alloc, file)?)
+}
+
+/// The program of a text's file whose names are bound, or the first rule on types that the file breaks, or M2.
+pub fn program_of(alloc: Global, names: Resolved) -> Result<Program, Fault>
+    requires { AreNamesSound (file_view names.file) }
+    ensures program { IfOk result (λ p. (text : List ℕ) → HasFile text (file_view names.file) → IsProgram text (program_view p)) }
+    ensures fit { IfOk result (λ p. IsFitToRun (program_view p)) }
+    ensures typed { IfOk result (λ p. (text : List ℕ) → HasFile text (file_view names.file) → IsTypedProgram (program_view p)) }
+    ensures refused { IfErr result (λ e. (text : List ℕ) → HasFile text (file_view names.file) → IfRefused (IsNoProgram text) e) }
+{
+    check(alloc, names)
+}
+
 /// The program that a text states, or the first rule that it breaks of those on size, tokens, words that are left
 /// out, nesting, grammar, names, types and the count of cells, in this order of passes. The program is typed: no pass that follows has to ask.
 pub fn accept_text(alloc: Global, text: &[u8]) -> Result<Program, Fault>
@@ -76,7 +97,6 @@ pub fn accept_text(alloc: Global, text: &[u8]) -> Result<Program, Fault>
     ensures typed { IfOk result (λ p. IsTypedProgram (program_view p)) }
     ensures refused { IfErr result (IfRefused (IsNoProgram text.now)) }
 {
-    let file = file_of(alloc, text)?;
-    let resolved = resolve(alloc, file)?;
-    Ok(check(alloc, resolved)?)
+    let names = names_of(alloc, text)?;
+    program_of(alloc, names)
 }

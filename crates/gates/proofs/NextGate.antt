@@ -7,7 +7,7 @@ use Rattle.std.proofs.lemmas.List.{append_assoc}
 use Rattle.clause_core.specs.declared.literal.Lit.{Lit}
 use Rattle.clause_core.specs.declared.gate.Gate.{Gate}
 use Rattle.clause_core.specs.Formula.{Formula}
-use Rattle.gates.specs.Clauses.{gate_clauses, clauses_from, with_clauses, BeginsWith}
+use Rattle.gates.specs.Clauses.{gate_clauses, clauses_from, with_clauses}
 use Rattle.gates.specs.Order.{gate_below, is_ordered}
 
 pub range_next : (gs : List Gate) (i n : ℕ) (d : Gate) → i < n → n ≤ length gs → slice_range gs i n ≡ slice_index_or gs i d ∷ slice_range gs (i + 1) n
@@ -26,10 +26,3 @@ pub clauses_next : (f : Formula) (x : ℕ) (g : Gate) (all gs : List Gate) → a
 clauses_next f x g all gs e =
     ap (λ (cs : List (List Lit)). let h : Formula = record { variables = f.variables; clauses = cs } in h) (append_assoc f.clauses (gate_clauses x g) (clauses_from (x + 1) gs))
     ∙ ap (λ (hs : List Gate). with_clauses f (clauses_from x hs)) (sym e)
-
-pub begins_with : (f g h : Formula) → BeginsWith f g → BeginsWith g h → BeginsWith f h
-begins_with f g h one two = record {
-  variables = two.variables ∙ one.variables;
-  more = one.more ++ two.more;
-  clauses = two.clauses ∙ ap (λ (cs : List (List Lit)). cs ++ two.more) one.clauses ∙ append_assoc f.clauses one.more two.more;
-}

@@ -1,5 +1,5 @@
 -- The clauses of a gate, and a circuit's formula.
-use Rattle.std.specs.Prelude.{◌≡◌, ℕ, ◌+◌, List, [], ◌∷◌, ◌++◌, map}
+use Rattle.std.specs.Prelude.{ℕ, ◌+◌, List, [], ◌∷◌, ◌++◌, map}
 use Rattle.clause_core.specs.declared.literal.Lit.{Lit}
 use Rattle.clause_core.specs.declared.gate.Gate.{Gate}
 use Rattle.clause_core.specs.declared.gate.Gate.TheVariants.{And, Xor, Mux}
@@ -37,9 +37,3 @@ formula_of n = (true_lit ∷ []) ∷ clauses_from n.first n.gates
 -- the formula with more clauses, behind the others
 abbrev pub with_clauses : Formula → List (List Lit) → Formula
 with_clauses f more = record { variables = f.variables; clauses = f.clauses ++ more }
-
--- the formula `later` begins with the clauses of `f`, over the same variables
-pub record BeginsWith (f later : Formula) : Type 0 where
-  pub variables : later.variables ≡ f.variables
-  pub more : List (List Lit)
-  pub clauses : later.clauses ≡ f.clauses ++ more

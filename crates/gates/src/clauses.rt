@@ -1,7 +1,7 @@
 ghost use Rattle.std.specs.Prelude.{◌≡◌, ℕ, ◌<◌, ◌≤◌, ◌+◌, ◌∷◌, [], length, map, slice_range, IsTrue, OnOk};
 ghost use Rattle.clause_core.specs.Clauses.{is_inside, set_of};
-ghost use Rattle.clause_core.specs.Formula.{with_clause};
-ghost use Rattle.gates.specs.Clauses.{gate_clauses, clauses_of, clauses_from, with_clauses, BeginsWith};
+ghost use Rattle.clause_core.specs.Formula.{with_clause, BeginsWith};
+ghost use Rattle.gates.specs.Clauses.{gate_clauses, clauses_of, clauses_from, with_clauses};
 ghost use Rattle.gates.specs.Order.{IsOrdered, gate_below};
 
 use crate::circuit::Circuit;

@@ -1,5 +1,6 @@
 ghost use Rattle.std.specs.Prelude.{◌≡◌, ℕ, ◌+◌, ◌-◌, ◌≤◌, ◌∷◌, [], length, IfOk, OnOk};
-ghost use Rattle.gates.specs.Clauses.{with_clauses, BeginsWith};
+ghost use Rattle.clause_core.specs.Formula.{BeginsWith};
+ghost use Rattle.gates.specs.Clauses.{with_clauses};
 ghost use Rattle.gates.specs.Order.{IsOrdered};
 ghost use Rattle.pair_circuits.specs.QueryClauses.{AreInside, negations, units, some_fails, gates_formula};
 

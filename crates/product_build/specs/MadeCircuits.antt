@@ -1,5 +1,5 @@
 -- Two programs and a relation between them, with the circuits that are made for them.
-use Rattle.std.specs.Prelude.{◌≡◌}
+use Rattle.std.specs.Prelude.{◌≡◌, length}
 use Rattle.clause_core.specs.Formula.{Formula}
 use Rattle.program_tree.specs.declared.typed.Program.{Program}
 use Rattle.program_tree.specs.View.{program_view}
@@ -11,7 +11,7 @@ use Rattle.node_core.specs.Scans.{ScanData}
 use Rattle.pair_circuits.specs.Parts.{Parts, parts_of}
 use Rattle.pair_circuits.specs.Products.{Product, product_of}
 use Rattle.pair_circuits.specs.Breaks.{Breaks, breaks_of}
-use Rattle.pair_circuits.specs.QueryClauses.{first_formula, step_formula, goal_formula, break_formula}
+use Rattle.pair_circuits.specs.QueryClauses.{gates_formula, first_formula, step_formula, goal_formula, break_formula}
 use Rattle.query_formula_laws.specs.TypedComparisons.{IsTypedComparison, IsScanOf}
 use Rattle.product_build.specs.Limits.{most_gates, HasFewGates, HasFewLines}
 
@@ -38,6 +38,10 @@ formula_by p b (deep scans) = break_formula b scans
 
 abbrev pub formula_of : MadeCircuits → QueryData → Formula
 formula_of m q = formula_by m.product m.breaks q
+
+-- what the formulas of queries for one scan from any pair begin with
+abbrev pub front_of : MadeCircuits → Formula
+front_of m = gates_formula m.product.lits.net (length m.product.lits.net.gates)
 
 -- the circuits are those of the comparison, by the nodes of scans of its programs
 pub record AreCircuitsOf (c : Comparison) (parts : Parts) (product : Product) (breaks : Breaks) : Type 0 where

@@ -7,5 +7,4 @@ mod one_scan;
 mod scans;
 
 pub use circuits::{Circuits, product};
-pub use one_scan::{goal_formula, step_formula};
 pub use scans::{break_formula, first_formula};

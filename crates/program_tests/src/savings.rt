@@ -25,7 +25,7 @@ struct Counting {
 }
 
 impl Decider for Counting {
-    fn decide(&mut self, alloc: Global, cnf: &Cnf, limit: u32) -> Result<Decided, AllocError> {
+    fn decide(&mut self, alloc: Global, cnf: &mut Cnf, limit: u32) -> Result<Decided, AllocError> {
         self.queries = self.queries.saturating_add(1);
         self.inner.decide(alloc, cnf, limit)
     }

@@ -22,6 +22,13 @@ query_view (queries.Step set) = step (members set.now)
 query_view (queries.Goal set) = goal (members set.now)
 query_view (queries.Deep scans) = deep scans
 
+-- a query for one scan from any pair
+abbrev pub IsOfOneScan : QueryData → Type 0
+IsOfOneScan first = ⊥
+IsOfOneScan (step set) = Unit {0}
+IsOfOneScan (goal set) = Unit {0}
+IsOfOneScan (deep scans) = ⊥
+
 -- a query for a break asks for 1 to DEPTH scans
 abbrev pub IsQueryOf : Comparison → QueryData → Type 0
 IsQueryOf c first = Unit {0}

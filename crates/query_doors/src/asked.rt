@@ -89,11 +89,11 @@ fn answer(
     requires { IsQueryOf (comparison_of circuits.now) (query_view query.now) }
 {
     circuits.laws();
-    let formula = circuits.query(alloc, query)?;
+    let mut formula = circuits.query(alloc, query)?;
     let text = match wanted {
         Wanted::Clauses => print_formula(alloc, &formula)?,
         Wanted::Decision => {
-            let decision = match decider.decide(alloc, &formula, LIMIT)? {
+            let decision = match decider.decide(alloc, &mut formula, LIMIT)? {
                 Decided::Found(_) => "satisfiable",
                 Decided::Refuted(_) => "unsatisfiable",
                 Decided::Spent(_) => "not decided",

@@ -105,8 +105,12 @@ fn beginnings(
     Ok(list)
 }
 
-// The typed statements of a body.
-fn type_body<S: Scope>(alloc: Global, scope: &S, body: &Body) -> Result<Vec<TypedStmt>, AllocError>
+/// The typed statements of a body.
+pub(crate) fn type_body<S: Scope>(
+    alloc: Global,
+    scope: &S,
+    body: &Body,
+) -> Result<Vec<TypedStmt>, AllocError>
     ensures { IfOk result (λ list. stmts_view list.items ≡ typed_body (S.means scope.now) (body_view body.now)) }
 {
     match body {

@@ -1,29 +1,43 @@
 // The POUs that are reached and may be called, typed.
-ghost use Rattle.std.specs.Prelude.{◌≡◌, map, IfOk};
+ghost use Rattle.std.specs.Prelude.{◌≡◌, ◌≤◌, Some, map, IfOk, OnOk};
 ghost use Rattle.source_tree.specs.SyntaxView.{pou_view};
 ghost use Rattle.program_tree.specs.View.{cells_view, called_view, all_called_view};
 ghost use Rattle.naming.specs.FileScope.{pou_at};
 ghost use Rattle.decl_types.specs.Bodies.{file_in};
 ghost use Rattle.pou_cells.specs.Placed.{HasSizes};
+ghost use Rattle.typing.specs.Places.{size_among};
 ghost use Rattle.typing.specs.TypedPrograms.{frame_cells, type_of_cell, called_of, called_if, called_by};
 
 use crate::bodies::pou_body;
 use crate::cells::cells_behind_fault;
 use decl_types::pou_at;
 use plc_types::Range;
-use pou_cells::Pous;
+use pou_cells::{Pous, size_among};
 use pou_scope::declared_variables;
 use program_tree::{Called, Cell, CellType, Frame};
 use source_tree::{Pou, PouKind};
 use std::alloc::{AllocError, Global};
 
-// The cells of a FUNCTION's call.
-fn frame_cells(alloc: Global, pous: &Pous<'_>, pou: &Pou) -> Result<Vec<Cell>, AllocError>
+// How many cells a frame has at most.
+const MOST_CELLS: usize = 16_777_216;
+
+// The cells of a FUNCTION's call. More than 2^24 of them are want of memory, before the first is made: they would take some gigabytes.
+fn frame_cells(
+    alloc: Global,
+    pous: &Pous<'_>,
+    number: usize,
+    pou: &Pou,
+) -> Result<Vec<Cell>, AllocError>
     requires { HasSizes pous.now }
-    ensures { IfOk result (λ list. cells_view list.items ≡ frame_cells (file_in pous.now.domains) (pou_view pou.now)) }
+    ensures cells { IfOk result (λ list. cells_view list.items ≡ frame_cells (file_in pous.now.domains) (pou_view pou.now)) }
+    ensures few { OnOk result (size_among pous.now.sizes.items (Some number) ≤ 16777216) }
 {
+    if size_among(&pous.sizes, Some(number)) > MOST_CELLS {
+        return Err(AllocError);
+    }
     let variables = declared_variables(alloc, pou)?;
-    cells_behind_fault(alloc, pous, None, true, &variables)
+    let cells = cells_behind_fault(alloc, pous, None, true, &variables)?;
+    Ok(cells)
 }
 
 fn types_of(alloc: Global, cells: &[Cell]) -> Result<Vec<CellType>, AllocError>
@@ -67,7 +81,7 @@ fn called_of(alloc: Global, pous: &Pous<'_>, number: usize, pou: &Pou) -> Result
     let body = pou_body(alloc, pous, number, pou)?;
     match pou.kind {
         PouKind::Function(_) => {
-            let cells = frame_cells(alloc, pous, pou)?;
+            let cells = frame_cells(alloc, pous, number, pou)?;
             let frame = Frame {
                 types: types_of(alloc, &cells)?,
                 ranges: ranges_of(alloc, &cells)?,

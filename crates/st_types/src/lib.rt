@@ -6,6 +6,8 @@ mod called;
 mod cells;
 mod chart_places;
 mod charts;
+mod outlines;
 mod program;
 
+pub use outlines::outline;
 pub use program::check;

@@ -60,8 +60,8 @@ fn type_program(
     })
 }
 
-// The sizes of a file's POUs, or the first rule on types that is broken, and where none is, M2.
-fn test_pous(alloc: Global, pous: &Pous<'_>, number: usize) -> Result<Vec<usize>, Fault>
+/// The sizes of a file's POUs, or the first rule on types that is broken, and where none is, M2.
+pub(crate) fn test_pous(alloc: Global, pous: &Pous<'_>, number: usize) -> Result<Vec<usize>, Fault>
     requires { HasNoSizes pous.now }
     ensures refused { IfErr result (IsFaultOf (file_in pous.now.domains) number) }
     ensures kept { OnOk result (broken_types (file_in pous.now.domains) ≡ []) }

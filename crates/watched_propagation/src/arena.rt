@@ -1,128 +1,120 @@
-// The clauses of a search, one behind the other in one vector.
+// The clauses, one behind the other in one vector. They never change.
 
-use crate::code::Code;
-use crate::table::low;
+ghost use Rattle.std.specs.Prelude.{◌≡◌, ◌<◌, ◌≤◌, ◌^◌, ◌++◌, ◌∷◌, [], List, ℕ, All, length, map, IfOk, OnErr, OnOk};
+ghost use Rattle.clause_core.specs.Clauses.{rank};
+ghost use Rattle.watched_propagation.specs.Arenas.{clauses_of, IsSpan};
+ghost use Rattle.watched_propagation.specs.Propagations.{AreSmall};
+ghost use Rattle.watched_propagation.specs.Watching.{clause_in};
+
 use clause_core::Lit;
-use clause_pairs::{read, write};
+use propagation_trail::Code;
 use std::alloc::{AllocError, Global};
+use std::marker::Model;
 
-/// Where a clause stands in the arena; 0 is no clause.
-#[derive(Clone, Copy, PartialEq, Eq)]
-pub struct ClauseRef {
-    pub start: u32,
+/// Where the literals of a clause stand.
+#[derive(Clone, Copy)]
+pub(crate) struct Span {
+    start: usize,
+    end: usize,
 }
 
-impl ClauseRef {
-    /// No clause.
-    pub const NONE: ClauseRef = ClauseRef { start: 0 };
-}
-
-/// Each clause is its number, how many literals it has, and the literals, as `Code` has them. The
-/// first two literals are those that are watched.
+/// The literals of each clause, as their ranks. Contracts see the list of the clauses.
 #[derive(Drop)]
-pub struct Arena {
-    words: Vec<u32>,
+pub(crate) struct Arena {
+    codes: Vec<u32>,
+    spans: Vec<Span>,
 }
 
-/// How many words stand before the literals of a clause.
-const HEAD: usize = 2;
+impl Model for Arena {
+    ghost use Rattle.std.specs.Prelude.{List, ℕ, All, length};
+
+    ghost Value = { List (List ℕ) };
+
+    ghost use Rattle.watched_propagation.specs.Arenas.{clauses_of, IsSpan};
+
+    ghost view = { λ a. clauses_of a.codes.items a.spans.items };
+
+    ghost invariant = { λ a. All (IsSpan (length a.codes.items)) a.spans.items };
+}
+
+/// The literals of the clause of this place; none past the end.
+#[inline(always)]
+fn codes_at<'a>(codes: &'a [u32], spans: &[Span], place: usize) -> &'a [u32]
+    requires { All (IsSpan (length codes.now)) spans.now }
+    ensures { result.now ≡ clause_in (clauses_of codes.now spans.now) place }
+{
+    if place < spans.len() {
+        let span = spans[place];
+        &codes[span.start..span.end]
+    } else {
+        &[]
+    }
+}
+
+/// Adds the rank of each literal. Where memory ends some may be added.
+fn push_ranks(codes: &mut Vec<u32>, literals: &[Lit]) -> Result<(), AllocError>
+    requires { AreSmall literals.now }
+    ensures ok { OnOk result (codes.new.items ≡ codes.old.items ++ map rank literals.now) }
+    ensures more { (more : List ℕ) × (codes.new.items ≡ codes.old.items ++ more) }
+{
+    for literal in literals {
+        codes.push(Code::of(*literal).number)?;
+    }
+    Ok(())
+}
+
+/// Adds a clause behind the others, in both vectors.
+fn add_clause(
+    codes: &mut Vec<u32>,
+    spans: &mut Vec<Span>,
+    literals: &[Lit],
+) -> Result<(), AllocError>
+    requires small { AreSmall literals.now }
+    requires spans { All (IsSpan (length codes.old.items)) spans.old.items }
+    ensures spans { All (IsSpan (length codes.new.items)) spans.new.items }
+    ensures ok { OnOk result (clauses_of codes.new.items spans.new.items ≡ clauses_of codes.old.items spans.old.items ++ map rank literals.now ∷ []) }
+    ensures err { OnErr result (clauses_of codes.new.items spans.new.items ≡ clauses_of codes.old.items spans.old.items) }
+{
+    let start = codes.len();
+    push_ranks(codes, literals)?;
+    let end = codes.len();
+    spans.push(Span { start, end })?;
+    Ok(())
+}
 
 impl Arena {
     /// The arena of no clause.
-    pub fn new(alloc: Global) -> Result<Arena, AllocError> {
-        Ok(Arena {
-            words: vec![in alloc; 0; 1]?,
-        })
-    }
-
-    /// Adds a clause of this number and as many literals; its literals are pushed next.
-    fn begin(&mut self, number: u32, length: usize) -> Result<ClauseRef, AllocError> {
-        let clause = ClauseRef {
-            start: low(self.words.len()),
-        };
-        self.words.push(number)?;
-        self.words.push(low(length))?;
-        Ok(clause)
-    }
-
-    /// Adds a clause of its number, and gives its place.
-    pub fn add(&mut self, number: u32, codes: &[Code]) -> Result<ClauseRef, AllocError> {
-        let clause = self.begin(number, codes.len())?;
-        for code in codes {
-            self.words.push(code.number)?;
-        }
-        Ok(clause)
-    }
-
-    /// The same, of literals.
-    pub fn add_literals(&mut self, number: u32, literals: &[Lit]) -> Result<ClauseRef, AllocError> {
-        let clause = self.begin(number, literals.len())?;
-        for literal in literals {
-            self.words.push(Code::of(*literal).number)?;
-        }
-        Ok(clause)
-    }
-
-    /// The number of a clause; 0 where there is none.
-    #[inline(always)]
-    pub fn number(&self, clause: ClauseRef) -> u32 {
-        read(self.words.as_slice(), clause.start as usize, 0)
-    }
-
-    /// How many literals a clause has.
-    #[inline(always)]
-    pub fn length(&self, clause: ClauseRef) -> usize {
-        read(
-            self.words.as_slice(),
-            (clause.start as usize).wrapping_add(1),
-            0,
-        ) as usize
-    }
-
-    /// The literals from the one at this place on, as numbers of `Code`.
-    #[inline(always)]
-    pub fn codes_from(&self, clause: ClauseRef, place: usize) -> &[u32] {
-        let first = (clause.start as usize).wrapping_add(HEAD);
-        let start = first.wrapping_add(place);
-        let end = first.wrapping_add(self.length(clause));
-        match self.words.get(start..end) {
-            Some(codes) => codes,
-            None => &[],
+    pub fn new(alloc: Global) -> Arena
+        ensures { result ≡ [] }
+    {
+        Arena {
+            codes: Vec::new(alloc),
+            spans: Vec::new(alloc),
         }
     }
 
-    /// The literals of a clause, as numbers of `Code`.
+    /// How many clauses there are.
     #[inline(always)]
-    pub fn codes(&self, clause: ClauseRef) -> &[u32] {
-        self.codes_from(clause, 0)
+    pub fn len(&self) -> usize
+        ensures { result ≡ length self.now }
+    {
+        self.spans.len()
     }
 
-    /// The literal at a place of the clause.
+    /// The literals of the clause of this place, as their ranks; none past the end.
     #[inline(always)]
-    pub fn code(&self, clause: ClauseRef, place: usize) -> Code {
-        let place = (clause.start as usize)
-            .wrapping_add(HEAD)
-            .wrapping_add(place);
-        Code {
-            number: read(self.words.as_slice(), place, 0),
-        }
+    pub fn codes(&self, place: usize) -> &[u32]
+        ensures { result.now ≡ clause_in self.now place }
+    {
+        codes_at(self.codes.as_slice(), self.spans.as_slice(), place)
     }
 
-    /// Puts a literal at a place of a clause.
-    #[inline(always)]
-    pub fn set_code(&mut self, clause: ClauseRef, place: usize, code: Code) {
-        let place = (clause.start as usize)
-            .wrapping_add(HEAD)
-            .wrapping_add(place);
-        write(self.words.as_mut_slice(), place, code.number);
-    }
-
-    /// Changes two literals of the clause for one another.
-    #[inline(always)]
-    pub fn swap(&mut self, clause: ClauseRef, one: usize, other: usize) {
-        let first = self.code(clause, one);
-        let second = self.code(clause, other);
-        self.set_code(clause, one, second);
-        self.set_code(clause, other, first);
+    /// Adds a clause behind the others.
+    pub fn push(&mut self, literals: &[Lit]) -> Result<(), AllocError>
+        requires { AreSmall literals.now }
+        ensures ok { OnOk result (self.new ≡ self.old ++ map rank literals.now ∷ []) }
+        ensures err { OnErr result (self.new ≡ self.old) }
+    {
+        add_clause(&mut self.codes, &mut self.spans, literals)
     }
 }

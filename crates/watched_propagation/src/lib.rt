@@ -1,17 +1,23 @@
-// Unit propagation by two watched literals a clause, for a search of which nothing is asked: it is only safe. Clauses stand in one
-// arena, and each true literal knows the clause that made it so.
+// Unit propagation by two watched literals a clause, with levels that can be taken back; it knows when nothing is left to propagate.
+//
+// arena        the clauses, which never change
+// watch        which literals a clause watches, and the watches of a literal
+// visit        the clauses that watch a literal which became false
+// levels       what may be done with the trail at any time
+// attach       two literals of a new clause to watch
+// adding       new clauses
+// closed       whether nothing is left to propagate
+// propagator   all of it together
 #![tactic(auto)]
 
+mod adding;
 mod arena;
-mod code;
+mod attach;
+mod closed;
+mod levels;
 mod propagator;
-mod table;
-mod trail;
-mod watches;
+mod visit;
+mod watch;
 
-pub use arena::{Arena, ClauseRef};
-pub use code::Code;
+pub use propagation_trail::{Cause, ClauseRef, Code, low, read, write};
 pub use propagator::Propagator;
-pub use table::low;
-pub use trail::{Cause, Trail};
-pub use watches::{Watch, Watches};

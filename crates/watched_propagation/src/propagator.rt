@@ -1,194 +1,213 @@
 // Unit propagation by two watched literals a clause.
 
-use crate::arena::{Arena, ClauseRef};
-use crate::code::Code;
-use crate::trail::Trail;
-use crate::watches::{Watch, Watches, watch_at};
-use clause_core::{Lit, Truth};
-use clause_pairs::write;
-use std::alloc::{AllocError, Global};
+ghost use Rattle.std.specs.Prelude.{◌≡◌, ◌<◌, ◌+◌, ◌^◌, ◌++◌, ◌∷◌, [], length, replicate, IsTrue, IfOk, OnOk};
+ghost use Rattle.clause_core.specs.declared.truth.Truth.{Truth};
+ghost use Rattle.clause_core.specs.Steps.{VariablesBelow};
+ghost use Rattle.clause_core.specs.Propagation.{IsClosed};
 
-/// The clauses, what they watch, and what is true.
+use crate::adding::{add_given, add_learned};
+use crate::arena::Arena;
+use crate::closed::is_closed;
+use crate::levels::{assume, decide, go_back};
+use crate::visit::propagate;
+use crate::watch::{Pair, WatchList, watch_lists};
+use clause_core::{Lit, Truth};
+use propagation_trail::{Cause, ClauseRef, Code, Trail, low};
+use std::alloc::{AllocError, Global};
+use std::marker::Model;
+
+/// Clauses, what they watch, and what is true. Contracts see the clauses and the values.
+///
+/// Each boundary of levels was closed when its decision was made, and stays so: to go back to it needs
+/// no work.
 #[derive(Drop)]
 pub struct Propagator {
-    pub arena: Arena,
-    pub watches: Watches,
-    pub trail: Trail,
+    arena: Arena,
+    pairs: Vec<Pair>,
+    lists: Vec<WatchList>,
+    trail: Trail,
+    /// The places of the clauses that watch nothing: those of one literal, and what could not be watched.
+    loose: Vec<usize>,
+}
+
+impl Model for Propagator {
+    ghost use Rattle.watched_propagation.specs.Propagations.{Propagation, literals_of, IsPropagator};
+
+    ghost Value = { Propagation };
+
+    ghost view = { λ p. record { held = literals_of p.arena; values = p.trail.values } };
+
+    ghost invariant = { λ p. IsPropagator p.arena p.pairs.items p.lists.items p.trail p.loose.items };
 }
 
 impl Propagator {
-    /// Nothing held and nothing true, with room for so many variables.
-    pub fn new(alloc: Global, variables: u32) -> Result<Propagator, AllocError> {
+    /// Nothing held and nothing true, over so many variables.
+    pub fn new(alloc: Global, variables: u32) -> Result<Propagator, AllocError>
+        requires { variables < 2 ^ 31 }
+        ensures { IfOk result (λ p. p ≡ record { held = []; values = replicate (variables + 1) Truth.Open }) }
+    {
+        let lists = watch_lists(alloc, (variables as usize + 1) * 2)?;
+        let trail = Trail::new(alloc, variables)?;
         Ok(Propagator {
-            arena: Arena::new(alloc)?,
-            watches: Watches::new(alloc, variables)?,
-            trail: Trail::new(alloc, variables)?,
+            arena: Arena::new(alloc),
+            pairs: Vec::new(alloc),
+            lists,
+            trail,
+            loose: Vec::new(alloc),
         })
     }
 
-    /// Adds a clause that is given, where no decision stands. The answer is the clause where it is false
-    /// by itself; of others the propagation from the first literal on tells.
-    pub fn add_given(
+    /// Adds a clause that is given, and takes all decisions back. The answer is the clause where it is
+    /// false by itself; of others the next propagation tells, which begins with the first literal.
+    pub fn add_given(&mut self, literals: &[Lit]) -> Result<Option<ClauseRef>, AllocError>
+        requires { VariablesBelow (length self.old.values) literals.now }
+        ensures held { OnOk result (self.new.held ≡ self.old.held ++ literals.now ∷ []) }
+        ensures size { length self.new.values ≡ length self.old.values }
+    {
+        let conflict = add_given(
+            &mut self.arena,
+            &mut self.pairs,
+            self.lists.as_mut_slice(),
+            &mut self.trail,
+            &mut self.loose,
+            literals,
+        )?;
+        match conflict {
+            None => Ok(None),
+            Some(place) => Ok(Some(ClauseRef::at(low(place)))),
+        }
+    }
+
+    /// Adds a learned clause, and makes its literal `one` true, which is open; `other` is one of the
+    /// highest level among its other literals, which are false. A clause of one literal takes all
+    /// decisions back. Where it is not as said here it is added as a given one.
+    pub fn add_learned(
         &mut self,
-        number: u32,
         literals: &[Lit],
-    ) -> Result<Option<ClauseRef>, AllocError> {
-        let clause = self.arena.add_literals(number, literals)?;
-        self.attach(clause)
+        one: Code,
+        other: Code,
+    ) -> Result<(), AllocError>
+        requires { VariablesBelow (length self.old.values) literals.now }
+        ensures held { OnOk result (self.new.held ≡ self.old.held ++ literals.now ∷ []) }
+        ensures size { length self.new.values ≡ length self.old.values }
+    {
+        add_learned(
+            &mut self.arena,
+            &mut self.pairs,
+            self.lists.as_mut_slice(),
+            &mut self.trail,
+            &mut self.loose,
+            literals,
+            one.number,
+            other.number,
+        )
     }
 
-    /// Adds a learned clause, whose first literal it makes true.
-    pub fn add_learned(&mut self, number: u32, codes: &[Code]) -> Result<(), AllocError> {
-        let clause = self.arena.add(number, codes)?;
-        let _ = self.attach(clause)?;
-        let first = self.arena.code(clause, 0);
-        match self.trail.value(first) {
-            Truth::Open => self.trail.assign(first, clause),
-            _ => {}
-        }
-        Ok(())
+    /// Makes a literal true by decision, in a level of its own. Where propagation is not at its end, or
+    /// the literal has a value, nothing changes and the answer is false.
+    pub fn decide(&mut self, code: Code) -> Result<bool, AllocError>
+        ensures held { self.new.held ≡ self.old.held }
+        ensures size { length self.new.values ≡ length self.old.values }
+    {
+        decide(&mut self.trail, code.number)
     }
 
-    /// Lets a clause watch its first two literals; one of a single literal makes it true.
-    fn attach(&mut self, clause: ClauseRef) -> Result<Option<ClauseRef>, AllocError> {
-        let one = self.arena.code(clause, 0);
-        let other = self.arena.code(clause, 1);
-        match self.arena.length(clause) {
-            0 => {
-                return Ok(Some(clause));
-            }
-            1 => {
-                return Ok(self.assert_unit(one, clause));
-            }
-            2 => self.watches.add_short(clause, one, other)?,
-            _ => self.watch_long(clause, one, other)?,
-        }
-        Ok(None)
-    }
-
-    fn watch_long(&mut self, clause: ClauseRef, one: Code, other: Code) -> Result<(), AllocError> {
-        let watch = Watch {
-            clause,
-            blocker: other,
-        };
-        self.watches.add_long(one, watch)?;
-        let watch = Watch {
-            clause,
-            blocker: one,
-        };
-        self.watches.add_long(other, watch)
-    }
-
-    /// Makes the only literal of a clause true; the answer is the clause where it is false.
-    fn assert_unit(&mut self, code: Code, clause: ClauseRef) -> Option<ClauseRef> {
-        match self.trail.value(code) {
-            Truth::True => None,
-            Truth::False => Some(clause),
-            Truth::Open => {
-                self.trail.assign(code, clause);
-                None
-            }
-        }
+    /// Makes a literal true at the present level. Where it has a value nothing changes, and the answer is
+    /// false.
+    pub fn assume(&mut self, code: Code) -> Result<bool, AllocError>
+        ensures held { self.new.held ≡ self.old.held }
+        ensures size { length self.new.values ≡ length self.old.values }
+    {
+        assume(&mut self.trail, code.number, ClauseRef::NONE)
     }
 
     /// Propagates to the end, or to a false clause.
-    pub fn propagate(&mut self) -> Result<Option<ClauseRef>, AllocError> {
-        for _ in 0..u64::MAX {
-            let Some(code) = self.trail.next() else {
-                break;
-            };
-            let falsified = code.negated();
-            if let Some(conflict) = self.visit_short(falsified) {
-                return Ok(Some(conflict));
-            }
-            let mut list = self.watches.take_long(falsified);
-            let conflict = self.visit_long(falsified, &mut list)?;
-            self.watches.give_long(falsified, list);
-            if conflict.is_some() {
-                return Ok(conflict);
-            }
+    pub fn propagate(&mut self) -> Result<Option<ClauseRef>, AllocError>
+        ensures held { self.new.held ≡ self.old.held }
+        ensures size { length self.new.values ≡ length self.old.values }
+    {
+        let conflict = propagate(
+            &self.arena,
+            self.pairs.as_mut_slice(),
+            self.lists.as_mut_slice(),
+            &mut self.trail,
+        )?;
+        match conflict {
+            None => Ok(None),
+            Some(place) => Ok(Some(ClauseRef::at(place))),
         }
-        Ok(None)
     }
 
-    /// Visits the clauses of two literals that watch a literal which became false.
-    fn visit_short(&mut self, falsified: Code) -> Option<ClauseRef> {
-        for watch in self.watches.short(falsified) {
-            match self.trail.value(watch.blocker) {
-                Truth::True => {}
-                Truth::Open => self.trail.assign(watch.blocker, watch.clause),
-                Truth::False => {
-                    return Some(watch.clause);
-                }
-            }
-        }
-        None
+    /// Takes back the decisions above a level, and what they led to.
+    pub fn go_back(&mut self, level: u32)
+        ensures held { self.new.held ≡ self.old.held }
+        ensures size { length self.new.values ≡ length self.old.values }
+    {
+        go_back(&mut self.trail, level as usize);
     }
 
-    /// Visits the longer clauses that watch a literal which became false, and leaves in the list those
-    /// that watch it still.
-    fn visit_long(
-        &mut self,
-        falsified: Code,
-        list: &mut Vec<Watch>,
-    ) -> Result<Option<ClauseRef>, AllocError> {
-        let mut kept = 0usize;
-        let mut conflict = None;
-        for place in 0..list.len() {
-            let watch = watch_at(list.as_slice(), place);
-            if conflict.is_some() || self.trail.value(watch.blocker) == Truth::True {
-                write(list.as_mut_slice(), kept, watch);
-                kept = kept.wrapping_add(1);
-                continue;
-            }
-            if let Some(renewed) = self.renew(falsified, watch)? {
-                write(list.as_mut_slice(), kept, renewed);
-                kept = kept.wrapping_add(1);
-                conflict = self.assert_unit(renewed.blocker, renewed.clause);
-            }
-        }
-        list.truncate(kept);
-        Ok(conflict)
+    /// Whether no clause is false or unit, as far as the watched literals show it: where all was
+    /// propagated without a conflict they do.
+    pub fn is_closed(&self) -> bool
+        ensures { IsTrue result → IsClosed self.now.held self.now.values }
+    {
+        is_closed(
+            &self.arena,
+            self.pairs.as_slice(),
+            self.lists.as_slice(),
+            &self.trail,
+            self.loose.as_slice(),
+        )
     }
 
-    /// Looks for another literal that a clause may watch in place of a false one. The answer is None
-    /// where it now watches that one, else the watch that stays: its blocker is the other watched
-    /// literal, which is true, or to be made so.
+    /// The values of the variables.
     #[inline(always)]
-    fn renew(&mut self, falsified: Code, watch: Watch) -> Result<Option<Watch>, AllocError> {
-        let clause = watch.clause;
-        if self.arena.code(clause, 0) == falsified {
-            self.arena.swap(clause, 0, 1);
-        }
-        let first = self.arena.code(clause, 0);
-        let renewed = Watch {
-            clause,
-            blocker: first,
-        };
-        if self.trail.value(first) == Truth::True {
-            return Ok(Some(renewed));
-        }
-        match self.find_other(clause) {
-            None => Ok(Some(renewed)),
-            Some(place) => {
-                let other = self.arena.code(clause, place);
-                self.arena.swap(clause, 1, place);
-                self.watches.add_long(other, renewed)?;
-                Ok(None)
-            }
+    pub fn values(&self) -> &[Truth]
+        ensures { result.now ≡ self.now.values }
+    {
+        self.trail.values()
+    }
+
+    /// The value of a literal.
+    #[inline(always)]
+    pub fn value(&self, code: Code) -> Truth {
+        self.trail.value(code.number)
+    }
+
+    /// Why a literal is true.
+    #[inline(always)]
+    pub fn cause(&self, code: Code) -> Cause {
+        self.trail.cause(code.number)
+    }
+
+    /// How many decisions stand.
+    #[inline(always)]
+    pub fn level(&self) -> u32 {
+        low(self.trail.level())
+    }
+
+    /// How many literals are true.
+    #[inline(always)]
+    pub fn len(&self) -> usize {
+        self.trail.len()
+    }
+
+    /// The true literal at a place, in the order in which they became so.
+    #[inline(always)]
+    pub fn literal_at(&self, place: usize) -> Code {
+        Code {
+            number: self.trail.literal_at(place),
         }
     }
 
-    /// The place of a literal that is not false, behind the two that are watched.
+    /// How many literals stood when the decision above a level was made; all of them where there is none.
+    pub fn start_above(&self, level: u32) -> usize {
+        self.trail.start_above(level as usize)
+    }
+
+    /// The literals of a clause, as numbers of `Code`.
     #[inline(always)]
-    fn find_other(&self, clause: ClauseRef) -> Option<usize> {
-        let mut place = 2usize;
-        for number in self.arena.codes_from(clause, 2) {
-            if self.trail.value(Code { number: *number }) != Truth::False {
-                return Some(place);
-            }
-            place = place.wrapping_add(1);
-        }
-        None
+    pub fn codes(&self, clause: ClauseRef) -> &[u32] {
+        self.arena.codes(clause.place())
     }
 }

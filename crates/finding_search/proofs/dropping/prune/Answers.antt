@@ -35,7 +35,7 @@ pub returns-in_err-write_refutation-in-Refuted-clause-writes : goal.returns-in_e
 returns-in_err-write_refutation-in-Refuted-clause-writes g c =
     let s = setting_in c.args.trial.now in
     let f = g.Q.Queries.formula c.args.queries.now in
-    let refutes = rw c.in-Refuted.is at c.in_ok-found.ensures in
+    let refutes = rw c.in-Refuted.is at c.in_ok-found.ensures.answer in
     Writes-exit s f _ _ _ _ _ _ _ c.from_residual-in_err-write_refutation-in-Refuted.ensures.1
     (Writes-then s f _ _ _ _ _ _ _ _
     (drops_then f c.args.trial.now c.rows.trial _ _ _ _ _ _ _ c.rows.invariant.trial c.rows.invariant.writes (c.in_ok-drop_guessed.ensures.writes f))
@@ -45,7 +45,7 @@ pub returns-in-Refuted-clause-writes : goal.returns-in-Refuted-clause-writes
 returns-in-Refuted-clause-writes g c =
     let s = setting_in c.args.trial.now in
     let f = g.Q.Queries.formula c.args.queries.now in
-    let refutes = rw c.in-Refuted.is at c.in_ok-found.ensures in
+    let refutes = rw c.in-Refuted.is at c.in_ok-found.ensures.answer in
     Writes-answer s f _ _ _ _ _ place_of _ refl
     (Writes-then s f _ _ _ _ _ _ _ _
     (drops_then f c.args.trial.now c.rows.trial _ _ _ _ _ _ _ c.rows.invariant.trial c.rows.invariant.writes (c.in_ok-drop_guessed.ensures.writes f))
@@ -55,7 +55,7 @@ pub returns-in_err-verdict-in-Spent-clause-writes : goal.returns-in_err-verdict-
 returns-in_err-verdict-in-Spent-clause-writes g c =
     let s = setting_in c.args.trial.now in
     let f = g.Q.Queries.formula c.args.queries.now in
-    let spent = rw c.in-Spent.is at c.in_ok-found.ensures in
+    let spent = rw c.in-Spent.is at c.in_ok-found.ensures.answer in
     let all = subst (λ (n : ℕ). IsSpent (f (step (members c.drop_guessed.new.set))) n c.in-Spent.log) (sym c.limit_of-limit.ensures.same) spent in
     Writes-exit s f _ _ _ _ _ _ _ c.from_residual-in_err-verdict-in-Spent.ensures.1
     (Writes-then s f _ _ _ _ _ _ _ _
@@ -66,7 +66,7 @@ pub returns-in-Spent-clause-writes : goal.returns-in-Spent-clause-writes
 returns-in-Spent-clause-writes g c =
     let s = setting_in c.args.trial.now in
     let f = g.Q.Queries.formula c.args.queries.now in
-    let spent = rw c.in-Spent.is at c.in_ok-found.ensures in
+    let spent = rw c.in-Spent.is at c.in_ok-found.ensures.answer in
     let all = subst (λ (n : ℕ). IsSpent (f (step (members c.drop_guessed.new.set))) n c.in-Spent.log) (sym c.limit_of-limit.ensures.same) spent in
     Writes-answer s f _ _ _ _ _ place_of _ refl
     (Writes-then s f _ _ _ _ _ _ _ _
@@ -80,7 +80,7 @@ drop_by-requires-clause-comparison g c =
 
 pub drop_by-requires-clause-found : goal.drop_by-requires-clause-found
 drop_by-requires-clause-found g c =
-    let a = rw c.in-Found.is at c.in_ok-found.ensures in
+    let a = rw c.in-Found.is at c.in_ok-found.ensures.answer in
     let same = still c.args.trial.now c.rows.trial c.drop_guessed.new.trial c.rows.invariant.trial c.in_ok-drop_guessed.ensures.trial in
     let here : comparison_of c.drop_guessed.new.trial ≡ comparison_of c.args.trial.now = ap comparison_of same in
     subst (λ (k : Comparison). Answers k (step (members c.drop_guessed.new.set)) (pair_of c.in-Found.found) c.in-Found.found.rows.items) (c.requires.compared ∙ sym here) a
@@ -113,6 +113,7 @@ rows-preserved g c =
       writes = drops_then f c.args.trial.now c.drop_guessed.new.trial _ _ _ _ _ _ _ same
           (drops_then f c.args.trial.now c.rows.trial _ _ _ _ _ _ _ c.rows.invariant.trial c.rows.invariant.writes (c.in_ok-drop_guessed.ensures.writes f))
           (c.in_ok-drop_by-in-Found.ensures.writes f);
+      kept = c.next_drop.ensures.kept;
       trial = still c.args.trial.now c.drop_guessed.new.trial c.drop_by.new.trial same c.in_ok-drop_by-in-Found.ensures.trial;
     }
 

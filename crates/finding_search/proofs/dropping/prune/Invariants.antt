@@ -5,6 +5,7 @@ use Rattle.scan_model.specs.Verdicts.{size_below}
 use Rattle.scan_replay.specs.Duos.{with_pair}
 use Rattle.queries.specs.Sets.{members}
 use Rattle.pair_trial.specs.Trials.{setting_in}
+use Rattle.invariant_prune.specs.Kept.{IsKept}
 use Rattle.judgement.specs.Places.{at_drops}
 use Rattle.finding_search.specs.Desks.{desk}
 use Rattle.finding_search.specs.Writes.{Writes}
@@ -15,6 +16,7 @@ invariant-rows g l = record {
   writes : Writes (setting_in l.initial.trial) (g.Q.Queries.formula l.queries)
       (desk (g.S.Shelf.file l.initial.shelf) (g.S.Shelf.write_faults l.initial.shelf) (g.S.Shelf.read_faults l.initial.shelf) l.initial.writer) (at_drops (members l.initial.set))
       (desk (g.S.Shelf.file l.shelf) (g.S.Shelf.write_faults l.shelf) (g.S.Shelf.read_faults l.shelf) l.writer) (λ (x : Unit {0}). at_drops (members l.set)) (let r : Result (Unit {0}) WriteErr = Ok tt in r);
+  kept : IsKept (g.Q.Queries.front l.queries) l.kept;
   trial : l.trial ≡ with_pair l.trial.pair l.initial.trial;
 }
 

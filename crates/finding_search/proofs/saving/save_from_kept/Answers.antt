@@ -24,7 +24,7 @@ returns-in_err-write_pair-in-Found g c =
     let s = setting_in c.args.trial.now in
     let f = g.Q.Queries.formula c.args.queries.now in
     let set = members c.args.set.now in
-    let a = rw c.in-Found.is at c.in_ok-found.ensures in
+    let a = rw c.in-Found.is at c.in_ok-found.ensures.answer in
     let b = subst (λ (x : Comparison). Answers x (goal (members c.args.set.now)) (pair_of c.in-Found.found) c.in-Found.found.rows.items) c.requires.compared a in
     Writes-exit s f _ _ _ _ _ _ _ c.from_residual-in_err-write_pair-in-Found.ensures.1
     (c.in_err-write_pair-in-Found.ensures s f _ _ (pair_found k f c.requires.comparison set (pair_of c.in-Found.found) c.in-Found.found.rows.items b))
@@ -35,7 +35,7 @@ returns-in_err-write_refutation-in-Refuted g c =
     let s = setting_in c.args.trial.now in
     let f = g.Q.Queries.formula c.args.queries.now in
     let set = members c.args.set.now in
-    let refutes = rw c.in-Refuted.is at c.in_ok-found.ensures in
+    let refutes = rw c.in-Refuted.is at c.in_ok-found.ensures.answer in
     Writes-exit s f _ _ _ _ _ _ _ c.from_residual-in_err-write_refutation-in-Refuted.ensures.1
     (c.in_err-write_refutation-in-Refuted.ensures s f (f (goal set)) c.limit_of-limit.result _ (at_end (related_by s set)) (log_goal s f set) refutes)
 
@@ -45,7 +45,7 @@ returns-in_ok-write_pair-in-Found g c =
     let s = setting_in c.args.trial.now in
     let f = g.Q.Queries.formula c.args.queries.now in
     let set = members c.args.set.now in
-    let a = rw c.in-Found.is at c.in_ok-found.ensures in
+    let a = rw c.in-Found.is at c.in_ok-found.ensures.answer in
     let b = subst (λ (x : Comparison). Answers x (goal (members c.args.set.now)) (pair_of c.in-Found.found) c.in-Found.found.rows.items) c.requires.compared a in
     Writes-then s f _ _ _ _ _ finished _ _
     (c.in_ok-write_pair-in-Found.ensures s f _ _ (pair_found k f c.requires.comparison set (pair_of c.in-Found.found) c.in-Found.found.rows.items b)) c.search.ensures
@@ -57,7 +57,7 @@ returns-in_ok-write_refutation-in-Refuted g c =
     let f = g.Q.Queries.formula c.args.queries.now in
     let set = members c.args.set.now in
     let verdict = c.related_by.result in
-    let refutes = rw c.in-Refuted.is at c.in_ok-found.ensures in
+    let refutes = rw c.in-Refuted.is at c.in_ok-found.ensures.answer in
     Writes-then s f _ _ _ _ _ finished _ _
     (c.in_ok-write_refutation-in-Refuted.ensures s f (f (goal set)) c.limit_of-limit.result _ (at_end verdict)
     (subst (λ (v : Conclusion). Passes s f (at_kept set) (lines.Log Goal) (in_log (opened (f (goal set))) (at_end v))) (sym c.related_by.ensures.same) (log_goal s f set)) refutes)
@@ -69,6 +69,6 @@ returns-in-Spent g c =
     let s = setting_in c.args.trial.now in
     let f = g.Q.Queries.formula c.args.queries.now in
     let set = members c.args.set.now in
-    let spent = rw c.in-Spent.is at c.in_ok-found.ensures in
+    let spent = rw c.in-Spent.is at c.in_ok-found.ensures.answer in
     let all = subst (λ (n : ℕ). IsSpent (f (goal (members c.args.set.now))) n c.in-Spent.log) (sym c.limit_of-limit.ensures.same) spent in
     c.write_spent.ensures s f (f (goal set)) _ c.limit_of-limit.ensures.same (query_goal s f set) all

@@ -1,5 +1,6 @@
 use Rattle.std.proofs.Common.{◌≡◌, drop}
-use Rattle.gates.specs.Clauses.{with_clauses, BeginsWith}
+use Rattle.clause_core.specs.Formula.{BeginsWith}
+use Rattle.gates.specs.Clauses.{with_clauses}
 use Rattle.pair_circuits.specs.QueryClauses.{AreInside, units}
 use Rattle.pair_circuits.proofs.formula.add_units.Given as goal
 

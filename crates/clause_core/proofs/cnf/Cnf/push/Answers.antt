@@ -1,28 +1,11 @@
-use Rattle.std.proofs.Common.{◌≡◌, ◌++◌, ◌∷◌, [], true, refl, sym, subst}
-use Rattle.std.specs.List.{list_all}
-use Rattle.clause_core.specs.Clauses.{is_within, is_set, is_inside, set_of}
-use Rattle.clause_core.proofs.Ranges.{list_all-push}
+use Rattle.std.proofs.Common.{◌≡◌, [], true, refl, sym, subst}
+use Rattle.clause_core.specs.Clauses.{is_within, is_set, is_inside}
 use Rattle.clause_core.proofs.Sets.{list_all-with_all, is_set-with_all}
 use Rattle.clause_core.proofs.cnf.Cnf.push.Goals as goal
 
-pub invariant_of-self : goal.invariant_of-self
-invariant_of-self c =
-    let same : c.push.new.self.items ≡ c.self.inside.clauses.items = c.in_default.ensures.items in
-    record {
-      few = c.self.invariant.few;
-      within = subst (λ z. list_all (is_within c.self.inside.variables) z ≡ true) (sym same) c.self.invariant.within;
-      sets = subst (λ z. list_all is_set z ≡ true) (sym same) c.self.invariant.sets;
-    }
+pub keep-requires-clause-within : goal.keep-requires-clause-within
+keep-requires-clause-within c =
+    subst (λ z. is_within c.args.self.now.variables z ≡ true) (sym c.in_ok-clause.ensures) (list_all-with_all (is_inside c.args.self.now.variables) [] c.args.literals.now refl c.requires)
 
-pub invariant_of-self-2 : goal.invariant_of-self-2
-invariant_of-self-2 c =
-    let held = c.self.inside.clauses.items in
-    let variables = c.self.inside.variables in
-    let clause = set_of c.args.literals.now in
-    let inside : is_within variables c.args.literals.now ≡ true = subst (λ w. is_within w.variables c.args.literals.now ≡ true) (sym c.self.view_is) c.requires in
-    let grown : c.push.new.self.items ≡ held ++ clause ∷ [] = cc (c.in_ok-clause.ensures, c.in-Ok.ensures.items) in
-    record {
-      few = c.self.invariant.few;
-      within = subst (λ z. list_all (is_within variables) z ≡ true) (sym grown) (list_all-push (is_within variables) held clause c.self.invariant.within (list_all-with_all (is_inside variables) [] c.args.literals.now refl inside));
-      sets = subst (λ z. list_all is_set z ≡ true) (sym grown) (list_all-push is_set held clause c.self.invariant.sets (is_set-with_all [] c.args.literals.now refl));
-    }
+pub keep-requires-clause-set : goal.keep-requires-clause-set
+keep-requires-clause-set c = subst (λ z. is_set z ≡ true) (sym c.in_ok-clause.ensures) (is_set-with_all [] c.args.literals.now refl)

@@ -14,4 +14,4 @@ returns-clause-exact c =
 pub returns-clause-unsatisfiable : goal.returns-clause-unsatisfiable
 returns-clause-unsatisfiable c = λ h.
     subst (λ (d : Derivation). HasNoSolution d.formula.clauses) c.self.view_is
-    (no_solution c.self.inside.given c.self.inside.held.items c.self.invariant.implied (sym c.self.invariant.refuted ∙ h))
+    (no_solution c.self.inside.given c.self.inside.held.clauses c.self.invariant.implied (sym c.self.invariant.refuted ∙ h))

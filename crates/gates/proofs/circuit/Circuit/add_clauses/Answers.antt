@@ -2,13 +2,14 @@ use Rattle.std.proofs.Common.{◌≡◌, ℕ, arith, refl, ◌-◌, ◌+◌, [],
 use Rattle.clause_core.specs.declared.gate.Gate.{Gate}
 use Rattle.gates.specs.Clauses.{clauses_from, gate_clauses, with_clauses}
 use Rattle.gates.specs.Order.{is_ordered}
+use Rattle.clause_core.proofs.Fronts.{BeginsWith-refl, BeginsWith-trans}
 use Rattle.gates.proofs.Ordered.{is_ordered-drop, is_ordered-take}
-use Rattle.gates.proofs.NextGate.{range_next, ordered_next, clauses_next, begins_with}
+use Rattle.gates.proofs.NextGate.{range_next, ordered_next, clauses_next}
 use Rattle.gates.proofs.circuit.Circuit.add_clauses.Goals as goal
 
 pub loop-place-init : goal.loop-place-init
 loop-place-init c = record {
-  begins = record { variables = refl; more = []; clauses = sym (append-nil _) };
+  begins = BeginsWith-refl _;
   ordered = rw (c.first-first.ensures.first) (is_ordered-take _ (c.args.to - c.args.from) _ (is_ordered-drop _ c.args.from _ c.requires.ordered.ordered));
   same = refl;
 }
@@ -30,7 +31,7 @@ loop-place-preserved c =
     range_next gates c.loop-place.place c.args.to c.gate.result c.loop-place-test.true c.requires.inside
     ∙ ap (λ (g : Gate). let gs : List Gate = g ∷ slice_range gates (c.loop-place.place + 1) c.args.to in gs) (sym (c.gate.ensures c.gate.result)) in
     record {
-      begins = begins_with _ _ _ c.loop-place.invariant.begins c.add_gate.ensures.begins;
+      begins = BeginsWith-trans _ _ _ c.loop-place.invariant.begins c.add_gate.ensures.begins;
       ordered = subst (λ (x : ℕ). is_ordered x (slice_range gates (c.loop-place.place + 1) c.args.to) ≡ true) next (ordered_next _ c.gate.result _ _ whole c.loop-place.invariant.ordered).1;
       same =
           ap (λ f. with_clauses f (clauses_from (c.first-first.result + (c.loop-place.place + 1)) (slice_range gates (c.loop-place.place + 1) c.args.to))) (c.in_ok-add_gate.ensures.ok)

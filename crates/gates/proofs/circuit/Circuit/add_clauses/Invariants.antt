@@ -1,5 +1,6 @@
 use Rattle.std.proofs.Common.{◌≡◌, ◌+◌, true, slice_range}
-use Rattle.gates.specs.Clauses.{clauses_from, with_clauses, BeginsWith}
+use Rattle.clause_core.specs.Formula.{BeginsWith}
+use Rattle.gates.specs.Clauses.{clauses_from, with_clauses}
 use Rattle.gates.specs.Order.{is_ordered}
 use Rattle.gates.proofs.circuit.Circuit.add_clauses.Given as goal
 

@@ -1,2 +1,0 @@
-pub mod Heavy
-pub mod Paired

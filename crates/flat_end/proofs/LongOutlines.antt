@@ -1,0 +1,23 @@
+-- A text whose program's outline is too long has no flat form.
+use Rattle.std.proofs.Common.{◌≡◌, ℕ, List, Bool, true, false, not, refl, sym, ap, ◌∙◌}
+use Rattle.std.specs.Prelude.{IsTrue}
+use Rattle.std.proofs.lemmas.Bool.{false≢true}
+use Rattle.rules.specs.declared.rule.Rule.TheVariants.{TooManyStatements}
+use Rattle.source_tree.specs.Syntax.{FileData}
+use Rattle.program_tree.specs.Tree.{ProgramData}
+use Rattle.flat_form.specs.FlatPrograms.{is_short}
+use Rattle.typing.specs.TypedPrograms.{typed_program}
+use Rattle.st_types.specs.Outlines.{IsOutline}
+use Rattle.outline_laws.proofs.Outlines.{program_long}
+use Rattle.front_end.specs.Texts.{HasFile, AreNamesSound}
+use Rattle.flat_end.specs.FlatTexts.{HasNoFlatForm, by_size}
+
+pub outline_long : (f : FileData) (o : ProgramData) → AreNamesSound f → IsOutline f o → is_short o ≡ false → (text : List ℕ) → HasFile text f → HasNoFlatForm text (record { rule = TooManyStatements; at = 0 })
+outline_long f o names h long text file =
+    by_size (typed_program f h.number h.pou) (record { file = f; number = h.number; pou = h.pou; states = file; names = names; one = record { is = h.is; there = h.there }; typing = h.typing; room = h.room; program = refl })
+    (program_long f names h.number h.pou (sym (ap is_short h.outline) ∙ long)) refl
+
+-- what is not short
+pub not_short : (b c : Bool) → b ≡ c → IsTrue (not b) → c ≡ false
+not_short true c same h = absurd (false≢true h)
+not_short false c same h = sym same

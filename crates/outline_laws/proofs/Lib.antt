@@ -1,0 +1,4 @@
+pub mod FewerCells
+pub mod AlikeCounts
+pub mod Shortness
+pub mod Outlines

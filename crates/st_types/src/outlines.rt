@@ -1,0 +1,211 @@
+// The outline of a typed program, which tells which frames are long and spreads none.
+ghost use Rattle.std.specs.Prelude.{◌≡◌, [], true, map, if◌then◌else◌, IfOk, IfSome};
+ghost use Rattle.source_tree.specs.SyntaxView.{pou_view, file_view};
+ghost use Rattle.program_tree.specs.View.{stmts_view, called_view, all_called_view, program_view};
+ghost use Rattle.naming.specs.FileScope.{pou_at};
+ghost use Rattle.decl_types.specs.Bodies.{file_in};
+ghost use Rattle.pou_cells.specs.Placed.{HasNoSizes};
+ghost use Rattle.pou_cells.specs.Placing.{capped};
+ghost use Rattle.typing.specs.Places.{sizes_of};
+ghost use Rattle.typing.specs.Pous.{broken_types, has_room};
+ghost use Rattle.st_types.specs.Outlines.{long_body, outlined_body, is_long, outlined_of, outlined_if, outlined_by, outlined_program, IsOutline};
+
+use crate::bodies::type_body;
+use crate::program::test_pous;
+use decl_types::pou_at;
+use pou_cells::{PouScope, Pous, capped_sizes, size_among};
+use program_tree::{Called, Frame, Program, Turns, TypedStmt};
+use rules::Fault;
+use source_tree::{Pou, PouKind};
+use st_names::Resolved;
+use std::alloc::{AllocError, Global};
+
+// A frame of more cells is long: a call of its FUNCTION alone becomes more than 200,000 flat statements.
+const MOST_CELLS: usize = 200_001;
+
+// Whether a POU has more cells than that.
+fn is_long(sizes: &[usize], number: usize) -> bool
+    ensures { result ≡ is_long sizes.now number }
+{
+    size_among(sizes, Some(number)) > MOST_CELLS
+}
+
+// Two nested FORs, which become more than 200,000 flat statements.
+fn long_body(alloc: Global) -> Result<Vec<TypedStmt>, AllocError>
+    ensures { IfOk result (λ list. stmts_view list.items ≡ long_body) }
+{
+    let turns = Turns {
+        count: 500,
+        control: 0,
+        first: 0,
+        step: 0,
+    };
+    let inner = TypedStmt::For(turns, Vec::new(alloc));
+    let outer = TypedStmt::For(turns, vec![in alloc; inner]?);
+    Ok(vec![in alloc; outer]?)
+}
+
+// The typed statements of a body, where each block counts as one without cells.
+fn outlined_body(
+    alloc: Global,
+    pous: &Pous<'_>,
+    number: usize,
+    pou: &Pou,
+) -> Result<Vec<TypedStmt>, AllocError>
+    requires { HasNoSizes pous.now }
+    ensures { IfOk result (λ list. stmts_view list.items ≡ outlined_body (file_in pous.now.domains) number (pou_view pou.now)) }
+{
+    let scope = PouScope { pous, number };
+    type_body(alloc, &scope, &pou.body)
+}
+
+// The body of a FUNCTION, or one that is long where its frame is.
+fn function_body(
+    alloc: Global,
+    pous: &Pous<'_>,
+    sizes: &[usize],
+    number: usize,
+    pou: &Pou,
+) -> Result<Vec<TypedStmt>, AllocError>
+    requires { HasNoSizes pous.now }
+    ensures { IfOk result (λ list. stmts_view list.items
+        ≡ (if is_long sizes.now number then long_body else outlined_body (file_in pous.now.domains) number (pou_view pou.now))) }
+{
+    if is_long(sizes, number) {
+        return long_body(alloc);
+    }
+    outlined_body(alloc, pous, number, pou)
+}
+
+fn outlined_of(
+    alloc: Global,
+    pous: &Pous<'_>,
+    sizes: &[usize],
+    number: usize,
+    pou: &Pou,
+) -> Result<Called, AllocError>
+    requires { HasNoSizes pous.now }
+    ensures { IfOk result (λ called. called_view called ≡ outlined_of (file_in pous.now.domains) sizes.now number (pou_view pou.now).kind (pou_view pou.now)) }
+{
+    match pou.kind {
+        PouKind::Function(_) => {
+            let frame = Frame {
+                types: Vec::new(alloc),
+                ranges: Vec::new(alloc),
+                start: Vec::new(alloc),
+            };
+            let body = function_body(alloc, pous, sizes, number, pou)?;
+            Ok(Called::Function(frame, body))
+        }
+        PouKind::FunctionBlock | PouKind::Program => {
+            let body = outlined_body(alloc, pous, number, pou)?;
+            Ok(Called::Block(body))
+        }
+    }
+}
+
+fn outlined_if(
+    alloc: Global,
+    pous: &Pous<'_>,
+    sizes: &[usize],
+    number: usize,
+) -> Result<Called, AllocError>
+    requires { HasNoSizes pous.now }
+    ensures { IfOk result (λ called. called_view called ≡ outlined_if (file_in pous.now.domains) sizes.now number (pou_at (file_in pous.now.domains) number)) }
+{
+    match pou_at(pous.domains.types.names, number) {
+        None => Ok(Called::Block(Vec::new(alloc))),
+        Some(pou) => outlined_of(alloc, pous, sizes, number, pou),
+    }
+}
+
+// The POUs that are reached and may be called.
+fn outlined_by(alloc: Global, pous: &Pous<'_>, sizes: &[usize]) -> Result<Vec<Called>, AllocError>
+    requires { HasNoSizes pous.now }
+    ensures { IfOk result (λ list. all_called_view list.items ≡ outlined_by (file_in pous.now.domains) sizes.now) }
+{
+    let mut list = Vec::new(alloc);
+    for number in &pous.called {
+        list.push(outlined_if(alloc, pous, sizes, *number)?)?;
+    }
+    Ok(list)
+}
+
+// The outline of a PROGRAM.
+fn outlined_program(
+    alloc: Global,
+    pous: &Pous<'_>,
+    sizes: &[usize],
+    number: usize,
+    program: &Pou,
+) -> Result<Program, AllocError>
+    requires { HasNoSizes pous.now }
+    ensures { IfOk result (λ p. program_view p ≡ outlined_program (file_in pous.now.domains) sizes.now number (pou_view program.now)) }
+{
+    Ok(Program {
+        name: String::from_str(alloc, "")?,
+        cells: Vec::new(alloc),
+        charts: Vec::new(alloc),
+        without_cell: Vec::new(alloc),
+        types: Vec::new(alloc),
+        called: outlined_by(alloc, pous, sizes)?,
+        body: outlined_body(alloc, pous, number, program)?,
+    })
+}
+
+// Whether some POU that may be called is long.
+fn has_long(pous: &Pous<'_>, sizes: &[usize]) -> bool {
+    for number in &pous.called {
+        if is_long(sizes, *number) {
+            return true;
+        }
+    }
+    false
+}
+
+// The outline of the PROGRAM of a number, where a POU is long and the file breaks no rule on types and not M2.
+fn outline_of(
+    alloc: Global,
+    pous: &Pous<'_>,
+    number: usize,
+    program: &Pou,
+) -> Result<Option<Program>, AllocError>
+    requires { HasNoSizes pous.now }
+    ensures { let f = file_in pous.now.domains in IfOk result (λ o. IfSome o (λ p. (broken_types f ≡ []) × (has_room f number ≡ true) × (program_view p ≡ outlined_program f (map capped (sizes_of f)) number (pou_view program.now)))) }
+{
+    let sizes = capped_sizes(alloc, pous)?;
+    if !has_long(pous, &sizes) {
+        return Ok(None);
+    }
+    match test_pous(alloc, pous, number) {
+        Ok(told) => {
+            let outline = outlined_program(alloc, pous, &told, number, program)?;
+            Ok(Some(outline))
+        }
+        Err(Fault::Refused(_)) => Ok(None),
+        Err(Fault::Memory) => Err(AllocError),
+    }
+}
+
+// Whether a file has a FUNCTION: without one there is no frame.
+fn has_functions(names: &Resolved) -> bool {
+    for number in 0..names.pou_count() {
+        if matches!(&names.pou(number).kind, PouKind::Function(_)) {
+            return true;
+        }
+    }
+    false
+}
+
+/// The outline of a file's one PROGRAM, whose names are bound; none where no frame is long or the file breaks a rule on types or M2. It is
+/// made in the time of the text, whatever number of cells frames have.
+pub fn outline(alloc: Global, names: &Resolved) -> Result<Option<Program>, AllocError>
+    ensures { IfOk result (λ o. IfSome o (λ p. IsOutline (file_view names.now.file) (program_view p))) }
+{
+    if !has_functions(names) {
+        return Ok(None);
+    }
+    let number = names.program();
+    let pous = Pous::new(alloc, names)?;
+    outline_of(alloc, &pous, number, names.pou(number))
+}

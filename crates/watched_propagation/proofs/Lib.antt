@@ -1,0 +1,7 @@
+pub mod Ranks
+pub mod Spans
+pub mod Lists
+pub mod Settling
+pub mod Growth
+pub mod Turns
+pub mod Weights

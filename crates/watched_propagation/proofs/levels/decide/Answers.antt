@@ -1,0 +1,6 @@
+use Rattle.std.proofs.Common.{refl}
+use Rattle.watched_propagation.proofs.Settling.{IsWatching-level}
+use Rattle.watched_propagation.proofs.levels.decide.Goals as goal
+
+pub returns-clause-kept : goal.returns-clause-kept
+returns-clause-kept c = λ clauses pairs lists h. c.assume.ensures.kept clauses pairs lists (IsWatching-level clauses pairs lists c.args.trail.now c.begin_level.new.self c.in_ok-begin_level.ensures.ok (c.if-not-is_propagated.ensures.head refl) h)

@@ -1,0 +1,4 @@
+pub mod Arenas
+pub mod Watching
+pub mod Visits
+pub mod Propagations

@@ -1,0 +1,252 @@
+// The clauses that watch a literal which became false.
+
+ghost use Rattle.std.specs.Prelude.{◌≡◌, ℕ, ◌<◌, ◌≤◌, ◌-◌, ◌*◌, length, ◌+◌, Some, slice_get, slice_set, Contains, IfOk, IfSome, OnOk};
+ghost use Rattle.propagation_trail.specs.Codes.{negated};
+ghost use Rattle.propagation_trail.specs.Trails.{Grown};
+ghost use Rattle.watched_propagation.specs.Watching.{clause_in, pair_in, list_in, watch_in, IsWatch, IsWatching, KeepsWatched};
+ghost use Rattle.watched_propagation.specs.Visits.{IsOther, IsReplacement, IsSettledAs, IsVisiting, IsVisited, IsVisitedAs, IsVisitedUnless};
+
+use crate::arena::Arena;
+use crate::watch::{Pair, Watch, WatchList, other_watched, push_watch, remove_watch, set_watch};
+use propagation_trail::{ClauseRef, Trail, negated, read, write};
+use std::alloc::AllocError;
+
+/// What becomes of a clause that watches a literal which became false.
+#[derive(Clone, Copy)]
+pub(crate) enum Settled {
+    /// It watches that literal no more.
+    Moved,
+    /// This literal of it is true.
+    Satisfied(u32),
+    /// It is false.
+    Conflict,
+}
+
+/// What one turn of a visit comes to.
+#[derive(Clone, Copy)]
+pub(crate) enum Visited {
+    /// No watch is left.
+    Done,
+    /// The place of the watch that is next.
+    Next(usize),
+    /// The clause of this place is false.
+    Falsified(u32),
+}
+
+/// The first place from this one on of a watch whose blocker is not true.
+#[inline(always)]
+fn next_place(trail: &Trail, list: &[Watch], start: usize) -> usize
+    ensures from { start ≤ result }
+    ensures passed { (i : ℕ) → start ≤ i → i < result → Contains trail.now.literals (watch_in list.now i).blocker }
+{
+    let mut place = start;
+    while place < list.len() {
+        if !trail.is_true(list[place].blocker) {
+            break;
+        }
+        place += 1;
+    }
+    place
+}
+
+/// A literal that is not false and is not the other watched one.
+#[inline(always)]
+fn find_other(codes: &[u32], trail: &Trail, other: u32, limit: usize) -> Option<u32>
+    ensures { IfSome result (IsReplacement codes.now trail.now.literals other limit) }
+{
+    for code in codes {
+        if trail.is_free(*code) && *code != other && (*code as usize) < limit {
+            return Some(*code);
+        }
+    }
+    None
+}
+
+/// Lets a clause watch another literal in place of a false one.
+#[inline(always)]
+fn move_watch(
+    arena: &Arena,
+    pairs: &mut [Pair],
+    lists: &mut [WatchList],
+    trail: &Trail,
+    falsified: u32,
+    clause: u32,
+    other: u32,
+    code: u32,
+) -> Result<(), AllocError>
+    requires watching { IsWatching arena.now pairs.old lists.old trail.now }
+    requires falsified { Contains trail.now.literals (negated falsified) }
+    requires other { IsOther (pair_in pairs.old clause) falsified other }
+    requires replacement { IsReplacement (clause_in arena.now clause) trail.now.literals other (length lists.old) code }
+    ensures watching { IsWatching arena.now pairs.new lists.new trail.now }
+    ensures kept { KeepsWatched pairs.old pairs.new }
+    ensures others { (k : ℕ) → (k ≡ clause → ⊥) → pair_in pairs.new k ≡ pair_in pairs.old k }
+    ensures same { list_in lists.new falsified ≡ list_in lists.old falsified }
+    ensures moved { OnOk result (IsWatch (pair_in pairs.new clause) falsified → ⊥) }
+{
+    let watch = Watch {
+        clause,
+        blocker: other,
+    };
+    push_watch(lists, code, watch)?;
+    let pair = Pair {
+        first: code,
+        second: other,
+    };
+    write(pairs, clause as usize, pair);
+    Ok(())
+}
+
+/// Lets a clause watch another literal in place of a false one, or makes its last literal true.
+#[inline(always)]
+fn settle(
+    arena: &Arena,
+    pairs: &mut [Pair],
+    lists: &mut [WatchList],
+    trail: &mut Trail,
+    falsified: u32,
+    clause: u32,
+) -> Result<Settled, AllocError>
+    requires watching { IsWatching arena.now pairs.old lists.old trail.old }
+    requires falsified { Contains trail.old.literals (negated falsified) }
+    ensures watching { IsWatching arena.now pairs.new lists.new trail.new }
+    ensures grown { Grown trail.old trail.new }
+    ensures kept { KeepsWatched pairs.old pairs.new }
+    ensures others { (k : ℕ) → (k ≡ clause → ⊥) → pair_in pairs.new k ≡ pair_in pairs.old k }
+    ensures same { list_in lists.new falsified ≡ list_in lists.old falsified }
+    ensures settled { IfOk result (IsSettledAs arena.now pairs.new trail.new.literals falsified clause) }
+{
+    let pair = read(pairs, clause as usize, Pair::NONE);
+    let Some(other) = other_watched(pair, falsified) else {
+        return Ok(Settled::Moved);
+    };
+    if trail.is_true(other) {
+        return Ok(Settled::Satisfied(other));
+    }
+    let limit = lists.len();
+    if let Some(code) = find_other(arena.codes(clause as usize), trail, other, limit) {
+        move_watch(arena, pairs, lists, trail, falsified, clause, other, code)?;
+        return Ok(Settled::Moved);
+    }
+    if !trail.is_open(other) {
+        return Ok(Settled::Conflict);
+    }
+    trail.assign(other, ClauseRef::at(clause))?;
+    Ok(Settled::Satisfied(other))
+}
+
+/// Goes on with a visit from a place of the list.
+#[inline(always)]
+fn visit_at(
+    arena: &Arena,
+    pairs: &mut [Pair],
+    lists: &mut [WatchList],
+    trail: &mut Trail,
+    falsified: u32,
+    start: usize,
+) -> Result<Visited, AllocError>
+    requires { IsVisiting arena.now pairs.old lists.old trail.old falsified start }
+    ensures watching { IsWatching arena.now pairs.new lists.new trail.new }
+    ensures grown { Grown trail.old trail.new }
+    ensures kept { KeepsWatched pairs.old pairs.new }
+    ensures visited { IfOk result (IsVisitedAs arena.now pairs.new lists.new trail.new falsified (length (list_in lists.old falsified) - start)) }
+{
+    let list = lists[falsified as usize].as_slice();
+    let place = next_place(trail, list, start);
+    if place >= list.len() {
+        return Ok(Visited::Done);
+    }
+    let clause = list[place].clause;
+    let settled = settle(arena, pairs, lists, trail, falsified, clause)?;
+    match settled {
+        Settled::Moved => {
+            remove_watch(lists, falsified, place);
+            Ok(Visited::Next(place))
+        }
+        Settled::Satisfied(blocker) => {
+            set_watch(lists, falsified, place, Watch { clause, blocker });
+            Ok(Visited::Next(place + 1))
+        }
+        Settled::Conflict => Ok(Visited::Falsified(clause)),
+    }
+}
+
+/// Visits the clauses that watch a literal which became false. The answer is one that is false.
+pub(crate) fn visit(
+    arena: &Arena,
+    pairs: &mut [Pair],
+    lists: &mut [WatchList],
+    trail: &mut Trail,
+    falsified: u32,
+) -> Result<Option<u32>, AllocError>
+    requires watching { IsWatching arena.now pairs.old lists.old trail.old }
+    requires within { falsified < length lists.old }
+    requires falsified { Contains trail.old.literals (negated falsified) }
+    ensures watching { IsWatching arena.now pairs.new lists.new trail.new }
+    ensures grown { Grown trail.old trail.new }
+    ensures kept { KeepsWatched pairs.old pairs.new }
+    ensures visited { IfOk result (IsVisitedUnless arena.now pairs.new trail.new.literals falsified) }
+{
+    let mut place = 0usize;
+    loop {
+        let turn = visit_at(arena, pairs, lists, trail, falsified, place)?;
+        match turn {
+            Visited::Done => {
+                return Ok(None);
+            }
+            Visited::Next(next) => {
+                place = next;
+            }
+            Visited::Falsified(clause) => {
+                return Ok(Some(clause));
+            }
+        }
+    }
+}
+
+/// Propagates the next literal of the trail. The answer is a clause that is false.
+#[inline(always)]
+fn propagate_next(
+    arena: &Arena,
+    pairs: &mut [Pair],
+    lists: &mut [WatchList],
+    trail: &mut Trail,
+    code: u32,
+) -> Result<Option<u32>, AllocError>
+    requires watching { IsWatching arena.now pairs.old lists.old trail.old }
+    requires next { slice_get trail.old.literals trail.old.head ≡ Some code }
+    requires within { code < 2 * length trail.old.values }
+    ensures watching { IsWatching arena.now pairs.new lists.new trail.new }
+    ensures size { length trail.new.values ≡ length trail.old.values }
+    ensures kept { KeepsWatched pairs.old pairs.new }
+{
+    let conflict = visit(arena, pairs, lists, trail, negated(code))?;
+    if conflict.is_none() {
+        trail.advance();
+    }
+    Ok(conflict)
+}
+
+/// Propagates to the end, or to a false clause.
+pub(crate) fn propagate(
+    arena: &Arena,
+    pairs: &mut [Pair],
+    lists: &mut [WatchList],
+    trail: &mut Trail,
+) -> Result<Option<u32>, AllocError>
+    requires watching { IsWatching arena.now pairs.old lists.old trail.old }
+    ensures watching { IsWatching arena.now pairs.new lists.new trail.new }
+    ensures size { length trail.new.values ≡ length trail.old.values }
+    ensures kept { KeepsWatched pairs.old pairs.new }
+{
+    for _ in 0..u64::MAX {
+        let Some(code) = trail.next() else {
+            break;
+        };
+        let conflict = propagate_next(arena, pairs, lists, trail, code)?;
+        if conflict.is_some() {
+            return Ok(conflict);
+        }
+    }
+    Ok(None)
+}
