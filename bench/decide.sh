@@ -1,19 +1,23 @@
 #!/bin/bash
-# Decides generated formulas by the plain decider, and by minisat and cadical where they are installed.
-# For each formula: the answer, derived clauses and milliseconds of the plain decider, and how many proposals of its search
-# were refused; then milliseconds and conflicts of the others. `bench/decide.sh [SECONDS]`, the
+# Decides formulas by the fast decider and by the plain one, and by minisat and cadical where they are installed: generated ones, or those of
+# the files that are named. For each formula: the answer, derived clauses and milliseconds of a decider, and how many proposals of its search
+# were refused; then milliseconds and conflicts of the others. `bench/decide.sh [SECONDS [FILE ..]]`, the
 # most that one run may take (60).
 set -u
-cd "$(dirname "$0")/.."
+top=$(dirname -- "$(dirname -- "$(readlink -f -- "$0")")")
 seconds=${1:-60}
-(cd crates/bench_run && rt run >/dev/null 2>&1) || exit 1
-program=$PWD/crates/bench_run/out/bench_run
+(cd "$top/crates/bench_run" && rt run >/dev/null 2>&1) || exit 1
+program=$top/crates/bench_run/out/bench_run
 formulas=$(mktemp -d)
 trap 'rm -rf "$formulas"' EXIT
-python3 bench/decide/make_formulas.py "$formulas"
+if [ $# -gt 1 ]; then
+    cp -- "${@:2}" "$formulas"
+else
+    python3 "$top/bench/decide/make_formulas.py" "$formulas"
+fi
 
-plain() {
-    timeout "$seconds" "$program" decide "$1" time | awk '
+ours() {
+    timeout "$seconds" "$program" "$1" "$2" time | awk '
         /^s /{answer = $2} /^c steps/{steps = $3} /^c refused/{refused = $4} / ms$/{ms = $2}
         END{if (answer == "") print "-"; else print answer, steps + 0, "steps", ms, "ms, refused", refused}'
 }
@@ -30,7 +34,7 @@ cadical_of() {
         /^c conflicts:/{conflicts = $3} /^c total process time/{ms = $7 * 1000} END{print ms, "ms", conflicts}'
 }
 
-echo "formula | plain | minisat | cadical"
+echo "formula | fast | plain | minisat | cadical"
 for file in "$formulas"/*.cnf; do
-    echo "$(basename "$file" .cnf) | $(plain "$file") | $(minisat_of "$file") | $(cadical_of "$file")"
+    echo "$(basename "$file" .cnf) | $(ours decide "$file") | $(ours plain "$file") | $(minisat_of "$file") | $(cadical_of "$file")"
 done

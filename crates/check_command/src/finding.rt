@@ -2,46 +2,37 @@
 ghost use Rattle.std.specs.Prelude.{◌≡◌, IfSome};
 ghost use Rattle.outside.specs.Causes.{NoneFell};
 ghost use Rattle.finding_file.specs.Causes.{IsCausedBy};
-ghost use Rattle.queries.specs.Comparisons.{IsComparison};
 ghost use Rattle.queries.specs.Settings.{setting_of};
-ghost use Rattle.scan_replay.specs.Duos.{AreComparable};
 ghost use Rattle.judgement.specs.Findings.{IsJudged};
 ghost use Rattle.judgement.specs.Shown.{ShowsVerdict};
-ghost use Rattle.finding_commands.specs.MadeCircuits.{comparison_between};
+ghost use Rattle.finding_commands.specs.Held.{comparison_in};
 ghost use Rattle.finding_answers.specs.Lines.{most_bytes};
 
 use command_answers::{Limit, Source, Status, put_last, put_limit};
 use finding_answers::{MOST_BYTES, PIECE, put_judged};
 use finding_check::{JudgeErr, Judged, judge};
-use finding_commands::FindingCommand;
+use finding_commands::{Compared, FindingCommand};
 use finding_file::FindingReader;
 use outside::{Shelf, Sink};
-use pair_trial::Trial;
-use program_tree::Program;
 use queries::Queries;
-use scan_model::Relation;
 use std::alloc::Global;
 
 // Judges the finding in a file.
 fn judge_file<Q: Queries, S: Shelf>(
     alloc: Global,
-    old: &Program,
-    new: &Program,
-    relation: &Relation,
+    compared: &Compared,
     queries: &Q,
     finding: &str,
     shelf: &mut S,
 ) -> Result<Judged, JudgeErr>
-    requires compared { Q.compared queries.now ≡ comparison_between old.now new.now relation.now }
-    requires comparable { AreComparable old.now new.now relation.now }
-    requires comparison { IsComparison (comparison_between old.now new.now relation.now) }
-    ensures exact { IfSome (S.file shelf.old finding.now) (λ file. IsJudged (setting_of (comparison_between old.now new.now relation.now)) (Q.formula queries.now) most_bytes file result) }
-    ensures sound { ShowsVerdict (comparison_between old.now new.now relation.now) (Q.formula queries.now) result }
+    requires { Q.compared queries.now ≡ comparison_in compared.now }
+    ensures exact { IfSome (S.file shelf.old finding.now) (λ file. IsJudged (setting_of (comparison_in compared.now)) (Q.formula queries.now) most_bytes file result) }
+    ensures sound { ShowsVerdict (comparison_in compared.now) (Q.formula queries.now) result }
     ensures kept { S.file shelf.new ≡ S.file shelf.old }
     ensures cause { IsCausedBy JudgeErr.Fault (S.read_faults shelf.old) (S.read_faults shelf.new) finding.now result }
     ensures writes { NoneFell (S.write_faults shelf.old) (S.write_faults shelf.new) }
 {
-    let Ok(mut trial) = Trial::new(alloc, old, new, relation) else {
+    let Ok(mut trial) = compared.trial(alloc) else {
         return Err(JudgeErr::Memory);
     };
     let Ok(mut reader) = FindingReader::new(alloc, finding, MOST_BYTES, PIECE) else {
@@ -61,15 +52,13 @@ impl FindingCommand for Checking {
     fn answer<Q: Queries, S: Shelf, K: Sink>(
         &self,
         alloc: Global,
-        old: &Program,
-        new: &Program,
-        relation: &Relation,
+        compared: &Compared,
         queries: &Q,
         finding: &str,
         shelf: &mut S,
         out: &mut K,
     ) -> Status {
-        match judge_file(alloc, old, new, relation, queries, finding, shelf) {
+        match judge_file(alloc, compared, queries, finding, shelf) {
             Ok(judged) => put_judged(alloc, judged, out),
             Err(JudgeErr::M8) => put_limit(alloc, Source::Finding, Limit::Finding, out),
             Err(JudgeErr::Fault) => put_last(out, "READ FAULT\n", Status::ReadFault),

@@ -3,3 +3,4 @@ pub mod Refusals
 pub mod RefusalLemmas
 pub mod Sizes
 pub mod Once
+mod Gates

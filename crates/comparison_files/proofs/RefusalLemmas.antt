@@ -2,31 +2,18 @@
 use Rattle.std.proofs.Common.{◌≡◌, ◌≤◌, ℕ, sym, ap, ap₂, ◌∙◌, arith}
 use Rattle.outside.specs.Causes.{Rose}
 use Rattle.queries.specs.Comparisons.{Comparison}
-use Rattle.product_build.specs.Limits.{HasManyGates}
-use Rattle.command_answers.specs.declared.source.Source.TheVariants.{Relation}
-use Rattle.command_answers.specs.declared.limit.Limit.TheVariants.{Gates}
 use Rattle.command_answers.specs.declared.status.Status.TheVariants.{Refused}
 use Rattle.command_answers.specs.Reports.{Report, limit_report}
 use Rattle.command_answers.specs.Alike.{AreAlike, same}
 use Rattle.command_answers.proofs.AlikeLemmas.{alike}
 use Rattle.command_files.specs.Texts.{Texts}
-use Rattle.comparison_files.specs.declared.fault.CompareFault.{CompareFault}
-use Rattle.comparison_files.specs.declared.fault.CompareFault.TheVariants as faults
-use Rattle.comparison_files.specs.Faults.{IfFault, IfFaultOf}
-use Rattle.comparison_files.specs.Accepting.{nodes_of, AreStated, AreAccepted, IsRefused, IsTooLarge, gates}
+use Rattle.comparison_files.specs.Accepting.{AreAccepted}
 use Rattle.comparison_files.proofs.Once.{refused_too, too_large_too, never_both, refused_once, too_large_once}
 use Rattle.comparison_files.specs.Refusals.{ReportsRefusal, refused, too_large}
 
 -- a count that rose rose from any that it had before
 pub rose_since : (first before now : ℕ) → first ≤ before → Rose before now → Rose first now
 rose_since first before now h r = omega (arith, h, r)
-
--- too many gates are a fault of REL
-pub at_gates : (t : Texts) (c : Comparison) (fault : CompareFault) → AreStated t c
-    → IfFaultOf Relation (λ r. ⊥) (λ l. (l ≡ Gates) × HasManyGates c (nodes_of c.old) (nodes_of c.new)) fault → IfFault (IsRefused t) (IsTooLarge t) fault
-at_gates t c (faults.Refused file r) stated h = absurd h.1
-at_gates t c (faults.TooLarge file l) stated h = gates c stated h.1.1 h.0 h.1.0
-at_gates t c faults.Memory stated h = tt
 
 -- its status
 pub refusal_status : (t : Texts) (r : Report) → ReportsRefusal t r → r.status ≡ Refused

@@ -1,4 +1,4 @@
--- What is compared, as it is held, and the formulas of its queries.
+-- The formulas of the queries of what is compared.
 use Rattle.clause_core.specs.Formula.{Formula}
 use Rattle.queries.specs.Comparisons.{Comparison}
 use Rattle.queries.specs.Questions.{QueryData}
@@ -7,12 +7,8 @@ use Rattle.pair_circuits.specs.Parts.{parts_of}
 use Rattle.pair_circuits.specs.Products.{product_of}
 use Rattle.pair_circuits.specs.Breaks.{breaks_of}
 use Rattle.product_build.specs.Limits.{most_gates}
-use Rattle.product_build.specs.MadeCircuits.{formula_by, comparison_between}
-use Rattle.comparison_files.specs.declared.accept.Compared.{Compared}
+use Rattle.product_build.specs.MadeCircuits.{formula_by}
 use Rattle.comparison_files.specs.Accepting.{nodes_of}
-
-abbrev pub comparison_in : Compared → Comparison
-comparison_in m = comparison_between m.old.program m.new.program m.relation
 
 -- the formula of each query of a comparison, by the nodes of both scans
 abbrev pub formulas_by : Comparison → ScanData → ScanData → QueryData → Formula

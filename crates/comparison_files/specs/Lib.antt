@@ -1,11 +1,10 @@
 pub mod Accepting
 pub mod Faults
 pub mod Comparing
+pub mod Held
 pub mod Refusals
+pub mod Scans
 pub use Rattle.command_files.specs.Kept
 pub use Rattle.command_files.specs.KeptTexts
 pub use Rattle.command_files.specs.Texts
-pub use Rattle.product_build.specs.Limits
 pub use Rattle.product_build.specs.MadeCircuits
-pub use Rattle.query_formula_laws.specs.TypedComparisons
-pub use Rattle.typed_relations.specs.Readings

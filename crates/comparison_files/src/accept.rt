@@ -10,17 +10,20 @@ ghost use Rattle.relation_file.specs.Stated.{has_few_candidates};
 ghost use Rattle.relation_file.specs.WellFormed.{IsWellFormed};
 ghost use Rattle.query_formula_laws.specs.TypedComparisons.{IsScanOf};
 ghost use Rattle.product_build.specs.Limits.{HasFewLines};
-ghost use Rattle.typed_relations.specs.Readings.{IsReadProgram, IsStated, IsRead};
+ghost use Rattle.typed_relations.specs.Readings.{IsReadProgram, IsStated};
 ghost use Rattle.command_files.specs.Kept.{IsKept};
 ghost use Rattle.command_files.specs.KeptTexts.{AreKept};
 ghost use Rattle.command_files.specs.Texts.{Texts};
 ghost use Rattle.comparison_files.specs.Accepting.{nodes_of, StatesProgram, StatesSmallRelation, StatesNoSmallRelation, AreStated, IsRefused, IsTooLarge};
-ghost use Rattle.comparison_files.specs.Comparing.{comparison_in};
 ghost use Rattle.comparison_files.specs.Faults.{IfFault, IfFaultOf};
+ghost use Rattle.comparison_files.specs.Held.{comparison_in};
+ghost use Rattle.comparison_files.specs.Scans.{AreScansOf};
 
+use crate::compared::Compared;
 use crate::fault::{CompareFault, program_fault, relation_fault};
 use command_answers::{Limit, Source};
 use command_files::{KeptTexts, tokens_of};
+use node_core::Scan;
 use node_end::{Accepted, accept};
 use program_tree::Program;
 use relation_file::read_relation;
@@ -28,12 +31,18 @@ use rules::{Refusal, Rule};
 use scan_model::Relation;
 use std::alloc::Global;
 
-/// What is compared: both programs, each with the nodes of its scan, and the relation between them.
+/// The nodes of the scans of both programs.
 #[derive(Drop)]
-pub struct Compared {
-    pub old: Accepted,
-    pub new: Accepted,
-    pub relation: Relation,
+pub struct Scans {
+    pub old: Scan,
+    pub new: Scan,
+}
+
+/// What texts state: what is compared, and the nodes of its scans.
+#[derive(Drop)]
+pub struct StatedTexts {
+    pub compared: Compared,
+    pub scans: Scans,
 }
 
 fn too_long(source: Source) -> CompareFault
@@ -110,18 +119,30 @@ fn relation_in(
 }
 
 /// What the texts state, or the first rule or limit on a program or the relation that the first of them breaks.
-pub fn accept_texts(alloc: Global, texts: &KeptTexts) -> Result<Compared, CompareFault>
-    ensures ok { (t : Texts) → AreKept texts.now t → IfOk result (λ m. AreStated t (comparison_in m)) }
-    ensures read { IfOk result (λ m. IsRead (comparison_in m)) }
-    ensures lines { IfOk result (λ m. HasFewLines (comparison_in m)) }
-    ensures old_nodes { IfOk result (λ m. scan_view m.old.scan ≡ nodes_of (program_view m.old.program)) }
-    ensures new_nodes { IfOk result (λ m. scan_view m.new.scan ≡ nodes_of (program_view m.new.program)) }
-    ensures old_meaning { IfOk result (λ m. IsScanOf (program_view m.old.program) (scan_view m.old.scan)) }
-    ensures new_meaning { IfOk result (λ m. IsScanOf (program_view m.new.program) (scan_view m.new.scan)) }
+pub fn accept_texts(alloc: Global, texts: &KeptTexts) -> Result<StatedTexts, CompareFault>
+    ensures ok { (t : Texts) → AreKept texts.now t → IfOk result (λ m. AreStated t (comparison_in m.compared)) }
+    ensures scans { IfOk result (λ m. AreScansOf (comparison_in m.compared) m.scans) }
     ensures refused { (t : Texts) → AreKept texts.now t → IfErr result (IfFault (IsRefused t) (IsTooLarge t)) }
 {
     let old = program_in(alloc, Source::Old, &texts.old)?;
     let new = program_in(alloc, Source::New, &texts.new)?;
     let relation = relation_in(alloc, &old.program, &new.program, &texts.relation)?;
-    Ok(Compared { old, new, relation })
+    let Accepted {
+        program: old_program,
+        scan: old_scan,
+    } = old;
+    let Accepted {
+        program: new_program,
+        scan: new_scan,
+    } = new;
+    let compared = Compared {
+        old_program,
+        new_program,
+        relation,
+    };
+    let scans = Scans {
+        old: old_scan,
+        new: new_scan,
+    };
+    Ok(StatedTexts { compared, scans })
 }

@@ -1,44 +1,44 @@
 // The circuits of what is compared.
 ghost use Rattle.std.specs.Prelude.{◌≡◌, IfOk, IfErr, OnOk};
-ghost use Rattle.program_tree.specs.View.{program_view};
-ghost use Rattle.node_core.specs.Scans.{scan_view};
-ghost use Rattle.queries.specs.Comparisons.{IsComparison};
-ghost use Rattle.query_formula_laws.specs.TypedComparisons.{IsScanOf};
-ghost use Rattle.typed_relations.specs.Readings.{IsRead};
-ghost use Rattle.product_build.specs.Limits.{HasFewLines, HasFewGates, HasManyGates};
-ghost use Rattle.product_build.specs.MadeCircuits.{comparison_between, comparison_of, formula_of};
-ghost use Rattle.comparison_files.specs.Comparing.{formulas_by};
-ghost use Rattle.comparison_files.specs.Faults.{IfFaultOf};
+ghost use Rattle.product_build.specs.Limits.{HasFewGates, HasManyGates};
+ghost use Rattle.product_build.specs.MadeCircuits.{comparison_of, formula_of};
+ghost use Rattle.command_files.specs.Texts.{Texts};
+ghost use Rattle.comparison_files.specs.Accepting.{nodes_of, AreStated, IsRefused, IsTooLarge};
+ghost use Rattle.comparison_files.specs.Comparing.{formulas_of};
+ghost use Rattle.comparison_files.specs.Faults.{IfFault, IfFaultOf};
+ghost use Rattle.comparison_files.specs.Held.{comparison_in};
+ghost use Rattle.comparison_files.specs.Scans.{AreScansOf};
 
+use crate::accept::Scans;
+use crate::compared::Compared;
 use crate::fault::CompareFault;
 use command_answers::{Limit, Source};
 use gates::GateFault;
-use node_core::Scan;
 use product_build::{Circuits, product};
-use program_tree::Program;
-use scan_model::Relation;
 use std::alloc::Global;
 
 /// The circuits of what is compared, or that they have too many gates. What was read is typed, so nothing tests for that.
 pub fn circuits_of<'p>(
     alloc: Global,
-    old: &'p Program,
-    old_scan: Scan,
-    new: &'p Program,
-    new_scan: Scan,
-    relation: &'p Relation,
+    compared: &'p Compared,
+    scans: Scans,
 ) -> Result<Circuits<'p>, CompareFault>
-    requires read { IsRead (comparison_between old.now new.now relation.now) }
-    requires lines { HasFewLines (comparison_between old.now new.now relation.now) }
-    requires old_meaning { IsScanOf (program_view old.now) (scan_view old_scan) }
-    requires new_meaning { IsScanOf (program_view new.now) (scan_view new_scan) }
-    ensures compared { IfOk result (λ m. comparison_of m ≡ comparison_between old.now new.now relation.now) }
-    ensures comparison { OnOk result (IsComparison (comparison_between old.now new.now relation.now)) }
-    ensures formulas { IfOk result (λ m. formula_of m ≡ formulas_by (comparison_between old.now new.now relation.now) (scan_view old_scan) (scan_view new_scan)) }
-    ensures few { OnOk result (HasFewGates (comparison_between old.now new.now relation.now) (scan_view old_scan) (scan_view new_scan)) }
-    ensures refused { IfErr result (IfFaultOf Source.Relation (λ r. ⊥) (λ l. (l ≡ Limit.Gates) × HasManyGates (comparison_between old.now new.now relation.now) (scan_view old_scan) (scan_view new_scan))) }
+    requires { AreScansOf (comparison_in compared.now) scans }
+    ensures compared { IfOk result (λ m. comparison_of m ≡ comparison_in compared.now) }
+    ensures formulas { IfOk result (λ m. formula_of m ≡ formulas_of (comparison_in compared.now)) }
+    ensures few { let c = comparison_in compared.now in OnOk result (HasFewGates c (nodes_of c.old) (nodes_of c.new)) }
+    ensures too_many { let c = comparison_in compared.now in IfErr result (IfFaultOf Source.Relation (λ r. ⊥) (λ l. (l ≡ Limit.Gates) × HasManyGates c (nodes_of c.old) (nodes_of c.new))) }
+    ensures refused { (t : Texts) → AreStated t (comparison_in compared.now) → IfErr result (IfFault (IsRefused t) (IsTooLarge t)) }
 {
-    match product(alloc, old, old_scan, new, new_scan, relation) {
+    let Scans { old, new } = scans;
+    match product(
+        alloc,
+        &compared.old_program,
+        old,
+        &compared.new_program,
+        new,
+        &compared.relation,
+    ) {
         Ok(circuits) => Ok(circuits),
         Err(GateFault::TooMany) => Err(CompareFault::TooLarge(Source::Relation, Limit::Gates)),
         Err(GateFault::Memory) => Err(CompareFault::Memory),

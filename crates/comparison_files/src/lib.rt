@@ -3,13 +3,14 @@
 
 mod accept;
 mod circuits;
+mod compared;
 mod fault;
 mod refusal;
 
-pub use accept::{Compared, accept_texts};
+pub use accept::{Scans, StatedTexts, accept_texts};
 pub use circuits::circuits_of;
 pub use command_files::{KeptTexts, read_texts};
+pub use compared::Compared;
 pub use fault::CompareFault;
-pub use node_end::Accepted;
 pub use product_build::Circuits;
 pub use refusal::put_fault;

@@ -1,5 +1,6 @@
 // The words of the free bits: the word of variable 2 stands first.
-use crate::lanes::{all_lanes, lanes_if, lanes_of, no_lane};
+use crate::lanes::{all_lanes, lanes_if, no_lane};
+use crate::scans::{Scanned, lanes_of};
 use clause_core::Lit;
 use lane_sim::choose_word;
 use pair_circuits::CellShape;
@@ -49,23 +50,29 @@ pub(crate) fn put_first(free: &mut [u64x4], words: &[Vec<Lit>], cells: &[CellSha
 }
 
 // Gives free bits the values of literals in some lanes.
-fn take_word(free: &mut [u64x4], words: &[u64x4], bits: &[Lit], lits: &[Lit], lanes: u64x4) {
+fn take_word(free: &mut [u64x4], scanned: &Scanned, bits: &[Lit], lits: &[Lit], lanes: u64x4) {
     let count = bits.len().min(lits.len());
     for i in 0..count {
-        put_bit(free, bits[i], lanes_of(words, lits[i]), lanes);
+        put_bit(free, bits[i], lanes_of(scanned, lits[i]), lanes);
     }
 }
 
 /// Gives the free bits of cells the values of words of literals in some lanes.
 pub(crate) fn take_words(
     free: &mut [u64x4],
-    words: &[u64x4],
+    scanned: &Scanned,
     cells: &[Vec<Lit>],
     lits: &[Vec<Lit>],
     lanes: u64x4,
 ) {
     let count = cells.len().min(lits.len());
     for i in 0..count {
-        take_word(free, words, cells[i].as_slice(), lits[i].as_slice(), lanes);
+        take_word(
+            free,
+            scanned,
+            cells[i].as_slice(),
+            lits[i].as_slice(),
+            lanes,
+        );
     }
 }

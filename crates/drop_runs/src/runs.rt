@@ -6,8 +6,9 @@ use crate::free::{put_first, put_numbers, take_words};
 use crate::lanes::{all_lanes, first_lane, no_lane, one_lane};
 use crate::near::change_some;
 use crate::random::Random;
-use crate::scans::{allowed, failing, run};
+use crate::scans::{Scanned, allowed, failing, read_literals, run};
 use crate::spelling::spelled;
+use lane_sim::RunPlan;
 use pair_circuits::{PairParts, Product};
 use queries::{CandidateSet, Decoded};
 use std::alloc::{AllocError, Global};
@@ -35,7 +36,9 @@ pub struct Runs<'p> {
     free: Vec<u64x4>,
     // what they were behind the runs from the start
     seen: Vec<u64x4>,
-    // the words of all variables in a scan
+    // how a scan is run, where there is room for it
+    plan: Option<RunPlan<'p>>,
+    // the words of a scan
     words: Vec<u64x4>,
     // whether there is room for the runs, and they were put at the start
     has_begun: bool,
@@ -48,16 +51,10 @@ pub struct Runs<'p> {
     ghost ordered: { IsOrdered product.now.circuit },
 }
 
-// How many free bits and variables are run: none where there are too many, or no candidate.
-fn sizes(parts: &PairParts, product: &Product) -> (usize, usize) {
+// Whether scans are run: not where there are too many bits or gates, or no candidate.
+fn are_run(parts: &PairParts, product: &Product) -> bool {
     let circuit = &product.circuit;
-    let first = circuit.first() as usize;
-    let gates = circuit.count();
-    if first > MOST || gates > MOST || parts.candidates.is_empty() {
-        (0, 0)
-    } else {
-        (first - 2, first + gates)
-    }
+    circuit.first() as usize <= MOST && circuit.count() <= MOST && !parts.candidates.is_empty()
 }
 
 impl<'p> Runs<'p> {
@@ -72,6 +69,7 @@ impl<'p> Runs<'p> {
             random: Random::new(),
             free: Vec::new(alloc),
             seen: Vec::new(alloc),
+            plan: None,
             words: Vec::new(alloc),
             has_begun: false,
             is_run: false,
@@ -85,9 +83,13 @@ impl<'p> Runs<'p> {
         if self.has_begun {
             return Ok(());
         }
-        let (bits, variables) = sizes(self.parts, self.product);
-        self.free = vec![in alloc; no_lane(); bits]?;
-        self.words = vec![in alloc; no_lane(); variables]?;
+        if are_run(self.parts, self.product) {
+            let read = read_literals(alloc, self.product)?;
+            let plan = RunPlan::new(alloc, &self.product.circuit, read.as_slice())?;
+            self.free = vec![in alloc; no_lane(); plan.bits()]?;
+            self.words = vec![in alloc; no_lane(); plan.words()]?;
+            self.plan = Some(plan);
+        }
         self.has_begun = true;
         self.start();
         Ok(())
@@ -112,25 +114,37 @@ impl<'p> Runs<'p> {
     // Each run whose row is allowed goes on behind its scan.
     fn step(&mut self, set: &CandidateSet) {
         let product = self.product;
+        let Some(plan) = &self.plan else {
+            return;
+        };
         let words = self.words.as_slice();
-        let lanes = allowed(&product.lits, words, set);
+        let scanned = Scanned { plan, words };
+        let lanes = allowed(&product.lits, &scanned, set);
         let free = self.free.as_mut_slice();
         let (pair, behind) = (&product.pair, &product.behind);
         take_words(
             free,
-            words,
+            &scanned,
             pair.old.as_slice(),
             behind.old.as_slice(),
             lanes,
         );
         take_words(
             free,
-            words,
+            &scanned,
             pair.new.as_slice(),
             behind.new.as_slice(),
             lanes,
         );
         self.draw_rows();
+    }
+
+    // Runs a scan of the pairs and rows that the runs have, and says whether there is room for it.
+    fn scan(&mut self) -> bool {
+        let Some(plan) = &self.plan else {
+            return false;
+        };
+        run(plan, self.free.as_slice(), self.words.as_mut_slice())
     }
 
     /// Goes on to the next scan, and says whether there is one.
@@ -142,8 +156,7 @@ impl<'p> Runs<'p> {
         if self.is_run {
             self.step(set);
         }
-        let circuit = &self.product.circuit;
-        self.is_run = run(circuit, self.free.as_slice(), self.words.as_mut_slice());
+        self.is_run = self.scan();
         self.untried = all_lanes().to_array();
         self.is_run
     }
@@ -155,7 +168,11 @@ impl<'p> Runs<'p> {
         if !self.is_run {
             return None;
         }
-        let lanes = failing(&self.product.lits, self.words.as_slice(), set);
+        let Some(plan) = &self.plan else {
+            return None;
+        };
+        let words = self.words.as_slice();
+        let lanes = failing(&self.product.lits, &Scanned { plan, words }, set);
         first_lane(lanes & u64x4::from_array(self.untried))
     }
 
@@ -165,7 +182,7 @@ impl<'p> Runs<'p> {
     {
         let others = one_lane(lane) ^ all_lanes();
         self.untried = (u64x4::from_array(self.untried) & others).to_array();
-        spelled(alloc, self.parts, self.product, self.words.as_slice(), lane)
+        spelled(alloc, self.parts, self.product, self.free.as_slice(), lane)
     }
 
     /// Puts all runs at a pair that was found: the first with the row that was found, others with rows or cells changed.

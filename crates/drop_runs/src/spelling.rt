@@ -1,7 +1,7 @@
-// The numbers that words spell in one lane.
+// The numbers that words of free bits spell in one lane.
 ghost use Rattle.std.specs.Prelude.{◌<◌};
 
-use crate::lanes::lanes_of;
+use crate::free::bit_of;
 use clause_core::Lit;
 use lane_sim::is_set;
 use operations::wrap_short;
@@ -12,13 +12,13 @@ use std::alloc::{AllocError, Global};
 use std::simd::u64x4;
 
 // The number of a type that a word spells, of which at most 32 bits are read.
-fn number(words: &[u64x4], kind: Elementary, word: &[Lit], lane: usize) -> i64
+fn number(free: &[u64x4], kind: Elementary, word: &[Lit], lane: usize) -> i64
     requires { lane < 256 }
 {
     let mut bits = 0u32;
     let count = word.len().min(32);
     for i in 0..count {
-        if is_set(lanes_of(words, word[i]), lane) {
+        if is_set(bit_of(free, word[i]), lane) {
             bits |= 1 << i;
         }
     }
@@ -28,48 +28,36 @@ fn number(words: &[u64x4], kind: Elementary, word: &[Lit], lane: usize) -> i64
 // The numbers that the words of cells spell.
 fn numbers(
     alloc: Global,
-    words: &[u64x4],
+    free: &[u64x4],
     cells: &[CellShape],
-    lits: &[Vec<Lit>],
+    words: &[Vec<Lit>],
     lane: usize,
 ) -> Result<Vec<i64>, AllocError>
     requires { lane < 256 }
 {
     let mut numbers = Vec::new(alloc);
-    let count = cells.len().min(lits.len());
+    let count = cells.len().min(words.len());
     for i in 0..count {
-        numbers.push(number(words, cells[i].kind, lits[i].as_slice(), lane))?;
+        numbers.push(number(free, cells[i].kind, words[i].as_slice(), lane))?;
     }
     Ok(numbers)
 }
 
-/// The pair and the row of a lane, from the words of the variables.
+/// The pair and the row of a lane, from the words of the free bits.
 pub(crate) fn spelled(
     alloc: Global,
     parts: &PairParts,
     product: &Product,
-    words: &[u64x4],
+    free: &[u64x4],
     lane: usize,
 ) -> Result<Decoded, AllocError>
     requires { lane < 256 }
 {
     let pair = &product.pair;
-    let old = numbers(
-        alloc,
-        words,
-        parts.old.as_slice(),
-        pair.old.as_slice(),
-        lane,
-    )?;
-    let new = numbers(
-        alloc,
-        words,
-        parts.new.as_slice(),
-        pair.new.as_slice(),
-        lane,
-    )?;
+    let old = numbers(alloc, free, parts.old.as_slice(), pair.old.as_slice(), lane)?;
+    let new = numbers(alloc, free, parts.new.as_slice(), pair.new.as_slice(), lane)?;
     let lines = parts.lines.as_slice();
-    let inputs = numbers(alloc, words, lines, product.inputs.as_slice(), lane)?;
+    let inputs = numbers(alloc, free, lines, product.inputs.as_slice(), lane)?;
     let mut row = Row::new(alloc);
     for number in inputs.as_slice() {
         row.push(*number)?;

@@ -1,16 +1,48 @@
 // A finding judged and explained, and what is said of it on the sink.
+ghost use Rattle.std.specs.Prelude.{◌≡◌, IfSome};
+ghost use Rattle.outside.specs.Causes.{NoneFell};
+ghost use Rattle.finding_file.specs.Causes.{IsCausedBy};
+ghost use Rattle.finding_commands.specs.Held.{comparison_in};
+ghost use Rattle.finding_explain.specs.Explaining.{IsExplained};
+ghost use Rattle.finding_answers.specs.Lines.{most_bytes};
+
 use crate::show::put_explained;
 use command_answers::{Limit, Source, Status, put_last, put_limit};
 use finding_answers::{MOST_BYTES, PIECE};
-use finding_commands::FindingCommand;
-use finding_explain::{FindingFile, explain_finding};
-use finding_report::Compared;
+use finding_commands::{Compared, FindingCommand};
+use finding_explain::{Explained, FindingFile, explain_finding};
 use judgement::JudgeErr;
 use outside::{Shelf, Sink};
-use program_tree::Program;
 use queries::Queries;
-use scan_model::Relation;
 use std::alloc::Global;
+
+// Judges the finding in a file, and explains it.
+fn explain_file<Q: Queries, S: Shelf>(
+    alloc: Global,
+    compared: &Compared,
+    queries: &Q,
+    finding: &str,
+    shelf: &mut S,
+) -> Result<Explained, JudgeErr>
+    requires { Q.compared queries.now ≡ comparison_in compared.now }
+    ensures exact { IfSome (S.file shelf.old finding.now) (λ file. IsExplained (comparison_in compared.now) (Q.formula queries.now) most_bytes file result) }
+    ensures kept { S.file shelf.new ≡ S.file shelf.old }
+    ensures cause { IsCausedBy JudgeErr.Fault (S.read_faults shelf.old) (S.read_faults shelf.new) finding.now result }
+    ensures writes { NoneFell (S.write_faults shelf.old) (S.write_faults shelf.new) }
+{
+    compared.laws();
+    let programs = finding_report::Compared {
+        old: compared.old_program(),
+        new: compared.new_program(),
+        relation: compared.relation(),
+    };
+    let file = FindingFile {
+        name: finding,
+        limit: MOST_BYTES,
+        piece: PIECE,
+    };
+    explain_finding(alloc, &programs, queries, &file, shelf)
+}
 
 /// The command `explain`.
 pub(crate) struct Explaining;
@@ -23,21 +55,13 @@ impl FindingCommand for Explaining {
     fn answer<Q: Queries, S: Shelf, K: Sink>(
         &self,
         alloc: Global,
-        old: &Program,
-        new: &Program,
-        relation: &Relation,
+        compared: &Compared,
         queries: &Q,
         finding: &str,
         shelf: &mut S,
         out: &mut K,
     ) -> Status {
-        let compared = Compared { old, new, relation };
-        let file = FindingFile {
-            name: finding,
-            limit: MOST_BYTES,
-            piece: PIECE,
-        };
-        match explain_finding(alloc, &compared, queries, &file, shelf) {
+        match explain_file(alloc, compared, queries, finding, shelf) {
             Ok(explained) => put_explained(alloc, explained, out),
             Err(JudgeErr::M8) => put_limit(alloc, Source::Finding, Limit::Finding, out),
             Err(JudgeErr::Fault) => put_last(out, "READ FAULT\n", Status::ReadFault),

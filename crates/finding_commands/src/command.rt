@@ -1,82 +1,35 @@
 // What a command on a finding does with the four files.
-ghost use Rattle.std.specs.Prelude.{◌≡◌, ◌≢◌, ◌≤◌, List, ℕ, Some};
+ghost use Rattle.std.specs.Prelude.{◌≡◌, ◌≢◌, ◌≤◌, Some};
 ghost use Rattle.outside.specs.Causes.{Rose, NoneFell};
-ghost use Rattle.program_tree.specs.View.{program_view};
-ghost use Rattle.node_core.specs.Scans.{scan_view};
-ghost use Rattle.comparison_files.specs.TypedComparisons.{IsScanOf};
-ghost use Rattle.comparison_files.specs.Readings.{IsRead};
-ghost use Rattle.comparison_files.specs.Limits.{HasFewLines};
-ghost use Rattle.comparison_files.specs.MadeCircuits.{comparison_between};
 ghost use Rattle.command_answers.specs.Answers.{Answers};
 ghost use Rattle.comparison_files.specs.Texts.{Texts, AreFourTold, OneOfFourRose};
 ghost use Rattle.comparison_files.specs.KeptTexts.{AreKept};
-ghost use Rattle.comparison_files.specs.Accepting.{nodes_of, AreStated};
-ghost use Rattle.comparison_files.specs.Comparing.{comparison_in};
+ghost use Rattle.comparison_files.specs.Accepting.{AreStated};
+ghost use Rattle.comparison_files.specs.Held.{comparison_in};
+ghost use Rattle.comparison_files.specs.Scans.{AreScansOf};
 ghost use Rattle.finding_commands.specs.Reports.{ReportsOn};
 
 use crate::finding_command::FindingCommand;
 use command_answers::{Status, put_last};
 use comparison_files::{
-    Accepted, Compared, KeptTexts, accept_texts, circuits_of, put_fault, read_texts,
+    Compared, KeptTexts, Scans, StatedTexts, accept_texts, circuits_of, put_fault, read_texts,
 };
-use node_core::Scan;
 use outside::{OutErr, Shelf, Sink};
-use program_tree::Program;
-use scan_model::Relation;
 use std::alloc::Global;
 
 // Makes the circuits of what is compared, and judges the finding by them.
-fn answer_pair<C: FindingCommand, S: Shelf, K: Sink>(
-    alloc: Global,
-    command: &C,
-    old: &Program,
-    old_scan: Scan,
-    new: &Program,
-    new_scan: Scan,
-    relation: &Relation,
-    finding: &str,
-    shelf: &mut S,
-    out: &mut K,
-) -> Status
-    requires read { IsRead (comparison_between old.now new.now relation.now) }
-    requires lines { HasFewLines (comparison_between old.now new.now relation.now) }
-    requires old_nodes { scan_view old_scan ≡ nodes_of (program_view old.now) }
-    requires new_nodes { scan_view new_scan ≡ nodes_of (program_view new.now) }
-    requires old_meaning { IsScanOf (program_view old.now) (scan_view old_scan) }
-    requires new_meaning { IsScanOf (program_view new.now) (scan_view new_scan) }
-    ensures kept { S.file shelf.new ≡ S.file shelf.old }
-    ensures answer { (t : Texts) → AreStated t (comparison_between old.now new.now relation.now) → S.file shelf.old finding.now ≡ Some t.finding
-        → Answers (ReportsOn C.reports t) (Rose (S.read_faults shelf.old finding.now) (S.read_faults shelf.new finding.now)) result (K.taken out.old) (K.taken out.new) }
-    ensures usage { result ≢ Status.Usage }
-    ensures read_fault { result ≡ Status.ReadFault → Rose (S.read_faults shelf.old finding.now) (S.read_faults shelf.new finding.now) }
-    ensures write_fault { result ≡ Status.WriteFault → Rose (K.faults out.old) (K.faults out.new) }
-    ensures reads { NoneFell (S.read_faults shelf.old) (S.read_faults shelf.new) }
-    ensures writes { NoneFell (S.write_faults shelf.old) (S.write_faults shelf.new) }
-    ensures faults { K.faults out.old ≤ K.faults out.new }
-{
-    match circuits_of(alloc, old, old_scan, new, new_scan, relation) {
-        Ok(circuits) => command.answer(alloc, old, new, relation, &circuits, finding, shelf, out),
-        Err(fault) => put_fault(alloc, fault, out),
-    }
-}
-
-// The same of what is compared, as it is held.
 fn answer_compared<C: FindingCommand, S: Shelf, K: Sink>(
     alloc: Global,
     command: &C,
-    compared: Compared,
+    compared: &Compared,
+    scans: Scans,
     finding: &str,
     shelf: &mut S,
     out: &mut K,
 ) -> Status
-    requires read { IsRead (comparison_in compared) }
-    requires lines { HasFewLines (comparison_in compared) }
-    requires old_nodes { scan_view compared.old.scan ≡ nodes_of (program_view compared.old.program) }
-    requires new_nodes { scan_view compared.new.scan ≡ nodes_of (program_view compared.new.program) }
-    requires old_meaning { IsScanOf (program_view compared.old.program) (scan_view compared.old.scan) }
-    requires new_meaning { IsScanOf (program_view compared.new.program) (scan_view compared.new.scan) }
+    requires { AreScansOf (comparison_in compared.now) scans }
     ensures kept { S.file shelf.new ≡ S.file shelf.old }
-    ensures answer { (t : Texts) → AreStated t (comparison_in compared) → S.file shelf.old finding.now ≡ Some t.finding
+    ensures answer { (t : Texts) → AreStated t (comparison_in compared.now) → S.file shelf.old finding.now ≡ Some t.finding
         → Answers (ReportsOn C.reports t) (Rose (S.read_faults shelf.old finding.now) (S.read_faults shelf.new finding.now)) result (K.taken out.old) (K.taken out.new) }
     ensures usage { result ≢ Status.Usage }
     ensures read_fault { result ≡ Status.ReadFault → Rose (S.read_faults shelf.old finding.now) (S.read_faults shelf.new finding.now) }
@@ -85,18 +38,10 @@ fn answer_compared<C: FindingCommand, S: Shelf, K: Sink>(
     ensures writes { NoneFell (S.write_faults shelf.old) (S.write_faults shelf.new) }
     ensures faults { K.faults out.old ≤ K.faults out.new }
 {
-    let Compared { old, new, relation } = compared;
-    let Accepted {
-        program: old,
-        scan: old_scan,
-    } = old;
-    let Accepted {
-        program: new,
-        scan: new_scan,
-    } = new;
-    answer_pair(
-        alloc, command, &old, old_scan, &new, new_scan, &relation, finding, shelf, out,
-    )
+    match circuits_of(alloc, compared, scans) {
+        Ok(circuits) => command.answer(alloc, compared, &circuits, finding, shelf, out),
+        Err(fault) => put_fault(alloc, fault, out),
+    }
 }
 
 // Judges the finding by kept texts.
@@ -119,7 +64,10 @@ fn answer_texts<C: FindingCommand, S: Shelf, K: Sink>(
     ensures faults { K.faults out.old ≤ K.faults out.new }
 {
     match accept_texts(alloc, texts) {
-        Ok(compared) => answer_compared(alloc, command, compared, finding, shelf, out),
+        Ok(stated) => {
+            let StatedTexts { compared, scans } = stated;
+            answer_compared(alloc, command, &compared, scans, finding, shelf, out)
+        }
         Err(fault) => put_fault(alloc, fault, out),
     }
 }

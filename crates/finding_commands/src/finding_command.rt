@@ -2,18 +2,16 @@
 ghost use Rattle.std.specs.Prelude.{◌≡◌, ◌≢◌, ◌≤◌, List, ℕ, Some};
 ghost use Rattle.outside.specs.Causes.{Rose, NoneFell};
 ghost use Rattle.clause_core.specs.Formula.{Formula};
-ghost use Rattle.queries.specs.Comparisons.{Comparison, IsComparison};
+ghost use Rattle.queries.specs.Comparisons.{Comparison};
 ghost use Rattle.queries.specs.Questions.{QueryData};
-ghost use Rattle.scan_replay.specs.Duos.{AreComparable};
-ghost use Rattle.comparison_files.specs.MadeCircuits.{comparison_between};
+ghost use Rattle.comparison_files.specs.Held.{comparison_in};
 ghost use Rattle.command_answers.specs.Answers.{Answers};
 ghost use Rattle.command_answers.specs.Reports.{Report};
 
 use command_answers::Status;
+use comparison_files::Compared;
 use outside::{Shelf, Sink};
-use program_tree::Program;
 use queries::Queries;
-use scan_model::Relation;
 use std::alloc::Global;
 
 /// A command that judges a finding.
@@ -25,20 +23,16 @@ pub trait FindingCommand {
     fn answer<Q: Queries, S: Shelf, K: Sink>(
         &self,
         alloc: Global,
-        old: &Program,
-        new: &Program,
-        relation: &Relation,
+        compared: &Compared,
         queries: &Q,
         finding: &str,
         shelf: &mut S,
         out: &mut K,
     ) -> Status
-        requires compared { Q.compared queries.now ≡ comparison_between old.now new.now relation.now }
-        requires comparable { AreComparable old.now new.now relation.now }
-        requires comparison { IsComparison (comparison_between old.now new.now relation.now) }
+        requires { Q.compared queries.now ≡ comparison_in compared.now }
         ensures kept { S.file shelf.new ≡ S.file shelf.old }
         ensures answer { (file : List ℕ) → S.file shelf.old finding.now ≡ Some file
-            → Answers (reports (comparison_between old.now new.now relation.now) (Q.formula queries.now) file) (Rose (S.read_faults shelf.old finding.now) (S.read_faults shelf.new finding.now)) result (K.taken out.old) (K.taken out.new) }
+            → Answers (reports (comparison_in compared.now) (Q.formula queries.now) file) (Rose (S.read_faults shelf.old finding.now) (S.read_faults shelf.new finding.now)) result (K.taken out.old) (K.taken out.new) }
         ensures usage { result ≢ Status.Usage }
         ensures read_fault { result ≡ Status.ReadFault → Rose (S.read_faults shelf.old finding.now) (S.read_faults shelf.new finding.now) }
         ensures write_fault { result ≡ Status.WriteFault → Rose (K.faults out.old) (K.faults out.new) }

@@ -5,4 +5,5 @@ mod command;
 mod finding_command;
 
 pub use command::answer_on_finding;
+pub use comparison_files::Compared;
 pub use finding_command::FindingCommand;

@@ -6,9 +6,9 @@ use Rattle.queries.specs.Comparisons.{Comparison}
 use Rattle.command_answers.specs.declared.status.Status.{Status}
 use Rattle.command_answers.specs.Reports.{Report}
 use Rattle.command_answers.specs.Answers.{Answers, AnswersSoFar, all_put}
-use Rattle.comparison_files.specs.Accepting.{AreAccepted}
-use Rattle.comparison_files.specs.Comparing.{formulas_of}
-use Rattle.comparison_files.proofs.RefusalLemmas.{refusal_status}
+use Rattle.verify_command.specs.comparison_files.Accepting.{AreAccepted}
+use Rattle.verify_command.specs.comparison_files.Comparing.{formulas_of}
+use Rattle.verify_command.proofs.comparison_files.RefusalLemmas.{refusal_status}
 use Rattle.generated_files.specs.Files.{HoldTexts}
 use Rattle.verify_command.specs.Lines.{IsOfVerdict}
 use Rattle.verify_command.specs.Reports.{Saving, ReportsVerdict, decided, too_long, not_written}

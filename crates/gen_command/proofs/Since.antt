@@ -6,7 +6,7 @@ use Rattle.clause_core.specs.Formula.{Formula}
 use Rattle.queries.specs.Comparisons.{Comparison}
 use Rattle.queries.specs.Questions.{QueryData}
 use Rattle.command_answers.specs.Reports.{Report}
-use Rattle.comparison_files.proofs.RefusalLemmas.{rose_since}
+use Rattle.verify_command.proofs.comparison_files.RefusalLemmas.{rose_since}
 use Rattle.generated_texts.specs.Names.{old_name, new_name, relation_name, finding_name}
 use Rattle.generated_files.specs.Files.{HoldsText, LeavesText, HoldTexts, LeaveTexts, OtherFilesStay, as_before, a_front}
 use Rattle.generated_files.proofs.NameLemmas.{old_is_not_finding, new_is_not_finding, relation_is_not_finding}

@@ -1,7 +1,7 @@
 -- What is made from a number.
 use Rattle.std.specs.Prelude.{ℕ, []}
-use Rattle.comparison_files.specs.Texts.{Texts}
-use Rattle.comparison_files.specs.KeptTexts.{AreKept}
+use Rattle.verify_command.specs.comparison_files.Texts.{Texts}
+use Rattle.verify_command.specs.comparison_files.KeptTexts.{AreKept}
 use Rattle.generated_texts.specs.Names.{AreFileNames}
 use Rattle.generated_texts.specs.Texts.{old_text, new_text, relation_text, AreGenerated}
 use Rattle.gen_command.specs.declared.made.Made.{Made}

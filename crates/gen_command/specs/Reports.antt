@@ -8,9 +8,9 @@ use Rattle.queries.specs.Questions.{QueryData}
 use Rattle.judgement.specs.Shown.{IsShown}
 use Rattle.command_answers.specs.declared.status.Status.{Status}
 use Rattle.command_answers.specs.Reports.{Report}
-use Rattle.comparison_files.specs.Accepting.{AreAccepted}
-use Rattle.comparison_files.specs.Comparing.{formulas_of}
-use Rattle.comparison_files.specs.Refusals.{ReportsRefusal}
+use Rattle.verify_command.specs.comparison_files.Accepting.{AreAccepted}
+use Rattle.verify_command.specs.comparison_files.Comparing.{formulas_of}
+use Rattle.verify_command.specs.comparison_files.Refusals.{ReportsRefusal}
 use Rattle.generated_texts.specs.Names.{old_name, new_name, relation_name, finding_name}
 use Rattle.generated_files.specs.Files.{HoldTexts, LeaveTexts, OneTextFailed}
 use Rattle.verify_command.specs.Lines.{verdict_line, verdict_status, write_fault_report}

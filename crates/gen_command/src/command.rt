@@ -1,15 +1,10 @@
 // The command `gen`.
 ghost use Rattle.std.specs.Prelude.{◌≡◌, ◌≢◌, ◌≤◌, ◌⊎◌};
 ghost use Rattle.outside.specs.Causes.{Rose, NoneFell};
-ghost use Rattle.program_tree.specs.View.{program_view};
-ghost use Rattle.node_core.specs.Scans.{scan_view};
-ghost use Rattle.comparison_files.specs.TypedComparisons.{IsScanOf};
-ghost use Rattle.comparison_files.specs.Readings.{IsRead};
-ghost use Rattle.comparison_files.specs.Limits.{HasFewLines};
-ghost use Rattle.comparison_files.specs.MadeCircuits.{comparison_between};
 ghost use Rattle.command_answers.specs.Answers.{Answers, IsExact};
-ghost use Rattle.comparison_files.specs.Accepting.{nodes_of, AreStated};
-ghost use Rattle.comparison_files.specs.Comparing.{comparison_in};
+ghost use Rattle.verify_command.specs.comparison_files.Accepting.{AreStated};
+ghost use Rattle.verify_command.specs.comparison_files.Held.{comparison_in};
+ghost use Rattle.verify_command.specs.comparison_files.Scans.{AreScansOf};
 ghost use Rattle.generated_texts.specs.Names.{finding_name};
 ghost use Rattle.verify_command.specs.Lines.{IsOfVerdict};
 ghost use Rattle.verify_command.specs.Reports.{saving};
@@ -20,75 +15,25 @@ use crate::made::{Made, make};
 use crate::saved::answer_accepted;
 use clause_core::Decider;
 use command_answers::{Status, put_last};
-use comparison_files::{Accepted, Compared, accept_texts, circuits_of, put_fault};
 use drop_runs::Runs;
-use node_core::Scan;
 use outside::{Shelf, Sink};
-use program_tree::Program;
-use scan_model::Relation;
 use std::alloc::Global;
+use verify_command::{Compared, Scans, StatedTexts, accept_texts, circuits_of, put_fault};
 
 // Makes the circuits of what is compared, and goes on with them.
-fn answer_pair<D: Decider, S: Shelf, K: Sink>(
-    alloc: Global,
-    decider: &mut D,
-    count: u32,
-    made: &Made,
-    old: &Program,
-    old_scan: Scan,
-    new: &Program,
-    new_scan: Scan,
-    relation: &Relation,
-    shelf: &mut S,
-    out: &mut K,
-) -> Status
-    requires made { IsMade count made.now }
-    requires stated { AreStated (texts_of count) (comparison_between old.now new.now relation.now) }
-    requires read { IsRead (comparison_between old.now new.now relation.now) }
-    requires lines { HasFewLines (comparison_between old.now new.now relation.now) }
-    requires old_nodes { scan_view old_scan ≡ nodes_of (program_view old.now) }
-    requires new_nodes { scan_view new_scan ≡ nodes_of (program_view new.now) }
-    requires old_meaning { IsScanOf (program_view old.now) (scan_view old_scan) }
-    requires new_meaning { IsScanOf (program_view new.now) (scan_view new_scan) }
-    ensures others { KeepsOthers count (S.file shelf.old) (S.file shelf.new) }
-    ensures left { LeavesFiles count (saving (S.file shelf.old) (S.file shelf.new) (S.write_faults shelf.old) (S.write_faults shelf.new) (finding_name count)) }
-    ensures answer { Answers (GenReports count (saving (S.file shelf.old) (S.file shelf.new) (S.write_faults shelf.old) (S.write_faults shelf.new) (finding_name count))) ⊥ result (K.taken out.old) (K.taken out.new) }
-    ensures usage { result ≢ Status.Usage }
-    ensures read_fault { result ≢ Status.ReadFault }
-    ensures write_fault { result ≡ Status.WriteFault → OneFailed count (saving (S.file shelf.old) (S.file shelf.new) (S.write_faults shelf.old) (S.write_faults shelf.new) (finding_name count)) ⊎ Rose (K.faults out.old) (K.faults out.new) }
-    ensures reads { NoneFell (S.read_faults shelf.old) (S.read_faults shelf.new) }
-    ensures writes { NoneFell (S.write_faults shelf.old) (S.write_faults shelf.new) }
-    ensures faults { K.faults out.old ≤ K.faults out.new }
-{
-    match circuits_of(alloc, old, old_scan, new, new_scan, relation) {
-        Ok(circuits) => {
-            let mut runs = Runs::new(alloc, circuits.parts(), circuits.product());
-            answer_accepted(
-                alloc, decider, count, made, old, new, relation, &circuits, &mut runs, shelf, out,
-            )
-        }
-        Err(fault) => put_fault(alloc, fault, out),
-    }
-}
-
-// The same of what is compared, as it is held.
 fn answer_compared<D: Decider, S: Shelf, K: Sink>(
     alloc: Global,
     decider: &mut D,
     count: u32,
     made: &Made,
-    compared: Compared,
+    compared: &Compared,
+    scans: Scans,
     shelf: &mut S,
     out: &mut K,
 ) -> Status
     requires made { IsMade count made.now }
-    requires stated { AreStated (texts_of count) (comparison_in compared) }
-    requires read { IsRead (comparison_in compared) }
-    requires lines { HasFewLines (comparison_in compared) }
-    requires old_nodes { scan_view compared.old.scan ≡ nodes_of (program_view compared.old.program) }
-    requires new_nodes { scan_view compared.new.scan ≡ nodes_of (program_view compared.new.program) }
-    requires old_meaning { IsScanOf (program_view compared.old.program) (scan_view compared.old.scan) }
-    requires new_meaning { IsScanOf (program_view compared.new.program) (scan_view compared.new.scan) }
+    requires stated { AreStated (texts_of count) (comparison_in compared.now) }
+    requires scans { AreScansOf (comparison_in compared.now) scans }
     ensures others { KeepsOthers count (S.file shelf.old) (S.file shelf.new) }
     ensures left { LeavesFiles count (saving (S.file shelf.old) (S.file shelf.new) (S.write_faults shelf.old) (S.write_faults shelf.new) (finding_name count)) }
     ensures answer { Answers (GenReports count (saving (S.file shelf.old) (S.file shelf.new) (S.write_faults shelf.old) (S.write_faults shelf.new) (finding_name count))) ⊥ result (K.taken out.old) (K.taken out.new) }
@@ -99,18 +44,15 @@ fn answer_compared<D: Decider, S: Shelf, K: Sink>(
     ensures writes { NoneFell (S.write_faults shelf.old) (S.write_faults shelf.new) }
     ensures faults { K.faults out.old ≤ K.faults out.new }
 {
-    let Compared { old, new, relation } = compared;
-    let Accepted {
-        program: old,
-        scan: old_scan,
-    } = old;
-    let Accepted {
-        program: new,
-        scan: new_scan,
-    } = new;
-    answer_pair(
-        alloc, decider, count, made, &old, old_scan, &new, new_scan, &relation, shelf, out,
-    )
+    match circuits_of(alloc, compared, scans) {
+        Ok(circuits) => {
+            let mut runs = Runs::new(alloc, circuits.parts(), circuits.product());
+            answer_accepted(
+                alloc, decider, count, made, compared, &circuits, &mut runs, shelf, out,
+            )
+        }
+        Err(fault) => put_fault(alloc, fault, out),
+    }
 }
 
 // Tests the texts as any other, and goes on with what they state.
@@ -134,7 +76,10 @@ fn answer_made<D: Decider, S: Shelf, K: Sink>(
     ensures faults { K.faults out.old ≤ K.faults out.new }
 {
     match accept_texts(alloc, &made.kept) {
-        Ok(compared) => answer_compared(alloc, decider, count, made, compared, shelf, out),
+        Ok(stated) => {
+            let StatedTexts { compared, scans } = stated;
+            answer_compared(alloc, decider, count, made, &compared, scans, shelf, out)
+        }
         Err(fault) => put_fault(alloc, fault, out),
     }
 }

@@ -7,3 +7,4 @@ mod made;
 mod saved;
 
 pub use command::answer_gen;
+pub use verify_command::answer_verify;

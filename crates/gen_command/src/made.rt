@@ -1,13 +1,13 @@
 // What is made from a number before it is tested.
 ghost use Rattle.std.specs.Prelude.{◌≡◌, IfOk};
-ghost use Rattle.comparison_files.specs.Kept.{IsKept};
-ghost use Rattle.comparison_files.specs.KeptTexts.{AreKept};
+ghost use Rattle.verify_command.specs.comparison_files.Kept.{IsKept};
+ghost use Rattle.verify_command.specs.comparison_files.KeptTexts.{AreKept};
 ghost use Rattle.generated_texts.specs.Texts.{AreGenerated};
 ghost use Rattle.gen_command.specs.Made.{texts_of, IsMade};
 
-use comparison_files::KeptTexts;
 use generated_texts::{FileNames, GeneratedTexts, file_names, generate};
 use std::alloc::{AllocError, Global};
+use verify_command::KeptTexts;
 
 /// How many bytes a text may have.
 const LIMIT: usize = 1_048_576;

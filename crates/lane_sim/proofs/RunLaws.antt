@@ -33,7 +33,7 @@ extended-next j words x w g gs h e = ap (λ v. extended v (x + 1) gs) (assignmen
 -- the words that the gates leave are a run
 pub IsRunOf-extended : (n : Netlist) (free before after : List (List ℕ)) (j : ℕ) → IsOrdered n → length free + 2 ≡ n.first → assignment_of j before 1 ≡ true
     → ((i : ℕ) → i < length free → assignment_of j before (i + 2) ≡ assignment_of j free i)
-    → assignment_of j after ≡ extended (assignment_of j before) n.first n.gates → IsRunOf n free after j
+    → assignment_of j after ≡ extended (assignment_of j before) n.first n.gates → IsRunOf n free j (assignment_of j after)
 IsRunOf-extended n free before after j h len one bits e =
     let once = ExtendsOnce_ordered n (assignment_of j before) h one in
     record {

@@ -12,7 +12,7 @@ lane word j = nat_eq (bit_at (slice_index word (j / 64)) (j % 64)) 1
 abbrev pub assignment_of : ℕ → List (List ℕ) → ℕ → Bool
 assignment_of j words x = lane (slice_index_or words x []) j
 
--- lane j of the words gives each gate of the circuit its value, and the free bits theirs
-pub record IsRunOf (n : Netlist) (free words : List (List ℕ)) (j : ℕ) : Type 0 where
-  pub model : IsModel (assignment_of j words) n
-  pub bits : (i : ℕ) → i < length free → assignment_of j words (i + 2) ≡ assignment_of j free i
+-- the assignment gives each gate of the circuit its value, and the free bits those of lane j
+pub record IsRunOf (n : Netlist) (free : List (List ℕ)) (j : ℕ) (v : ℕ → Bool) : Type 0 where
+  pub model : IsModel v n
+  pub bits : (i : ℕ) → i < length free → v (i + 2) ≡ assignment_of j free i

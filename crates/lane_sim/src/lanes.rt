@@ -29,9 +29,9 @@ pub fn choose_word(c: u64x4, a: u64x4, b: u64x4) -> u64x4
     xor_word(b, and_word(c, xor_word(a, b)))
 }
 
-// The word, or its complement.
+/// The word, or its complement.
 #[inline(always)]
-fn signed_word(word: u64x4, negative: bool) -> u64x4
+pub(crate) fn signed_word(word: u64x4, negative: bool) -> u64x4
     ensures { (j : ℕ) → j < 256 → lane result j ≡ signed negative (lane word j) }
 {
     let mask = if negative { u64::MAX } else { 0 };

@@ -8,8 +8,8 @@ use gates::Circuit;
 use std::alloc::{AllocError, Global};
 use std::simd::u64x4;
 
-// Writes TRUE and the free bits.
-fn put_free(free: &[u64x4], words: &mut [u64x4])
+/// Writes TRUE and the free bits.
+pub(crate) fn put_free(free: &[u64x4], words: &mut [u64x4])
     requires { length free.now + 2 ≤ length words.old }
     ensures one { (j : ℕ) → j < 256 → assignment_of j words.new 1 ≡ true }
     ensures bits { (j i : ℕ) → i < length free.now → assignment_of j words.new (i + 2) ≡ assignment_of j free.now i }
@@ -35,7 +35,7 @@ pub fn simulate_again(circuit: &Circuit, free: &[u64x4], words: &mut [u64x4])
     requires ordered { IsOrdered circuit.now }
     requires free { length free.now + 2 ≡ circuit.now.first }
     requires len { length words.old ≡ end_of circuit.now }
-    ensures { (j : ℕ) → j < 256 → IsRunOf circuit.now free.now words.new j }
+    ensures { (j : ℕ) → j < 256 → IsRunOf circuit.now free.now j (assignment_of j words.new) }
 {
     put_free(free, words);
     put_gates(circuit, words);
@@ -46,7 +46,7 @@ pub fn simulate(alloc: Global, circuit: &Circuit, free: &[u64x4]) -> Result<Vec<
     requires ordered { IsOrdered circuit.now }
     requires free { length free.now + 2 ≡ circuit.now.first }
     ensures len { IfOk result (λ words. length words.items ≡ end_of circuit.now) }
-    ensures lanes { IfOk result (λ words. (j : ℕ) → j < 256 → IsRunOf circuit.now free.now words.items j) }
+    ensures lanes { IfOk result (λ words. (j : ℕ) → j < 256 → IsRunOf circuit.now free.now j (assignment_of j words.items)) }
 {
     // What the limit ensures bounds the sum.
     circuit.limit();

@@ -2,11 +2,10 @@
 use cdcl_watch::Watched;
 use clause_core::{Cnf, Decided, Decider};
 use outside::{CallKind, Failure, MemShelf, MemSink};
-use regver_top::{Status, regver};
+use regver_top::{Status, answer_verify, regver};
 use std::alloc::{AllocError, Global};
 use std::process::Abort;
 use std::test::Fail;
-use verify_command::answer_verify;
 
 // A program that copies its input, and its relation to itself.
 const SAME: &str =

@@ -265,13 +265,6 @@ impl Trail {
         self.head += 1;
     }
 
-    /// All true literals are to be propagated again.
-    pub fn rewind(&mut self)
-        ensures { self.new ≡ with_head self.old 0 }
-    {
-        self.head = 0;
-    }
-
     /// Makes an open literal true by a clause.
     #[inline(always)]
     pub fn assign(&mut self, code: u32, reason: ClauseRef) -> Result<(), AllocError>

@@ -1,13 +1,9 @@
 // The two programs and the relation of a case, with the circuits that its queries are asked of.
 ghost use Rattle.std.specs.Prelude.{◌≡◌};
-ghost use Rattle.program_tree.specs.View.{program_view};
 ghost use Rattle.scan_model.specs.Pairs.{relation_view};
-ghost use Rattle.node_core.specs.Scans.{scan_view};
-ghost use Rattle.comparison_files.specs.TypedComparisons.{IsScanOf};
-ghost use Rattle.comparison_files.specs.Readings.{IsRead};
-ghost use Rattle.comparison_files.specs.Limits.{HasFewLines};
-ghost use Rattle.comparison_files.specs.MadeCircuits.{comparison_between, comparison_of};
-ghost use Rattle.comparison_files.specs.Comparing.{comparison_in};
+ghost use Rattle.comparison_files.specs.Held.{comparison_in};
+ghost use Rattle.comparison_files.specs.MadeCircuits.{comparison_of};
+ghost use Rattle.comparison_files.specs.Scans.{AreScansOf};
 
 use crate::asked::{Wanted, answer_to};
 use case_files::{
@@ -16,10 +12,8 @@ use case_files::{
 };
 use cdcl_watch::Watched;
 use comparison_files::{
-    Accepted, Circuits, CompareFault, Compared, KeptTexts, accept_texts, circuits_of,
+    Circuits, CompareFault, Compared, KeptTexts, Scans, StatedTexts, accept_texts, circuits_of,
 };
-use node_core::Scan;
-use program_tree::Program;
 use scan_model::Relation;
 use std::alloc::Global;
 
@@ -36,7 +30,10 @@ pub fn run_query(
         relation: Some(without_places(alloc, text_of(alloc, head, case, Word::Relation)?)?.bytes),
     };
     match accept_texts(alloc, &texts) {
-        Ok(compared) => ask_compared(alloc, compared, case, found),
+        Ok(stated) => {
+            let StatedTexts { compared, scans } = stated;
+            ask_compared(alloc, &compared, scans, case, found)
+        }
         Err(fault) => Err(not_compared(alloc, fault)),
     }
 }
@@ -53,46 +50,15 @@ fn not_compared(alloc: Global, fault: CompareFault) -> CaseFault {
 
 fn ask_compared(
     alloc: Global,
-    compared: Compared,
+    compared: &Compared,
+    scans: Scans,
     case: &Case,
     found: &mut Vec<Mismatch>,
 ) -> Result<(), CaseFault>
-    requires read { IsRead (comparison_in compared) }
-    requires lines { HasFewLines (comparison_in compared) }
-    requires old_meaning { IsScanOf (program_view compared.old.program) (scan_view compared.old.scan) }
-    requires new_meaning { IsScanOf (program_view compared.new.program) (scan_view compared.new.scan) }
+    requires { AreScansOf (comparison_in compared.now) scans }
 {
-    let Compared { old, new, relation } = compared;
-    let Accepted {
-        program: old,
-        scan: old_scan,
-    } = old;
-    let Accepted {
-        program: new,
-        scan: new_scan,
-    } = new;
-    ask_pair(
-        alloc, &old, old_scan, &new, new_scan, &relation, case, found,
-    )
-}
-
-fn ask_pair(
-    alloc: Global,
-    old: &Program,
-    old_scan: Scan,
-    new: &Program,
-    new_scan: Scan,
-    relation: &Relation,
-    case: &Case,
-    found: &mut Vec<Mismatch>,
-) -> Result<(), CaseFault>
-    requires read { IsRead (comparison_between old.now new.now relation.now) }
-    requires lines { HasFewLines (comparison_between old.now new.now relation.now) }
-    requires old_meaning { IsScanOf (program_view old.now) (scan_view old_scan) }
-    requires new_meaning { IsScanOf (program_view new.now) (scan_view new_scan) }
-{
-    match circuits_of(alloc, old, old_scan, new, new_scan, relation) {
-        Ok(circuits) => ask_circuits(alloc, &circuits, relation, case, found),
+    match circuits_of(alloc, compared, scans) {
+        Ok(circuits) => ask_circuits(alloc, &circuits, compared.relation(), case, found),
         Err(fault) => Err(not_compared(alloc, fault)),
     }
 }

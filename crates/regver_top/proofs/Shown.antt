@@ -8,7 +8,7 @@ use Rattle.command_answers.specs.declared.status.Status.{Status}
 use Rattle.command_answers.specs.declared.status.Status.TheVariants.{Valid, Usage, Refused, Replayed, Unrelated, NotAllowed, WriteFault, Memory}
 use Rattle.command_answers.specs.Answers.{Answers, AnswersSoFar, IsExact}
 use Rattle.command_answers.specs.Reports.{Report}
-use Rattle.command_files.specs.Texts.{Texts}
+use Rattle.check_command.specs.finding_commands.Texts.{Texts}
 use Rattle.command_line.specs.Asked.{Asked, check, explain, gen, replay, verify, usage}
 use Rattle.finding_answers.specs.Lines.{judged_status}
 use Rattle.check_command.specs.finding_commands.Refusals.{ReportsRefusal}
@@ -19,10 +19,10 @@ use Rattle.check_command.proofs.Answering.{exact_shown}
 use Rattle.explain_command.specs.Reports.{ExplainReports, explained, invalid, too_long as explained_too_long}
 use Rattle.explain_command.proofs.Answering.{exact_shown as exact_explained}
 use Rattle.replay_command.specs.Reports.{Reports, refused, replayed, ending_status}
-use Rattle.verify_command.specs.Lines.{IsOfVerdict}
-use Rattle.verify_command.specs.Reports.{Saving, VerifyReports, not_compared, on_pair, ReportsVerdict, decided, too_long as finding_too_long, not_written}
-use Rattle.verify_command.proofs.Lines.{of_verdict, whole_of}
-use Rattle.verify_command.proofs.Answering.{saved_of}
+use Rattle.gen_command.specs.verify_command.Lines.{IsOfVerdict}
+use Rattle.gen_command.specs.verify_command.Reports.{Saving, VerifyReports, not_compared, on_pair, ReportsVerdict, decided, too_long as finding_too_long, not_written}
+use Rattle.gen_command.proofs.verify_command.Lines.{of_verdict, whole_of}
+use Rattle.gen_command.proofs.verify_command.Answering.{saved_of}
 use Rattle.gen_command.specs.Made.{texts_of}
 use Rattle.gen_command.specs.Reports.{GenReports, not_compared as not_made, on_pair as made, not_saved, saved as all_saved, verified, no_memory}
 use Rattle.gen_command.proofs.Shown.{saved_of as made_of}

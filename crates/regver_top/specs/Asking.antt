@@ -5,14 +5,14 @@ use Rattle.outside.specs.Contents.{OthersStay}
 use Rattle.command_line.specs.Asked.{Asked, check, explain, gen, replay, verify, usage}
 use Rattle.command_answers.specs.declared.status.Status.{Status}
 use Rattle.command_answers.specs.Reports.{Report, usage_report}
-use Rattle.command_files.specs.Texts.{Texts, AreThreeTold, AreFourTold, OneOfThreeRose, OneOfFourRose}
+use Rattle.check_command.specs.finding_commands.Texts.{Texts, AreThreeTold, AreFourTold, OneOfThreeRose, OneOfFourRose}
 use Rattle.check_command.specs.Reports.{CheckReports, ShowsValid}
 use Rattle.explain_command.specs.Reports.{ExplainReports, ShowsExplained}
 use Rattle.replay_command.specs.Reports.{Reports}
 use Rattle.generated_texts.specs.Names.{finding_name}
 use Rattle.count_words.specs.Counts.{count_of}
 use Rattle.gen_command.specs.Reports.{GenReports, OneFailed, KeepsOthers, LeavesFiles, ShowsMade}
-use Rattle.verify_command.specs.Reports.{Saving, saving, HasFailed, VerifyReports, IsLeft, ShowsSaved}
+use Rattle.gen_command.specs.verify_command.Reports.{Saving, saving, HasFailed, VerifyReports, IsLeft, ShowsSaved}
 
 -- what clap takes, and is no command even so: `verify` would write one of the files that it reads, or the word of `gen` is no number from 1 to 341
 abbrev pub is_refused : Asked → Bool

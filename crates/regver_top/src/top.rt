@@ -6,8 +6,8 @@ ghost use Rattle.command_line.specs.Grammar.{grammar};
 ghost use Rattle.command_line.specs.Subcommands.{verifies};
 ghost use Rattle.outside.specs.Causes.{Rose, NoneFell};
 ghost use Rattle.command_answers.specs.Answers.{Answers, IsExact};
-ghost use Rattle.command_files.specs.Texts.{Texts};
-ghost use Rattle.verify_command.specs.Lines.{IsOfVerdict};
+ghost use Rattle.check_command.specs.finding_commands.Texts.{Texts};
+ghost use Rattle.gen_command.specs.verify_command.Lines.{IsOfVerdict};
 ghost use Rattle.regver_top.specs.Asking.{change, is_refused, settled, AreTold, IsAsked, IsShownBy, IsSavedBy, SomeRose, WriteRose, KeepsFiles, LeavesFinding};
 
 use cdcl_watch::Watched;
@@ -16,11 +16,10 @@ use command_answers::{Status, put_last};
 use command_line::{Command, FourWords, read_words};
 use count_words::count_of;
 use explain_command::answer_explain;
-use gen_command::answer_gen;
+use gen_command::{answer_gen, answer_verify};
 use outside::{Shelf, Sink};
 use replay_command::answer_replay;
 use std::alloc::Global;
-use verify_command::answer_verify;
 
 const USAGE: &str = "USAGE verify OLD NEW REL FINDING, check, replay, explain or gen\n";
 

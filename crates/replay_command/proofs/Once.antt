@@ -12,7 +12,7 @@ use Rattle.scan_model.specs.InRange.{Row}
 use Rattle.scan_model.specs.Pairs.{RelationData, start}
 use Rattle.scan_model.specs.Runs.{IsRun}
 use Rattle.command_answers.specs.declared.source.Source.{Source}
-use Rattle.replay_command.specs.Traces.{IsTrace}
+use Rattle.trace_rows.specs.Traces.{IsTrace}
 use Rattle.replay_command.specs.Accepting.{Accepts, IsNoTrace, IsAccepted, IsRefused, old_refused, new_refused, rel_refused, trace_refused}
 use Rattle.command_files.specs.Stating.{StatesRelation, StatesNoRelation}
 use Rattle.command_files.specs.Texts.{Texts}

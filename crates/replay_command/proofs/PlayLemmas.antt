@@ -1,6 +1,8 @@
 -- What has been put of a replay while it goes on.
-use Rattle.std.proofs.Common.{Bool, ◌≡◌, ◌<◌, ℕ, suc, ◌+◌, ℤ, List, [], ◌∷◌, ◌++◌, length, take, drop, get_or, drop-cons, add-one, Vec, true, false, if◌then◌else◌, Option, Some, None, Result, Ok, Err, OnErr, refl, sym, ap, ◌∙◌, subst, append_assoc, append-nil}
-use Rattle.std.specs.declared.alloc.Global.{Global}
+use Rattle.std.proofs.Common.{Bool, ◌≡◌, ℕ, ◌+◌, List, [], ◌∷◌, ◌++◌, drop, true, false, if◌then◌else◌, Option, Some, None, Result, Ok, Err, OnErr, refl, sym, ap, ◌∙◌, subst, append_assoc, append-nil}
+use Rattle.std.specs.Prelude.{slice_get}
+use Rattle.std.proofs.lemmas.List.{drop_more}
+use Rattle.std.proofs.lemmas.Option.{slice_get_within, get_or_from_slice_get}
 use Rattle.program_tree.specs.declared.typed.Program.{Program}
 use Rattle.program_tree.specs.View.{program_view}
 use Rattle.scan_model.specs.declared.relation.Relation.{Relation}
@@ -11,7 +13,6 @@ use Rattle.scan_model.specs.declared.relation.Ending.{Ending}
 use Rattle.scan_model.specs.declared.relation.Ending.TheVariants.{Unrelated, NotAllowed}
 use Rattle.scan_model.specs.InRange.{Row}
 use Rattle.scan_model.specs.Pairs.{RelationData, Pair, relation_view, is_allowed, is_related, after_row}
-use Rattle.replay_command.specs.Held.{rows_of}
 use Rattle.replay_command.specs.Lines.{scan_line}
 use Rattle.replay_command.specs.Outcomes.{Outcome, ended, with_line, outcome_from}
 use Rattle.command_answers.specs.Puts.{PutsPart}
@@ -90,9 +91,8 @@ outcome-row : (old new : ProgramData) (rel : RelationData) (k : ℕ) (pair : Pai
     (if is_related rel (after_row old new rel row pair) then outcome_from old new rel (k + 1) (after_row old new rel row pair) rows else ended (Unrelated (k + 1)))
 outcome-row old new rel k pair row rows a = rw a refl
 
-rows_of-drop : (rows : List (Vec ℤ Global)) (done : ℕ) (vec : Vec ℤ Global) → done < length rows → vec ≡ get_or rows done vec → rows_of (drop done rows) ≡ vec.items ∷ rows_of (drop (done + 1) rows)
-rows_of-drop rows done vec h e =
-    ap rows_of (drop-cons rows done vec h) ∙ ap (λ v. v.items ∷ rows_of (drop (suc done) rows)) (sym e) ∙ ap (λ n. vec.items ∷ rows_of (drop n rows)) (sym (add-one done))
+next_row : (rows : List Row) (done : ℕ) (row : Row) → slice_get rows done ≡ Some row → drop done rows ≡ row ∷ drop (done + 1) rows
+next_row rows done row at = drop_more rows done row (slice_get_within rows done row at) ∙ ap (λ r. r ∷ drop (done + 1) rows) (get_or_from_slice_get rows done row row at)
 
 -- what is to come after a row that is allowed: its line, and then by the pair that it leaves
 abbrev to_come : ProgramData → ProgramData → RelationData → ℕ → Pair → List Row → Outcome
@@ -102,38 +102,38 @@ to_come old new rel done next rows = if is_related rel next then outcome_from ol
 pub record HasRunRow (old new : ProgramData) (rel : RelationData) (told now : Option (List ℕ)) (all : Outcome) (done : ℕ) (next : Pair) (rows : List Row) : Type 0 where
   pub played : HasPlayed told now all (with_line (scan_line old new (done + 1) next) (to_come old new rel done next rows))
 
-pub row_run : (old new : ProgramData) (rel : RelationData) (told now : Option (List ℕ)) (all : Outcome) (done : ℕ) (pair next : Pair) (rows : List (Vec ℤ Global)) (vec : Vec ℤ Global) (row : Row)
-    → HasPlayed told now all (outcome_from old new rel done pair (rows_of (drop done rows)))
-    → done < length rows → vec ≡ get_or rows done vec → row ≡ vec.items → is_allowed rel row pair ≡ true → next ≡ after_row old new rel row pair
-    → HasRunRow old new rel told now all done next (rows_of (drop (done + 1) rows))
-row_run old new rel told now all done pair next rows vec row h short at same allowed stepped =
-    let more = rows_of (drop (done + 1) rows) in
-    let cut : rows_of (drop done rows) ≡ row ∷ more = rows_of-drop rows done vec short at ∙ ap (λ r. r ∷ more) (sym same) in
+pub row_run : (old new : ProgramData) (rel : RelationData) (told now : Option (List ℕ)) (all : Outcome) (done : ℕ) (pair next : Pair) (rows : List Row) (row : Row)
+    → HasPlayed told now all (outcome_from old new rel done pair (drop done rows))
+    → slice_get rows done ≡ Some row → is_allowed rel row pair ≡ true → next ≡ after_row old new rel row pair
+    → HasRunRow old new rel told now all done next (drop (done + 1) rows)
+row_run old new rel told now all done pair next rows row h at allowed stepped =
+    let more = drop (done + 1) rows in
+    let cut : drop done rows ≡ row ∷ more = next_row rows done row at in
     let first = subst (λ r. HasPlayed told now all (outcome_from old new rel done pair r)) cut h in
     let then_line = subst (HasPlayed told now all) (outcome-row old new rel done pair row more allowed) first in
     record { played = subst (λ p. HasPlayed told now all (with_line (scan_line old new (done + 1) p) (to_come old new rel done p more))) (sym stepped) then_line }
 
 -- a row that is allowed was run by a step
-pub step_run : (old new : Program) (rel : Relation) (told now : Option (List ℕ)) (all : Outcome) (done : ℕ) (d held next : Compared) (rows : List (Vec ℤ Global)) (vec : Vec ℤ Global) (tried row : Row) (b : Bool)
-    → AreOf old new rel d → HasPlayed told now all (outcome_from (program_view old) (program_view new) (relation_view rel) done d.pair (rows_of (drop done rows)))
-    → done < length rows → vec ≡ get_or rows done vec → tried ≡ vec.items → row ≡ vec.items → b ≡ allows d tried → b ≡ true → held ≡ d → next ≡ with_pair (pair_after held row) held
-    → HasRunRow (program_view old) (program_view new) (relation_view rel) told now all done next.pair (rows_of (drop (done + 1) rows))
-step_run old new rel told now all done d held next rows vec tried row b are h short at first same e may still step =
-    let allowed = subst (λ r. is_allowed (relation_view rel) r d.pair ≡ true) (first ∙ sym same) (are_allowed old new rel d tried b true are e may) in
-    row_run (program_view old) (program_view new) (relation_view rel) told now all done d.pair next.pair rows vec row h short at same allowed (pair_stepped old new rel d held next row are still step)
+pub step_run : (old new : Program) (rel : Relation) (told now : Option (List ℕ)) (all : Outcome) (done : ℕ) (d held next : Compared) (rows : List Row) (row : Row) (b : Bool)
+    → AreOf old new rel d → HasPlayed told now all (outcome_from (program_view old) (program_view new) (relation_view rel) done d.pair (drop done rows))
+    → slice_get rows done ≡ Some row → b ≡ allows d row → b ≡ true → held ≡ d → next ≡ with_pair (pair_after held row) held
+    → HasRunRow (program_view old) (program_view new) (relation_view rel) told now all done next.pair (drop (done + 1) rows)
+step_run old new rel told now all done d held next rows row b are h at e may still step =
+    row_run (program_view old) (program_view new) (relation_view rel) told now all done d.pair next.pair rows row h at (are_allowed old new rel d row b true are e may)
+    (pair_stepped old new rel d held next row are still step)
 
 outcome-not_allowed : (old new : ProgramData) (rel : RelationData) (k : ℕ) (pair : Pair) (row : Row) (rows : List Row) → is_allowed rel row pair ≡ false
     → outcome_from old new rel k pair (row ∷ rows) ≡ ended (NotAllowed (k + 1))
 outcome-not_allowed old new rel k pair row rows a = rw a refl
 
 -- a row that is not allowed ends the replay
-pub row_refused : (old new : Program) (rel : Relation) (told now : Option (List ℕ)) (all : Outcome) (done : ℕ) (d : Compared) (rows : List (Vec ℤ Global)) (vec : Vec ℤ Global) (row : Row) (b : Bool)
-    → AreOf old new rel d → HasPlayed told now all (outcome_from (program_view old) (program_view new) (relation_view rel) done d.pair (rows_of (drop done rows)))
-    → done < length rows → vec ≡ get_or rows done vec → row ≡ vec.items → b ≡ allows d row → b ≡ false
+pub row_refused : (old new : Program) (rel : Relation) (told now : Option (List ℕ)) (all : Outcome) (done : ℕ) (d : Compared) (rows : List Row) (row : Row) (b : Bool)
+    → AreOf old new rel d → HasPlayed told now all (outcome_from (program_view old) (program_view new) (relation_view rel) done d.pair (drop done rows))
+    → slice_get rows done ≡ Some row → b ≡ allows d row → b ≡ false
     → (now ≡ extended told all.lines) × (NotAllowed (done + 1) ≡ all.ending)
-row_refused old new rel told now all done d rows vec row b are h short at same e not =
-    let more = rows_of (drop (done + 1) rows) in
-    let cut : rows_of (drop done rows) ≡ row ∷ more = rows_of-drop rows done vec short at ∙ ap (λ r. r ∷ more) (sym same) in
+row_refused old new rel told now all done d rows row b are h at e not =
+    let more = drop (done + 1) rows in
+    let cut : drop done rows ≡ row ∷ more = next_row rows done row at in
     let first = subst (λ r. HasPlayed told now all (outcome_from (program_view old) (program_view new) (relation_view rel) done d.pair r)) cut h in
     let last = outcome-not_allowed (program_view old) (program_view new) (relation_view rel) done d.pair row more (are_allowed old new rel d row b false are e not) in
     all_played told now all (NotAllowed (done + 1)) (subst (HasPlayed told now all) last first)

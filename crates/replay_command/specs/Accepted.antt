@@ -6,7 +6,6 @@ use Rattle.command_files.specs.KeptTexts.{AreKept}
 use Rattle.command_files.specs.Texts.{Texts}
 use Rattle.replay_command.specs.declared.accept.ReplayTexts.{ReplayTexts}
 use Rattle.replay_command.specs.declared.accept.Replay.{Replay}
-use Rattle.replay_command.specs.Held.{rows_of}
 use Rattle.replay_command.specs.Accepting.{IsAccepted}
 
 -- all four texts, but for those that are too long
@@ -15,4 +14,4 @@ pub record AreAllKept (kept : ReplayTexts) (t : Texts) : Type 0 where
   pub trace : IsKept kept.trace t.trace
 
 abbrev pub ReplayIsAccepted : Texts → Replay → Type 0
-ReplayIsAccepted t r = IsAccepted t (program_view r.old) (program_view r.new) (relation_view r.relation) (rows_of r.rows.items)
+ReplayIsAccepted t r = IsAccepted t (program_view r.old) (program_view r.new) (relation_view r.relation) r.rows

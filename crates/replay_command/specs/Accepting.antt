@@ -10,7 +10,7 @@ use Rattle.command_answers.specs.declared.source.Source.{Source}
 use Rattle.command_answers.specs.declared.source.Source.TheVariants.{Old, New, Relation as RelationFile, Trace}
 use Rattle.command_files.specs.Stating.{StatesRelation, StatesNoRelation}
 use Rattle.command_files.specs.Texts.{Texts}
-use Rattle.replay_command.specs.Traces.{IsTrace}
+use Rattle.trace_rows.specs.Traces.{IsTrace}
 
 -- a text is not too long, and is this
 pub record Accepts {A : Type 0} (Is : A → Type 0) (text : List ℕ) (a : A) : Type 0 where

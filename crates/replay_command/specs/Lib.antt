@@ -1,5 +1,3 @@
-pub mod Traces
-pub mod Held
 pub mod Accepting
 pub mod Accepted
 pub mod Lines

@@ -4,18 +4,17 @@ ghost use Rattle.scan_replay.specs.Duos.{AreComparable};
 ghost use Rattle.command_files.specs.Kept.{IsKept};
 ghost use Rattle.command_files.specs.Texts.{Texts};
 ghost use Rattle.command_files.specs.Refused.{IfRefused, IfRefusedOf};
-ghost use Rattle.replay_command.specs.Held.{rows_of};
-ghost use Rattle.replay_command.specs.Traces.{IsTrace};
+ghost use Rattle.trace_rows.specs.Traces.{IsTrace};
 ghost use Rattle.replay_command.specs.Accepting.{Accepts, IsNoTrace, IsRefused};
 ghost use Rattle.replay_command.specs.Accepted.{AreAllKept, ReplayIsAccepted};
 
-use crate::trace::read_trace;
 use command_answers::Source;
 use command_files::{AcceptError, KeptTexts, program_in, refused, relation_in};
 use program_tree::Program;
 use rules::Rule;
 use scan_model::Relation;
 use std::alloc::Global;
+use trace_rows::{TraceRows, read_trace};
 
 /// The texts of the four files; one that is too long is not there.
 #[derive(Drop)]
@@ -30,15 +29,11 @@ pub struct Replay {
     pub old: Program,
     pub new: Program,
     pub relation: Relation,
-    pub rows: Vec<Vec<i64>>,
+    pub rows: TraceRows,
 }
 
-fn rows_in(
-    alloc: Global,
-    width: usize,
-    text: &Option<Vec<u8>>,
-) -> Result<Vec<Vec<i64>>, AcceptError>
-    ensures ok { (bytes : List ℕ) → IsKept text.now bytes → IfOk result (λ rows. Accepts (IsTrace width bytes) bytes (rows_of rows.items)) }
+fn rows_in(alloc: Global, width: usize, text: &Option<Vec<u8>>) -> Result<TraceRows, AcceptError>
+    ensures ok { (bytes : List ℕ) → IsKept text.now bytes → IfOk result (λ rows. Accepts (IsTrace width bytes) bytes rows) }
     ensures refused { (bytes : List ℕ) → IsKept text.now bytes → IfErr result (IfRefusedOf Source.Trace (IsNoTrace width bytes)) }
 {
     let Some(text) = text else {

@@ -7,7 +7,6 @@ ghost use Rattle.scan_model.specs.Pairs.{relation_view};
 ghost use Rattle.scan_replay.specs.Duos.{AreComparable};
 ghost use Rattle.command_answers.specs.Answers.{Answers};
 ghost use Rattle.command_files.specs.Texts.{Texts};
-ghost use Rattle.replay_command.specs.Held.{rows_of};
 ghost use Rattle.replay_command.specs.Lines.{ending_line};
 ghost use Rattle.replay_command.specs.Outcomes.{Outcome, outcome_of};
 ghost use Rattle.replay_command.specs.Played.{outcome_report};
@@ -58,14 +57,20 @@ fn put_ending<K: Sink>(alloc: Global, ending: Ending, out: &mut K) -> Status
 // Runs the rows, and puts the lines of the run.
 fn put_replay<K: Sink>(alloc: Global, replay: &Replay, out: &mut K) -> Status
     requires { AreComparable replay.now.old replay.now.new replay.now.relation }
-    ensures answer { Answers (λ r. r ≡ outcome_report (outcome_of (program_view replay.now.old) (program_view replay.now.new) (relation_view replay.now.relation) (rows_of replay.now.rows.items))) ⊥ result (K.taken out.old) (K.taken out.new) }
+    ensures answer { Answers (λ r. r ≡ outcome_report (outcome_of (program_view replay.now.old) (program_view replay.now.new) (relation_view replay.now.relation) replay.now.rows)) ⊥ result (K.taken out.old) (K.taken out.new) }
     ensures no_usage { result ≢ Status.Usage }
     ensures no_read_fault { result ≢ Status.ReadFault }
     ensures cause { result ≡ Status.WriteFault → Rose (K.faults out.old) (K.faults out.new) }
     ensures later { K.faults out.old ≤ K.faults out.new }
 {
-    let rows = replay.rows.as_slice();
-    match play(alloc, &replay.old, &replay.new, &replay.relation, rows, out) {
+    match play(
+        alloc,
+        &replay.old,
+        &replay.new,
+        &replay.relation,
+        &replay.rows,
+        out,
+    ) {
         Ok(ending) => put_ending(alloc, ending, out),
         Err(PlayError::Sink(OutErr::Fault)) => Status::WriteFault,
         Err(PlayError::Sink(OutErr::Memory)) => Status::Memory,

@@ -7,7 +7,6 @@ mod command;
 mod laws;
 mod play;
 mod show;
-mod trace;
 
 pub use command::answer_replay;
 pub use laws::one_report;

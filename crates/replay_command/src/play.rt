@@ -9,7 +9,6 @@ ghost use Rattle.scan_replay.specs.Duos.{AreComparable};
 ghost use Rattle.replay_command.specs.Lines.{scan_line};
 ghost use Rattle.replay_command.specs.Outcomes.{outcome_of};
 ghost use Rattle.command_answers.specs.Puts.{PutsPart};
-ghost use Rattle.replay_command.specs.Held.{rows_of};
 
 use crate::show::show_scan;
 use command_answers::put_text;
@@ -19,6 +18,7 @@ use scan_model::{Ending, Relation};
 use scan_replay::{Duo, Side};
 use std::alloc::{AllocError, Global};
 use thiserror::Error;
+use trace_rows::TraceRows;
 
 /// Why a replay stopped before its end.
 #[derive(Debug, Drop, Error)]
@@ -74,18 +74,19 @@ pub fn play<K: Sink>(
     old: &Program,
     new: &Program,
     relation: &Relation,
-    rows: &[Vec<i64>],
+    rows: &TraceRows,
     out: &mut K,
 ) -> Result<Ending, PlayError>
     requires { AreComparable old.now new.now relation.now }
-    ensures whole { IfOk result (λ e. let o = outcome_of (program_view old.now) (program_view new.now) (relation_view relation.now) (rows_of rows.now) in (K.taken out.new ≡ extended (K.taken out.old) o.lines) × (e ≡ o.ending)) }
-    ensures part { OnErr result (PutsPart (K.taken out.old) (K.taken out.new) (outcome_of (program_view old.now) (program_view new.now) (relation_view relation.now) (rows_of rows.now)).lines) }
+    ensures whole { IfOk result (λ e. let o = outcome_of (program_view old.now) (program_view new.now) (relation_view relation.now) rows.now in (K.taken out.new ≡ extended (K.taken out.old) o.lines) × (e ≡ o.ending)) }
+    ensures part { OnErr result (PutsPart (K.taken out.old) (K.taken out.new) (outcome_of (program_view old.now) (program_view new.now) (relation_view relation.now) rows.now).lines) }
     ensures later { K.faults out.old ≤ K.faults out.new }
     ensures cause { result ≡ Err (PlayError.Sink Fault) → Rose (K.faults out.old) (K.faults out.new) }
 {
     let mut duo = Duo::new(alloc, old, new, relation)?;
     let mut line = String::new(alloc);
-    for (done, row) in rows.iter().enumerate() {
+    for done in 0..rows.len() {
+        let row = rows.row(done);
         if !duo.allowed(row) {
             return Ok(Ending::NotAllowed(done + 1));
         }

@@ -1,2 +1,3 @@
 pub mod Lines
 pub mod Reports
+pub use Rattle.comparison_files.specs as comparison_files

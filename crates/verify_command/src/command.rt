@@ -2,17 +2,12 @@
 ghost use Rattle.std.specs.Prelude.{◌≡◌, ◌≢◌, ◌≤◌, ◌⊎◌};
 ghost use Rattle.outside.specs.Causes.{Rose, NoneFell};
 ghost use Rattle.outside.specs.Contents.{OthersStay};
-ghost use Rattle.program_tree.specs.View.{program_view};
-ghost use Rattle.node_core.specs.Scans.{scan_view};
-ghost use Rattle.comparison_files.specs.TypedComparisons.{IsScanOf};
-ghost use Rattle.comparison_files.specs.Readings.{IsRead};
-ghost use Rattle.comparison_files.specs.Limits.{HasFewLines};
-ghost use Rattle.comparison_files.specs.MadeCircuits.{comparison_between};
 ghost use Rattle.command_answers.specs.Answers.{Answers, IsExact};
 ghost use Rattle.comparison_files.specs.Texts.{Texts, AreThreeTold, OneOfThreeRose};
 ghost use Rattle.comparison_files.specs.KeptTexts.{AreKept};
-ghost use Rattle.comparison_files.specs.Accepting.{nodes_of, AreStated};
-ghost use Rattle.comparison_files.specs.Comparing.{comparison_in};
+ghost use Rattle.comparison_files.specs.Accepting.{AreStated};
+ghost use Rattle.comparison_files.specs.Held.{comparison_in};
+ghost use Rattle.comparison_files.specs.Scans.{AreScansOf};
 ghost use Rattle.verify_command.specs.Lines.{IsOfVerdict};
 ghost use Rattle.verify_command.specs.Reports.{saving, HasFailed, IsLeft, VerifyReports, ShowsSaved};
 
@@ -20,37 +15,26 @@ use crate::finding::answer_finding;
 use clause_core::Decider;
 use command_answers::{Status, put_last};
 use comparison_files::{
-    Accepted, Compared, KeptTexts, accept_texts, circuits_of, put_fault, read_texts,
+    Compared, KeptTexts, Scans, StatedTexts, accept_texts, circuits_of, put_fault, read_texts,
 };
 use drop_runs::Runs;
-use node_core::Scan;
 use outside::{OutErr, Shelf, Sink};
-use program_tree::Program;
-use scan_model::Relation;
 use std::alloc::Global;
 
 // Makes the circuits of what is compared, and saves the finding by them.
-fn answer_pair<D: Decider, S: Shelf, K: Sink>(
+fn answer_compared<D: Decider, S: Shelf, K: Sink>(
     alloc: Global,
     decider: &mut D,
-    old: &Program,
-    old_scan: Scan,
-    new: &Program,
-    new_scan: Scan,
-    relation: &Relation,
+    compared: &Compared,
+    scans: Scans,
     finding: &str,
     shelf: &mut S,
     out: &mut K,
 ) -> Status
-    requires read { IsRead (comparison_between old.now new.now relation.now) }
-    requires lines { HasFewLines (comparison_between old.now new.now relation.now) }
-    requires old_nodes { scan_view old_scan ≡ nodes_of (program_view old.now) }
-    requires new_nodes { scan_view new_scan ≡ nodes_of (program_view new.now) }
-    requires old_meaning { IsScanOf (program_view old.now) (scan_view old_scan) }
-    requires new_meaning { IsScanOf (program_view new.now) (scan_view new_scan) }
+    requires { AreScansOf (comparison_in compared.now) scans }
     ensures others { OthersStay (S.file shelf.old) (S.file shelf.new) finding.now }
-    ensures left { (t : Texts) → AreStated t (comparison_between old.now new.now relation.now) → IsLeft t (saving (S.file shelf.old) (S.file shelf.new) (S.write_faults shelf.old) (S.write_faults shelf.new) finding.now) }
-    ensures answer { (t : Texts) → AreStated t (comparison_between old.now new.now relation.now)
+    ensures left { (t : Texts) → AreStated t (comparison_in compared.now) → IsLeft t (saving (S.file shelf.old) (S.file shelf.new) (S.write_faults shelf.old) (S.write_faults shelf.new) finding.now) }
+    ensures answer { (t : Texts) → AreStated t (comparison_in compared.now)
         → Answers (VerifyReports t (saving (S.file shelf.old) (S.file shelf.new) (S.write_faults shelf.old) (S.write_faults shelf.new) finding.now)) ⊥ result (K.taken out.old) (K.taken out.new) }
     ensures usage { result ≢ Status.Usage }
     ensures read_fault { result ≢ Status.ReadFault }
@@ -59,55 +43,15 @@ fn answer_pair<D: Decider, S: Shelf, K: Sink>(
     ensures writes { NoneFell (S.write_faults shelf.old) (S.write_faults shelf.new) }
     ensures faults { K.faults out.old ≤ K.faults out.new }
 {
-    match circuits_of(alloc, old, old_scan, new, new_scan, relation) {
+    match circuits_of(alloc, compared, scans) {
         Ok(circuits) => {
             let mut runs = Runs::new(alloc, circuits.parts(), circuits.product());
             answer_finding(
-                alloc, decider, old, new, relation, &circuits, &mut runs, finding, shelf, out,
+                alloc, decider, compared, &circuits, &mut runs, finding, shelf, out,
             )
         }
         Err(fault) => put_fault(alloc, fault, out),
     }
-}
-
-// The same of what is compared, as it is held.
-fn answer_compared<D: Decider, S: Shelf, K: Sink>(
-    alloc: Global,
-    decider: &mut D,
-    compared: Compared,
-    finding: &str,
-    shelf: &mut S,
-    out: &mut K,
-) -> Status
-    requires read { IsRead (comparison_in compared) }
-    requires lines { HasFewLines (comparison_in compared) }
-    requires old_nodes { scan_view compared.old.scan ≡ nodes_of (program_view compared.old.program) }
-    requires new_nodes { scan_view compared.new.scan ≡ nodes_of (program_view compared.new.program) }
-    requires old_meaning { IsScanOf (program_view compared.old.program) (scan_view compared.old.scan) }
-    requires new_meaning { IsScanOf (program_view compared.new.program) (scan_view compared.new.scan) }
-    ensures others { OthersStay (S.file shelf.old) (S.file shelf.new) finding.now }
-    ensures left { (t : Texts) → AreStated t (comparison_in compared) → IsLeft t (saving (S.file shelf.old) (S.file shelf.new) (S.write_faults shelf.old) (S.write_faults shelf.new) finding.now) }
-    ensures answer { (t : Texts) → AreStated t (comparison_in compared)
-        → Answers (VerifyReports t (saving (S.file shelf.old) (S.file shelf.new) (S.write_faults shelf.old) (S.write_faults shelf.new) finding.now)) ⊥ result (K.taken out.old) (K.taken out.new) }
-    ensures usage { result ≢ Status.Usage }
-    ensures read_fault { result ≢ Status.ReadFault }
-    ensures write_fault { result ≡ Status.WriteFault → HasFailed (saving (S.file shelf.old) (S.file shelf.new) (S.write_faults shelf.old) (S.write_faults shelf.new) finding.now) ⊎ Rose (K.faults out.old) (K.faults out.new) }
-    ensures reads { NoneFell (S.read_faults shelf.old) (S.read_faults shelf.new) }
-    ensures writes { NoneFell (S.write_faults shelf.old) (S.write_faults shelf.new) }
-    ensures faults { K.faults out.old ≤ K.faults out.new }
-{
-    let Compared { old, new, relation } = compared;
-    let Accepted {
-        program: old,
-        scan: old_scan,
-    } = old;
-    let Accepted {
-        program: new,
-        scan: new_scan,
-    } = new;
-    answer_pair(
-        alloc, decider, &old, old_scan, &new, new_scan, &relation, finding, shelf, out,
-    )
 }
 
 // Saves the finding on what kept texts state.
@@ -131,7 +75,10 @@ fn answer_texts<D: Decider, S: Shelf, K: Sink>(
     ensures faults { K.faults out.old ≤ K.faults out.new }
 {
     match accept_texts(alloc, texts) {
-        Ok(compared) => answer_compared(alloc, decider, compared, finding, shelf, out),
+        Ok(stated) => {
+            let StatedTexts { compared, scans } = stated;
+            answer_compared(alloc, decider, &compared, scans, finding, shelf, out)
+        }
         Err(fault) => put_fault(alloc, fault, out),
     }
 }

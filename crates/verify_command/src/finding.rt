@@ -3,12 +3,10 @@ ghost use Rattle.std.specs.Prelude.{◌≡◌, ◌≢◌, ◌≤◌, ◌⊎◌, 
 ghost use Rattle.outside.specs.Causes.{Rose, NoneFell};
 ghost use Rattle.outside.specs.Contents.{OthersStay};
 ghost use Rattle.finding_file.specs.Causes.{IsCausedBy};
-ghost use Rattle.queries.specs.Comparisons.{IsComparison};
 ghost use Rattle.queries.specs.Settings.{setting_of};
-ghost use Rattle.scan_replay.specs.Duos.{AreComparable};
 ghost use Rattle.judgement.specs.Shown.{IsShown};
 ghost use Rattle.finding_search.specs.Passing.{IsFull};
-ghost use Rattle.comparison_files.specs.MadeCircuits.{comparison_between};
+ghost use Rattle.comparison_files.specs.Held.{comparison_in};
 ghost use Rattle.command_answers.specs.Answers.{Answers};
 ghost use Rattle.finding_answers.specs.Lines.{most_bytes};
 ghost use Rattle.verify_command.specs.Reports.{saving, HasFailed, IsSaved, LeavesPart, ReportsVerdict, ReportsSaved};
@@ -16,42 +14,36 @@ ghost use Rattle.verify_command.specs.Reports.{saving, HasFailed, IsSaved, Leave
 use crate::show::{verdict_line, verdict_status};
 use clause_core::Decider;
 use command_answers::{Limit, Source, Status, put_last, put_limit, put_report};
+use comparison_files::Compared;
 use finding_answers::MOST_BYTES;
 use finding_file::{FindingWriter, WriteErr};
 use finding_lines::Conclusion;
 use finding_search::save_finding;
 use invariant_prune::Guesses;
 use outside::{OutErr, Shelf, Sink};
-use pair_trial::Trial;
-use program_tree::Program;
 use queries::Queries;
-use scan_model::Relation;
 use std::alloc::Global;
 
 // Makes the file of the finding, and saves the finding in it.
 fn save<D: Decider, Q: Queries, G: Guesses, S: Shelf>(
     alloc: Global,
     decider: &mut D,
-    old: &Program,
-    new: &Program,
-    relation: &Relation,
+    compared: &Compared,
     queries: &Q,
     guesses: &mut G,
     finding: &str,
     shelf: &mut S,
 ) -> Result<Conclusion, WriteErr>
-    requires compared { Q.compared queries.now ≡ comparison_between old.now new.now relation.now }
-    requires comparable { AreComparable old.now new.now relation.now }
-    requires comparison { IsComparison (comparison_between old.now new.now relation.now) }
-    ensures saved { IfOk result (IsSaved (comparison_between old.now new.now relation.now) (Q.formula queries.now) (saving (S.file shelf.old) (S.file shelf.new) (S.write_faults shelf.old) (S.write_faults shelf.new) finding.now)) }
-    ensures shown { IfOk result (IsShown (comparison_between old.now new.now relation.now) (Q.formula queries.now)) }
-    ensures left { OnErr result (LeavesPart (comparison_between old.now new.now relation.now) (Q.formula queries.now) (saving (S.file shelf.old) (S.file shelf.new) (S.write_faults shelf.old) (S.write_faults shelf.new) finding.now)) }
-    ensures past { result ≡ Err WriteErr.M8 → IsFull (setting_of (comparison_between old.now new.now relation.now)) (Q.formula queries.now) (S.file shelf.new finding.now) most_bytes }
+    requires { Q.compared queries.now ≡ comparison_in compared.now }
+    ensures saved { IfOk result (IsSaved (comparison_in compared.now) (Q.formula queries.now) (saving (S.file shelf.old) (S.file shelf.new) (S.write_faults shelf.old) (S.write_faults shelf.new) finding.now)) }
+    ensures shown { IfOk result (IsShown (comparison_in compared.now) (Q.formula queries.now)) }
+    ensures left { OnErr result (LeavesPart (comparison_in compared.now) (Q.formula queries.now) (saving (S.file shelf.old) (S.file shelf.new) (S.write_faults shelf.old) (S.write_faults shelf.new) finding.now)) }
+    ensures past { result ≡ Err WriteErr.M8 → IsFull (setting_of (comparison_in compared.now)) (Q.formula queries.now) (S.file shelf.new finding.now) most_bytes }
     ensures others { OthersStay (S.file shelf.old) (S.file shelf.new) finding.now }
     ensures cause { IsCausedBy WriteErr.Fault (S.write_faults shelf.old) (S.write_faults shelf.new) finding.now result }
     ensures reads { NoneFell (S.read_faults shelf.old) (S.read_faults shelf.new) }
 {
-    let Ok(mut trial) = Trial::new(alloc, old, new, relation) else {
+    let Ok(mut trial) = compared.trial(alloc) else {
         return Err(WriteErr::Memory);
     };
     let Ok(mut writer) = FindingWriter::new(alloc, finding, MOST_BYTES) else {
@@ -92,21 +84,17 @@ fn put_saved<K: Sink>(alloc: Global, saved: Result<Conclusion, WriteErr>, out: &
 pub fn answer_finding<D: Decider, Q: Queries, G: Guesses, S: Shelf, K: Sink>(
     alloc: Global,
     decider: &mut D,
-    old: &Program,
-    new: &Program,
-    relation: &Relation,
+    compared: &Compared,
     queries: &Q,
     guesses: &mut G,
     finding: &str,
     shelf: &mut S,
     out: &mut K,
 ) -> Status
-    requires compared { Q.compared queries.now ≡ comparison_between old.now new.now relation.now }
-    requires comparable { AreComparable old.now new.now relation.now }
-    requires comparison { IsComparison (comparison_between old.now new.now relation.now) }
+    requires { Q.compared queries.now ≡ comparison_in compared.now }
     ensures others { OthersStay (S.file shelf.old) (S.file shelf.new) finding.now }
-    ensures left { LeavesPart (comparison_between old.now new.now relation.now) (Q.formula queries.now) (saving (S.file shelf.old) (S.file shelf.new) (S.write_faults shelf.old) (S.write_faults shelf.new) finding.now) }
-    ensures answer { Answers (ReportsVerdict (comparison_between old.now new.now relation.now) (Q.formula queries.now) (saving (S.file shelf.old) (S.file shelf.new) (S.write_faults shelf.old) (S.write_faults shelf.new) finding.now)) ⊥ result (K.taken out.old) (K.taken out.new) }
+    ensures left { LeavesPart (comparison_in compared.now) (Q.formula queries.now) (saving (S.file shelf.old) (S.file shelf.new) (S.write_faults shelf.old) (S.write_faults shelf.new) finding.now) }
+    ensures answer { Answers (ReportsVerdict (comparison_in compared.now) (Q.formula queries.now) (saving (S.file shelf.old) (S.file shelf.new) (S.write_faults shelf.old) (S.write_faults shelf.new) finding.now)) ⊥ result (K.taken out.old) (K.taken out.new) }
     ensures usage { result ≢ Status.Usage }
     ensures read_fault { result ≢ Status.ReadFault }
     ensures write_fault { result ≡ Status.WriteFault → HasFailed (saving (S.file shelf.old) (S.file shelf.new) (S.write_faults shelf.old) (S.write_faults shelf.new) finding.now) ⊎ Rose (K.faults out.old) (K.faults out.new) }
@@ -114,8 +102,6 @@ pub fn answer_finding<D: Decider, Q: Queries, G: Guesses, S: Shelf, K: Sink>(
     ensures writes { NoneFell (S.write_faults shelf.old) (S.write_faults shelf.new) }
     ensures faults { K.faults out.old ≤ K.faults out.new }
 {
-    let saved = save(
-        alloc, decider, old, new, relation, queries, guesses, finding, shelf,
-    );
+    let saved = save(alloc, decider, compared, queries, guesses, finding, shelf);
     put_saved(alloc, saved, out)
 }

@@ -7,5 +7,8 @@ mod laws;
 mod show;
 
 pub use command::answer_verify;
+pub use comparison_files::{
+    Compared, KeptTexts, Scans, StatedTexts, accept_texts, circuits_of, put_fault,
+};
 pub use finding::answer_finding;
 pub use laws::{one_limit, one_refusal};

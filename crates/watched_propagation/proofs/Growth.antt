@@ -94,11 +94,11 @@ take_loose clauses pairs lists t loose front rest k is left n h = record {
     same : rest ≡ front
     same = left ∙ ap (take (length loose - 1)) is ∙ take_at front (k ∷ []) (length loose - 1) (let e = size in omega arith)
 
--- where all is to be propagated again, anything may be watched
-pub watchable_rewound : (t : TrailState) (one w : ℕ) → t.starts ≡ [] → t.head ≡ 0 → IsWatchable t one w
-watchable_rewound t one w starts head = record {
+-- where no decision stands, what is not false may be watched, and anything beside a literal that is true
+pub watchable_bottom : (t : TrailState) (one w : ℕ) → t.starts ≡ [] → (Contains t.literals (negated w) → Contains t.literals one) → IsWatchable t one w
+watchable_bottom t one w starts f = record {
   levels = λ j l m. let e : length t.starts ≡ 0 = ap length starts in absurd (omega arith);
-  front = λ m. let none : Contains [] (negated w) = subst (λ n. Contains (take n t.literals) (negated w)) head m in let lt = none.1 in absurd (omega arith);
+  front = λ m. f (Contains-take t.head t.literals (negated w) m);
 }
 
 -- what a learned clause may watch once its first literal is true

@@ -1,5 +1,5 @@
 -- Nothing is left to propagate: how this goes on when the trail, the clauses or the pairs change.
-use Rattle.std.proofs.Common.{◌≡◌, ◌≢◌, ◌⊎◌, ℕ, zero, suc, ◌<◌, ◌≤◌, ◌+◌, ◌-◌, ◌*◌, ◌/◌, ◌%◌, eqb, List, [], ◌∷◌, ◌++◌, length, get_or, set, take, drop, Some, refl, sym, ◌∙◌, ap, subst, inl, inr, ⊎_elim, arith}
+use Rattle.std.proofs.Common.{◌≡◌, ◌≢◌, ◌⊎◌, ℕ, zero, suc, ◌<◌, ◌≤◌, ◌+◌, ◌-◌, ◌*◌, ◌/◌, ◌%◌, eqb, false, List, [], ◌∷◌, ◌++◌, length, get_or, set, take, drop, Some, refl, sym, ◌∙◌, ap, subst, inl, inr, ⊎_elim, arith}
 use Rattle.std.specs.List.{Contains, slice_get, swap_remove}
 use Rattle.std.proofs.lemmas.Bool.{cases_lt}
 use Rattle.std.proofs.lemmas.Option.{get_or_from_slice_get, slice_get_within}
@@ -24,9 +24,6 @@ Contains-take n xs x m = subst (λ z. Contains z x) (take-append-drop n xs) (Con
 
 pub Meets-more : (c xs ys : List ℕ) → Meets c xs → Meets c (xs ++ ys)
 Meets-more c xs ys m = record { literal = m.literal; inside = m.inside; among = Contains-append_left xs ys m.literal m.among }
-
-pub IsSettled-nil : (clauses : List (List ℕ)) (pairs : List Pair) (others : List ℕ) → IsSettled clauses pairs [] others
-IsSettled-nil clauses pairs others = record { meets = λ k w i m. let lt = m.1 in absurd (omega arith) }
 
 pub IsSettled-more : (clauses : List (List ℕ)) (pairs : List Pair) (first xs ys : List ℕ) → IsSettled clauses pairs first xs → IsSettled clauses pairs first (xs ++ ys)
 IsSettled-more clauses pairs first xs ys h = record { meets = λ k w i m. Meets-more (clause_in clauses k) xs ys (h.meets k w i m) }
@@ -123,23 +120,14 @@ IsWatching-back clauses pairs lists t s level lt b r h = record {
     front_same : take s.head s.literals ≡ below_level t level
     front_same = ap (λ i. take i s.literals) b.head ∙ ap (take (get_or t.starts level 0)) b.literals ∙ take-take (get_or t.starts level 0) (get_or t.starts level 0) t.literals (omega arith)
 
--- all is to be propagated again
-pub IsWatching-rewound : (clauses : List (List ℕ)) (pairs : List Pair) (lists : List (List Watch)) (t s : TrailState) → s ≡ with_head t 0 → IsWatching clauses pairs lists t → IsWatching clauses pairs lists s
-IsWatching-rewound clauses pairs lists t s e h = subst (IsWatching clauses pairs lists) (sym e) (record {
-  listing = h.listing;
-  levels = h.levels;
-  front = IsSettled-nil clauses pairs t.literals;
-  size = h.size;
-})
-
 -- a watch moves from a false literal to one that is not
-pub IsWatching-moved : (clauses : List (List ℕ)) (pairs : List Pair) (lists : List (List Watch)) (t : TrailState) (k f o x : ℕ) → IsOther (pair_in pairs k) f o → IsReplacement (clause_in clauses k) t.literals o (length lists) x → IsWatching clauses pairs lists t → IsWatching clauses (set pairs k (record { first = x; second = o })) (pushed lists x (record { clause = k; blocker = o })) t
+pub IsWatching-moved : (clauses : List (List ℕ)) (pairs : List Pair) (lists : List (List Watch)) (t : TrailState) (k f o x : ℕ) → IsOther (pair_in pairs k) f o → IsReplacement (clause_in clauses k) t.literals o (length lists) x → IsWatching clauses pairs lists t → IsWatching clauses (set pairs k (record { first = x; second = o })) (pushed lists x (watched k o false)) t
 IsWatching-moved clauses pairs lists t k f o x p q h = record {
-  listing = IsListing-pair clauses pairs (pushed lists x (watched k o)) k (paired x o) (λ w i. elim i.one [ inl e ↦ subst (λ z. Contains (clause_in clauses k) z × IsListed (list_in (pushed lists x (watched k o)) z) 0 k) e (q.inside, IsListed-new lists x (watched k o) q.within) | inr e ↦ subst (λ z. Contains (clause_in clauses k) z × IsListed (list_in (pushed lists x (watched k o)) z) 0 k) e (h.listing.inside k o p.other, IsListed-pushed lists x (watched k o) o k (h.listing.listed k o p.other)) ])
-      (IsListing-pushed clauses pairs lists x (watched k o) (h.listing.inside k o p.other) h.listing);
+  listing = IsListing-pair clauses pairs (pushed lists x (watched k o false)) k (paired x o) (λ w i. elim i.one [ inl e ↦ subst (λ z. Contains (clause_in clauses k) z × IsListed (list_in (pushed lists x (watched k o false)) z) 0 k) e (q.inside, IsListed-new lists x (watched k o false) q.within) | inr e ↦ subst (λ z. Contains (clause_in clauses k) z × IsListed (list_in (pushed lists x (watched k o false)) z) 0 k) e (h.listing.inside k o p.other, IsListed-pushed lists x (watched k o false) o k (h.listing.listed k o p.other)) ])
+      (IsListing-pushed clauses pairs lists x (watched k o false) (h.listing.inside k o p.other) h.listing);
   levels = λ j l. IsSettled-pair clauses pairs (below_level t j) (below_level t j) k (paired x o) (λ w i m. settled (below_level t j) (below_level t j) (h.levels j l) (λ c n. Contains-take (get_or t.starts j 0) t.literals c n) w i m) (h.levels j l);
   front = IsSettled-pair clauses pairs (take t.head t.literals) t.literals k (paired x o) (λ w i m. settled (take t.head t.literals) t.literals h.front (λ c n. Contains-take t.head t.literals c n) w i m) h.front;
-  size = length-set lists x (list_in lists x ++ watched k o ∷ []) ∙ h.size;
+  size = length-set lists x (list_in lists x ++ watched k o false ∷ []) ∙ h.size;
 }
   where
     settled : (first others : List ℕ) → IsSettled clauses pairs first others → ((c : ℕ) → Contains first c → Contains t.literals c) → (w : ℕ) → IsWatch (paired x o) w → Contains first (negated w) → Meets (clause_in clauses k) others

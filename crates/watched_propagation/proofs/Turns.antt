@@ -11,7 +11,7 @@ use Rattle.watched_propagation.specs.Watching.{no_watch, clause_in, pair_in, lis
 use Rattle.propagation_trail.specs.Codes.{negated}
 use Rattle.watched_propagation.specs.Visits.{IsCovered, IsVisited, IsVisiting, IsVisitedUnless}
 use Rattle.propagation_trail.proofs.Tables.{cases_eq}
-use Rattle.watched_propagation.proofs.Lists.{IsListed-set, IsListed-remove, length-remove}
+use Rattle.watched_propagation.proofs.Lists.{watched, IsListed-set, IsListed-remove, length-remove}
 use Rattle.watched_propagation.proofs.Settling.{Meets-more, Contains-grown, IsWatching-set, IsWatching-remove}
 
 pub IsCovered-start : (clauses : List (List ℕ)) (pairs : List Pair) (lists : List (List Watch)) (literals : List ℕ) (f : ℕ) → IsListing clauses pairs lists → IsCovered clauses pairs literals (list_in lists f) f 0
@@ -53,13 +53,13 @@ IsCovered-removed clauses pairs others t s list f place g lt same n h = record {
       (h.each k (subst (λ z. IsWatch z f) (same k ne) i));
 }
 
-pub IsCovered-kept : (clauses : List (List ℕ)) (pairs others : List Pair) (t s : TrailState) (list : List Watch) (f place b : ℕ) → Grown t s → place < length list → ((k : ℕ) → (k ≡ (watch_in list place).clause → ⊥) → pair_in others k ≡ pair_in pairs k) → Contains (clause_in clauses (watch_in list place).clause) b → Contains s.literals b → IsCovered clauses pairs t.literals list f place → IsCovered clauses others s.literals (set list place (record { clause = (watch_in list place).clause; blocker = b })) f (place + 1)
-IsCovered-kept clauses pairs others t s list f place b g lt same inside among h = record {
+pub IsCovered-kept : (clauses : List (List ℕ)) (pairs others : List Pair) (t s : TrailState) (list : List Watch) (f place b : ℕ) (short : Bool) → Grown t s → place < length list → ((k : ℕ) → (k ≡ (watch_in list place).clause → ⊥) → pair_in others k ≡ pair_in pairs k) → Contains (clause_in clauses (watch_in list place).clause) b → Contains s.literals b → IsCovered clauses pairs t.literals list f place → IsCovered clauses others s.literals (set list place (watched (watch_in list place).clause b short)) f (place + 1)
+IsCovered-kept clauses pairs others t s list f place b short g lt same inside among h = record {
   each = λ k i. ⊎_elim
       (λ e. inl (record { literal = b; inside = subst (λ z. Contains (clause_in clauses z) b) (sym e) inside; among = among }))
       (λ ne. ⊎_elim
       (λ m. inl (meets clauses k t s g m))
-      (λ l. inr (IsListed-set list place (place + 1) k (record { clause = (watch_in list place).clause; blocker = b }) refl (later list place (place + 1) k l (next k ne l))))
+      (λ l. inr (IsListed-set list place (place + 1) k (watched (watch_in list place).clause b short) refl (later list place (place + 1) k l (next k ne l))))
       (h.each k (subst (λ z. IsWatch z f) (same k ne) i)))
       (cases_eq k (watch_in list place).clause);
 }
@@ -103,9 +103,9 @@ visiting_removed clauses pairs others lists next t s f start place h n =
       omega arith,
     )
 
-pub visiting_kept : (clauses : List (List ℕ)) (pairs others : List Pair) (lists next : List (List Watch)) (t s : TrailState) (f start place k b : ℕ) → Turned clauses pairs others lists next t s f start place → k ≡ (watch_in (list_in lists f) place).clause → Contains (clause_in clauses k) b → Contains s.literals b → IsVisiting clauses others (set next f (set (list_in next f) place (record { clause = k; blocker = b }))) s f (place + 1) × (length (list_in (set next f (set (list_in next f) place (record { clause = k; blocker = b }))) f) - (place + 1) < length (list_in lists f) - start)
-visiting_kept clauses pairs others lists next t s f start place k b h is inside_clause among =
-    let e : Watch = record { clause = k; blocker = b } in
+pub visiting_kept : (clauses : List (List ℕ)) (pairs others : List Pair) (lists next : List (List Watch)) (t s : TrailState) (f start place k b : ℕ) (short : Bool) → Turned clauses pairs others lists next t s f start place → k ≡ (watch_in (list_in lists f) place).clause → Contains (clause_in clauses k) b → Contains s.literals b → IsVisiting clauses others (set next f (set (list_in next f) place (watched k b short))) s f (place + 1) × (length (list_in (set next f (set (list_in next f) place (watched k b short))) f) - (place + 1) < length (list_in lists f) - start)
+visiting_kept clauses pairs others lists next t s f start place k b short h is inside_clause among =
+    let e : Watch = watched k b short in
     let new = set (list_in next f) place e in
     let here : list_in (set next f new) f ≡ set (list_in lists f) place e = get_or-set_same next f new [] h.inside ∙ ap (λ z. set z place e) h.list in
     let size = length-set (list_in lists f) place e in
@@ -114,12 +114,12 @@ visiting_kept clauses pairs others lists next t s f start place k b h is inside_
     let lt = h.within in
     let le = h.passed in
     let inside = h.inside in
-    let kept = IsCovered-kept clauses pairs others t s (list_in lists f) f place b h.grown h.within h.same (subst (λ z. Contains (clause_in clauses z) b) is inside_clause) among h.covered in (
+    let kept = IsCovered-kept clauses pairs others t s (list_in lists f) f place b short h.grown h.within h.same (subst (λ z. Contains (clause_in clauses z) b) is inside_clause) among h.covered in (
       record {
         watching = IsWatching-set clauses others next s f place e (is ∙ ap (λ z. (watch_in z place).clause) (sym h.list)) inside_clause h.watching;
         within = omega arith;
         falsified = Contains-grown t s (negated f) h.grown h.falsified;
-        covered = subst (λ z. IsCovered clauses others s.literals z f (place + 1)) (sym here) (subst (λ z. IsCovered clauses others s.literals (set (list_in lists f) place (record { clause = z; blocker = b })) f (place + 1)) (sym is) kept);
+        covered = subst (λ z. IsCovered clauses others s.literals z f (place + 1)) (sym here) (subst (λ z. IsCovered clauses others s.literals (set (list_in lists f) place (watched z b short)) f (place + 1)) (sym is) kept);
       },
       omega arith,
     )

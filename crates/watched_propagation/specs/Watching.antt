@@ -1,5 +1,5 @@
 -- Clauses that watch two of their literals.
-use Rattle.std.specs.Prelude.{◌≡◌, ◌≢◌, ◌⊎◌, ℕ, ◌*◌, ◌<◌, ◌≤◌, List, [], length, take, slice_index_or, Contains}
+use Rattle.std.specs.Prelude.{◌≡◌, ◌≢◌, ◌⊎◌, ℕ, ◌*◌, ◌<◌, ◌≤◌, List, [], length, take, slice_index_or, Contains, false}
 use Rattle.watched_propagation.specs.declared.watch.Pair.{Pair}
 use Rattle.watched_propagation.specs.declared.watch.Watch.{Watch}
 use Rattle.propagation_trail.specs.Codes.{negated}
@@ -9,7 +9,7 @@ abbrev pub no_pair : Pair
 no_pair = record { first = 0; second = 0 }
 
 abbrev pub no_watch : Watch
-no_watch = record { clause = 0; blocker = 0 }
+no_watch = record { clause = 0; blocker = 0; is_short = false }
 
 -- the clause of a number, its pair of watched literals, and the watches of a literal
 abbrev pub clause_in : List (List ℕ) → ℕ → List ℕ

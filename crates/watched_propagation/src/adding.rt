@@ -4,15 +4,15 @@ ghost use Rattle.std.specs.Prelude.{◌≡◌, ℕ, ◌<◌, ◌≤◌, ◌++◌
 ghost use Rattle.clause_core.specs.Clauses.{rank};
 ghost use Rattle.watched_propagation.specs.declared.watch.Watch.{Watch};
 ghost use Rattle.propagation_trail.specs.Trails.{TrailState, assigned};
-ghost use Rattle.watched_propagation.specs.Watching.{KeepsWatching};
 ghost use Rattle.watched_propagation.specs.Propagations.{AreSmall, IsLearnable, IsPropagator, IsWatchable};
 
 use crate::arena::Arena;
 use crate::attach::watch_both;
-use crate::levels::{assume, go_back, is_open, rewind};
+use crate::levels::{assume, go_back, is_open};
+use crate::visit::find_other;
 use crate::watch::{Pair, WatchList};
 use clause_core::Lit;
-use propagation_trail::{ClauseRef, Trail, low, negated, read};
+use propagation_trail::{ClauseRef, Code, Trail, low, negated};
 use std::alloc::AllocError;
 
 /// Adds a clause that watches nothing; its place.
@@ -61,19 +61,43 @@ fn watch_last(
     Ok(())
 }
 
-/// Makes the only literal of a clause true, unless it is; whether it is false.
-fn assert_unit(trail: &mut Trail, code: u32, place: usize) -> Result<bool, AllocError>
-    ensures kept { KeepsWatching trail.old trail.new }
-    ensures size { length trail.new.values ≡ length trail.old.values }
-{
-    if trail.is_true(code) {
-        return Ok(false);
+/// A literal of a clause beside this one; this one where there is none.
+fn literal_beside(codes: &[u32], one: u32) -> u32 {
+    for code in codes {
+        if *code != one {
+            return *code;
+        }
     }
-    let was_open = assume(trail, code, ClauseRef::at(low(place)))?;
-    Ok(!was_open)
+    one
 }
 
-/// Adds a clause where all decisions are taken back; whether it is false by itself, and its place.
+/// Makes the only literal of the last clause that is not false true, and lets the clause watch it beside another
+/// literal, where there is one.
+fn assert_last(
+    arena: &Arena,
+    pairs: &mut Vec<Pair>,
+    lists: &mut [WatchList],
+    trail: &mut Trail,
+    loose: &mut Vec<usize>,
+    place: usize,
+    one: u32,
+) -> Result<(), AllocError>
+    requires propagator { IsPropagator arena.now pairs.old.items lists.old trail.old loose.old.items }
+    requires paired { place < length pairs.old.items }
+    requires last { (front : List ℕ) × (loose.old.items ≡ front ++ place ∷ []) }
+    requires bottom { trail.old.starts ≡ [] }
+    ensures propagator { IsPropagator arena.now pairs.new.items lists.new trail.new loose.new.items }
+    ensures size { length trail.new.values ≡ length trail.old.values }
+{
+    let _ = assume(trail, one, ClauseRef::at(low(place)))?;
+    if !trail.is_true(one) {
+        return Ok(());
+    }
+    let other = literal_beside(arena.codes(place), one);
+    watch_last(arena, pairs, lists, trail, loose, place, one, other)
+}
+
+/// Adds a clause where all decisions are taken back; its place where all its literals are false.
 pub(crate) fn add_given(
     arena: &mut Arena,
     pairs: &mut Vec<Pair>,
@@ -89,18 +113,18 @@ pub(crate) fn add_given(
     ensures size { length trail.new.values ≡ length trail.old.values }
 {
     let place = store(arena, pairs, loose, literals)?;
-    rewind(trail);
-    let one = read(arena.codes(place), 0, 0);
-    let other = read(arena.codes(place), 1, 0);
-    if literals.len() >= 2 {
+    go_back(trail, 0);
+    let codes = arena.codes(place);
+    let limit = lists.len();
+    let Some(one) = find_other(codes, trail, Code::NONE.number, limit) else {
+        return Ok(Some(place));
+    };
+    if let Some(other) = find_other(codes, trail, one, limit) {
         watch_last(arena, pairs, lists, trail, loose, place, one, other)?;
         return Ok(None);
     }
-    if literals.is_empty() {
-        return Ok(Some(place));
-    }
-    let is_false = assert_unit(trail, one, place)?;
-    if is_false { Ok(Some(place)) } else { Ok(None) }
+    assert_last(arena, pairs, lists, trail, loose, place, one)?;
+    Ok(None)
 }
 
 /// Whether a clause may watch these two at the present level, once the first is made true.
@@ -136,28 +160,6 @@ fn add_watched(
     watch_last(arena, pairs, lists, trail, loose, place, one, other)
 }
 
-/// Adds a clause of one literal, which is true from now on.
-fn add_unit(
-    arena: &mut Arena,
-    pairs: &mut Vec<Pair>,
-    lists: &mut [WatchList],
-    trail: &mut Trail,
-    loose: &mut Vec<usize>,
-    literals: &[Lit],
-    one: u32,
-) -> Result<(), AllocError>
-    requires propagator { IsPropagator arena.old pairs.old.items lists.old trail.old loose.old.items }
-    requires small { AreSmall literals.now }
-    ensures propagator { IsPropagator arena.new pairs.new.items lists.new trail.new loose.new.items }
-    ensures clauses { OnOk result (arena.new ≡ arena.old ++ map rank literals.now ∷ []) }
-    ensures size { length trail.new.values ≡ length trail.old.values }
-{
-    let place = store(arena, pairs, loose, literals)?;
-    go_back(trail, 0);
-    let _ = assert_unit(trail, one, place)?;
-    Ok(())
-}
-
 /// Adds a learned clause.
 pub(crate) fn add_learned(
     arena: &mut Arena,
@@ -175,9 +177,6 @@ pub(crate) fn add_learned(
     ensures clauses { OnOk result (arena.new ≡ arena.old ++ map rank literals.now ∷ []) }
     ensures size { length trail.new.values ≡ length trail.old.values }
 {
-    if literals.len() == 1 {
-        return add_unit(arena, pairs, lists, trail, loose, literals, one);
-    }
     if literals.len() >= 2 && may_learn(trail, one, other) {
         return add_watched(arena, pairs, lists, trail, loose, literals, one, other);
     }

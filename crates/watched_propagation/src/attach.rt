@@ -58,9 +58,11 @@ pub(crate) fn watch_both(
     if clause >= 0x1_0000_0000 {
         return Ok(false);
     }
-    if !may_watch(arena.codes(clause), one, other, limit) {
+    let codes = arena.codes(clause);
+    if !may_watch(codes, one, other, limit) {
         return Ok(false);
     }
+    let is_short = codes.len() == 2;
     let number = clause as u32;
     push_watch(
         lists,
@@ -68,6 +70,7 @@ pub(crate) fn watch_both(
         Watch {
             clause: number,
             blocker: other,
+            is_short,
         },
     )?;
     push_watch(
@@ -76,6 +79,7 @@ pub(crate) fn watch_both(
         Watch {
             clause: number,
             blocker: one,
+            is_short,
         },
     )?;
     write(

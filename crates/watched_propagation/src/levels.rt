@@ -3,7 +3,7 @@
 ghost use Rattle.std.specs.Prelude.{◌≡◌, ◌<◌, ◌*◌, [], length, Contains, IsTrue, IfOk};
 ghost use Rattle.clause_core.specs.declared.truth.Truth.{Truth};
 ghost use Rattle.propagation_trail.specs.Codes.{negated, truth};
-ghost use Rattle.propagation_trail.specs.Trails.{assigned};
+ghost use Rattle.propagation_trail.specs.Trails.{Grown, assigned};
 ghost use Rattle.watched_propagation.specs.Watching.{KeepsWatching};
 
 use clause_core::Truth;
@@ -21,18 +21,8 @@ pub(crate) fn go_back(trail: &mut Trail, level: usize)
     }
 }
 
-/// Takes back all decisions; what is true is to be propagated again.
-pub(crate) fn rewind(trail: &mut Trail)
-    ensures kept { KeepsWatching trail.old trail.new }
-    ensures size { length trail.new.values ≡ length trail.old.values }
-    ensures none { trail.new.starts ≡ [] }
-    ensures head { trail.new.head ≡ 0 }
-{
-    go_back(trail, 0);
-    trail.rewind();
-}
-
 /// Whether a literal is one of the variables' and has no value.
+#[inline(always)]
 pub(crate) fn is_open(trail: &Trail, code: u32) -> bool
     ensures within { IsTrue result → code < 2 * length trail.now.values }
     ensures open { IsTrue result → truth trail.now.values code ≡ Truth.Open }
@@ -42,8 +32,10 @@ pub(crate) fn is_open(trail: &Trail, code: u32) -> bool
 }
 
 /// Makes a literal true, where it has no value; whether it had none.
+#[inline(always)]
 pub(crate) fn assume(trail: &mut Trail, code: u32, reason: ClauseRef) -> Result<bool, AllocError>
     ensures kept { KeepsWatching trail.old trail.new }
+    ensures grown { Grown trail.old trail.new }
     ensures size { length trail.new.values ≡ length trail.old.values }
     ensures assigned { IfOk result (λ b. IsTrue b → trail.new ≡ assigned trail.old code) }
 {

@@ -26,7 +26,8 @@ pub struct Propagator {
     pairs: Vec<Pair>,
     lists: Vec<WatchList>,
     trail: Trail,
-    /// The places of the clauses that watch nothing: those of one literal, and what could not be watched.
+    /// The places of the clauses that watch nothing: those of one literal, those that were false when they
+    /// came, and what could not be watched.
     loose: Vec<usize>,
 }
 
@@ -57,8 +58,9 @@ impl Propagator {
         })
     }
 
-    /// Adds a clause that is given, and takes all decisions back. The answer is the clause where it is
-    /// false by itself; of others the next propagation tells, which begins with the first literal.
+    /// Adds a clause that is given, and takes all decisions back. The answer is the clause where all its literals are
+    /// false. Where all but one are, that one is made true; else the clause watches two that are not false. In no
+    /// case is anything propagated again.
     pub fn add_given(&mut self, literals: &[Lit]) -> Result<Option<ClauseRef>, AllocError>
         requires { VariablesBelow (length self.old.values) literals.now }
         ensures held { OnOk result (self.new.held ≡ self.old.held ++ literals.now ∷ []) }
@@ -79,8 +81,8 @@ impl Propagator {
     }
 
     /// Adds a learned clause, and makes its literal `one` true, which is open; `other` is one of the
-    /// highest level among its other literals, which are false. A clause of one literal takes all
-    /// decisions back. Where it is not as said here it is added as a given one.
+    /// highest level among its other literals, which are false. A clause of one literal, and one that is not as
+    /// said here, is added as a given one.
     pub fn add_learned(
         &mut self,
         literals: &[Lit],

@@ -7,6 +7,7 @@ ghost use Rattle.watched_propagation.specs.Watching.{clause_in, pair_in, list_in
 ghost use Rattle.watched_propagation.specs.Visits.{IsOther, IsReplacement, IsSettledAs, IsVisiting, IsVisited, IsVisitedAs, IsVisitedUnless};
 
 use crate::arena::Arena;
+use crate::levels::assume;
 use crate::watch::{Pair, Watch, WatchList, other_watched, push_watch, remove_watch, set_watch};
 use propagation_trail::{ClauseRef, Trail, negated, read, write};
 use std::alloc::AllocError;
@@ -49,9 +50,9 @@ fn next_place(trail: &Trail, list: &[Watch], start: usize) -> usize
     place
 }
 
-/// A literal that is not false and is not the other watched one.
+/// A literal that is not false and is not this other one.
 #[inline(always)]
-fn find_other(codes: &[u32], trail: &Trail, other: u32, limit: usize) -> Option<u32>
+pub(crate) fn find_other(codes: &[u32], trail: &Trail, other: u32, limit: usize) -> Option<u32>
     ensures { IfSome result (IsReplacement codes.now trail.now.literals other limit) }
 {
     for code in codes {
@@ -87,6 +88,7 @@ fn move_watch(
     let watch = Watch {
         clause,
         blocker: other,
+        is_short: false,
     };
     push_watch(lists, code, watch)?;
     let pair = Pair {
@@ -135,6 +137,36 @@ fn settle(
     Ok(Settled::Satisfied(other))
 }
 
+/// Settles the clause of a watch, without a look at it where it has no literals but two.
+#[inline(always)]
+fn settle_watch(
+    arena: &Arena,
+    pairs: &mut [Pair],
+    lists: &mut [WatchList],
+    trail: &mut Trail,
+    falsified: u32,
+    watch: Watch,
+) -> Result<Settled, AllocError>
+    requires watching { IsWatching arena.now pairs.old lists.old trail.old }
+    requires falsified { Contains trail.old.literals (negated falsified) }
+    requires blocker { Contains (clause_in arena.now watch.clause) watch.blocker }
+    ensures watching { IsWatching arena.now pairs.new lists.new trail.new }
+    ensures grown { Grown trail.old trail.new }
+    ensures kept { KeepsWatched pairs.old pairs.new }
+    ensures others { (k : ℕ) → (k ≡ watch.clause → ⊥) → pair_in pairs.new k ≡ pair_in pairs.old k }
+    ensures same { list_in lists.new falsified ≡ list_in lists.old falsified }
+    ensures settled { IfOk result (IsSettledAs arena.now pairs.new trail.new.literals falsified watch.clause) }
+{
+    if !watch.is_short {
+        return settle(arena, pairs, lists, trail, falsified, watch.clause);
+    }
+    if assume(trail, watch.blocker, ClauseRef::at(watch.clause))? {
+        Ok(Settled::Satisfied(watch.blocker))
+    } else {
+        Ok(Settled::Conflict)
+    }
+}
+
 /// Goes on with a visit from a place of the list.
 #[inline(always)]
 fn visit_at(
@@ -156,18 +188,23 @@ fn visit_at(
     if place >= list.len() {
         return Ok(Visited::Done);
     }
-    let clause = list[place].clause;
-    let settled = settle(arena, pairs, lists, trail, falsified, clause)?;
+    let watch = list[place];
+    let settled = settle_watch(arena, pairs, lists, trail, falsified, watch)?;
     match settled {
         Settled::Moved => {
             remove_watch(lists, falsified, place);
             Ok(Visited::Next(place))
         }
         Settled::Satisfied(blocker) => {
-            set_watch(lists, falsified, place, Watch { clause, blocker });
+            let next = Watch {
+                clause: watch.clause,
+                blocker,
+                is_short: watch.is_short,
+            };
+            set_watch(lists, falsified, place, next);
             Ok(Visited::Next(place + 1))
         }
-        Settled::Conflict => Ok(Visited::Falsified(clause)),
+        Settled::Conflict => Ok(Visited::Falsified(watch.clause)),
     }
 }
 

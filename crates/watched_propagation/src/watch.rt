@@ -29,6 +29,8 @@ impl Pair {
 pub(crate) struct Watch {
     pub clause: u32,
     pub blocker: u32,
+    /// Whether the clause has no literals but these two: then it need not be looked at in any case.
+    pub is_short: bool,
 }
 
 /// The watches of a literal. Contracts see the list of them.

@@ -1,6 +1,6 @@
 use Rattle.std.proofs.Common.{refl}
 use Rattle.command_answers.proofs.AnswerLemmas.{answers-wider}
-use Rattle.comparison_files.specs.Refusals.{ReportsRefusal}
+use Rattle.verify_command.specs.comparison_files.Refusals.{ReportsRefusal}
 use Rattle.generated_texts.specs.Names.{finding_name}
 use Rattle.verify_command.specs.Reports.{saving}
 use Rattle.gen_command.specs.Made.{texts_of}

@@ -1,6 +1,6 @@
 use Rattle.std.proofs.Common.{Err, inl, refl, ap}
 use Rattle.command_answers.proofs.AnswerLemmas.{answers-wider}
-use Rattle.comparison_files.specs.MadeCircuits.{comparison_between}
+use Rattle.verify_command.specs.comparison_files.Held.{comparison_in}
 use Rattle.generated_texts.specs.Names.{finding_name}
 use Rattle.verify_command.specs.Reports.{saving, untouched}
 use Rattle.verify_command.proofs.Saved.{write_fault_answered}
@@ -24,12 +24,12 @@ pub returns-in-Ok-clause-left : goal.returns-in-Ok-clause-left
 returns-in-Ok-clause-left g c =
     part_since c.args.count (g.S.Shelf.file c.args.shelf.now) (g.S.Shelf.file c.save_texts.new.shelf) (g.S.Shelf.file c.answer_saved.new.shelf)
     (g.S.Shelf.write_faults c.args.shelf.now) (g.S.Shelf.write_faults c.save_texts.new.shelf) (g.S.Shelf.write_faults c.answer_saved.new.shelf)
-    (comparison_between c.args.old.now c.args.new.now c.args.relation.now) (g.Q.Queries.formula c.args.queries.now)
+    (comparison_in c.args.compared.now) (g.Q.Queries.formula c.args.queries.now)
     c.in-Ok.ensures.others (rw (c.as_str-finding.ensures.value, c.requires.made.names.finding) at c.answer_saved.ensures.left)
 
 pub returns-in-Ok-clause-answer : goal.returns-in-Ok-clause-answer
 returns-in-Ok-clause-answer g c =
-    let compared = comparison_between c.args.old.now c.args.new.now c.args.relation.now in
+    let compared = comparison_in c.args.compared.now in
     let formula = g.Q.Queries.formula c.args.queries.now in
     let first = g.S.Shelf.file c.args.shelf.now in
     let before = g.S.Shelf.file c.save_texts.new.shelf in
@@ -51,7 +51,7 @@ returns-in-Ok-clause-write_fault g c = λ e.
 
 pub returns-in-Err-Fault-clause-answer : goal.returns-in-Err-Fault-clause-answer
 returns-in-Err-Fault-clause-answer g c =
-    let compared = comparison_between c.args.old.now c.args.new.now c.args.relation.now in
+    let compared = comparison_in c.args.compared.now in
     let formula = g.Q.Queries.formula c.args.queries.now in
     let s = saving (g.S.Shelf.file c.args.shelf.now) (g.S.Shelf.file c.save_texts.new.shelf) (g.S.Shelf.write_faults c.args.shelf.now) (g.S.Shelf.write_faults c.save_texts.new.shelf) (finding_name c.args.count) in
     write_fault_answered (ReportsAccepted c.args.count compared formula s) ⊥ c.put_last.result _ _

@@ -1,5 +1,5 @@
 use Rattle.std.proofs.Common.{refl}
-use Rattle.comparison_files.specs.MadeCircuits.{comparison_between}
+use Rattle.verify_command.specs.comparison_files.Held.{comparison_in}
 use Rattle.verify_command.specs.Reports.{saving, ReportsVerdict}
 use Rattle.gen_command.specs.Lines.{made_line}
 use Rattle.gen_command.specs.Reports.{ReportsBehind, verified, no_memory}
@@ -8,7 +8,7 @@ use Rattle.gen_command.proofs.saved.answer_behind.Goals as goal
 
 pub returns-in-Ok-clause-answer : goal.returns-in-Ok-clause-answer
 returns-in-Ok-clause-answer g c =
-    let compared = comparison_between c.args.old.now c.args.new.now c.args.relation.now in
+    let compared = comparison_in c.args.compared.now in
     let formula = g.Q.Queries.formula c.args.queries.now in
     let s = saving (g.S.Shelf.file c.args.shelf.now) (g.S.Shelf.file c.answer_finding.new.shelf) (g.S.Shelf.write_faults c.args.shelf.now) (g.S.Shelf.write_faults c.answer_finding.new.shelf) c.args.finding.now in
     answers_behind (made_line c.args.count compared) (g.K.Sink.taken c.args.out.now) (g.K.Sink.taken c.put_text.new.out) (g.K.Sink.taken c.answer_finding.new.out)
@@ -17,7 +17,7 @@ returns-in-Ok-clause-answer g c =
 
 pub returns-in-Err-Fault-clause-answer : goal.returns-in-Err-Fault-clause-answer
 returns-in-Err-Fault-clause-answer g c =
-    let compared = comparison_between c.args.old.now c.args.new.now c.args.relation.now in
+    let compared = comparison_in c.args.compared.now in
     let formula = g.Q.Queries.formula c.args.queries.now in
     let s = saving (g.S.Shelf.file c.args.shelf.now) (g.S.Shelf.file c.args.shelf.now) (g.S.Shelf.write_faults c.args.shelf.now) (g.S.Shelf.write_faults c.args.shelf.now) c.args.finding.now in
     line_given_up (made_line c.args.count compared) (ReportsBehind c.args.count compared formula s) (g.K.Sink.taken c.args.out.now) (g.K.Sink.taken c.put_text.new.out) (no_memory refl)
@@ -25,7 +25,7 @@ returns-in-Err-Fault-clause-answer g c =
 
 pub returns-in-Err-Memory-clause-answer : goal.returns-in-Err-Memory-clause-answer
 returns-in-Err-Memory-clause-answer g c =
-    let compared = comparison_between c.args.old.now c.args.new.now c.args.relation.now in
+    let compared = comparison_in c.args.compared.now in
     let formula = g.Q.Queries.formula c.args.queries.now in
     let s = saving (g.S.Shelf.file c.args.shelf.now) (g.S.Shelf.file c.args.shelf.now) (g.S.Shelf.write_faults c.args.shelf.now) (g.S.Shelf.write_faults c.args.shelf.now) c.args.finding.now in
     line_given_up (made_line c.args.count compared) (ReportsBehind c.args.count compared formula s) (g.K.Sink.taken c.args.out.now) (g.K.Sink.taken c.put_text.new.out) (no_memory refl)

@@ -1,9 +1,9 @@
-use Rattle.std.proofs.Common.{rules, slice_set, ◌≡◌, ◌∙◌, ℕ, ◌+◌, ◌<◌, ◌≤◌, subst, sym, ap, true, drop, length, List, arith}
+use Rattle.std.proofs.Common.{rules, slice_set, ◌≡◌, ◌∙◌, ℕ, ◌+◌, ◌<◌, subst, sym, ap, true, drop, length, arith}
 use Rattle.clause_core.specs.declared.gate.Gate.{Gate}
 use Rattle.gates.specs.Order.{gate_below, is_ordered}
 use Rattle.gates.specs.Models.{extended}
 use Rattle.gates.specs.Meaning.{gate_true}
-use Rattle.lane_sim.specs.Lanes.{assignment_of, lane}
+use Rattle.lane_sim.specs.Lanes.{assignment_of}
 use Rattle.lane_sim.proofs.RunLaws.{extended-drop, is_ordered-next, next_below, gate_later}
 use Rattle.lane_sim.proofs.runs.put_gates.Goals as goal
 

@@ -1,7 +1,6 @@
 use Rattle.std.proofs.Common.{◌≡◌}
 use Rattle.program_tree.specs.View.{program_view}
 use Rattle.scan_model.specs.Pairs.{relation_view}
-use Rattle.replay_command.specs.Held.{rows_of}
 use Rattle.replay_command.specs.Outcomes.{outcome_of}
 use Rattle.replay_command.specs.Played.{outcome_report}
 use Rattle.command_answers.specs.Reports.{refusal_report}
@@ -15,7 +14,7 @@ returns-in-Ok-clause-answer g c = λ t kept.
     let old = program_view c.in-Ok.replay.old in
     let new = program_view c.in-Ok.replay.new in
     let rel = relation_view c.in-Ok.replay.relation in
-    let rows = rows_of c.in-Ok.replay.rows.items in
+    let rows = c.in-Ok.replay.rows in
     answers-wider (λ r. r ≡ outcome_report (outcome_of old new rel rows)) (Reports t) ⊥ ⊥ c.put_replay.result _ _
     (λ r e. reports_outcome t old new rel rows r (c.in-Ok.ensures.ok t kept) e) (λ x. x) c.put_replay.ensures.answer
 

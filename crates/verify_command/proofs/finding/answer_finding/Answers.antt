@@ -1,12 +1,12 @@
 use Rattle.command_answers.proofs.AnswerLemmas.{answers-wider}
-use Rattle.comparison_files.specs.MadeCircuits.{comparison_between}
+use Rattle.comparison_files.specs.Held.{comparison_in}
 use Rattle.verify_command.specs.Reports.{saving, ReportsVerdict, ReportsSaved}
 use Rattle.verify_command.proofs.Saved.{reported}
 use Rattle.verify_command.proofs.finding.answer_finding.Goals as goal
 
 pub returns-clause-answer : goal.returns-clause-answer
 returns-clause-answer g c =
-    let compared = comparison_between c.args.old.now c.args.new.now c.args.relation.now in
+    let compared = comparison_in c.args.compared.now in
     let formula = g.Q.Queries.formula c.args.queries.now in
     let s = saving (g.S.Shelf.file c.args.shelf.now) (g.S.Shelf.file c.save-saved.new.shelf) (g.S.Shelf.write_faults c.args.shelf.now) (g.S.Shelf.write_faults c.save-saved.new.shelf) c.args.finding.now in
     answers-wider (ReportsSaved c.save-saved.result) (ReportsVerdict compared formula s) ⊥ ⊥ c.put_saved.result _ _

@@ -1,0 +1,4 @@
+pub mod Apart
+pub mod Paths
+pub mod Found
+pub mod ClauseNames

@@ -1,0 +1,31 @@
+-- A trace: a JSON text (RFC 8259) of an array of arrays of whole numbers.
+use Rattle.std.specs.Prelude.{◌≡◌, ℕ, List, [], ◌∷◌, length, ◌==◌, ℤ, Option, Some, None, option_map, option_and_then, if◌then◌else◌, IsUtf8}
+use Rattle.serde_json.specs.Data.{Data, Items, no_items, item}
+use Rattle.serde_json.specs.Read.{read}
+use Rattle.serde_json.specs.Find.{as_array, as_number, as_i64}
+
+-- a whole number, of 64 bits with a sign
+abbrev pub number_in : Data → Option ℤ
+number_in d = option_and_then as_i64 (as_number d)
+
+abbrev pub numbers_in : Items → Option (List ℤ)
+numbers_in no_items = Some []
+numbers_in (item d ds) = option_and_then (λ z. option_map (λ zs. z ∷ zs) (numbers_in ds)) (number_in d)
+
+-- a row of so many numbers
+abbrev pub of_width : ℕ → List ℤ → Option (List ℤ)
+of_width width zs = if length zs == width then Some zs else None
+
+abbrev pub row_in : ℕ → Data → Option (List ℤ)
+row_in width d = option_and_then (of_width width) (option_and_then numbers_in (as_array d))
+
+abbrev pub rows_in : ℕ → Items → Option (List (List ℤ))
+rows_in width no_items = Some []
+rows_in width (item d ds) = option_and_then (λ row. option_map (λ rows. row ∷ rows) (rows_in width ds)) (row_in width d)
+
+abbrev pub trace_in : ℕ → Data → Option (List (List ℤ))
+trace_in width d = option_and_then (rows_in width) (as_array d)
+
+-- a text is a trace of these rows
+unfoldable pub IsTrace : ℕ → List ℕ → List (List ℤ) → Type 0
+IsTrace width text rows = IsUtf8 text × (option_and_then (trace_in width) (read text) ≡ Some rows)
