@@ -23,6 +23,7 @@ by_cadical() {
 for kind in "${kinds[@]}"; do
     if [ "$kind" = examples ]; then
         for example in "$top"/examples/*/; do
+            [ -f "$example/old.st" ] || continue
             echo "$(basename "$example")"
             measure "$runs" verify "$example/old.st" "$example/new.st" "$example/relation" FINDING
         done
