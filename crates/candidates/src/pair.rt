@@ -7,20 +7,19 @@ ghost use Rattle.clause_types.specs.Pairs.{pair_means};
 ghost use Rattle.typing.specs.Programs.{pair_scope};
 
 use crate::places::Cells;
-use clause_types::{PairScope, PairedTypes};
+use clause_types::PairScope;
 use plc_types::DataType;
 use program_tree::Program;
 use std::alloc::{AllocError, Global};
 
-/// OLD and NEW, with their cells by paths, and by the paths of clauses, and the data types of NEW as those of the pair.
+/// OLD and NEW, with their cells by paths, and by the paths of clauses with the data types of NEW as those of the pair.
 #[derive(Drop)]
 pub struct Pair<'p> {
     pub old: Cells<'p>,
     pub new: Cells<'p>,
     pub scope: PairScope<'p>,
-    pub types: PairedTypes<'p>,
     ghost scoped: { pair_means scope ≡ pair_scope (program_view old.program.now) (program_view new.program.now) },
-    ghost paired: { paired_in types ≡ paired_type (program_view old.program.now).types (program_view new.program.now).types },
+    ghost paired: { paired_in scope.types ≡ paired_type (program_view old.program.now).types (program_view new.program.now).types },
 }
 
 impl<'p> Pair<'p> {
@@ -32,7 +31,6 @@ impl<'p> Pair<'p> {
             old: Cells::new(alloc, old)?,
             new: Cells::new(alloc, new)?,
             scope: PairScope::new(alloc, old, new)?,
-            types: PairedTypes::new(alloc, old, new)?,
         })
     }
 
@@ -40,6 +38,6 @@ impl<'p> Pair<'p> {
     pub fn paired(&self, kind: DataType) -> DataType
         ensures { result ≡ paired_type (program_view self.now.old.program.now).types (program_view self.now.new.program.now).types kind }
     {
-        self.types.paired(kind)
+        self.scope.types.paired(kind)
     }
 }

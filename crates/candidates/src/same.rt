@@ -97,7 +97,7 @@ pub fn add_same_of(
 {
     add_same(
         alloc,
-        &pair.types,
+        &pair.scope.types,
         pair.old.program.cells(),
         &pair.new,
         found,

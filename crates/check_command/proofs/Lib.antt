@@ -1,4 +1,3 @@
-pub mod Judging
 pub mod Answering
 pub mod Once
 pub use Rattle.finding_commands.proofs as finding_commands

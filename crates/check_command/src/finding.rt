@@ -8,17 +8,16 @@ ghost use Rattle.judgement.specs.Shown.{ShowsVerdict};
 ghost use Rattle.finding_commands.specs.Held.{comparison_in};
 ghost use Rattle.finding_answers.specs.Lines.{most_bytes};
 
-use command_answers::{Limit, Source, Status, put_last, put_limit};
-use finding_answers::{MOST_BYTES, PIECE, put_judged};
-use finding_check::{JudgeErr, Judged, judge};
+use command_answers::Status;
+use finding_answers::{MOST_BYTES, PIECE, put_judged, put_unjudged};
+use finding_check::{FindingFile, JudgeErr, Judged, judge_file};
 use finding_commands::{Compared, FindingCommand};
-use finding_file::FindingReader;
 use outside::{Shelf, Sink};
 use queries::Queries;
 use std::alloc::Global;
 
-// Judges the finding in a file.
-fn judge_file<Q: Queries, S: Shelf>(
+// Judges the finding in a file by what is compared.
+fn judge_finding<Q: Queries, S: Shelf>(
     alloc: Global,
     compared: &Compared,
     queries: &Q,
@@ -32,13 +31,21 @@ fn judge_file<Q: Queries, S: Shelf>(
     ensures cause { IsCausedBy JudgeErr.Fault (S.read_faults shelf.old) (S.read_faults shelf.new) finding.now result }
     ensures writes { NoneFell (S.write_faults shelf.old) (S.write_faults shelf.new) }
 {
-    let Ok(mut trial) = compared.trial(alloc) else {
-        return Err(JudgeErr::Memory);
+    compared.laws();
+    let file = FindingFile {
+        name: finding,
+        limit: MOST_BYTES,
+        piece: PIECE,
     };
-    let Ok(mut reader) = FindingReader::new(alloc, finding, MOST_BYTES, PIECE) else {
-        return Err(JudgeErr::Memory);
-    };
-    judge(alloc, &mut trial, queries, &mut reader, shelf)
+    judge_file(
+        alloc,
+        compared.old_program(),
+        compared.new_program(),
+        compared.relation(),
+        queries,
+        &file,
+        shelf,
+    )
 }
 
 /// The command `check`.
@@ -58,11 +65,9 @@ impl FindingCommand for Checking {
         shelf: &mut S,
         out: &mut K,
     ) -> Status {
-        match judge_file(alloc, compared, queries, finding, shelf) {
+        match judge_finding(alloc, compared, queries, finding, shelf) {
             Ok(judged) => put_judged(alloc, judged, out),
-            Err(JudgeErr::M8) => put_limit(alloc, Source::Finding, Limit::Finding, out),
-            Err(JudgeErr::Fault) => put_last(out, "READ FAULT\n", Status::ReadFault),
-            Err(JudgeErr::Memory) => put_last(out, "MEMORY\n", Status::Memory),
+            Err(error) => put_unjudged(alloc, error, out),
         }
     }
 }

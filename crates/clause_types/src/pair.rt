@@ -20,12 +20,12 @@ fn of_kind(meaning: Meaning, kind: DataType) -> Meaning
 }
 
 /// The cells and values of a pair of programs by the paths of clauses: `old.path` is one of OLD, and `new.path` one of
-/// NEW, whose cells stand behind those of OLD.
+/// NEW, whose cells stand behind those of OLD; and its data types.
 #[derive(Drop)]
 pub struct PairScope<'p> {
     old: Side<'p>,
     new: Side<'p>,
-    types: PairedTypes<'p>,
+    pub types: PairedTypes<'p>,
     ghost first: { old.start ≡ 0 },
     ghost behind: { new.start ≡ length (program_view old.program.now).cells },
     ghost paired: { paired_in types ≡ paired_type (program_view old.program.now).types (program_view new.program.now).types },
@@ -37,6 +37,7 @@ impl<'p> PairScope<'p> {
     ghost use Rattle.source_tree.specs.SyntaxView.{names_view};
     ghost use Rattle.program_tree.specs.View.{program_view};
     ghost use Rattle.typing.specs.Programs.{member_of, pair_scope};
+    ghost use Rattle.clause_types.specs.PairedTypes.{paired_in};
     ghost use Rattle.clause_types.specs.Pairs.{pair_means};
 
     /// The cells and values of a pair, to be looked up.
@@ -45,10 +46,11 @@ impl<'p> PairScope<'p> {
         old: &'p Program,
         new: &'p Program,
     ) -> Result<PairScope<'p>, AllocError>
-        ensures { IfOk result (λ scope. pair_means scope ≡ pair_scope (program_view old.now) (program_view new.now)) }
+        ensures means { IfOk result (λ scope. pair_means scope ≡ pair_scope (program_view old.now) (program_view new.now)) }
+        ensures types { IfOk result (λ scope. paired_in scope.types ≡ paired_type (program_view old.now).types (program_view new.now).types) }
     {
-        let types = PairedTypes::new(alloc, old, new)?;
         let old = Side::new(alloc, 0, old)?;
+        let types = PairedTypes::new(alloc, old.program, &old.values, new)?;
         let new = Side::new(alloc, old.program.cells.len(), new)?;
         Ok(PairScope { old, new, types })
     }

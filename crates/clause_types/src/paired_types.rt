@@ -5,7 +5,7 @@ ghost use Rattle.program_tree.specs.View.{texts_view, lists_of_texts, program_vi
 ghost use Rattle.clause_types.specs.PairedNumbers.{paired_numbers};
 ghost use Rattle.clause_types.specs.Sides.{FindsValues};
 
-use crate::enumeration_values::{Values, find_value, values};
+use crate::enumeration_values::{Values, find_value};
 use plc_types::DataType;
 use program_tree::Program;
 use std::alloc::{AllocError, Global};
@@ -36,30 +36,31 @@ fn names_at(types: &[Vec<String>], number: usize) -> &[String]
 
 // The enumerations of OLD, whose values are known by their names.
 #[derive(Drop)]
-struct OldTypes<'p> {
+struct OldTypes<'v, 'p> {
     program: &'p Program,
-    values: Values<'p>,
-    ghost found: { FindsValues values 0 (program_view program.now).types },
+    values: &'v Values<'p>,
+    ghost found: { FindsValues values.now 0 (program_view program.now).types },
 }
 
-impl<'p> OldTypes<'p> {
-    ghost use Rattle.std.specs.Prelude.{◌≡◌, ◌<◌, ◌^◌, IfOk, option_map};
+impl<'v, 'p> OldTypes<'v, 'p> {
+    ghost use Rattle.std.specs.Prelude.{◌≡◌, ◌<◌, ◌^◌, option_map};
     ghost use Rattle.plc_types.specs.Enumerations.{value_named, old_type_of, paired_number};
     ghost use Rattle.program_tree.specs.View.{texts_view, program_view};
+    ghost use Rattle.clause_types.specs.Sides.{FindsValues};
 
-    // The enumerations of a program.
-    fn new(alloc: Global, program: &'p Program) -> Result<OldTypes<'p>, AllocError>
-        ensures { IfOk result (λ types. types.program.now ≡ program.now) }
+    // The enumerations of a program, whose values were found.
+    fn new(program: &'p Program, values: &'v Values<'p>) -> OldTypes<'v, 'p>
+        requires { FindsValues values.now 0 (program_view program.now).types }
+        ensures { result.program.now ≡ program.now }
     {
-        let values = values(alloc, &program.types)?;
-        Ok(OldTypes { program, values })
+        OldTypes { program, values }
     }
 
     // The type that has a value of a name.
     fn type_with(&self, name: &str) -> Option<usize>
         ensures { result ≡ option_map (λ v. v.0) (value_named name.now 0 (program_view self.now.program.now).types) }
     {
-        let value = find_value(&self.values, name)?;
+        let value = find_value(self.values, name)?;
         Some(value.kind)
     }
 
@@ -94,7 +95,7 @@ impl<'p> OldTypes<'p> {
 // The enumerations of NEW, as they are in the pair.
 fn paired_numbers(
     alloc: Global,
-    old: &OldTypes<'_>,
+    old: &OldTypes<'_, '_>,
     types: &[Vec<String>],
 ) -> Result<Vec<DataType>, AllocError>
     ensures { IfOk result (λ numbers. numbers.items ≡ paired_numbers (program_view old.now.program.now).types 0 (lists_of_texts types.now)) }
@@ -132,16 +133,19 @@ impl<'p> PairedTypes<'p> {
     ghost use Rattle.plc_types.specs.Enumerations.{paired_type};
     ghost use Rattle.program_tree.specs.View.{program_view};
     ghost use Rattle.clause_types.specs.PairedTypes.{paired_in};
+    ghost use Rattle.clause_types.specs.Sides.{FindsValues};
 
-    /// The data types of a pair. Takes as long as the names of its enumerations.
-    pub fn new(
+    /// The data types of a pair, where the values of OLD were found. Takes as long as the names of NEW's enumerations.
+    pub(crate) fn new(
         alloc: Global,
         old: &'p Program,
+        values: &Values<'p>,
         new: &'p Program,
     ) -> Result<PairedTypes<'p>, AllocError>
+        requires { FindsValues values.now 0 (program_view old.now).types }
         ensures { IfOk result (λ types. paired_in types ≡ paired_type (program_view old.now).types (program_view new.now).types) }
     {
-        let of_old = OldTypes::new(alloc, old)?;
+        let of_old = OldTypes::new(old, values);
         let numbers = paired_numbers(alloc, &of_old, &new.types)?;
         Ok(PairedTypes { old, new, numbers })
     }

@@ -94,7 +94,7 @@ pub struct Side<'p> {
     pub start: usize,
     pub program: &'p Program,
     first_places: FirstPlaces,
-    values: Values<'p>,
+    pub(crate) values: Values<'p>,
     ghost finds: { FindsHashes first_places 0 (program_view program.now).cells },
     ghost finds_values: { FindsValues values 0 (program_view program.now).types },
     ghost room: { start + length (program_view program.now).cells < 2 ^ 64 },

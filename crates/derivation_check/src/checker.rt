@@ -6,6 +6,7 @@ ghost use Rattle.clause_core.specs.Freshness.{IsFresh};
 ghost use Rattle.derivation_check.specs.Checks.{held_of, Holds, FaultFits};
 
 use crate::fault::StepFault;
+use crate::implication_graph::ImplicationGraph;
 use crate::lazy_test::{add, shows};
 use clause_core::{Cnf, Outcome, Step, Truth, check_step, clear, is_fresh, unassigned};
 use std::alloc::{AllocError, Global};
@@ -25,6 +26,7 @@ pub struct Checker {
     given: usize,
     values: Vec<Truth>,
     test: Option<Propagator>,
+    graph: ImplicationGraph,
     is_refuted: bool,
 }
 
@@ -53,6 +55,7 @@ impl Checker {
             given,
             values,
             test: None,
+            graph: ImplicationGraph::new(alloc),
             is_refuted: false,
         })
     }
@@ -101,16 +104,25 @@ impl Checker {
     }
 
     /// Whether the step's clause is fresh over what is held. The first call makes the test that shows it; where
-    /// memory is wanting the answer is as right, and takes longer. One that is fresh takes unit propagation from its
-    /// literals; to one that is not, each of its literals takes as many passes over the held clauses as unit propagation
-    /// needs.
+    /// memory is wanting the answer is as right, and takes longer. One that is fresh takes time in proportion to the
+    /// literals of the clauses that its hints name, and unit propagation from its own, once where the hints show which
+    /// of them it asserts; to one that is not, each of its literals takes as many passes over the held clauses as unit
+    /// propagation needs.
     pub fn fresh(&mut self, step: &Step) -> bool
         requires { IsTrue (rises self.old.formula.variables step.now.clause) }
         ensures exact { IsTrue result ↔ IsFresh (held_of self.old) step.now.clause }
         ensures unchanged { self.new ≡ self.old }
     {
         let literals = step.clause.literals();
-        if shows(self.alloc, &mut self.test, &self.held, literals) {
+        let hints = step.hints.numbers();
+        if shows(
+            self.alloc,
+            &mut self.test,
+            &mut self.graph,
+            &self.held,
+            literals,
+            hints,
+        ) {
             return true;
         }
         let variables = self.held.variables();

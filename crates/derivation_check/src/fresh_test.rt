@@ -75,16 +75,24 @@ fn shows_at(propagator: &mut Propagator, literals: &[Lit], place: usize) -> Resu
     Ok(is_shown)
 }
 
-/// Whether it is shown that the clause is fresh over what is held, by the last of its literals that shows it.
-pub(crate) fn shows_fresh(propagator: &mut Propagator, literals: &[Lit]) -> Result<bool, AllocError>
+/// Whether it is shown that the clause is fresh over what is held, by the literal at a place that is guessed, or by the
+/// last that shows it.
+pub(crate) fn shows_fresh(
+    propagator: &mut Propagator,
+    literals: &[Lit],
+    guess: usize,
+) -> Result<bool, AllocError>
     requires { VariablesBelow (length propagator.old.values) literals.now }
     ensures fresh { IfOk result (λ yes. IsTrue yes → IsFresh propagator.old.held literals.now) }
     ensures held { propagator.new.held ≡ propagator.old.held }
     ensures size { length propagator.new.values ≡ length propagator.old.values }
 {
     propagator.propagate()?;
+    if shows_at(propagator, literals, guess)? {
+        return Ok(true);
+    }
     for place in (0..literals.len()).rev() {
-        if shows_at(propagator, literals, place)? {
+        if place != guess && shows_at(propagator, literals, place)? {
             return Ok(true);
         }
     }

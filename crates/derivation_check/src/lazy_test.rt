@@ -8,6 +8,7 @@ ghost use Rattle.clause_core.specs.Steps.{VariablesBelow};
 ghost use Rattle.derivation_check.specs.Tests.{IsTestOf};
 
 use crate::fresh_test::{propagator_over, shows_fresh};
+use crate::implication_graph::ImplicationGraph;
 use clause_core::{Cnf, Lit};
 use std::alloc::Global;
 use watched_propagation::Propagator;
@@ -50,12 +51,14 @@ fn take_or_make(alloc: Global, test: &mut Option<Propagator>, cnf: &Cnf) -> Opti
     }
 }
 
-/// Whether it is shown that a clause is fresh over what is held.
+/// Whether it is shown that a clause is fresh over what is held. Its hints say which literal is tried first.
 pub(crate) fn shows(
     alloc: Global,
     test: &mut Option<Propagator>,
+    graph: &mut ImplicationGraph,
     cnf: &Cnf,
     literals: &[Lit],
+    hints: &[u32],
 ) -> bool
     requires literals { IsTrue (rises cnf.now.variables literals.now) }
     requires test { IsTestOf cnf.now test.old }
@@ -65,7 +68,8 @@ pub(crate) fn shows(
     let Some(mut propagator) = take_or_make(alloc, test, cnf) else {
         return false;
     };
-    match shows_fresh(&mut propagator, literals) {
+    let guess = graph.asserting_place(cnf, literals, hints);
+    match shows_fresh(&mut propagator, literals, guess) {
         Err(_) => false,
         Ok(is_shown) => {
             *test = Some(propagator);

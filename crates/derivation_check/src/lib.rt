@@ -4,6 +4,7 @@
 mod checker;
 mod fault;
 mod fresh_test;
+mod implication_graph;
 mod lazy_test;
 
 pub use checker::{Ack, Checker};

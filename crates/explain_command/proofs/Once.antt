@@ -4,16 +4,15 @@ use Rattle.clause_core.specs.Formula.{Formula}
 use Rattle.finding_lines.specs.declared.line.Line.{Line}
 use Rattle.finding_lines.specs.declared.line.Conclusion.{Conclusion}
 use Rattle.finding_lines.specs.Spelling.{spelled}
-use Rattle.finding_lines.proofs.LineLemmas.{one_spelling}
 use Rattle.finding_file.specs.Ahead.{nothing, ended, ahead}
 use Rattle.finding_file.specs.Writing.{all_written}
+use Rattle.finding_file.proofs.WritingLemmas.{ahead-written, first_line}
 use Rattle.judgement.specs.Places.{finished}
 use Rattle.judgement.specs.Findings.{Stands, IsJudged}
 use Rattle.judgement.specs.declared.answers.Reason.{Reason}
 use Rattle.judgement.specs.declared.answers.Judged.{Judged}
 use Rattle.judgement.specs.declared.answers.Judged.TheVariants as judgements
 use Rattle.judgement.specs.declared.answers.JudgeErr.TheVariants.{M8}
-use Rattle.judgement_laws.proofs.EndLemmas.{ahead-written}
 use Rattle.judgement_laws.proofs.Judgements.{one_judgement_is}
 use Rattle.queries.specs.Comparisons.{Comparison}
 use Rattle.queries.specs.Questions.{QueryData}
@@ -34,10 +33,8 @@ one_writing s [] [] f g e = refl
 one_writing s [] (m ∷ ms) f g e = absurd (let wrong : nothing ≡ ended (spelled m) (all_written ms) = ap ahead e ∙ ahead-written m (all_written ms) g.0 in cc)
 one_writing s (l ∷ ls) [] f g e = absurd (let wrong : ended (spelled l) (all_written ls) ≡ nothing = sym (ahead-written l (all_written ls) f.0) ∙ ap ahead e in cc)
 one_writing s (l ∷ ls) (m ∷ ms) f g e =
-    let both : ended (spelled l) (all_written ls) ≡ ended (spelled m) (all_written ms) = sym (ahead-written l (all_written ls) f.0) ∙ ap ahead e ∙ ahead-written m (all_written ms) g.0 in
-    let text : spelled l ≡ spelled m = cc in
-    let rest : all_written ls ≡ all_written ms = cc in
-    ap₂ (λ (x : Line) (xs : List Line). x ∷ xs) (one_spelling l m f.0 g.0 text) (one_writing s ls ms f.2 g.2 rest)
+    let first = first_line l m (all_written ls) (all_written ms) f.0 g.0 e in
+    ap₂ (λ (x : Line) (xs : List Line). x ∷ xs) first.0 (one_writing s ls ms f.2 g.2 first.1)
 
 module _ (c : Comparison) (formula : QueryData → Formula) (finding : List ℕ) where
   -- one judgement of a finding

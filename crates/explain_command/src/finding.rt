@@ -7,8 +7,8 @@ ghost use Rattle.finding_explain.specs.Explaining.{IsExplained};
 ghost use Rattle.finding_answers.specs.Lines.{most_bytes};
 
 use crate::show::put_explained;
-use command_answers::{Limit, Source, Status, put_last, put_limit};
-use finding_answers::{MOST_BYTES, PIECE};
+use command_answers::Status;
+use finding_answers::{MOST_BYTES, PIECE, put_unjudged};
 use finding_commands::{Compared, FindingCommand};
 use finding_explain::{Explained, FindingFile, explain_finding};
 use judgement::JudgeErr;
@@ -63,9 +63,7 @@ impl FindingCommand for Explaining {
     ) -> Status {
         match explain_file(alloc, compared, queries, finding, shelf) {
             Ok(explained) => put_explained(alloc, explained, out),
-            Err(JudgeErr::M8) => put_limit(alloc, Source::Finding, Limit::Finding, out),
-            Err(JudgeErr::Fault) => put_last(out, "READ FAULT\n", Status::ReadFault),
-            Err(JudgeErr::Memory) => put_last(out, "MEMORY\n", Status::Memory),
+            Err(error) => put_unjudged(alloc, error, out),
         }
     }
 }

@@ -6,4 +6,4 @@ mod put;
 mod show;
 
 pub use limits::{MOST_BYTES, PIECE};
-pub use put::put_judged;
+pub use put::{put_judged, put_unjudged};

@@ -2,11 +2,11 @@
 ghost use Rattle.std.specs.Prelude.{◌≡◌, ◌≢◌, ◌≤◌};
 ghost use Rattle.outside.specs.Causes.{Rose};
 ghost use Rattle.command_answers.specs.Answers.{Answers};
-ghost use Rattle.finding_answers.specs.Lines.{judged_report};
+ghost use Rattle.finding_answers.specs.Lines.{judged_report, too_long_report};
 
 use crate::show::{judged_line, judged_status};
-use command_answers::{Status, put_report};
-use judgement::Judged;
+use command_answers::{Limit, Source, Status, put_last, put_limit, put_report};
+use judgement::{JudgeErr, Judged};
 use outside::Sink;
 use std::alloc::Global;
 
@@ -19,4 +19,19 @@ pub fn put_judged<K: Sink>(alloc: Global, judged: Judged, out: &mut K) -> Status
     ensures faults { K.faults out.old ≤ K.faults out.new }
 {
     put_report(out, judged_line(alloc, judged), judged_status(judged))
+}
+
+/// Puts why a finding was not judged: it is too long, a read of it failed, or memory was wanting.
+pub fn put_unjudged<K: Sink>(alloc: Global, error: JudgeErr, out: &mut K) -> Status
+    ensures answer { Answers (λ r. (error ≡ JudgeErr.M8) × (r ≡ too_long_report)) (error ≡ JudgeErr.Fault) result (K.taken out.old) (K.taken out.new) }
+    ensures usage { result ≢ Status.Usage }
+    ensures read_fault { result ≡ Status.ReadFault → error ≡ JudgeErr.Fault }
+    ensures write_fault { result ≡ Status.WriteFault → Rose (K.faults out.old) (K.faults out.new) }
+    ensures faults { K.faults out.old ≤ K.faults out.new }
+{
+    match error {
+        JudgeErr::M8 => put_limit(alloc, Source::Finding, Limit::Finding, out),
+        JudgeErr::Fault => put_last(out, "READ FAULT\n", Status::ReadFault),
+        JudgeErr::Memory => put_last(out, "MEMORY\n", Status::Memory),
+    }
 }

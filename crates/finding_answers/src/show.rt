@@ -1,5 +1,5 @@
 // What is said of a finding, as text.
-ghost use Rattle.std.specs.Prelude.{◌≡◌, ◌++◌, IfOk, string_bytes};
+ghost use Rattle.std.specs.Prelude.{◌≡◌, IfOk, string_bytes};
 ghost use Rattle.finding_answers.specs.Lines.{reason_name, valid_line, invalid_line, judged_line, judged_status};
 
 use command_answers::Status;
@@ -59,7 +59,7 @@ pub(crate) fn judged_line(alloc: Global, judged: Judged) -> Result<String, Alloc
     }
 }
 
-/// Its status.
+/// The status of what is said of a finding.
 pub(crate) fn judged_status(judged: Judged) -> Status
     ensures { result ≡ judged_status judged }
 {

@@ -1,6 +1,6 @@
 -- Lines that were read, and what is said where one fails or none follows.
 use Rattle.std.proofs.Common.{◌≡◌, ◌≢◌, ℕ, ◌+◌, ◌<◌, ◌≤◌, List, [], ◌∷◌, ◌++◌, length, drop, refl, sym, ap, ◌∙◌, subst, arith, inl, inr, append_assoc, length-append, true, false, Bool}
-use Rattle.std.specs.Prelude.{Option, Some, None, Result, Ok, Err, IfSome, IfOk, codes, if◌then◌else◌, ◌==◌, min, ◌^◌, ◌-◌}
+use Rattle.std.specs.Prelude.{Option, Some, None, Result, Ok, Err, IfSome, IfOk, if◌then◌else◌, ◌==◌, min, ◌^◌, ◌-◌}
 use Rattle.clause_core.specs.Formula.{Formula}
 use Rattle.outside.specs.Causes.{Rose}
 use Rattle.finding_lines.specs.declared.line.Line.{Line}
@@ -13,7 +13,7 @@ use Rattle.finding_file.specs.Writing.{all_written}
 use Rattle.finding_file.specs.declared.errors.ReadErr.{ReadErr}
 use Rattle.finding_file.specs.declared.errors.ReadErr.TheVariants as read
 use Rattle.queries.specs.Comparisons.{Comparison}
-use Rattle.finding_file.proofs.WritingLemmas.{all_written-append}
+use Rattle.finding_file.proofs.WritingLemmas.{all_written-append, length-written}
 use Rattle.queries.specs.Settings.{Setting}
 use Rattle.queries.specs.Questions.{QueryData}
 use Rattle.judgement.specs.Places.{Place, at_top, finished, goes, fails}
@@ -31,10 +31,6 @@ use Rattle.finding_check.specs.Readings.{IsReadTo}
 pub IfSome-both : {A : Type 0} {P Q R : A → Type 0} → (o : Option A) → ((x : A) → P x → Q x → R x) → IfSome o P → IfSome o Q → IfSome o R
 IfSome-both None h p q = tt
 IfSome-both (Some x) h p q = h x p q
-
--- each line has a byte or more
-length-written : (line : Line) → length (written line) ≡ length (spelled line) + 1
-length-written line = length-append (spelled line) (codes "\n")
 
 few_lines : (lines : List Line) → length lines ≤ length (all_written lines)
 few_lines [] = omega arith

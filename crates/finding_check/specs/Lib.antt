@@ -4,3 +4,4 @@ pub mod Rooms
 pub mod Endings
 pub mod Readings
 pub mod StepMoves
+pub mod Files

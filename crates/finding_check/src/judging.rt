@@ -21,7 +21,7 @@ use queries::Queries;
 use std::alloc::Global;
 
 /// A finding has at most as many lines as bytes.
-const MOST_LINES: u64 = 1_073_741_824;
+pub const MOST_LINES: u64 = 1_073_741_824;
 
 // The test that a line fails which is broken so: behind the END line it fails as any byte does.
 fn reason_at(stage: &Stage, reason: Reason) -> Reason

@@ -24,8 +24,8 @@ use pair_trial::{Trial, first_set};
 use queries::{CandidateSet, Queries, Query};
 use std::alloc::{AllocError, Global};
 
-// The first numbers, at most so many, and those behind them.
-fn split(numbers: &[i64], count: usize) -> (&[i64], &[i64])
+/// The first numbers, at most so many, and those behind them.
+pub fn split_at_most(numbers: &[i64], count: usize) -> (&[i64], &[i64])
     ensures first { result.0.now ≡ take count numbers.now }
     ensures rest { result.1.now ≡ drop count numbers.now }
 {
@@ -90,8 +90,8 @@ fn drop_numbers(trial: &mut Trial, set: CandidateSet, numbers: &[i64]) -> Moved
     ensures moved { moved_of result trial.new.pair ≡ drop_row (setting_in trial.old) (members set) (pair_in (setting_in trial.old) numbers.now) (row_in (setting_in trial.old) numbers.now) }
     ensures kept { trial.new ≡ with_pair trial.new.pair trial.old }
 {
-    let (old, rest) = split(numbers, trial.old_cells());
-    let (new, row) = split(rest, trial.new_cells());
+    let (old, rest) = split_at_most(numbers, trial.old_cells());
+    let (new, row) = split_at_most(rest, trial.new_cells());
     drop_row(trial, set, old, new, row)
 }
 
@@ -124,8 +124,8 @@ fn pair_numbers(trial: &mut Trial, set: CandidateSet, numbers: &[i64]) -> Moved
     ensures moved { moved_of result trial.new.pair ≡ pair_row (setting_in trial.old) (members set) (pair_in (setting_in trial.old) numbers.now) (row_in (setting_in trial.old) numbers.now) }
     ensures kept { trial.new ≡ with_pair trial.new.pair trial.old }
 {
-    let (old, rest) = split(numbers, trial.old_cells());
-    let (new, row) = split(rest, trial.new_cells());
+    let (old, rest) = split_at_most(numbers, trial.old_cells());
+    let (new, row) = split_at_most(rest, trial.new_cells());
     pair_row(trial, set, old, new, row)
 }
 

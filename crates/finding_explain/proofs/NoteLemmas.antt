@@ -1,39 +1,22 @@
 -- Lines that are read once more, and what is noted of them.
-use Rattle.std.proofs.Common.{◌≡◌, ℕ, ◌+◌, ◌<◌, ◌≤◌, List, [], ◌∷◌, ◌++◌, length, drop, refl, sym, ap, ◌∙◌, subst, arith, append_assoc, append-nil, length-append}
-use Rattle.std.specs.Prelude.{Option, Some, None, Result, Ok, Err, IfSome, IfOk, codes}
+use Rattle.std.proofs.Common.{◌≡◌, ℕ, ◌+◌, ◌<◌, ◌≤◌, List, [], ◌∷◌, ◌++◌, length, drop, refl, sym, ap, ◌∙◌, subst, arith, append-nil, length-append}
+use Rattle.std.specs.Prelude.{Option, Some, None, Result, Ok, Err, IfSome, IfOk}
 use Rattle.std.specs.Option.{option_or}
 use Rattle.finding_lines.specs.declared.line.Line.{Line}
 use Rattle.finding_lines.specs.Form.{IsLine}
 use Rattle.finding_lines.specs.Spelling.{spelled, written}
-use Rattle.finding_lines.proofs.LineLemmas.{one_spelling}
-use Rattle.finding_lines.proofs.FeedLemmas.{spelled-lacks_feed}
 use Rattle.finding_file.specs.Ahead.{nothing, ended, unended, ahead, size}
 use Rattle.finding_file.specs.Answering.{IsAnswer, IsNoSpelling}
-use Rattle.finding_file.specs.Reading.{Reading, reading_at_start, rest_of, Agrees}
+use Rattle.finding_file.specs.Reading.{Reading, rest_of}
 use Rattle.finding_file.specs.Writing.{all_written}
 use Rattle.finding_file.specs.declared.errors.ReadErr.{ReadErr}
 use Rattle.finding_file.specs.declared.errors.ReadErr.TheVariants.{Fault, Memory, M8, Spelling, Unended}
-use Rattle.finding_file.proofs.AheadLemmas.{ahead-ended}
+use Rattle.finding_file.proofs.WritingLemmas.{length-written, ahead-written, first_line}
 use Rattle.queries.specs.Settings.{Setting}
 use Rattle.queries.specs.Sets.{members}
 use Rattle.finding_report.specs.declared.notes.Notes.{Notes}
 use Rattle.finding_report.specs.Noted.{left_behind, kept_set, pair_numbers, scan_rows}
 use Rattle.finding_explain.specs.Notable.{HasScan, AreNotable, IsFileOf, IsNoted, IsCollected, IsNotedTo}
-
-ahead-written : (line : Line) (more : List ℕ) → IsLine line → ahead (written line ++ more) ≡ ended (spelled line) more
-ahead-written line more form = ap ahead (append_assoc (spelled line) (10 ∷ []) more) ∙ ahead-ended (spelled line) more (spelled-lacks_feed line form)
-
--- each line has a byte or more
-length-written : (line : Line) → length (written line) ≡ length (spelled line) + 1
-length-written line = length-append (spelled line) (codes "\n")
-
--- two lines with which bytes go on are one
-first_line : (l m : Line) (x y : List ℕ) → IsLine l → IsLine m → written l ++ x ≡ written m ++ y → (l ≡ m) × (x ≡ y)
-first_line l m x y f g e =
-    let same : ended (spelled l) x ≡ ended (spelled m) y = sym (ahead-written l x f) ∙ ap ahead e ∙ ahead-written m y g in
-    let text : spelled l ≡ spelled m = cc in
-    let rest : x ≡ y = cc in
-    (one_spelling l m f g text, rest)
 
 or_none : {A : Type 0} (o : Option A) → option_or o None ≡ o
 or_none None = refl
@@ -179,8 +162,3 @@ module _ (s : Setting) (limit : ℕ) (told : Option (List ℕ)) (reader : Readin
         → IfSome o (λ file. (ls : List Line) → IsFileOf s limit file ls → IsNotedTo s limit file ls new (before + 1) next)
     every None read found more = tt
     every (Some file) read found more = one file read found more
-
--- a reader that has read nothing agrees with any file
-pub start_agrees : (told : Option (List ℕ)) (reader : Reading) (name : List ℕ) (limit : ℕ) → reader ≡ reading_at_start name limit → IfSome told (Agrees reader)
-start_agrees None reader name limit is = tt
-start_agrees (Some file) reader name limit is = subst (λ (r : Reading). Agrees r file) (sym is) (file, refl)

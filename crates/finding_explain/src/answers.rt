@@ -1,13 +1,5 @@
-// What is asked and answered.
+// What is said of a finding that is to be explained.
 use judgement::Reason;
-
-/// A finding: the name of its file, how many bytes it may have, and how many are read in one call.
-#[derive(Clone, Copy)]
-pub struct FindingFile<'n> {
-    pub name: &'n str,
-    pub limit: u64,
-    pub piece: usize,
-}
 
 /// What is said of a finding.
 #[derive(Drop)]

@@ -11,14 +11,12 @@ ghost use Rattle.pair_trial.specs.Trials.{setting_in};
 ghost use Rattle.finding_explain.specs.Notable.{IsFileOf, IsCollected};
 
 use crate::notes::note;
+use finding_check::MOST_LINES;
 use finding_file::{FindingReader, ReadErr};
 use finding_report::Notes;
 use outside::Shelf;
 use pair_trial::{Trial, first_set};
 use std::alloc::{AllocError, Global};
-
-/// A finding has at most as many lines as bytes.
-const MOST_LINES: u64 = 1_073_741_824;
 
 // Notes of no line: the candidates that hold at the start.
 fn first_notes(alloc: Global, trial: &mut Trial) -> Result<Notes, AllocError>

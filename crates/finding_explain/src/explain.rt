@@ -5,15 +5,13 @@ ghost use Rattle.finding_lines.specs.declared.line.Line.{Line};
 ghost use Rattle.finding_file.specs.Causes.{IsCausedBy};
 ghost use Rattle.queries.specs.Comparisons.{IsComparison};
 ghost use Rattle.queries.specs.Settings.{setting_of};
-ghost use Rattle.judgement.specs.Findings.{IsJudged};
-ghost use Rattle.judgement.specs.Shown.{ShowsVerdict};
 ghost use Rattle.finding_report.specs.Views.{comparison_in};
 ghost use Rattle.finding_explain.specs.Notable.{IsFileOf, IsCollected};
 ghost use Rattle.finding_explain.specs.Explaining.{IsExplained, IsReported, HasVerdict, ShowsReport, unread};
 
-use crate::answers::{Explained, FindingFile};
+use crate::answers::Explained;
 use crate::collect::collect;
-use finding_check::judge;
+use finding_check::{FindingFile, judge_file};
 use finding_file::{FindingReader, ReadErr};
 use finding_lines::Conclusion;
 use finding_report::{Compared, Notes, report_text};
@@ -22,29 +20,6 @@ use outside::Shelf;
 use pair_trial::Trial;
 use queries::Queries;
 use std::alloc::Global;
-
-// Judges the finding.
-fn judge_file<Q: Queries, S: Shelf>(
-    alloc: Global,
-    compared: &Compared<'_>,
-    queries: &Q,
-    finding: &FindingFile<'_>,
-    shelf: &mut S,
-) -> Result<Judged, JudgeErr>
-    requires compared { Q.compared queries.now ≡ comparison_in compared.now }
-    requires comparison { IsComparison (comparison_in compared.now) }
-    requires limit { finding.now.limit ≤ 2 ^ 30 }
-    requires piece { 0 < finding.now.piece }
-    ensures exact { IfSome (S.file shelf.old finding.now.name.now) (λ file. IsJudged (setting_of (comparison_in compared.now)) (Q.formula queries.now) finding.now.limit file result) }
-    ensures sound { ShowsVerdict (comparison_in compared.now) (Q.formula queries.now) result }
-    ensures kept { S.file shelf.new ≡ S.file shelf.old }
-    ensures cause { IsCausedBy JudgeErr.Fault (S.read_faults shelf.old) (S.read_faults shelf.new) finding.now.name.now result }
-    ensures writes { NoneFell (S.write_faults shelf.old) (S.write_faults shelf.new) }
-{
-    let mut trial = Trial::new(alloc, compared.old, compared.new, compared.relation)?;
-    let mut reader = FindingReader::new(alloc, finding.name, finding.limit, finding.piece)?;
-    judge(alloc, &mut trial, queries, &mut reader, shelf)
-}
 
 // Takes what a report needs from the finding.
 fn collect_file<S: Shelf>(
@@ -127,7 +102,15 @@ pub fn explain_finding<Q: Queries, S: Shelf>(
     ensures cause { IsCausedBy JudgeErr.Fault (S.read_faults shelf.old) (S.read_faults shelf.new) finding.now.name.now result }
     ensures writes { NoneFell (S.write_faults shelf.old) (S.write_faults shelf.new) }
 {
-    match judge_file(alloc, compared, queries, finding, shelf)? {
+    match judge_file(
+        alloc,
+        compared.old,
+        compared.new,
+        compared.relation,
+        queries,
+        finding,
+        shelf,
+    )? {
         Judged::Bad { line, reason } => Ok(Explained::Bad { line, reason }),
         Judged::Valid(verdict) => report_file(alloc, compared, finding, shelf, verdict),
     }

@@ -6,5 +6,6 @@ mod collect;
 mod explain;
 mod notes;
 
-pub use answers::{Explained, FindingFile};
+pub use answers::Explained;
 pub use explain::explain_finding;
+pub use finding_check::FindingFile;

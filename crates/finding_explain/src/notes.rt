@@ -1,5 +1,5 @@
 // One line, noted.
-ghost use Rattle.std.specs.Prelude.{◌≡◌, ◌++◌, ◌∷◌, List, true, OnOk, take, drop};
+ghost use Rattle.std.specs.Prelude.{◌≡◌, ◌++◌, ◌∷◌, List, true, OnOk};
 ghost use Rattle.std.specs.Option.{option_or};
 ghost use Rattle.finding_lines.specs.declared.line.Line.{Line};
 ghost use Rattle.scan_replay.specs.Duos.{with_pair};
@@ -9,23 +9,12 @@ ghost use Rattle.pair_trial.specs.Trials.{setting_in};
 ghost use Rattle.finding_report.specs.Noted.{left_by, left_behind, pair_numbers, scan_rows};
 ghost use Rattle.finding_explain.specs.Notable.{CanRun, HasScan};
 
+use finding_check::split_at_most;
 use finding_lines::Line;
 use finding_report::Notes;
 use pair_trial::{Trial, keep};
 use queries::CandidateSet;
 use std::alloc::AllocError;
-
-// The first numbers, at most so many, and those behind them.
-fn split(numbers: &[i64], count: usize) -> (&[i64], &[i64])
-    ensures first { result.0.now ≡ take count numbers.now }
-    ensures rest { result.1.now ≡ drop count numbers.now }
-{
-    if count <= numbers.len() {
-        numbers.split_at(count)
-    } else {
-        numbers.split_at(numbers.len())
-    }
-}
 
 // Takes those out of a set that fail after a scan, if it can be run.
 fn drop_failing(trial: &mut Trial, set: &mut CandidateSet, old: &[i64], new: &[i64], row: &[i64])
@@ -49,8 +38,8 @@ fn drop_by(trial: &mut Trial, set: &mut CandidateSet, numbers: &[i64])
     ensures left { CanRun (setting_in trial.old) numbers.now → members set.new ≡ left_by (setting_in trial.old) (members set.old) numbers.now }
     ensures kept { trial.new ≡ with_pair trial.new.pair trial.old }
 {
-    let (old, rest) = split(numbers, trial.old_cells());
-    let (new, row) = split(rest, trial.new_cells());
+    let (old, rest) = split_at_most(numbers, trial.old_cells());
+    let (new, row) = split_at_most(rest, trial.new_cells());
     drop_failing(trial, set, old, new, row);
 }
 

@@ -4,3 +4,4 @@ pub mod WindowLemmas
 pub mod PieceLemmas
 pub mod ReaderLemmas
 pub mod WritingLemmas
+pub mod StartLemmas

@@ -1,8 +1,7 @@
 // Lines read one after another, in pieces.
-ghost use Rattle.std.specs.Prelude.{◌≡◌, ◌==◌, ◌+◌, ◌++◌, ◌<◌, ◌≤◌, ℕ, [], length, drop, take, IfOk, IfSome, OnErr, MatchOption, MatchResult};
+ghost use Rattle.std.specs.Prelude.{◌≡◌, ◌==◌, ◌+◌, ◌++◌, ◌<◌, ◌≤◌, length, take, IfOk, IfSome, OnErr, MatchOption, MatchResult};
 ghost use Rattle.outside.specs.Causes.{HasFileCause, NoneFell};
-ghost use Rattle.finding_lines.specs.Form.{IsLine};
-ghost use Rattle.finding_lines.specs.Spelling.{spelled, written};
+ghost use Rattle.finding_lines.specs.Spelling.{written};
 ghost use Rattle.finding_lines.specs.Reading.{ReadsLine};
 
 use crate::errors::ReadErr;

@@ -1,5 +1,5 @@
 -- A judgement ends in one way.
-use Rattle.std.proofs.Common.{◌≡◌, ℕ, ◌+◌, ◌<◌, ◌≤◌, List, [], ◌∷◌, ◌++◌, length, refl, sym, ap, ◌∙◌, subst, arith, inl, inr, append_assoc, length-append}
+use Rattle.std.proofs.Common.{◌≡◌, ℕ, ◌+◌, ◌<◌, ◌≤◌, List, [], ◌++◌, length, refl, sym, ap, ◌∙◌, subst, arith, inl, inr, length-append}
 use Rattle.std.specs.Prelude.{Result, Ok, Err, codes}
 use Rattle.clause_core.specs.Formula.{Formula}
 use Rattle.finding_lines.specs.declared.line.Conclusion.{Conclusion}
@@ -7,9 +7,8 @@ use Rattle.finding_lines.specs.declared.line.Line.{Line}
 use Rattle.finding_lines.specs.Form.{IsLine}
 use Rattle.finding_lines.specs.Spelling.{spelled, written}
 use Rattle.finding_lines.proofs.LineLemmas.{one_spelling}
-use Rattle.finding_lines.proofs.FeedLemmas.{spelled-lacks_feed}
 use Rattle.finding_file.specs.Ahead.{Ahead, nothing, ended, unended, ahead, size}
-use Rattle.finding_file.proofs.AheadLemmas.{ahead-ended}
+pub use Rattle.finding_file.proofs.WritingLemmas.{ahead-written}
 use Rattle.queries.specs.Settings.{Setting}
 use Rattle.queries.specs.Questions.{QueryData}
 use Rattle.judgement.specs.Places.{Place, finished, goes, fails}
@@ -22,9 +21,6 @@ use Rattle.judgement.specs.declared.answers.JudgeErr.{JudgeErr}
 use Rattle.judgement.specs.declared.answers.JudgeErr.TheVariants.{Fault, Memory, M8}
 use Rattle.judgement_laws.specs.Endings.{Ends}
 use Rattle.judgement_laws.proofs.MoveLemmas.{moves_same, nothing_behind}
-
-pub ahead-written : (line : Line) (more : List ℕ) → IsLine line → ahead (written line ++ more) ≡ ended (spelled line) more
-ahead-written line more form = ap ahead (append_assoc (spelled line) (10 ∷ []) more) ∙ ahead-ended (spelled line) more (spelled-lacks_feed line form)
 
 module _ (s : Setting) (formula : QueryData → Formula) where
   one_reason_ahead : (place : Place) (a : Ahead) (r t : Reason) → FailsAhead s formula place a r → FailsAhead s formula place a t → r ≡ t

@@ -1,13 +1,11 @@
 -- One thing is said of a file.
-use Rattle.std.proofs.Common.{◌≡◌, ℕ, ◌+◌, ◌≤◌, List, [], ◌∷◌, ◌++◌, length, refl, sym, ap, ◌∙◌, subst, arith, append_assoc, append-nil, length-append}
+use Rattle.std.proofs.Common.{◌≡◌, ℕ, ◌+◌, ◌≤◌, List, [], ◌∷◌, ◌++◌, length, refl, sym, ◌∙◌, subst, arith, append_assoc, append-nil, length-append}
 use Rattle.std.specs.Prelude.{Result, Ok, Err}
 use Rattle.clause_core.specs.Formula.{Formula}
 use Rattle.finding_lines.specs.declared.line.Line.{Line}
-use Rattle.finding_lines.specs.Form.{IsLine}
-use Rattle.finding_lines.specs.Spelling.{spelled, written}
-use Rattle.finding_lines.proofs.LineLemmas.{one_spelling}
-use Rattle.finding_file.specs.Ahead.{ended, ahead}
+use Rattle.finding_lines.specs.Spelling.{written}
 use Rattle.finding_file.specs.Writing.{all_written}
+use Rattle.finding_file.proofs.WritingLemmas.{first_line}
 use Rattle.queries.specs.Settings.{Setting}
 use Rattle.queries.specs.Questions.{QueryData}
 use Rattle.judgement.specs.Places.{Place, at_top, finished, goes}
@@ -21,15 +19,7 @@ use Rattle.judgement_laws.specs.Endings.{Ends}
 use Rattle.judgement_laws.specs.Laws.{IsSaid, OneJudgement, WrittenIsValid}
 use Rattle.judgement_laws.proofs.MoveLemmas.{moves_same}
 use Rattle.judgement_laws.proofs.RunLemmas.{Runs, Leads-Runs}
-use Rattle.judgement_laws.proofs.EndLemmas.{ahead-written, one_end, no_end}
-
--- two lines with which a file goes on are one
-first_line : (l m : Line) (x y : List ℕ) → IsLine l → IsLine m → written l ++ x ≡ written m ++ y → (l ≡ m) × (x ≡ y)
-first_line l m x y f g e =
-    let same : ended (spelled l) x ≡ ended (spelled m) y = sym (ahead-written l x f) ∙ ap ahead e ∙ ahead-written m y g in
-    let text : spelled l ≡ spelled m = cc in
-    let rest : x ≡ y = cc in
-    (one_spelling l m f g text, rest)
+use Rattle.judgement_laws.proofs.EndLemmas.{one_end, no_end}
 
 module _ (s : Setting) (formula : QueryData → Formula) (limit : ℕ) where
   -- behind so many bytes and lines, a file with lines that run from a place to one where a judgement ends

@@ -1,5 +1,5 @@
 // What programs are made of texts: cells with their parts, types and ranges, and names without a cell.
-use clause_types::PairedTypes;
+use clause_types::PairScope;
 use front_end::accept_text;
 use plc_types::{DataType, Elementary, Range};
 use program_tree::{Part, Program};
@@ -111,12 +111,13 @@ fn cells_of_declared_types(rt: HostRuntime) -> Result<(), Fail> {
 fn types_of_a_pair(rt: HostRuntime) -> Result<(), Fail> {
     let old = program(rt.alloc(), LIGHTS)?;
     let new = program(rt.alloc(), LAMPS)?;
-    let types = PairedTypes::new(rt.alloc(), &old, &new)?;
-    for (number, pair) in [(0, 1), (1, 3)] {
-        let paired = types.paired(DataType::Enumeration(number));
-        assert_eq!(rt; paired, DataType::Enumeration(pair));
-    }
+    let scope = PairScope::new(rt.alloc(), &old, &new)?;
+    let light = scope.types.paired(DataType::Enumeration(0));
+    assert_eq!(rt; light, DataType::Enumeration(1));
+    let other = scope.types.paired(DataType::Enumeration(1));
+    assert_eq!(rt; other, DataType::Enumeration(3));
     let word = DataType::Elementary(Elementary::Word);
-    assert_eq!(rt; types.paired(word), word);
+    let paired = scope.types.paired(word);
+    assert_eq!(rt; paired, word);
     Ok(())
 }

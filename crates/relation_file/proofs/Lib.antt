@@ -8,4 +8,7 @@ pub mod LimitLemmas
 pub mod OnceLemmas
 pub mod WellFormedLemmas
 pub mod PassLemmas
+pub mod FirstBrokenLemmas
+pub mod GatheredLemmas
+pub mod LinePassLemmas
 pub mod ListedLemmas

@@ -7,13 +7,15 @@ use Rattle.plc_types.specs.Enumerations.{paired_type}
 use Rattle.program_tree.specs.Tree.{Expression, ProgramData}
 use Rattle.program_tree.specs.View.{expr_view}
 use Rattle.scan_model.specs.declared.relation.Candidate.{Candidate}
+use Rattle.scan_model.specs.declared.relation.InputLine.{InputLine}
 use Rattle.scan_model.specs.Among.{among}
-use Rattle.scan_model.specs.Pairs.{CandidateData, candidate_view, candidates_view, clauses_among}
-use Rattle.scan_model.specs.Candidates.{numbered, relate_clauses, same_cells, initial_values, exclusive_steps, paths_of}
+use Rattle.scan_model.specs.Pairs.{CandidateData, RelationData, candidate_view, candidates_view, clauses_among}
+use Rattle.scan_model.specs.Candidates.{numbered, relate_clauses, same_cells, initial_values, exclusive_steps, paths_of, candidates_of}
+use Rattle.relation_lines.specs.declared.line.Setting.TheVariants as settings
 use Rattle.relation_lines.specs.declared.line.Condition.TheVariants as conditions
 use Rattle.relation_lines.specs.Lines.{LineData}
 use Rattle.relation_file.specs.declared.listed.Listed.{Listed}
-use Rattle.relation_file.specs.Relations.{equal_faults, faults_are_equal, faults_clause, clauses_in}
+use Rattle.relation_file.specs.Relations.{setting_in, equal_faults, faults_are_equal, faults_clause, inputs_in, clauses_in, clauses_of, relation_of}
 use Rattle.relation_file.specs.Listed.{on_faults, IsListed}
 
 -- ---- candidates as data
@@ -127,3 +129,30 @@ module _ (old new : ProgramData) (lines : List LineData) where
             stand_between l.candidates.items l.first_relate l.relates (of_invariants ++ of_same) relates (a ++ b ++ c ++ d) (all ∙ regroup_middle of_invariants of_same relates a b c d) behind so_many
             ∙ clauses-relate (faults_are_equal lines) 1 (clauses_in old new conditions.Relate lines ++ faults_clause (faults_are_equal lines) (length old.cells));
       }
+
+  -- the relation that has all parts of that of lines is theirs
+  pub relation_is : {depth conflicts : ℕ} {inputs : List InputLine} {environment relates invariants : List Expression} {faults : Bool} {candidates : List CandidateData}
+      → depth ≡ setting_in settings.Depth lines → conflicts ≡ setting_in settings.Conflicts lines → inputs ≡ inputs_in old new lines
+      → environment ≡ clauses_in old new conditions.Environment lines → faults ≡ faults_are_equal lines
+      → relates ≡ clauses_in old new conditions.Relate lines ++ faults_clause (faults_are_equal lines) (length old.cells)
+      → invariants ≡ clauses_in old new conditions.Invariant lines → candidates ≡ candidates_of old new (clauses_of old new lines)
+      → (let r : RelationData = record {
+        depth = depth;
+        conflicts = conflicts;
+        inputs = inputs;
+        environment = environment;
+        equal_faults = faults;
+        relates = relates;
+        invariants = invariants;
+        candidates = candidates;
+      } in r) ≡ relation_of old new lines
+  relation_is d k i e f r v c = λ j. record {
+    depth = d j;
+    conflicts = k j;
+    inputs = i j;
+    environment = e j;
+    equal_faults = f j;
+    relates = r j;
+    invariants = v j;
+    candidates = c j;
+  }

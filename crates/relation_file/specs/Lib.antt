@@ -6,5 +6,8 @@ pub mod Broken
 pub mod Relations
 pub mod Stated
 pub mod Seen
+pub mod FirstBroken
+pub mod Gathered
+pub mod LinePass
 pub mod Listed
 pub mod WellFormed

@@ -1,12 +1,15 @@
 // What the lines of a relation file break.
-ghost use Rattle.std.specs.Prelude.{◌≡◌, List, ◌++◌, ◌&&◌, IfOk};
+ghost use Rattle.std.specs.Prelude.{◌≡◌, ℕ, List, [], ◌∷◌, ◌++◌, ◌&&◌, IfOk, OnOk, IfSome, IfNone};
 ghost use Rattle.rules.specs.Rules.{first_in};
+ghost use Rattle.program_tree.specs.Tree.{ProgramData};
 ghost use Rattle.indexmap.specs.IndexSet.{contains_text};
 ghost use Rattle.relation_lines.specs.Lines.{LineData};
-ghost use Rattle.relation_lines.specs.View.{content_view, line_view, lines_view};
+ghost use Rattle.relation_lines.specs.View.{content_view, line_view};
 ghost use Rattle.relation_file.specs.Order.{in_limits};
 ghost use Rattle.relation_file.specs.Inputs.{all_listed};
 ghost use Rattle.relation_file.specs.Broken.{broken_parts, broken_line, missing_kinds, missing_inputs, broken_lines, broken_content, broken_clauses};
+ghost use Rattle.relation_file.specs.FirstBroken.{IsFirstBroken};
+ghost use Rattle.relation_file.specs.Stated.{IsFirstOf};
 ghost use Rattle.candidates.specs.PairView.{old_of, new_of};
 ghost use Rattle.relation_file.specs.Seen.{Recalls};
 
@@ -74,24 +77,6 @@ fn missing(pair: &Pair<'_>, seen: &Seen, end: usize) -> Option<Refusal>
     Refusal::earlier(kinds, inputs)
 }
 
-/// The first rule on lines and names that the lines of a file of `end` bytes break.
-pub(crate) fn first_of_lines(
-    alloc: Global,
-    pair: &Pair<'_>,
-    end: usize,
-    lines: &[Line],
-) -> Result<Option<Refusal>, AllocError>
-    ensures { IfOk result (λ first. first ≡ first_in (broken_lines (old_of pair.now) (new_of pair.now) end (lines_view lines.now))) }
-{
-    let mut seen = Seen::new(alloc);
-    let mut first = None;
-    for line in lines {
-        first = Refusal::earlier(first, line_refusal(pair, &seen, line));
-        seen.note(line)?;
-    }
-    Ok(Refusal::earlier(first, missing(pair, &seen, end)))
-}
-
 // What the types of a clause break.
 fn clause_refusal(
     alloc: Global,
@@ -107,17 +92,60 @@ fn clause_refusal(
     }
 }
 
-/// The first rule on types that the clauses break.
-pub(crate) fn first_of_clauses(
-    alloc: Global,
-    pair: &Pair<'_>,
-    lines: &[Line],
-) -> Result<Option<Refusal>, AllocError>
-    ensures { IfOk result (λ first. first ≡ first_in (broken_clauses (old_of pair.now) (new_of pair.now) (lines_view lines.now))) }
-{
-    let mut first = None;
-    for line in lines {
-        first = Refusal::earlier(first, clause_refusal(alloc, pair, &line.content)?);
+/// What the lines so far break first, and what is kept of them for the next line.
+#[derive(Drop)]
+pub(crate) struct FirstBroken {
+    pub seen: Seen,
+    /// of the rules on lines and names
+    pub on_lines: Option<Refusal>,
+    /// of the rules on types
+    pub on_types: Option<Refusal>,
+}
+
+impl FirstBroken {
+    /// Before the first line.
+    pub(crate) fn new(alloc: Global) -> FirstBroken
+        ensures { (old new : ProgramData) (end : ℕ) → IsFirstBroken old new end [] result }
+    {
+        let seen = Seen::new(alloc);
+        FirstBroken {
+            seen,
+            on_lines: None,
+            on_types: None,
+        }
     }
-    Ok(first)
+
+    /// One more line.
+    pub(crate) fn note(
+        &mut self,
+        alloc: Global,
+        pair: &Pair<'_>,
+        line: &Line,
+    ) -> Result<(), AllocError>
+        ensures { OnOk result ((end : ℕ) (ls : List LineData) → IsFirstBroken (old_of pair.now) (new_of pair.now) end ls self.old → IsFirstBroken (old_of pair.now) (new_of pair.now) end (ls ++ line_view line.now ∷ []) self.new) }
+    {
+        let on_lines = Refusal::earlier(self.on_lines, line_refusal(pair, &self.seen, line));
+        let of_clause = clause_refusal(alloc, pair, &line.content)?;
+        let on_types = Refusal::earlier(self.on_types, of_clause);
+        self.seen.note(line)?;
+        self.on_lines = on_lines;
+        self.on_types = on_types;
+        Ok(())
+    }
+
+    // The first rule on lines and names, where the file has `end` bytes.
+    fn first_on_lines(&self, pair: &Pair<'_>, end: usize) -> Option<Refusal>
+        ensures { (ls : List LineData) → IsFirstBroken (old_of pair.now) (new_of pair.now) end ls self.now → result ≡ first_in (broken_lines (old_of pair.now) (new_of pair.now) end ls) }
+    {
+        Refusal::earlier(self.on_lines, missing(pair, &self.seen, end))
+    }
+
+    /// The first rule that the lines of a file of `end` bytes break: of those on lines and names, and then of those on types.
+    pub(crate) fn first(&self, pair: &Pair<'_>, end: usize) -> Option<Refusal>
+        ensures some { (ls : List LineData) → IsFirstBroken (old_of pair.now) (new_of pair.now) end ls self.now → IfSome result (IsFirstOf (old_of pair.now) (new_of pair.now) end ls) }
+        ensures sound { (ls : List LineData) → IsFirstBroken (old_of pair.now) (new_of pair.now) end ls self.now → IfNone result (broken_lines (old_of pair.now) (new_of pair.now) end ls ≡ []) }
+        ensures typing { (ls : List LineData) → IsFirstBroken (old_of pair.now) (new_of pair.now) end ls self.now → IfNone result (broken_clauses (old_of pair.now) (new_of pair.now) ls ≡ []) }
+    {
+        self.first_on_lines(pair, end).or(self.on_types)
+    }
 }

@@ -2,9 +2,11 @@
 #![tactic(auto)]
 
 mod broken;
+mod gathered;
 mod inputs;
 mod kinds;
 mod laws;
+mod line_pass;
 mod listed;
 mod names;
 mod read;

@@ -2,9 +2,9 @@
 ghost use Rattle.std.specs.Prelude.{◌≡◌, None, option_map};
 ghost use Rattle.rules.specs.Rules.{earlier, first_in};
 ghost use Rattle.source_tree.specs.SyntaxView.{name_view, path_view, tree_view, links_view, arguments_view};
-ghost use Rattle.relation_file.specs.Clauses.{is_side, broken_path, broken_called, broken_argument, broken_names, broken_links, broken_arguments, unknown_unless};
+ghost use Rattle.relation_file.specs.Clauses.{is_side, broken_path, broken_argument, broken_names, broken_links, broken_arguments, unknown_unless};
 
-use crate::unless::breaks;
+use crate::unless::{breaks, unless};
 use naming::is_library;
 use rules::{Refusal, Rule};
 use source_tree::{Argument, Expr, Link, Name, Path};
@@ -39,17 +39,6 @@ fn path_refusal<S: Scope>(scope: &S, path: &Path) -> Option<Refusal>
     }
 }
 
-// What a called name breaks: it is that of a standard function (N2).
-fn called_refusal(function: &Name) -> Option<Refusal>
-    ensures { result ≡ first_in (broken_called (name_view function.now)) }
-{
-    if is_library(function.text.as_str()) {
-        None
-    } else {
-        breaks(Rule::UnknownName, function.at)
-    }
-}
-
 // What an argument's name breaks: standard functions have none (N2).
 fn argument_refusal(known: bool, name: &Option<Name>) -> Option<Refusal>
     ensures { result ≡ first_in (broken_argument known (option_map name_view name.now)) }
@@ -78,8 +67,10 @@ fn walk_names<S: Scope>(scope: &S, expr: &Expr, first: &mut Option<Refusal>)
             walk_links(scope, links, first);
         }
         Expr::Call(function, _, arguments) => {
-            *first = Refusal::earlier(*first, called_refusal(function));
-            walk_arguments(scope, is_library(function.text.as_str()), arguments, first);
+            // A called name is that of a standard function (N2).
+            let known = is_library(function.text.as_str());
+            *first = Refusal::earlier(*first, unless(known, Rule::UnknownName, function.at));
+            walk_arguments(scope, known, arguments, first);
         }
     }
 }

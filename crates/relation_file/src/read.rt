@@ -1,44 +1,42 @@
 // The relation that a file states.
-ghost use Rattle.std.specs.Prelude.{◌≡◌, [], true, IfOk, IfErr, OnOk};
+ghost use Rattle.std.specs.Prelude.{◌≡◌, List, [], true, IfOk, IfErr, OnOk};
 ghost use Rattle.program_tree.specs.View.{program_view};
 ghost use Rattle.scan_model.specs.Pairs.{relation_view, BelongsTo};
-ghost use Rattle.relation_lines.specs.View.{lines_view};
+ghost use Rattle.relation_lines.specs.Lines.{LineData};
 ghost use Rattle.relation_file.specs.Broken.{broken_lines, broken_clauses};
 ghost use Rattle.candidates.specs.PairView.{old_of, new_of};
 ghost use Rattle.relation_file.specs.Relations.{relation_of};
 ghost use Rattle.relation_file.specs.Stated.{IsFirstOf, IsRelation, IsNoRelation, has_few_candidates, IsNoSmallRelation};
+ghost use Rattle.relation_file.specs.LinePass.{HasPassed};
 ghost use Rattle.relation_file.specs.WellFormed.{IsWellFormed};
 ghost use Rattle.rules.specs.Faults.{IfRefused};
 
-use crate::broken::{first_of_clauses, first_of_lines};
+use crate::line_pass::{LinePass, pass_over};
 use crate::relation::relation_of;
 use candidates::Pair;
 use program_tree::Program;
-use relation_lines::{Line, parse_lines};
 use rules::{Fault, Refusal, Rule};
 use scan_model::Relation;
 use source_tree::Tok;
 use std::alloc::Global;
 
-// The relation that the lines of a file of `end` bytes state, or the first rule that they break.
+// The relation that the lines of a file of `end` bytes state of which this is kept, or the first rule that they break.
 fn relation_in(
     alloc: Global,
     pair: &Pair<'_>,
     end: usize,
-    lines: &[Line],
+    pass: LinePass,
 ) -> Result<Relation, Fault>
-    ensures sound { OnOk result (broken_lines (old_of pair.now) (new_of pair.now) end (lines_view lines.now) ≡ []) }
-    ensures typing { OnOk result (broken_clauses (old_of pair.now) (new_of pair.now) (lines_view lines.now) ≡ []) }
-    ensures stated { IfOk result (λ r. relation_view r ≡ relation_of (old_of pair.now) (new_of pair.now) (lines_view lines.now)) }
-    ensures refused { IfErr result (IfRefused (IsFirstOf (old_of pair.now) (new_of pair.now) end (lines_view lines.now))) }
+    ensures sound { (ls : List LineData) → HasPassed (old_of pair.now) (new_of pair.now) end ls pass → OnOk result (broken_lines (old_of pair.now) (new_of pair.now) end ls ≡ []) }
+    ensures typing { (ls : List LineData) → HasPassed (old_of pair.now) (new_of pair.now) end ls pass → OnOk result (broken_clauses (old_of pair.now) (new_of pair.now) ls ≡ []) }
+    ensures stated { (ls : List LineData) → HasPassed (old_of pair.now) (new_of pair.now) end ls pass → IfOk result (λ r. relation_view r ≡ relation_of (old_of pair.now) (new_of pair.now) ls) }
+    ensures refused { (ls : List LineData) → HasPassed (old_of pair.now) (new_of pair.now) end ls pass → IfErr result (IfRefused (IsFirstOf (old_of pair.now) (new_of pair.now) end ls)) }
 {
-    if let Some(refusal) = first_of_lines(alloc, pair, end, lines)? {
+    let LinePass { broken, gathered } = pass;
+    if let Some(refusal) = broken.first(pair, end) {
         return Err(Fault::Refused(refusal));
     }
-    if let Some(refusal) = first_of_clauses(alloc, pair, lines)? {
-        return Err(Fault::Refused(refusal));
-    }
-    let relation = relation_of(alloc, pair, lines)?;
+    let relation = relation_of(alloc, pair, gathered)?;
     Ok(relation)
 }
 
@@ -59,9 +57,9 @@ pub fn read_lines(
     ensures well_formed { IfOk result (λ r. IsWellFormed (program_view old.now) (program_view new.now) (relation_view r)) }
     ensures refused { IfErr result (IfRefused (IsNoRelation (program_view old.now) (program_view new.now) end toks.now)) }
 {
-    let lines = parse_lines(alloc, toks, end)?;
     let pair = Pair::new(alloc, old, new)?;
-    let relation = relation_in(alloc, &pair, end, &lines)?;
+    let pass = pass_over(alloc, &pair, toks, end)?;
+    let relation = relation_in(alloc, &pair, end, pass)?;
     Ok(relation)
 }
 

@@ -7,4 +7,5 @@ mod parse;
 mod word;
 
 pub use line::{Condition, Content, Line, Setting};
-pub use parse::{one_list, parse_lines};
+pub use parse::{has_ended, one_list, parse_lines, read_line};
+pub use st_reader::refuse;

@@ -19,9 +19,14 @@ use st_reader::{expect, named, refuse, token};
 use std::alloc::Global;
 use token_rules::first_fault;
 
-/// A line.
+/// The line at a place, and the place behind it.
 #[tactic(auto, unfolding(crate::specs::Reading::line))]
-fn line(alloc: Global, toks: &[Tok<'_>], end: usize, at: usize) -> Result<(Line, usize), Stop>
+pub fn read_line(
+    alloc: Global,
+    toks: &[Tok<'_>],
+    end: usize,
+    at: usize,
+) -> Result<(Line, usize), Stop>
     ensures { Gives view.line_view toks.now result (spec.line (length toks.now) DEPTH (ahead toks.now at)) }
 {
     let (word, next) = named(alloc, toks, end, at)?;
@@ -38,7 +43,7 @@ fn line(alloc: Global, toks: &[Tok<'_>], end: usize, at: usize) -> Result<(Line,
 }
 
 /// Whether no token stands at a place.
-fn has_ended(toks: &[Tok<'_>], at: usize) -> bool
+pub fn has_ended(toks: &[Tok<'_>], at: usize) -> bool
     ensures { result ≡ spec.has_ended (ahead toks.now at) }
 {
     token(toks, at).is_none()
@@ -58,7 +63,7 @@ fn lines(
         if has_ended(toks, at) {
             return Ok((found, at));
         }
-        let (next, behind) = line(alloc, toks, end, at)?;
+        let (next, behind) = read_line(alloc, toks, end, at)?;
         found.push(next)?;
         at = behind;
     }

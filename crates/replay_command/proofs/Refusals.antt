@@ -1,6 +1,5 @@
 -- Which of four files is refused first, and by which rule.
 use Rattle.std.proofs.Common.{length}
-use Rattle.rules.specs.declared.rule.Refusal.{Refusal}
 use Rattle.program_tree.specs.Tree.{ProgramData}
 use Rattle.scan_model.specs.Pairs.{RelationData}
 use Rattle.command_files.specs.front_end.Texts.{IsProgram, IsNoProgram}

@@ -1,5 +1,5 @@
 -- A propagator, when a clause is added, when a clause comes to watch, and when the trail changes.
-use Rattle.std.proofs.Common.{◌≡◌, ◌≢◌, ◌⊎◌, ℕ, zero, suc, ◌<◌, ◌≤◌, ◌+◌, ◌-◌, ◌*◌, List, [], ◌∷◌, ◌++◌, length, get_or, take, refl, sym, ◌∙◌, ap, subst, inl, inr, ⊎_elim, arith}
+use Rattle.std.proofs.Common.{◌≡◌, ◌≢◌, ◌⊎◌, ℕ, zero, suc, ◌<◌, ◌≤◌, ◌+◌, ◌-◌, List, [], ◌∷◌, ◌++◌, length, get_or, take, refl, sym, ◌∙◌, ap, subst, ⊎_elim, arith}
 use Rattle.std.specs.List.{Contains}
 use Rattle.std.proofs.lemmas.Bool.{cases_lt}
 use Rattle.std.proofs.lemmas.List.{length-append, take_at, take-append-le}
@@ -8,7 +8,7 @@ use Rattle.watched_propagation.specs.declared.watch.Pair.{Pair}
 use Rattle.watched_propagation.specs.declared.watch.Watch.{Watch}
 use Rattle.propagation_trail.specs.Codes.{negated}
 use Rattle.propagation_trail.specs.Trails.{TrailState, assigned}
-use Rattle.watched_propagation.specs.Watching.{no_pair, clause_in, pair_in, IsWatch, IsListing, IsSettled, below_level, IsWatching, KeepsWatched, IsLoose, KeepsWatching}
+use Rattle.watched_propagation.specs.Watching.{no_pair, pair_in, IsWatch, IsSettled, below_level, IsWatching, KeepsWatched, KeepsWatching}
 use Rattle.watched_propagation.specs.Propagations.{IsPropagator, IsWatchable, IsLearnable}
 use Rattle.watched_propagation.proofs.Settling.{Contains-take, Contains-clause, IsWatching-clauses}
 

@@ -1,5 +1,5 @@
 -- Lists of watches, when a watch or a clause's pair changes.
-use Rattle.std.proofs.Common.{Bool, ◌≡◌, ◌≢◌, ◌⊎◌, ℕ, zero, suc, ◌<◌, ◌≤◌, ◌+◌, ◌-◌, List, [], ◌∷◌, ◌++◌, length, get_or, set, take, refl, sym, ◌∙◌, ap, subst, inl, inr, ⊎_elim, arith}
+use Rattle.std.proofs.Common.{Bool, ◌≡◌, ◌≢◌, ◌⊎◌, ℕ, zero, suc, ◌<◌, ◌≤◌, ◌+◌, ◌-◌, List, [], ◌∷◌, ◌++◌, length, get_or, set, refl, sym, ◌∙◌, ap, subst, inl, inr, ⊎_elim, arith}
 use Rattle.std.specs.List.{Contains, swap_remove}
 use Rattle.std.proofs.lemmas.Bool.{cases_lt}
 use Rattle.std.proofs.lemmas.List.{get_or_append_left, get_or_at, get_or_past, get_or-take, get_or-set_same, get_or-set_other, length-append, length-set, length-take}
@@ -117,8 +117,8 @@ AreBlockers-remove clauses list place lt h i li =
     (λ e. subst (λ (w : Watch). Contains (clause_in clauses w.clause) w.blocker) (sym (remove-other list place i less e)) (h i wide))
     (cases_eq i place)
 
-abbrev pub paired : ℕ → ℕ → Pair
-paired a b = record { first = a; second = b }
+abbrev pub paired : ℕ → ℕ → ℕ → Pair
+paired a b n = record { first = a; second = b; next = n }
 
 abbrev pub watched : ℕ → ℕ → Bool → Watch
 watched k b short = record { clause = k; blocker = b; is_short = short }

@@ -1,23 +1,21 @@
 -- Nothing is left to propagate: how this goes on when the trail, the clauses or the pairs change.
-use Rattle.std.proofs.Common.{◌≡◌, ◌≢◌, ◌⊎◌, ℕ, zero, suc, ◌<◌, ◌≤◌, ◌+◌, ◌-◌, ◌*◌, ◌/◌, ◌%◌, eqb, false, List, [], ◌∷◌, ◌++◌, length, get_or, set, take, drop, Some, refl, sym, ◌∙◌, ap, subst, inl, inr, ⊎_elim, arith}
-use Rattle.std.specs.List.{Contains, slice_get, swap_remove}
+use Rattle.std.proofs.Common.{◌≡◌, ◌⊎◌, ℕ, ◌<◌, ◌≤◌, ◌+◌, ◌-◌, ◌*◌, ◌/◌, ◌%◌, eqb, false, List, [], ◌∷◌, ◌++◌, length, get_or, set, take, drop, refl, sym, ◌∙◌, ap, subst, inl, inr, ⊎_elim, arith}
+use Rattle.std.specs.List.{Contains, swap_remove}
 use Rattle.std.proofs.lemmas.Bool.{cases_lt}
-use Rattle.std.proofs.lemmas.Option.{get_or_from_slice_get, slice_get_within}
-use Rattle.std.proofs.lemmas.List.{append-nil, append_assoc, get_or_append_left, get_or_at, get_or_past, get_or-take, get_or-set_same, get_or-set_other, length-append, length-set, length-take, length-take-le, take_all, take-take, take-append-le, take-append-drop, take_more}
-use Rattle.std.proofs.lemmas.List.Elements.{Contains-append_left, Contains-append_right, Contains-push, Contains-push_cases}
-use Rattle.clause_core.specs.declared.truth.Truth.{Truth}
+use Rattle.std.proofs.lemmas.List.{append-nil, append_assoc, get_or_append_left, get_or_at, get_or_past, get_or-take, length-append, length-set, length-take, take_all, take-take, take-append-le, take-append-drop, take_more}
+use Rattle.std.proofs.lemmas.List.Elements.{Contains-append_left, Contains-push_cases}
 use Rattle.clause_core.specs.declared.truth.Truth.TheVariants.{True}
 use Rattle.clause_core.specs.Values.{signed_truth}
 use Rattle.watched_propagation.specs.declared.watch.Pair.{Pair}
 use Rattle.watched_propagation.specs.declared.watch.Watch.{Watch}
-use Rattle.propagation_trail.specs.Codes.{negated, put}
+use Rattle.propagation_trail.specs.Codes.{negated}
 use Rattle.propagation_trail.specs.Trails.{TrailState, assigned, with_level, with_head, IsBack, IsRising, Grown}
-use Rattle.watched_propagation.specs.Watching.{no_pair, no_watch, clause_in, pair_in, list_in, watch_in, IsWatch, IsListed, AreBlockers, IsListing, Meets, IsSettled, below_level, IsWatching, KeepsWatched}
+use Rattle.watched_propagation.specs.Watching.{no_watch, clause_in, pair_in, list_in, watch_in, IsWatch, IsListed, Meets, IsSettled, below_level, IsWatching}
 use Rattle.watched_propagation.specs.Visits.{IsOther, IsReplacement}
-use Rattle.watched_propagation.specs.Propagations.{IsWatchable, IsLearnable}
+use Rattle.watched_propagation.specs.Propagations.{IsWatchable}
 use Rattle.propagation_trail.proofs.Signs.{negated-negated}
-use Rattle.propagation_trail.proofs.Tables.{cases_eq, IsRising-more, IsRising-take}
-use Rattle.watched_propagation.proofs.Lists.{paired, watched, set_cases, IsWatch-set, IsWatch-past, pushed, IsListed-pushed, IsListed-new, IsListing-pushed, IsListing-pair, IsListing-set, IsListing-remove}
+use Rattle.propagation_trail.proofs.Tables.{cases_eq}
+use Rattle.watched_propagation.proofs.Lists.{paired, watched, IsWatch-set, IsWatch-past, pushed, IsListed-pushed, IsListed-new, IsListing-pushed, IsListing-pair, IsListing-set, IsListing-remove}
 
 pub Contains-take : (n : ℕ) (xs : List ℕ) (x : ℕ) → Contains (take n xs) x → Contains xs x
 Contains-take n xs x m = subst (λ z. Contains z x) (take-append-drop n xs) (Contains-append_left (take n xs) (drop n xs) x m)
@@ -120,22 +118,29 @@ IsWatching-back clauses pairs lists t s level lt b r h = record {
     front_same : take s.head s.literals ≡ below_level t level
     front_same = ap (λ i. take i s.literals) b.head ∙ ap (take (get_or t.starts level 0)) b.literals ∙ take-take (get_or t.starts level 0) (get_or t.starts level 0) t.literals (omega arith)
 
+-- the watched literal beside one
+pub IsOther-beside : (p : Pair) (w o : ℕ) → IsWatch p w → (p.first ≡ w → o ≡ p.second) → ((p.first ≡ w → ⊥) → o ≡ p.first) → IsOther p w o
+IsOther-beside p w o i f s = ⊎_elim
+    (λ (e : p.first ≡ w). let is : o ≡ p.second = f e in record { this = i; other = record { two = i.two; one = inr (sym is) }; apart = λ same. i.two (e ∙ sym same ∙ is) })
+    (λ (n : p.first ≡ w → ⊥). let is : o ≡ p.first = s n in record { this = i; other = record { two = i.two; one = inl (sym is) }; apart = λ same. n (sym is ∙ same) })
+    (cases_eq p.first w)
+
 -- a watch moves from a false literal to one that is not
-pub IsWatching-moved : (clauses : List (List ℕ)) (pairs : List Pair) (lists : List (List Watch)) (t : TrailState) (k f o x : ℕ) → IsOther (pair_in pairs k) f o → IsReplacement (clause_in clauses k) t.literals o (length lists) x → IsWatching clauses pairs lists t → IsWatching clauses (set pairs k (record { first = x; second = o })) (pushed lists x (watched k o false)) t
-IsWatching-moved clauses pairs lists t k f o x p q h = record {
-  listing = IsListing-pair clauses pairs (pushed lists x (watched k o false)) k (paired x o) (λ w i. elim i.one [ inl e ↦ subst (λ z. Contains (clause_in clauses k) z × IsListed (list_in (pushed lists x (watched k o false)) z) 0 k) e (q.inside, IsListed-new lists x (watched k o false) q.within) | inr e ↦ subst (λ z. Contains (clause_in clauses k) z × IsListed (list_in (pushed lists x (watched k o false)) z) 0 k) e (h.listing.inside k o p.other, IsListed-pushed lists x (watched k o false) o k (h.listing.listed k o p.other)) ])
+pub IsWatching-moved : (clauses : List (List ℕ)) (pairs : List Pair) (lists : List (List Watch)) (t : TrailState) (k f o x n : ℕ) → IsOther (pair_in pairs k) f o → IsReplacement (clause_in clauses k) t.literals o (length lists) x → IsWatching clauses pairs lists t → IsWatching clauses (set pairs k (paired x o n)) (pushed lists x (watched k o false)) t
+IsWatching-moved clauses pairs lists t k f o x n p q h = record {
+  listing = IsListing-pair clauses pairs (pushed lists x (watched k o false)) k (paired x o n) (λ w i. elim i.one [ inl e ↦ subst (λ z. Contains (clause_in clauses k) z × IsListed (list_in (pushed lists x (watched k o false)) z) 0 k) e (q.inside, IsListed-new lists x (watched k o false) q.within) | inr e ↦ subst (λ z. Contains (clause_in clauses k) z × IsListed (list_in (pushed lists x (watched k o false)) z) 0 k) e (h.listing.inside k o p.other, IsListed-pushed lists x (watched k o false) o k (h.listing.listed k o p.other)) ])
       (IsListing-pushed clauses pairs lists x (watched k o false) (h.listing.inside k o p.other) h.listing);
-  levels = λ j l. IsSettled-pair clauses pairs (below_level t j) (below_level t j) k (paired x o) (λ w i m. settled (below_level t j) (below_level t j) (h.levels j l) (λ c n. Contains-take (get_or t.starts j 0) t.literals c n) w i m) (h.levels j l);
-  front = IsSettled-pair clauses pairs (take t.head t.literals) t.literals k (paired x o) (λ w i m. settled (take t.head t.literals) t.literals h.front (λ c n. Contains-take t.head t.literals c n) w i m) h.front;
+  levels = λ j l. IsSettled-pair clauses pairs (below_level t j) (below_level t j) k (paired x o n) (λ w i m. settled (below_level t j) (below_level t j) (h.levels j l) (λ c n. Contains-take (get_or t.starts j 0) t.literals c n) w i m) (h.levels j l);
+  front = IsSettled-pair clauses pairs (take t.head t.literals) t.literals k (paired x o n) (λ w i m. settled (take t.head t.literals) t.literals h.front (λ c n. Contains-take t.head t.literals c n) w i m) h.front;
   size = length-set lists x (list_in lists x ++ watched k o false ∷ []) ∙ h.size;
 }
   where
-    settled : (first others : List ℕ) → IsSettled clauses pairs first others → ((c : ℕ) → Contains first c → Contains t.literals c) → (w : ℕ) → IsWatch (paired x o) w → Contains first (negated w) → Meets (clause_in clauses k) others
+    settled : (first others : List ℕ) → IsSettled clauses pairs first others → ((c : ℕ) → Contains first c → Contains t.literals c) → (w : ℕ) → IsWatch (paired x o n) w → Contains first (negated w) → Meets (clause_in clauses k) others
     settled first others s wider w i m = elim i.one [ inl e ↦ absurd (q.free (subst (λ z. Contains t.literals (negated z)) (sym e) (wider (negated w) m))) | inr e ↦ s.meets k o p.other (subst (λ z. Contains first (negated z)) (sym e) m) ]
 
-pub moved_away : (pairs : List Pair) (literals codes : List ℕ) (k f o x limit : ℕ) → IsOther (pair_in pairs k) f o → IsReplacement codes literals o limit x → Contains literals (negated f) → IsWatch (pair_in (set pairs k (paired x o)) k) f → ⊥
-moved_away pairs literals codes k f o x limit p q m =
-    IsWatch-set pairs k (paired x o) k f ⊥
+pub moved_away : (pairs : List Pair) (literals codes : List ℕ) (k f o x n limit : ℕ) → IsOther (pair_in pairs k) f o → IsReplacement codes literals o limit x → Contains literals (negated f) → IsWatch (pair_in (set pairs k (paired x o n)) k) f → ⊥
+moved_away pairs literals codes k f o x n limit p q m =
+    IsWatch-set pairs k (paired x o n) k f ⊥
     (λ _ i. elim i.one [ inl e ↦ q.free (subst (λ z. Contains literals (negated z)) (sym e) m) | inr e ↦ p.apart e ])
     (λ past i. IsWatch-past pairs k f (past refl) i)
 
@@ -165,15 +170,15 @@ IsWatching-pushed clauses pairs lists t x e b h = record {
 }
 
 -- a clause comes to watch two of its literals, in whose lists it stands
-pub IsWatching-both : (clauses : List (List ℕ)) (pairs : List Pair) (lists : List (List Watch)) (t : TrailState) (k one other : ℕ) → Contains (clause_in clauses k) one → Contains (clause_in clauses k) other → IsListed (list_in lists one) 0 k → IsListed (list_in lists other) 0 k → IsWatchable t one one → IsWatchable t one other → IsWatching clauses pairs lists t → IsWatching clauses (set pairs k (paired one other)) lists t
-IsWatching-both clauses pairs lists t k one other a b la lb p q h = record {
-  listing = IsListing-pair clauses pairs lists k (paired one other) (λ w i. elim i.one [ inl e ↦ subst (λ z. Contains (clause_in clauses k) z × IsListed (list_in lists z) 0 k) e (a, la) | inr e ↦ subst (λ z. Contains (clause_in clauses k) z × IsListed (list_in lists z) 0 k) e (b, lb) ]) h.listing;
-  levels = λ j l. IsSettled-pair clauses pairs (below_level t j) (below_level t j) k (paired one other) (λ w i m. absurd ((watchable w i).levels j l m)) (h.levels j l);
-  front = IsSettled-pair clauses pairs (take t.head t.literals) t.literals k (paired one other) (λ w i m. record { literal = one; inside = a; among = (watchable w i).front m }) h.front;
+pub IsWatching-both : (clauses : List (List ℕ)) (pairs : List Pair) (lists : List (List Watch)) (t : TrailState) (k one other n : ℕ) → Contains (clause_in clauses k) one → Contains (clause_in clauses k) other → IsListed (list_in lists one) 0 k → IsListed (list_in lists other) 0 k → IsWatchable t one one → IsWatchable t one other → IsWatching clauses pairs lists t → IsWatching clauses (set pairs k (paired one other n)) lists t
+IsWatching-both clauses pairs lists t k one other n a b la lb p q h = record {
+  listing = IsListing-pair clauses pairs lists k (paired one other n) (λ w i. elim i.one [ inl e ↦ subst (λ z. Contains (clause_in clauses k) z × IsListed (list_in lists z) 0 k) e (a, la) | inr e ↦ subst (λ z. Contains (clause_in clauses k) z × IsListed (list_in lists z) 0 k) e (b, lb) ]) h.listing;
+  levels = λ j l. IsSettled-pair clauses pairs (below_level t j) (below_level t j) k (paired one other n) (λ w i m. absurd ((watchable w i).levels j l m)) (h.levels j l);
+  front = IsSettled-pair clauses pairs (take t.head t.literals) t.literals k (paired one other n) (λ w i m. record { literal = one; inside = a; among = (watchable w i).front m }) h.front;
   size = h.size;
 }
   where
-    watchable : (w : ℕ) → IsWatch (paired one other) w → IsWatchable t one w
+    watchable : (w : ℕ) → IsWatch (paired one other n) w → IsWatchable t one w
     watchable w i = elim i.one [ inl e ↦ subst (IsWatchable t one) e p | inr e ↦ subst (IsWatchable t one) e q ]
 
 -- more clauses are there

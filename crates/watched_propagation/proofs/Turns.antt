@@ -1,5 +1,5 @@
 -- A visit of the clauses that watch a false literal, turn by turn.
-use Rattle.std.proofs.Common.{◌≡◌, ◌≢◌, ◌⊎◌, ℕ, ◌<◌, ◌≤◌, ◌+◌, ◌-◌, List, [], ◌∷◌, ◌++◌, length, get_or, set, refl, sym, ◌∙◌, ap, subst, inl, inr, ⊎_elim, arith, Bool, true, false, Option, Some, None}
+use Rattle.std.proofs.Common.{◌≡◌, ◌≢◌, ◌⊎◌, ℕ, ◌<◌, ◌≤◌, ◌+◌, ◌-◌, List, [], length, set, refl, sym, ◌∙◌, ap, subst, inl, inr, ⊎_elim, arith, Bool, true, false, Option, Some, None}
 use Rattle.std.specs.List.{Contains, swap_remove}
 use Rattle.std.specs.Option.{is_some}
 use Rattle.std.proofs.lemmas.Bool.{cases_lt, true≢false}
@@ -12,7 +12,7 @@ use Rattle.propagation_trail.specs.Codes.{negated}
 use Rattle.watched_propagation.specs.Visits.{IsCovered, IsVisited, IsVisiting, IsVisitedUnless}
 use Rattle.propagation_trail.proofs.Tables.{cases_eq}
 use Rattle.watched_propagation.proofs.Lists.{watched, IsListed-set, IsListed-remove, length-remove}
-use Rattle.watched_propagation.proofs.Settling.{Meets-more, Contains-grown, IsWatching-set, IsWatching-remove}
+use Rattle.watched_propagation.proofs.Settling.{Contains-grown, IsWatching-set, IsWatching-remove}
 
 pub IsCovered-start : (clauses : List (List ℕ)) (pairs : List Pair) (lists : List (List Watch)) (literals : List ℕ) (f : ℕ) → IsListing clauses pairs lists → IsCovered clauses pairs literals (list_in lists f) f 0
 IsCovered-start clauses pairs lists literals f h = record { each = λ k i. inr (h.listed k f i) }

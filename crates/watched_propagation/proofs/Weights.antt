@@ -1,5 +1,5 @@
 -- Where nothing is left to propagate, no clause is false or unit.
-use Rattle.std.proofs.Common.{◌≡◌, ◌≢◌, ◌⊎◌, ℕ, zero, suc, ◌<◌, ◌≤◌, ◌+◌, ◌-◌, Bool, true, false, not, cond, List, [], ◌∷◌, ◌++◌, map, length, get_or, take, refl, sym, ◌∙◌, ap, subst, inl, inr, ⊎_elim, arith}
+use Rattle.std.proofs.Common.{◌≡◌, ◌≢◌, ◌⊎◌, ℕ, zero, suc, ◌<◌, ◌≤◌, ◌+◌, ◌-◌, not, cond, List, [], ◌∷◌, map, length, get_or, take, refl, sym, ◌∙◌, ap, subst, inl, inr, ⊎_elim, arith}
 use Rattle.std.specs.List.{Contains}
 use Rattle.std.proofs.lemmas.Bool.{cases_lt}
 use Rattle.std.proofs.lemmas.List.{get_or-map, get_or_default, take_all, length-map}
@@ -14,7 +14,7 @@ use Rattle.watched_propagation.specs.declared.watch.Pair.{Pair}
 use Rattle.watched_propagation.specs.declared.watch.Watch.{Watch}
 use Rattle.propagation_trail.specs.Codes.{literal_of, negated, truth}
 use Rattle.propagation_trail.specs.Trails.{TrailState, IsConsistent}
-use Rattle.watched_propagation.specs.Watching.{clause_in, pair_in, IsWatch, IsListing, Meets, IsWatching, IsLoose}
+use Rattle.watched_propagation.specs.Watching.{clause_in, pair_in, IsWatch, Meets}
 use Rattle.watched_propagation.specs.Propagations.{literals_of, IsPropagator}
 use Rattle.propagation_trail.proofs.Signs.{truth-negated}
 use Rattle.propagation_trail.proofs.Tables.{cases_eq}

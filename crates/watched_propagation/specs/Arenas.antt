@@ -1,5 +1,5 @@
 -- Clauses that stand one behind the other in one list.
-use Rattle.std.specs.Prelude.{ℕ, ◌-◌, ◌≤◌, List, All, map, take, drop}
+use Rattle.std.specs.Prelude.{ℕ, ◌-◌, ◌≤◌, List, map, take, drop}
 use Rattle.watched_propagation.specs.declared.arena.Span.{Span}
 
 -- what stands where a span says

@@ -1,5 +1,5 @@
 -- What contracts see of a propagator.
-use Rattle.std.specs.Prelude.{◌≡◌, ℕ, ◌^◌, ◌<◌, ◌≤◌, List, map, length, All, take, Contains, slice_index_or}
+use Rattle.std.specs.Prelude.{ℕ, ◌^◌, ◌<◌, ◌≤◌, List, map, length, All, take, Contains}
 use Rattle.clause_core.specs.declared.literal.Lit.{Lit}
 use Rattle.clause_core.specs.declared.truth.Truth.{Truth}
 use Rattle.watched_propagation.specs.declared.watch.Pair.{Pair}

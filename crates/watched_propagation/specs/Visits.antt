@@ -1,5 +1,5 @@
 -- Visits of the clauses that watch a literal which became false.
-use Rattle.std.specs.Prelude.{◌≡◌, ◌≢◌, ◌⊎◌, ℕ, ◌-◌, ◌<◌, ◌≤◌, List, length, Contains, Option, Some, None}
+use Rattle.std.specs.Prelude.{◌≢◌, ◌⊎◌, ℕ, ◌-◌, ◌<◌, List, length, Contains, Option, Some, None}
 use Rattle.watched_propagation.specs.declared.watch.Pair.{Pair}
 use Rattle.watched_propagation.specs.declared.watch.Watch.{Watch}
 use Rattle.watched_propagation.specs.declared.visit.Settled.{Settled}

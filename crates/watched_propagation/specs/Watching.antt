@@ -6,7 +6,7 @@ use Rattle.propagation_trail.specs.Codes.{negated}
 use Rattle.propagation_trail.specs.Trails.{TrailState}
 
 abbrev pub no_pair : Pair
-no_pair = record { first = 0; second = 0 }
+no_pair = record { first = 0; second = 0; next = 0 }
 
 abbrev pub no_watch : Watch
 no_watch = record { clause = 0; blocker = 0; is_short = false }

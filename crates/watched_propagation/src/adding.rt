@@ -1,9 +1,9 @@
 // New clauses.
 
-ghost use Rattle.std.specs.Prelude.{◌≡◌, ℕ, ◌<◌, ◌≤◌, ◌++◌, ◌∷◌, [], List, length, map, Contains, IsTrue, IfOk, OnOk};
+ghost use Rattle.std.specs.Prelude.{◌≡◌, ℕ, ◌<◌, ◌≤◌, ◌++◌, ◌∷◌, [], List, length, map, IsTrue, IfOk, OnOk};
 ghost use Rattle.clause_core.specs.Clauses.{rank};
 ghost use Rattle.watched_propagation.specs.declared.watch.Watch.{Watch};
-ghost use Rattle.propagation_trail.specs.Trails.{TrailState, assigned};
+ghost use Rattle.propagation_trail.specs.Trails.{TrailState};
 ghost use Rattle.watched_propagation.specs.Propagations.{AreSmall, IsLearnable, IsPropagator, IsWatchable};
 
 use crate::arena::Arena;

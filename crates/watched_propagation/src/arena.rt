@@ -1,6 +1,6 @@
 // The clauses, one behind the other in one vector. They never change.
 
-ghost use Rattle.std.specs.Prelude.{◌≡◌, ◌<◌, ◌≤◌, ◌^◌, ◌++◌, ◌∷◌, [], List, ℕ, All, length, map, IfOk, OnErr, OnOk};
+ghost use Rattle.std.specs.Prelude.{◌≡◌, ◌<◌, ◌++◌, ◌∷◌, [], List, ℕ, All, length, map, OnErr, OnOk};
 ghost use Rattle.clause_core.specs.Clauses.{rank};
 ghost use Rattle.watched_propagation.specs.Arenas.{clauses_of, IsSpan};
 ghost use Rattle.watched_propagation.specs.Propagations.{AreSmall};

@@ -1,7 +1,7 @@
 // Two literals of a new clause to watch.
 
-ghost use Rattle.std.specs.Prelude.{◌≡◌, ◌≢◌, ℕ, ◌<◌, length, Contains, IsTrue, IfOk};
-ghost use Rattle.watched_propagation.specs.Watching.{clause_in, pair_in, IsWatching, KeepsWatched};
+ghost use Rattle.std.specs.Prelude.{◌≢◌, ◌<◌, length, Contains, IsTrue, IfOk};
+ghost use Rattle.watched_propagation.specs.Watching.{pair_in, IsWatching, KeepsWatched};
 ghost use Rattle.watched_propagation.specs.Propagations.{IsWatchable};
 
 use crate::arena::Arena;
@@ -88,6 +88,7 @@ pub(crate) fn watch_both(
         Pair {
             first: one,
             second: other,
+            next: 0,
         },
     );
     Ok(true)

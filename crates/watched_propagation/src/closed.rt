@@ -1,6 +1,6 @@
 // Whether nothing is left to propagate.
 
-ghost use Rattle.std.specs.Prelude.{◌≡◌, ℕ, IsTrue, Contains};
+ghost use Rattle.std.specs.Prelude.{ℕ, IsTrue, Contains};
 ghost use Rattle.clause_core.specs.Propagation.{IsClosed};
 ghost use Rattle.watched_propagation.specs.Watching.{clause_in, Meets};
 ghost use Rattle.watched_propagation.specs.Propagations.{literals_of, IsPropagator};

@@ -1,15 +1,15 @@
 // The clauses that watch a literal which became false.
 
-ghost use Rattle.std.specs.Prelude.{◌≡◌, ℕ, ◌<◌, ◌≤◌, ◌-◌, ◌*◌, length, ◌+◌, Some, slice_get, slice_set, Contains, IfOk, IfSome, OnOk};
+ghost use Rattle.std.specs.Prelude.{◌≡◌, ◌≢◌, ℕ, ◌<◌, ◌≤◌, ◌+◌, ◌-◌, ◌*◌, length, Some, slice_get, slice_index_or, Contains, IsTrue, IfOk, IfSome, OnOk};
 ghost use Rattle.propagation_trail.specs.Codes.{negated};
 ghost use Rattle.propagation_trail.specs.Trails.{Grown};
 ghost use Rattle.watched_propagation.specs.Watching.{clause_in, pair_in, list_in, watch_in, IsWatch, IsWatching, KeepsWatched};
-ghost use Rattle.watched_propagation.specs.Visits.{IsOther, IsReplacement, IsSettledAs, IsVisiting, IsVisited, IsVisitedAs, IsVisitedUnless};
+ghost use Rattle.watched_propagation.specs.Visits.{IsOther, IsReplacement, IsSettledAs, IsVisiting, IsVisitedAs, IsVisitedUnless};
 
 use crate::arena::Arena;
 use crate::levels::assume;
 use crate::watch::{Pair, Watch, WatchList, other_watched, push_watch, remove_watch, set_watch};
-use propagation_trail::{ClauseRef, Trail, negated, read, write};
+use propagation_trail::{ClauseRef, Trail, low, negated, read, write};
 use std::alloc::AllocError;
 
 /// What becomes of a clause that watches a literal which became false.
@@ -21,6 +21,13 @@ pub(crate) enum Settled {
     Satisfied(u32),
     /// It is false.
     Conflict,
+}
+
+/// A literal of a clause that may be watched, and the place behind it.
+#[derive(Clone, Copy)]
+pub(crate) struct Found {
+    pub code: u32,
+    pub next: u32,
 }
 
 /// What one turn of a visit comes to.
@@ -50,17 +57,63 @@ fn next_place(trail: &Trail, list: &[Watch], start: usize) -> usize
     place
 }
 
-/// A literal that is not false and is not this other one.
+/// Whether the literal at a place is not false and not this other one.
 #[inline(always)]
-pub(crate) fn find_other(codes: &[u32], trail: &Trail, other: u32, limit: usize) -> Option<u32>
-    ensures { IfSome result (IsReplacement codes.now trail.now.literals other limit) }
+fn is_free_at(codes: &[u32], trail: &Trail, other: u32, limit: usize, place: usize) -> bool
+    requires { place < length codes.now }
+    ensures apart { IsTrue result → slice_index_or codes.now place 0 ≢ other }
+    ensures within { IsTrue result → slice_index_or codes.now place 0 < limit }
+    ensures free { IsTrue result → Contains trail.now.literals (negated (slice_index_or codes.now place 0)) → ⊥ }
 {
-    for code in codes {
-        if trail.is_free(*code) && *code != other && (*code as usize) < limit {
-            return Some(*code);
+    let code = codes[place];
+    trail.is_free(code) && code != other && (code as usize) < limit
+}
+
+/// A literal from one place of a clause to another that is not false and is not this other one.
+#[inline(always)]
+fn find_between(
+    codes: &[u32],
+    trail: &Trail,
+    other: u32,
+    limit: usize,
+    start: usize,
+    end: usize,
+) -> Option<Found>
+    requires { end ≤ length codes.now }
+    ensures { IfSome result (λ f. IsReplacement codes.now trail.now.literals other limit f.code) }
+{
+    for place in start..end {
+        if is_free_at(codes, trail, other, limit, place) {
+            return Some(Found {
+                code: codes[place],
+                next: low(place + 1),
+            });
         }
     }
     None
+}
+
+/// A literal of a clause that is not false and is not this other one. The search begins at a place, and
+/// goes on from the first literal where it comes to the end.
+#[inline(always)]
+fn find_round(codes: &[u32], trail: &Trail, other: u32, limit: usize, start: u32) -> Option<Found>
+    ensures { IfSome result (λ f. IsReplacement codes.now trail.now.literals other limit f.code) }
+{
+    let middle = (start as usize).min(codes.len());
+    match find_between(codes, trail, other, limit, middle, codes.len()) {
+        Some(found) => Some(found),
+        None => find_between(codes, trail, other, limit, 0, middle),
+    }
+}
+
+/// The first literal of a clause that is not false and is not this other one.
+pub(crate) fn find_other(codes: &[u32], trail: &Trail, other: u32, limit: usize) -> Option<u32>
+    ensures { IfSome result (IsReplacement codes.now trail.now.literals other limit) }
+{
+    match find_between(codes, trail, other, limit, 0, codes.len()) {
+        Some(found) => Some(found.code),
+        None => None,
+    }
 }
 
 /// Lets a clause watch another literal in place of a false one.
@@ -73,12 +126,12 @@ fn move_watch(
     falsified: u32,
     clause: u32,
     other: u32,
-    code: u32,
+    found: Found,
 ) -> Result<(), AllocError>
     requires watching { IsWatching arena.now pairs.old lists.old trail.now }
     requires falsified { Contains trail.now.literals (negated falsified) }
     requires other { IsOther (pair_in pairs.old clause) falsified other }
-    requires replacement { IsReplacement (clause_in arena.now clause) trail.now.literals other (length lists.old) code }
+    requires replacement { IsReplacement (clause_in arena.now clause) trail.now.literals other (length lists.old) found.code }
     ensures watching { IsWatching arena.now pairs.new lists.new trail.now }
     ensures kept { KeepsWatched pairs.old pairs.new }
     ensures others { (k : ℕ) → (k ≡ clause → ⊥) → pair_in pairs.new k ≡ pair_in pairs.old k }
@@ -90,10 +143,11 @@ fn move_watch(
         blocker: other,
         is_short: false,
     };
-    push_watch(lists, code, watch)?;
+    push_watch(lists, found.code, watch)?;
     let pair = Pair {
-        first: code,
+        first: found.code,
         second: other,
+        next: found.next,
     };
     write(pairs, clause as usize, pair);
     Ok(())
@@ -126,8 +180,9 @@ fn settle(
         return Ok(Settled::Satisfied(other));
     }
     let limit = lists.len();
-    if let Some(code) = find_other(arena.codes(clause as usize), trail, other, limit) {
-        move_watch(arena, pairs, lists, trail, falsified, clause, other, code)?;
+    let codes = arena.codes(clause as usize);
+    if let Some(found) = find_round(codes, trail, other, limit, pair.next) {
+        move_watch(arena, pairs, lists, trail, falsified, clause, other, found)?;
         return Ok(Settled::Moved);
     }
     if !trail.is_open(other) {

@@ -1,6 +1,6 @@
 // Which literals a clause watches, and the watches of a literal.
 
-ghost use Rattle.std.specs.Prelude.{◌≡◌, ◌<◌, ◌++◌, ◌∷◌, [], length, replicate, slice_set, IfOk, IfNone, IfSome, OnErr, OnOk};
+ghost use Rattle.std.specs.Prelude.{◌≡◌, ◌<◌, ◌++◌, ◌∷◌, [], length, replicate, slice_set, IsTrue, IfOk, IfNone, IfSome, OnErr, OnOk};
 ghost use Rattle.std.specs.List.{swap_remove};
 ghost use Rattle.watched_propagation.specs.Watching.{IsWatch, list_in, no_watch};
 ghost use Rattle.watched_propagation.specs.Visits.{IsOther};
@@ -13,6 +13,8 @@ use std::marker::Model;
 pub(crate) struct Pair {
     pub first: u32,
     pub second: u32,
+    /// The place in the clause where the next search for another literal begins. Any place will do.
+    pub next: u32,
 }
 
 impl Pair {
@@ -20,6 +22,7 @@ impl Pair {
     pub const NONE: Pair = Pair {
         first: 0,
         second: 0,
+        next: 0,
     };
 }
 
@@ -137,20 +140,42 @@ pub(crate) fn remove_watch(lists: &mut [WatchList], code: u32, place: usize)
     lists[code as usize].remove(place);
 }
 
+/// Whether a clause of this pair watches a literal.
+#[inline(always)]
+fn is_watched(pair: Pair, code: u32) -> bool
+    ensures yes { IsTrue result → IsWatch pair code }
+    ensures no { IsWatch pair code → IsTrue result }
+{
+    if pair.first == pair.second {
+        return false;
+    }
+    if pair.first == code {
+        return true;
+    }
+    pair.second == code
+}
+
+/// The literal of a pair beside this one. It is chosen without a branch, since each is as likely as the other.
+#[inline(always)]
+fn beside(pair: Pair, code: u32) -> u32
+    ensures first { pair.first ≡ code → result ≡ pair.second }
+    ensures second { (pair.first ≡ code → ⊥) → result ≡ pair.first }
+{
+    if pair.first == code {
+        pair.second
+    } else {
+        pair.first
+    }
+}
+
 /// The watched literal beside this one; none where the clause does not watch it.
 #[inline(always)]
 pub(crate) fn other_watched(pair: Pair, code: u32) -> Option<u32>
     ensures none { IfNone result (IsWatch pair code → ⊥) }
     ensures some { IfSome result (IsOther pair code) }
 {
-    if pair.first == pair.second {
+    if !is_watched(pair, code) {
         return None;
     }
-    if pair.first == code {
-        return Some(pair.second);
-    }
-    if pair.second == code {
-        return Some(pair.first);
-    }
-    None
+    Some(beside(pair, code))
 }

@@ -1,6 +1,6 @@
-use Rattle.finding_explain.proofs.NoteLemmas.{start_agrees}
+use Rattle.finding_file.proofs.StartLemmas.{agrees_at_start}
 use Rattle.finding_explain.proofs.explain.collect_file.Goals as goal
 
 pub collect-requires-clause-agrees : goal.collect-requires-clause-agrees
 collect-requires-clause-agrees g c =
-    start_agrees (g.S.Shelf.file c.args.shelf.now c.in_ok-reader.reader.name) c.in_ok-reader.reader c.args.finding.now.name.now c.args.finding.now.limit c.in_ok-reader.ensures
+    agrees_at_start (g.S.Shelf.file c.args.shelf.now c.in_ok-reader.reader.name) c.in_ok-reader.reader c.args.finding.now.name.now c.args.finding.now.limit c.in_ok-reader.ensures

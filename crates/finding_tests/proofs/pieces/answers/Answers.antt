@@ -1,4 +1,4 @@
-use Rattle.finding_tests.proofs.Reading.{agrees_at_start}
+use Rattle.finding_file.proofs.StartLemmas.{agrees_at_start}
 use Rattle.finding_tests.proofs.pieces.answers.Goals as goal
 
 pub three-requires : goal.three-requires

@@ -1,16 +1,18 @@
-use Rattle.std.proofs.Common.{◌≡◌, List, ◌+◌, ◌∷◌, ◌++◌, option_map, drop, map, ap, sym, ◌∙◌, arith}
+use Rattle.std.proofs.Common.{◌≡◌, Bool, List, ◌+◌, ◌∷◌, ◌++◌, option_map, drop, map, ap, sym, ◌∙◌, arith}
 use Rattle.source_tree.specs.declared.syntax.Expr.{Expr}
 use Rattle.source_tree.specs.declared.syntax.Link.{Link}
 use Rattle.source_tree.specs.declared.syntax.Argument.{Argument}
 use Rattle.source_tree.specs.declared.syntax.Expr.TheVariants.{rolls-Chain, rolls-Call}
 use Rattle.source_tree.specs.declared.syntax.Expr.TheFolds.{fold-roll-Expr}
 use Rattle.source_tree.specs.Syntax.{Tree, chain, call}
+use Rattle.rules.specs.declared.rule.Rule.TheVariants.{UnknownName}
 use Rattle.rules.specs.Rules.{earlier, first_in}
 use Rattle.source_tree.specs.SyntaxView.{LinkData, ArgumentData, expr_step, argument_step, link_step, name_view, tree_view, link_view, links_view, links_of, argument_view, arguments_view, arguments_of}
 use Rattle.naming.specs.Library.{is_library}
 use Rattle.naming.proofs.Outs.{link_view-out, argument_view-out}
 use Rattle.naming.proofs.Steps.{view-drop}
 use Rattle.relation_file.proofs.Steps.{then_on, before_rest}
+use Rattle.relation_file.specs.Refusals.{unless}
 use Rattle.relation_file.specs.Clauses.{broken_called, broken_argument, broken_names, broken_links, broken_arguments}
 use Rattle.relation_file.proofs.names.+walk_names.Goals as goal
 
@@ -37,10 +39,10 @@ walk_names-returns-in-Call g t c =
     let n = name_view c.in-Call.function in
     let args = c.in-Call.arguments.items in
     let shape : tree_view c.args.expr.now ≡ call n c.in-Call.field-1 (arguments_view args) = ap tree_view (c.in-Call.is ∙ sym (rolls-Call c.in-Call.function c.in-Call.field-1 c.in-Call.arguments)) ∙ fold-roll-Expr Tree ArgumentData LinkData expr_step argument_step link_step _ in
-    let called = c.earlier-in-Call.ensures ∙ ap (earlier c.args.first.now) c.called_refusal.ensures in
+    let known : c.is_library-known.result ≡ is_library n.text = c.is_library-known.ensures ∙ ap is_library c.as_str.ensures.value in
+    let called = c.earlier-in-Call.ensures ∙ ap (earlier c.args.first.now) (c.unless.ensures ∙ ap (λ (k : Bool). first_in (unless k UnknownName n.at)) known) in
     let all = c.walk_arguments.ensures
-    ∙ ap (λ known. earlier c.earlier-in-Call.result (first_in (broken_arguments m known (arguments_view c.deref-in-Call.result.now)))) c.is_library.ensures
-    ∙ ap (λ text. earlier c.earlier-in-Call.result (first_in (broken_arguments m (is_library text) (arguments_view c.deref-in-Call.result.now)))) c.as_str.ensures.value
+    ∙ ap (λ (k : Bool). earlier c.earlier-in-Call.result (first_in (broken_arguments m k (arguments_view c.deref-in-Call.result.now)))) known
     ∙ ap (λ (list : List Argument). earlier c.earlier-in-Call.result (first_in (broken_arguments m (is_library n.text) (arguments_view list)))) c.deref-in-Call.ensures.value in
     rw shape (then_on c.args.first.now c.earlier-in-Call.result c.walk_arguments.new.first (broken_called n) (broken_arguments m (is_library n.text) (arguments_view args)) called all)
 

@@ -1,4 +1,3 @@
-use Rattle.std.proofs.Common.{refl}
 use Rattle.watched_propagation.proofs.Growth.{go_on_trail, watchable_learned}
 use Rattle.watched_propagation.proofs.adding.add_watched.Goals as goal
 

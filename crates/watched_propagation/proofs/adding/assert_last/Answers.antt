@@ -1,4 +1,4 @@
-use Rattle.std.proofs.Common.{◌≡◌, [], ◌∙◌, ap}
+use Rattle.std.proofs.Common.{◌∙◌}
 use Rattle.watched_propagation.proofs.Growth.{go_on_trail, watchable_bottom}
 use Rattle.watched_propagation.proofs.adding.assert_last.Goals as goal
 

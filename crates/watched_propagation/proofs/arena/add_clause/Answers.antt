@@ -1,7 +1,6 @@
-use Rattle.std.proofs.Common.{◌≡◌, ◌++◌, ◌∷◌, [], map, length, sym, ◌∙◌, ap, subst, arith}
-use Rattle.std.specs.List.{All}
+use Rattle.std.proofs.Common.{◌≡◌, ◌++◌, map, length, ◌∙◌, ap, arith}
 use Rattle.clause_core.specs.Clauses.{rank}
-use Rattle.watched_propagation.specs.Arenas.{clauses_of, IsSpan}
+use Rattle.watched_propagation.specs.Arenas.{clauses_of}
 use Rattle.watched_propagation.proofs.Spans.{on_err, clauses-more, spans-more, spans-push, clauses-push}
 use Rattle.watched_propagation.proofs.arena.add_clause.Goals as goal
 

@@ -1,4 +1,4 @@
-use Rattle.std.proofs.Common.{◌≡◌, ◌++◌, map, take, sym, ◌∙◌}
+use Rattle.std.proofs.Common.{map, take, ◌∙◌}
 use Rattle.clause_core.specs.Clauses.{rank}
 use Rattle.watched_propagation.proofs.arena.push_ranks.Goals as goal
 

@@ -1,8 +1,8 @@
-use Rattle.std.proofs.Common.{◌≡◌, ◌<◌, ◌++◌, ◌∷◌, [], length, nat_eq, subst, arith}
+use Rattle.std.proofs.Common.{◌<◌, ◌++◌, ◌∷◌, [], length, nat_eq, subst, arith}
 use Rattle.std.specs.List.{Contains}
 use Rattle.std.proofs.lemmas.List.{length-set}
 use Rattle.watched_propagation.specs.Watching.{clause_in, list_in}
-use Rattle.watched_propagation.proofs.Lists.{paired, watched, pushed, IsListed-new, IsListed-pushed}
+use Rattle.watched_propagation.proofs.Lists.{watched, pushed, IsListed-new, IsListed-pushed}
 use Rattle.watched_propagation.proofs.Settling.{IsWatching-pushed, IsWatching-both}
 use Rattle.watched_propagation.proofs.attach.watch_both.Goals as goal
 
@@ -26,7 +26,7 @@ returns-clause-watching c =
     let size = length-set a.lists.now a.one (list_in a.lists.now a.one ++ watched a.clause a.other short ∷ []) in
     let both = pushed first a.other (watched a.clause a.one short) in
     rw (c.write.ensures, c.in_ok-push_watch-2.ensures.ok, c.in_ok-push_watch.ensures.ok)
-    (IsWatching-both a.arena.now a.pairs.now both a.trail.now a.clause a.one a.other has_one has_other
+    (IsWatching-both a.arena.now a.pairs.now both a.trail.now a.clause a.one a.other 0 has_one has_other
     (IsListed-pushed first a.other (watched a.clause a.one short) a.one a.clause (IsListed-new a.lists.now a.one (watched a.clause a.other short) one_in))
     (IsListed-new first a.other (watched a.clause a.one short) (omega arith))
     c.requires.one c.requires.other

@@ -1,4 +1,3 @@
-use Rattle.std.proofs.Common.{refl}
 use Rattle.watched_propagation.proofs.Weights.{IsClosed-watching}
 use Rattle.watched_propagation.proofs.closed.is_closed.Goals as goal
 

@@ -1,4 +1,4 @@
-use Rattle.std.proofs.Common.{refl, sym, subst}
+use Rattle.std.proofs.Common.{sym, subst}
 use Rattle.propagation_trail.specs.Trails.{Grown}
 use Rattle.watched_propagation.proofs.Settling.{Grown-refl, Grown-assigned, IsWatching-assigned}
 use Rattle.watched_propagation.proofs.levels.assume.Goals as goal

@@ -1,4 +1,4 @@
-use Rattle.std.proofs.Common.{◌≡◌, ℕ, ◌≤◌, ⊎_elim, subst, arith}
+use Rattle.std.proofs.Common.{◌≡◌, ⊎_elim, subst, arith}
 use Rattle.std.specs.List.{Contains}
 use Rattle.std.proofs.lemmas.Bool.{cases_lt}
 use Rattle.watched_propagation.specs.Watching.{watch_in}

@@ -3,7 +3,7 @@ use Rattle.std.specs.List.{Contains}
 use Rattle.std.proofs.lemmas.List.{get_or_append_left, length-append}
 use Rattle.std.proofs.lemmas.Option.{get_or_from_slice_get, slice_get_within}
 use Rattle.propagation_trail.specs.Codes.{negated}
-use Rattle.watched_propagation.specs.Watching.{pair_in, clause_in, IsWatch, Meets}
+use Rattle.watched_propagation.specs.Watching.{pair_in, IsWatch}
 use Rattle.propagation_trail.proofs.Signs.{negated-negated}
 use Rattle.watched_propagation.proofs.Settling.{IsWatching-advance}
 use Rattle.watched_propagation.proofs.Turns.{visited_unless}

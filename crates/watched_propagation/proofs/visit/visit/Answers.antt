@@ -1,7 +1,4 @@
-use Rattle.std.proofs.Common.{◌∙◌, subst, sym}
-use Rattle.watched_propagation.specs.Watching.{list_in}
-use Rattle.watched_propagation.specs.Visits.{IsVisitedAs}
-use Rattle.watched_propagation.proofs.Settling.{Grown-refl, Grown-trans}
+use Rattle.watched_propagation.proofs.Settling.{Grown-refl}
 use Rattle.watched_propagation.proofs.Turns.{IsCovered-start}
 use Rattle.watched_propagation.proofs.visit.visit.Goals as goal
 

@@ -8,9 +8,9 @@ use Rattle.candidates.proofs.pair.Pair.new.Goals as goal
 pub invariant_of-result : goal.invariant_of-result
 invariant_of-result c = record {
   scoped =
-      c.in_ok-new-3.ensures ∙ ap (λ (p : Program). pair_scope (program_view p) (program_view c.args.new.now)) (sym c.in_ok-new.ensures)
+      c.in_ok-new-3.ensures.means ∙ ap (λ (p : Program). pair_scope (program_view p) (program_view c.args.new.now)) (sym c.in_ok-new.ensures)
       ∙ ap (λ (q : Program). pair_scope (program_view c.in_ok-new.field-0.program.now) (program_view q)) (sym c.in_ok-new-2.ensures);
   paired =
-      c.in_ok-new-4.ensures ∙ ap (λ (p : Program). paired_type (program_view p).types (program_view c.args.new.now).types) (sym c.in_ok-new.ensures)
+      c.in_ok-new-3.ensures.types ∙ ap (λ (p : Program). paired_type (program_view p).types (program_view c.args.new.now).types) (sym c.in_ok-new.ensures)
       ∙ ap (λ (q : Program). paired_type (program_view c.in_ok-new.field-0.program.now).types (program_view q).types) (sym c.in_ok-new-2.ensures);
 }

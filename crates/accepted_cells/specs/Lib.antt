@@ -1,0 +1,3 @@
+pub mod OnlyCells
+pub mod Written
+pub mod Assignments

@@ -1,0 +1,6 @@
+use Rattle.finding_file.proofs.StartLemmas.{agrees_at_start}
+use Rattle.finding_check.proofs.file.judge_file.Goals as goal
+
+pub judge-requires-clause-agrees : goal.judge-requires-clause-agrees
+judge-requires-clause-agrees g c =
+    agrees_at_start (g.S.Shelf.file c.args.shelf.now c.in_ok-reader.reader.name) c.in_ok-reader.reader c.args.finding.now.name.now c.args.finding.now.limit c.in_ok-reader.ensures
