@@ -35,7 +35,7 @@ impl Analysis {
         self.back
     }
 
-    /// Learns from a false clause. Where no decision stands nothing is left of it.
+    /// Learns from a false clause. Where no decision stands nothing is left of it, and the formula has no solution.
     pub fn analyze(
         &mut self,
         propagator: &Propagator,
@@ -45,6 +45,7 @@ impl Analysis {
         self.learned.clear();
         self.back = 0;
         if propagator.level() == 0 {
+            order.goals.end();
             return Ok(());
         }
         self.learned.push(Code::NONE)?;

@@ -1,13 +1,15 @@
 // What is decided first: that a literal of the formula's last clause is true, and what must be true for it.
 
-use clause_core::{Clause, Lit, Truth};
+use crate::gates::Gates;
+use crate::marks::Marks;
+use clause_core::{Clause, Truth, clause_at};
 use std::alloc::{AllocError, Global};
-use watched_propagation::{Code, Propagator, low, read, write};
+use watched_propagation::{Code, Propagator, read};
 
-/// More than one clause.
-const SEVERAL: u32 = u32::MAX;
+/// How many gates below a goal are gone through for what it rests on.
+const MOST_GATES: usize = 200;
 
-/// The literals of a formula's last clause, which are decided in turn where no decision stands. One that comes to a
+/// The literals of the last clause of a circuit's formula, which are decided in turn where no decision stands. One that comes to a
 /// conflict is false from then on, and what was derived on the way helps with the next.
 ///
 /// Below a goal stand the decisions that lead to it. In a circuit the gate of a conjunction is false where an operand
@@ -16,12 +18,15 @@ const SEVERAL: u32 = u32::MAX;
 #[derive(Drop)]
 pub(crate) struct Goals {
     codes: Vec<Code>,
-    /// The goal that was decided last. The next formula begins with it, since in one that is alike those before it
-    /// came to nothing.
+    /// The place of the goal that is decided next, where it is not false.
+    place: usize,
+    /// The goal that was decided last. A formula of as many variables begins with it, since those before it came to nothing.
     last: Code,
-    /// For each literal the number of the clause of three literals or more that ends with it. Operands have lower
-    /// numbers than their gate, so the only one that ends with a gate's literal says what follows from its negative.
-    ends: Vec<u32>,
+    /// The goal for which was gathered last what it rests on.
+    gathered: Code,
+    /// What was gathered, until it is counted.
+    pub found: Marks,
+    gates: Gates,
     /// How many of the first decisions are goals.
     depth: u32,
 }
@@ -30,44 +35,39 @@ impl Goals {
     pub fn new(alloc: Global) -> Goals {
         Goals {
             codes: Vec::new(alloc),
+            place: 0,
             last: Code::NONE,
-            ends: Vec::new(alloc),
+            gathered: Code::NONE,
+            found: Marks::none(alloc),
+            gates: Gates::new(alloc),
             depth: 0,
         }
     }
 
-    /// Takes another formula, with room for so many literals.
-    pub fn renew(&mut self, room: usize, formula: &[Clause]) -> Result<(), AllocError> {
+    /// Takes another formula, all of whose variables are below this number.
+    pub fn renew(&mut self, places: usize, formula: &[Clause]) -> Result<(), AllocError> {
+        if places != self.gates.places() {
+            self.last = Code::NONE;
+        }
+        self.gathered = Code::NONE;
         self.depth = 0;
-        self.ends.clear();
-        for _ in 0..room {
-            self.ends.push(0)?;
-        }
-        for (place, clause) in formula.iter().enumerate() {
-            self.note(low(place + 1), clause.literals());
-        }
+        self.found.renew(places)?;
+        self.gates.renew(places, formula)?;
         self.codes.clear();
-        let Some(clause) = formula.last() else {
-            return Ok(());
-        };
-        for literal in clause.literals() {
-            self.codes.push(Code::of(*literal))?;
+        if let Some(clause) = formula.last()
+            && self.gates.is_circuit()
+        {
+            for literal in clause.literals() {
+                self.codes.push(Code::of(*literal))?;
+            }
         }
+        self.place = self.start();
         Ok(())
     }
 
-    /// Notes which literal a clause ends with.
-    fn note(&mut self, number: u32, literals: &[Lit]) {
-        if literals.len() < 3 {
-            return;
-        }
-        let Some(literal) = literals.last() else {
-            return;
-        };
-        let place = Code::of(*literal).place();
-        let before = read(self.ends.as_slice(), place, SEVERAL);
-        let noted = if before == 0 { number } else { SEVERAL };
-        write(self.ends.as_mut_slice(), place, noted);
+    /// The formula has no solution: all its goals came to nothing, and the next formula begins with its first.
+    pub fn end(&mut self) {
+        self.last = Code::NONE;
     }
 
     /// The next literal to decide, where all decisions that stand are goals.
@@ -86,21 +86,17 @@ impl Goals {
         Some(chosen)
     }
 
-    /// The first goal that is not false, from the one that was decided last on.
+    /// The first goal that is not false, from the one that was decided last on. One that is false here stays so.
     fn turn(&mut self, propagator: &Propagator) -> Option<Code> {
-        let start = self.start();
-        let count = self.codes.len();
-        for turn in 0..count {
-            let place = start.wrapping_add(turn);
-            let place = if place < count {
-                place
-            } else {
-                place.wrapping_sub(count)
-            };
-            let code = read(self.codes.as_slice(), place, Code::NONE);
+        for _ in 0..self.codes.len() {
+            let code = read(self.codes.as_slice(), self.place, Code::NONE);
             if propagator.value(code) != Truth::False {
                 self.last = code;
                 return Some(code);
+            }
+            self.place = self.place.wrapping_add(1);
+            if self.place >= self.codes.len() {
+                self.place = 0;
             }
         }
         None
@@ -137,8 +133,7 @@ impl Goals {
     /// What must be true for a goal that is: of the clause that ends with its negative a true literal, or else the
     /// first open one.
     fn below(&self, propagator: &Propagator, held: &[Clause], goal: Code) -> Option<Code> {
-        let number = read(self.ends.as_slice(), goal.negated().place(), 0);
-        let clause = held.get((number as usize).wrapping_sub(1))?;
+        let clause = clause_at(held, self.gates.only_end(held, goal.negated()))?;
         let mut open = None;
         for literal in clause.literals() {
             let code = Code::of(*literal);
@@ -153,5 +148,22 @@ impl Goals {
             }
         }
         open
+    }
+
+    /// Gathers the open variables that the present goal rests on, once a goal: those of the gates below it, the nearest first.
+    pub fn gather(&mut self, propagator: &Propagator, held: &[Clause]) -> Result<(), AllocError> {
+        if self.gathered.number == self.last.number {
+            return Ok(());
+        }
+        self.gathered = self.last;
+        self.found.mark(self.last)?;
+        for place in 0..MOST_GATES {
+            let Some(gate) = self.found.get(place) else {
+                break;
+            };
+            let found = &mut self.found;
+            self.gates.mark_operands(propagator, held, gate, found)?;
+        }
+        Ok(())
     }
 }

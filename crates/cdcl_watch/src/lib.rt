@@ -3,6 +3,7 @@
 
 mod analysis;
 mod explanation;
+mod gates;
 mod goals;
 mod marks;
 mod order;

@@ -11,11 +11,29 @@ pub(crate) struct Marks {
 }
 
 impl Marks {
+    /// Marks on no variables.
+    pub fn none(alloc: Global) -> Marks {
+        Marks {
+            flags: Vec::new(alloc),
+            codes: Vec::new(alloc),
+        }
+    }
+
     pub fn new(alloc: Global, variables: u32) -> Result<Marks, AllocError> {
         Ok(Marks {
             flags: vec![in alloc; false; variables as usize + 1]?,
             codes: Vec::new(alloc),
         })
+    }
+
+    /// Makes ready for the variables below a number, none of them marked.
+    pub fn renew(&mut self, places: usize) -> Result<(), AllocError> {
+        self.codes.clear();
+        self.flags.clear();
+        for _ in 0..places {
+            self.flags.push(false)?;
+        }
+        Ok(())
     }
 
     /// Whether the literal's variable is marked.

@@ -1,14 +1,18 @@
 // The order of decisions: the open variable of the greatest activity, with the value that it had last.
 
 use crate::goals::Goals;
+use clause_core::Clause;
 use std::alloc::{AllocError, Global};
-use watched_propagation::{low, read, write};
+use watched_propagation::{Propagator, low, read, write};
 
 /// The place of a variable that is not in the heap.
 const NO_PLACE: u32 = u32::MAX;
 
 /// How much less a conflict counts than the one after it.
 const DECAY: f64 = 0.95;
+
+/// As how many conflicts it counts for a variable that a new goal rests on it.
+const GOAL_WEIGHT: f64 = 10.0;
 
 /// Above this all activities are made smaller.
 const GREATEST: f64 = 1e100;
@@ -158,7 +162,30 @@ impl Order {
 
     /// Counts a variable that a conflict met.
     pub fn raise(&mut self, variable: u32) {
-        let grown = self.activity(variable) + self.growth;
+        let growth = self.growth;
+        self.grow(variable, growth);
+    }
+
+    /// Counts the variables that a new goal rests on: they come to a conflict soon, and no other does.
+    pub fn raise_goal(
+        &mut self,
+        propagator: &Propagator,
+        held: &[Clause],
+    ) -> Result<(), AllocError> {
+        self.goals.gather(propagator, held)?;
+        for place in 0..self.goals.found.len() {
+            let Some(code) = self.goals.found.get(place) else {
+                break;
+            };
+            let growth = self.growth * GOAL_WEIGHT;
+            self.grow(low(code.variable()), growth);
+        }
+        self.goals.found.keep(0);
+        Ok(())
+    }
+
+    fn grow(&mut self, variable: u32, growth: f64) {
+        let grown = self.activity(variable) + growth;
         write(self.activities.as_mut_slice(), variable as usize, grown);
         if grown > GREATEST {
             self.shrink();

@@ -56,9 +56,24 @@ fn begin_goals(
     held: &[Clause],
 ) -> Result<(), AllocError> {
     if count == 0 {
-        order.goals.renew(values.len().saturating_mul(2), held)?;
+        order.goals.renew(values.len(), held)?;
     }
     Ok(())
+}
+
+/// Decides the next goal, if there is one.
+fn decide_goal(
+    propagator: &mut Propagator,
+    order: &mut Order,
+    held: &[Clause],
+) -> Result<bool, AllocError>
+    ensures { Keeps propagator.old propagator.new }
+{
+    let Some(goal) = order.goals.choose(propagator, held) else {
+        return Ok(false);
+    };
+    order.raise_goal(propagator, held)?;
+    propagator.decide(goal)
 }
 
 /// Decides the next goal, else the open variable of the greatest activity; whether there is one.
@@ -69,9 +84,7 @@ fn decide(
 ) -> Result<bool, AllocError>
     ensures { Keeps propagator.old propagator.new }
 {
-    if let Some(goal) = order.goals.choose(propagator, held)
-        && propagator.decide(goal)?
-    {
+    if decide_goal(propagator, order, held)? {
         return Ok(true);
     }
     for _ in 0..propagator.values().len() {

@@ -6,7 +6,8 @@ use Rattle.rules.specs.declared.rule.Rule.TheVariants.{TooManyStatements}
 use Rattle.source_tree.specs.Syntax.{FileData}
 use Rattle.program_tree.specs.Tree.{ProgramData}
 use Rattle.flat_form.specs.FlatPrograms.{is_short}
-use Rattle.typing.specs.TypedPrograms.{typed_program}
+use Rattle.running_pous.specs.Stated.{stated_program}
+use Rattle.running_counts.proofs.StatedCounts.{short_alike}
 use Rattle.st_types.specs.Outlines.{IsOutline}
 use Rattle.outline_laws.proofs.Outlines.{program_long}
 use Rattle.front_end.specs.Texts.{HasFile, AreNamesSound}
@@ -14,8 +15,8 @@ use Rattle.flat_end.specs.FlatTexts.{HasNoFlatForm, by_size}
 
 pub outline_long : (f : FileData) (o : ProgramData) → AreNamesSound f → IsOutline f o → is_short o ≡ false → (text : List ℕ) → HasFile text f → HasNoFlatForm text (record { rule = TooManyStatements; at = 0 })
 outline_long f o names h long text file =
-    by_size (typed_program f h.number h.pou) (record { file = f; number = h.number; pou = h.pou; states = file; names = names; one = record { is = h.is; there = h.there }; typing = h.typing; room = h.room; program = refl })
-    (program_long f names h.number h.pou (sym (ap is_short h.outline) ∙ long)) refl
+    by_size (stated_program f h.number h.pou) (record { file = f; number = h.number; pou = h.pou; states = file; names = names; one = record { is = h.is; there = h.there }; typing = h.typing; room = h.room; program = refl })
+    (short_alike f h.number h.pou ∙ program_long f names h.number h.pou (sym (ap is_short h.outline) ∙ long)) refl
 
 -- what is not short
 pub not_short : (b c : Bool) → b ≡ c → IsTrue (not b) → c ≡ false

@@ -10,8 +10,8 @@ use Rattle.st_names.specs.Bound.{program_number}
 use Rattle.naming.specs.FileScope.{pou_at}
 use Rattle.naming.specs.Circles.{IsBroken}
 use Rattle.typing.specs.Pous.{broken_types, has_room}
-use Rattle.typing.specs.TypedPrograms.{typed_program}
-use Rattle.front_end.specs.Texts.{HasFile, HasNoTree, AreNamesSound, HasProgram, IsProgram, IsNoProgram, by_tree, by_names, by_types, by_room}
+use Rattle.running_pous.specs.Stated.{stated_program}
+use Rattle.front_end.specs.Texts.{HasFile, HasNoFile, by_text, by_prelude, AreNamesSound, HasProgram, IsProgram, IsNoProgram, by_file, by_names, by_types, by_room}
 use Rattle.front_end.proofs.OneReading.{one_tree, no_tree_too, one_no_tree}
 
 abbrev FirstIn : List Refusal → Refusal → Type 0
@@ -49,7 +49,7 @@ one_program text p q h k =
     let file = one_file text h.file k.file h.states k.states in
     let number = one_number h.file k.file h.number k.number file h.one.is k.one.is in
     let pou = one_pou h.file k.file h.number k.number h.pou k.pou file h.one k.one in
-    h.program ∙ ap (λ (x : FileData). typed_program x h.number h.pou) file ∙ ap (λ n. typed_program k.file n h.pou) number ∙ ap (typed_program k.file k.number) pou ∙ sym k.program
+    h.program ∙ ap (λ (x : FileData). stated_program x h.number h.pou) file ∙ ap (λ n. stated_program k.file n h.pou) number ∙ ap (stated_program k.file k.number) pou ∙ sym k.program
 
 -- names break no rule in the file of another reading
 names_sound : (text : List ℕ) (f g : FileData) (r : Refusal) → HasFile text f → HasFile text g → AreNamesSound g → IsFirst (IsBroken f) r → ⊥
@@ -63,12 +63,19 @@ room_of text f g m n h k one other =
     let file = one_file text f g h k in
     ap (λ (x : FileData). has_room x m) file ∙ ap (has_room g) (one_number f g m n file one other)
 
--- the file of a text is there where its own tree is
-no_file_too : (text : List ℕ) (f : FileData) (r : Refusal) → HasFile text f → HasNoTree text r → ⊥
-no_file_too text f r h none = no_tree_too text h.own r h.tree none
+-- the file of a text is there where its own tree and the prelude's are
+no_file_too : (text : List ℕ) (f : FileData) (r : Refusal) → HasFile text f → HasNoFile text r → ⊥
+no_file_too text f r h (by_text none) = no_tree_too text h.own r h.tree none
+no_file_too text f r h (by_prelude own tree none) = no_tree_too _ h.blocks r h.prelude none
+
+one_no_file : (text : List ℕ) (r s : Refusal) → HasNoFile text r → HasNoFile text s → IsSame r s
+one_no_file text r s (by_text h) (by_text k) = one_no_tree text r s h k
+one_no_file text r s (by_text h) (by_prelude own tree k) = absurd (no_tree_too text own r tree h)
+one_no_file text r s (by_prelude own tree h) (by_text k) = absurd (no_tree_too text own s tree k)
+one_no_file text r s (by_prelude own tree h) (by_prelude other more k) = one_no_tree _ r s h k
 
 pub no_program_too : (text : List ℕ) (p : ProgramData) (r : Refusal) → IsProgram text p → IsNoProgram text r → ⊥
-no_program_too text p r h (by_tree none) = no_file_too text h.file r h.states none
+no_program_too text p r h (by_file none) = no_file_too text h.file r h.states none
 no_program_too text p r h (by_names f k first) = names_sound text f h.file r k h.states h.names first
 no_program_too text p r h (by_types f k names first) = types_sound text f h.file r k h.states h.typing first
 no_program_too text p r h (by_room f n k names one typing room e) =
@@ -83,19 +90,19 @@ first_types text f g r s h k first other =
     inl (first_once (λ x. IsAmong x (broken_types g)) r s (subst (λ (x : FileData). FirstIn (broken_types x) r) (one_file text f g h k) first) other)
 
 pub one_refusal : (text : List ℕ) (r s : Refusal) → IsNoProgram text r → IsNoProgram text s → IsSame r s
-one_refusal text r s (by_tree h) (by_tree k) = one_no_tree text r s h k
-one_refusal text r s (by_tree h) (by_names g k other) = absurd (no_file_too text g r k h)
-one_refusal text r s (by_tree h) (by_types g k names other) = absurd (no_file_too text g r k h)
-one_refusal text r s (by_tree h) (by_room g n k names one typing room e) = absurd (no_file_too text g r k h)
-one_refusal text r s (by_names f h first) (by_tree k) = absurd (no_file_too text f s h k)
+one_refusal text r s (by_file h) (by_file k) = one_no_file text r s h k
+one_refusal text r s (by_file h) (by_names g k other) = absurd (no_file_too text g r k h)
+one_refusal text r s (by_file h) (by_types g k names other) = absurd (no_file_too text g r k h)
+one_refusal text r s (by_file h) (by_room g n k names one typing room e) = absurd (no_file_too text g r k h)
+one_refusal text r s (by_names f h first) (by_file k) = absurd (no_file_too text f s h k)
 one_refusal text r s (by_names f h first) (by_names g k other) = first_names text f g r s h k first other
 one_refusal text r s (by_names f h first) (by_types g k names other) = absurd (names_sound text f g r h k names first)
 one_refusal text r s (by_names f h first) (by_room g n k names one typing room e) = absurd (names_sound text f g r h k names first)
-one_refusal text r s (by_types f h names first) (by_tree k) = absurd (no_file_too text f s h k)
+one_refusal text r s (by_types f h names first) (by_file k) = absurd (no_file_too text f s h k)
 one_refusal text r s (by_types f h names first) (by_names g k other) = absurd (names_sound text g f s k h names other)
 one_refusal text r s (by_types f h names first) (by_types g k also other) = first_types text f g r s h k first other
 one_refusal text r s (by_types f h names first) (by_room g n k also one typing room e) = absurd (types_sound text f g r h k typing first)
-one_refusal text r s (by_room f m h names one typing room e) (by_tree k) = absurd (no_file_too text f s h k)
+one_refusal text r s (by_room f m h names one typing room e) (by_file k) = absurd (no_file_too text f s h k)
 one_refusal text r s (by_room f m h names one typing room e) (by_names g k other) = absurd (names_sound text g f s k h names other)
 one_refusal text r s (by_room f m h names one typing room e) (by_types g k also other) = absurd (types_sound text g f s k h typing other)
 one_refusal text r s (by_room f m h names one typing room e) (by_room g n k also others full more o) = inl (e ∙ sym o)

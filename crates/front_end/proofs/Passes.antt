@@ -17,10 +17,10 @@ use Rattle.naming.proofs.CircleLemmas.{nothing_left}
 use Rattle.st_names.specs.Bound.{program_number}
 use Rattle.st_names.specs.Bound as naming
 use Rattle.typing.specs.Pous.{broken_types, has_room}
-use Rattle.typing.specs.TypedPrograms.{typed_program}
 use Rattle.typing.specs.Faults as typing
+use Rattle.running_pous.specs.Stated.{stated_program}
 use Rattle.rules.specs.declared.fault.Fault.TheVariants as faults
-use Rattle.front_end.specs.Texts.{HasTokens, HasTree, HasNoTree, by_nesting, by_grammar, HasFile, AreNamesSound, HasProgram, IsProgram, IsNoProgram, by_tree, by_names, by_types, by_room}
+use Rattle.front_end.specs.Texts.{HasTokens, HasTree, HasNoTree, by_nesting, by_grammar, HasFile, HasNoFile, by_text, by_prelude, AreNamesSound, HasProgram, IsProgram, IsNoProgram, by_file, by_names, by_types, by_room}
 use Rattle.front_end.proofs.OnePou.{one_pou}
 use Rattle.front_end.specs.StandardBlocks.{prelude_text}
 use Rattle.rules.specs.Faults.{IfRefused}
@@ -33,9 +33,18 @@ tree_refused text toks (faults.Refused r) h (inl k) = by_nesting toks h k
 tree_refused text toks (faults.Refused r) h (inr k) = by_grammar toks h k.sound (λ f printed levelled. k.none f levelled printed) k.rule
 tree_refused text toks faults.Memory h k = tt
 
-pub tree_first : (text : List ℕ) (e : Fault) → IfRefused (HasNoTree text) e → IfRefused (IsNoProgram text) e
-tree_first text (faults.Refused r) h = by_tree h
-tree_first text faults.Memory h = tt
+-- the text's own tree is asked for first, and then that of the prelude
+pub text_first : (text : List ℕ) (e : Fault) → IfRefused (HasNoTree text) e → IfRefused (HasNoFile text) e
+text_first text (faults.Refused r) h = by_text h
+text_first text faults.Memory h = tt
+
+pub prelude_next : (text : List ℕ) (own : FileData) (e : Fault) → HasTree text own → IfRefused (HasNoTree prelude_text) e → IfRefused (HasNoFile text) e
+prelude_next text own (faults.Refused r) tree h = by_prelude own tree h
+prelude_next text own faults.Memory tree h = tt
+
+pub file_first : (text : List ℕ) (e : Fault) → IfRefused (HasNoFile text) e → IfRefused (IsNoProgram text) e
+file_first text (faults.Refused r) h = by_file h
+file_first text faults.Memory h = tt
 
 -- a text's file, from the tree of the prelude and its own
 pub file_found : (text : List ℕ) (blocks own f : FileData) → HasTree prelude_text blocks → HasTree text own → f ≡ blocks ++ own → HasFile text f
@@ -62,7 +71,7 @@ types_refused text f number faults.Memory h n one k = tt
 -- what a program's typing says, where the file's PROGRAM is known
 pub program_of : (text : List ℕ) (f : FileData) (number : ℕ) (pou : PouData) (p : ProgramData) → HasFile text f → AreNamesSound f → HasProgram f number pou
     → broken_types f ≡ [] → ((n : ℕ) → program_number f ≡ Some n → has_room f n ≡ true)
-    → ((n : ℕ) (q : PouData) → program_number f ≡ Some n → pou_at f n ≡ Some q → p ≡ typed_program f n q) → IsProgram text p
+    → ((n : ℕ) (q : PouData) → program_number f ≡ Some n → pou_at f n ≡ Some q → p ≡ stated_program f n q) → IsProgram text p
 program_of text f number pou p h n one types room typed =
     record { file = f; number = number; pou = pou; states = h; names = n; one = one; typing = types; room = room number one.is; program = typed number pou one.is one.there }
 
@@ -77,6 +86,6 @@ err_more (Err e) P Q each h = each e h
 
 -- what the typing of a file says of each text of that file
 pub program_read : (f : FileData) (r : Result Program Fault) → AreNamesSound f → OnOk r (broken_types f ≡ []) → OnOk r ((n : ℕ) → program_number f ≡ Some n → has_room f n ≡ true)
-    → IfOk r (λ p. (n : ℕ) (q : PouData) → program_number f ≡ Some n → pou_at f n ≡ Some q → program_view p ≡ typed_program f n q) → IfOk r (λ p. (text : List ℕ) → HasFile text f → IsProgram text (program_view p))
+    → IfOk r (λ p. (n : ℕ) (q : PouData) → program_number f ≡ Some n → pou_at f n ≡ Some q → program_view p ≡ stated_program f n q) → IfOk r (λ p. (text : List ℕ) → HasFile text f → IsProgram text (program_view p))
 program_read f (Ok p) names types room typed = λ text h. let one = one_pou f (none_broken f names) in program_of text f one.number one.pou (program_view p) h names one.one types room typed
 program_read f (Err e) names types room typed = typed

@@ -19,7 +19,7 @@ use Rattle.naming.specs.Circles.{IsBroken}
 use Rattle.st_names.specs.Bound.{program_number}
 use Rattle.naming.specs.FileScope.{pou_at}
 use Rattle.typing.specs.Pous.{broken_types, has_room}
-use Rattle.typing.specs.TypedPrograms.{typed_program}
+use Rattle.running_pous.specs.Stated.{stated_program}
 use Rattle.front_end.specs.StandardBlocks.{prelude_text}
 
 -- how many bytes a text may have
@@ -64,6 +64,11 @@ pub record HasFile (text : List ℕ) (f : FileData) : Type 0 where
   pub tree : HasTree text own
   pub joined : f ≡ blocks ++ own
 
+-- A text has no file: it has no tree, or it has one and the prelude has none.
+pub data HasNoFile (text : List ℕ) (r : Refusal) : Type 0 where
+  by_text : HasNoTree text r → HasNoFile text r
+  by_prelude : (own : FileData) → HasTree text own → HasNoTree prelude_text r → HasNoFile text r
+
 -- Nothing is broken of the rules on names.
 abbrev pub AreNamesSound : FileData → Type 0
 AreNamesSound f = (r : Refusal) → IsBroken f r → ⊥
@@ -73,7 +78,8 @@ pub record HasProgram (f : FileData) (number : ℕ) (p : PouData) : Type 0 where
   pub is : program_number f ≡ Some number
   pub there : pou_at f number ≡ Some p
 
--- A text states a program: its file breaks no rule on names, has one PROGRAM, breaks no rule on types, and has room for its cells.
+-- A text states a program: its file breaks no rule on names, has one PROGRAM, breaks no rule on types, and has room for its cells. The program is the
+-- typed program of the file, in which a FUNCTION that never runs keeps only the cells that its callers name, and no statements.
 pub record IsProgram (text : List ℕ) (p : ProgramData) : Type 0 where
   pub file : FileData
   pub number : ℕ
@@ -83,11 +89,11 @@ pub record IsProgram (text : List ℕ) (p : ProgramData) : Type 0 where
   pub one : HasProgram file number pou
   pub typing : broken_types file ≡ []
   pub room : has_room file number ≡ true
-  pub program : p ≡ typed_program file number pou
+  pub program : p ≡ stated_program file number pou
 
 -- a text states no program, and this is the first rule that it breaks
 pub data IsNoProgram (text : List ℕ) (r : Refusal) : Type 0 where
-  by_tree : HasNoTree text r → IsNoProgram text r
+  by_file : HasNoFile text r → IsNoProgram text r
   by_names : (f : FileData) → HasFile text f → IsFirst (IsBroken f) r → IsNoProgram text r
   by_types : (f : FileData) → HasFile text f → AreNamesSound f → IsFirst (λ x. IsAmong x (broken_types f)) r → IsNoProgram text r
   by_room : (f : FileData) → (number : ℕ) → HasFile text f → AreNamesSound f → program_number f ≡ Some number → broken_types f ≡ [] → has_room f number ≡ false

@@ -2,9 +2,8 @@
 ghost use Rattle.std.specs.Prelude.{◌≡◌, ℕ, List, IfOk, IfErr};
 ghost use Rattle.program_tree.specs.View.{program_view};
 ghost use Rattle.source_tree.specs.SyntaxView.{file_view};
-ghost use Rattle.rules.specs.declared.fault.Fault.TheVariants.{Memory};
 ghost use Rattle.front_end.specs.StandardBlocks.{prelude_text};
-ghost use Rattle.front_end.specs.Texts.{HasTokens, HasNoTokens, HasTree, HasNoTree, HasFile, AreNamesSound, IsProgram, IsNoProgram};
+ghost use Rattle.front_end.specs.Texts.{HasTokens, HasNoTokens, HasTree, HasNoTree, HasFile, HasNoFile, AreNamesSound, IsProgram, IsNoProgram};
 ghost use Rattle.rules.specs.Faults.{IfRefused};
 ghost use Rattle.scan_model.specs.InRange.{IsProgram as IsFitToRun};
 ghost use Rattle.typed_programs.specs.Programs.{IsTypedProgram};
@@ -45,22 +44,19 @@ fn tree_of(alloc: Global, text: &[u8]) -> Result<SourceFile, Fault>
     Ok(parse_file(alloc, &toks, text.len())?)
 }
 
-// The tree of the prelude. Its text is fixed; that it has a tree is shown by tests, and were it refused, no text would be
-// accepted: memory would be said to be wanting.
+// The tree of the prelude. Its text is fixed, and tests show that it has a tree.
 fn blocks(alloc: Global) -> Result<SourceFile, Fault>
     ensures tree { IfOk result (λ f. HasTree prelude_text (file_view f)) }
-    ensures memory { IfErr result (λ e. e ≡ Memory) }
+    ensures refused { IfErr result (IfRefused (HasNoTree prelude_text)) }
 {
-    match tree_of(alloc, prelude()) {
-        Ok(file) => Ok(file),
-        Err(_) => Err(Fault::Memory),
-    }
+    tree_of(alloc, prelude())
 }
 
-// The file of a text: the blocks of the prelude, and then its own items; or the first rule up to the grammar that it breaks.
+// The file of a text: the blocks of the prelude, and then its own items; or the first rule up to the grammar that it breaks, and where it
+// breaks none, the first that the prelude breaks.
 fn file_of(alloc: Global, text: &[u8]) -> Result<SourceFile, Fault>
     ensures file { IfOk result (λ f. HasFile text.now (file_view f)) }
-    ensures refused { IfErr result (IfRefused (HasNoTree text.now)) }
+    ensures refused { IfErr result (IfRefused (HasNoFile text.now)) }
 {
     let mut own = tree_of(alloc, text)?;
     let mut file = blocks(alloc)?;

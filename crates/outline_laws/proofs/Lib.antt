@@ -1,4 +1,3 @@
 pub mod FewerCells
 pub mod AlikeCounts
-pub mod Shortness
 pub mod Outlines

@@ -27,12 +27,12 @@ use Rattle.typing.specs.Reached.{reached}
 use Rattle.typing.specs.TypedPrograms.{cells_in, frame_cells, type_of_cell, typed_body, pou_body, called_of, called_if, called_by, typed_program}
 use Rattle.typing_laws.proofs.CellCounts.{UsesItsBlocks, size_is, no_size, length-cells_in}
 use Rattle.pou_cells.specs.Placing.{capped as word}
+use Rattle.running_counts.proofs.Shortness.{frames_counted, short_by, longer}
 use Rattle.bound_names.proofs.UsedBlocks.{used_blocks, all_ordered}
 use Rattle.alike_scopes.proofs.PlacedScopes.{scopes_alike, blocks_alike}
 use Rattle.st_types.specs.Outlines.{is_long, outlined_body, outlined_of, outlined_if, outlined_by, outlined_program}
 use Rattle.outline_laws.proofs.FewerCells.{further, less_of}
 use Rattle.outline_laws.proofs.AlikeCounts.{less_begun, same_body}
-use Rattle.outline_laws.proofs.Shortness.{frames_counted, short_by, longer}
 
 abbrev no_frame : FrameData
 no_frame = record { types = []; ranges = []; start = [] }

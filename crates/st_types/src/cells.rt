@@ -1,17 +1,19 @@
 // The cells of POUs, those of instances in their places.
-ghost use Rattle.std.specs.Prelude.{◌≡◌, ◌∷◌, ◌++◌, option_map, IfOk, OnOk};
+ghost use Rattle.std.specs.Prelude.{◌≡◌, ◌∷◌, ◌++◌, length, true, false, None, option_map, IfOk, OnOk};
 ghost use Rattle.std.specs.String.{string_bytes};
 ghost use Rattle.source_tree.specs.SyntaxView.{name_view, file_view};
 ghost use Rattle.program_tree.specs.View.{cell_view, cells_view, texts_view};
+ghost use Rattle.naming.specs.FileScope.{pous_of};
 ghost use Rattle.naming.specs.Scopes.{block_of};
 ghost use Rattle.naming.specs.ScopeView.{variable_view, variables_view};
 ghost use Rattle.decl_types.specs.Bodies.{file_in};
 ghost use Rattle.pou_cells.specs.Placed.{HasSizes};
+ghost use Rattle.typing.specs.Places.{is_front, in_front};
 ghost use Rattle.typing.specs.TypedPrograms.{path_of, path_behind, cell_for, flag_cell, cells_for, fault_cell, cells_of_variable, cells_of, block_cells, cells_in, is_without_cell, names_without_cell};
 
 use decl_types::{Domains, block_of, domain_of, initial_of, pou_at};
 use expr_types::{bool_type, range};
-use naming::Declared;
+use naming::{Declared, Role};
 use plc_types::Elementary;
 use pou_cells::{
     Pous, active_first, has_cell, in_order, is_constant, is_step, is_stored_action, part_in,
@@ -232,6 +234,43 @@ pub(crate) fn cells_behind_fault(
     let depth = pous.domains.types.names.pou_count();
     let ordered = in_order(alloc, of_function, variables)?;
     write_variables(alloc, pous, depth, false, before, &ordered, &mut list)?;
+    Ok(list)
+}
+
+// Whether a variable of a FUNCTION is an input, or what it answers.
+fn is_front(role: Role) -> bool
+    ensures { result ≡ is_front true role }
+{
+    role.is_input() || role.is_result()
+}
+
+// What a FUNCTION answers, and its inputs.
+fn in_front<'a>(alloc: Global, variables: &[Declared<'a>]) -> Result<Vec<Declared<'a>>, AllocError>
+    ensures { IfOk result (λ list. variables_view list.items ≡ in_front true (variables_view variables.now)) }
+{
+    let mut list = Vec::new(alloc);
+    for variable in variables.iter() {
+        if is_front(variable.role) {
+            list.push(*variable)?;
+        }
+    }
+    Ok(list)
+}
+
+/// FAULT's cell, and those of what a FUNCTION answers and of its inputs.
+pub(crate) fn front_cells(
+    alloc: Global,
+    pous: &Pous<'_>,
+    variables: &[Declared<'_>],
+) -> Result<Vec<Cell>, AllocError>
+    requires { HasSizes pous.now }
+    ensures { IfOk result (λ list. cells_view list.items ≡ fault_cell ∷ cells_of (file_in pous.now.domains) (block_cells (file_in pous.now.domains) (length (pous_of (file_in pous.now.domains)))) false None (in_front true (variables_view variables.now))) }
+{
+    let mut list = Vec::new(alloc);
+    list.push(fault_cell(alloc)?)?;
+    let depth = pous.domains.types.names.pou_count();
+    let front = in_front(alloc, variables)?;
+    write_variables(alloc, pous, depth, false, None, &front, &mut list)?;
     Ok(list)
 }
 

@@ -11,12 +11,12 @@ ghost use Rattle.pou_cells.specs.Placed.{HasNoSizes, HasSizes};
 ghost use Rattle.pou_cells.specs.Placing.{capped};
 ghost use Rattle.typing.specs.Places.{sizes_of};
 ghost use Rattle.typing.specs.Pous.{broken_types, has_room};
-ghost use Rattle.typing.specs.TypedPrograms.{typed_program};
 ghost use Rattle.typing.specs.Faults.{IsFaultOf};
 ghost use Rattle.typing.specs.Ready.{IsReady};
+ghost use Rattle.running_pous.specs.Stated.{stated_program};
 
 use crate::bodies::{judge_pous, pou_body};
-use crate::called::called_by;
+use crate::called::stated_by;
 use crate::cells::{cells_behind_fault, names_without_cell};
 use crate::chart_places::charts_in;
 use decl_types::{judge_types, type_texts};
@@ -46,17 +46,19 @@ fn type_program(
     program: &Pou,
 ) -> Result<Program, AllocError>
     requires { HasSizes pous.now }
-    ensures { IfOk result (λ p. program_view p ≡ typed_program (file_in pous.now.domains) number (pou_view program.now)) }
+    ensures { IfOk result (λ p. program_view p ≡ stated_program (file_in pous.now.domains) number (pou_view program.now)) }
 {
     let variables = declared_variables(alloc, program)?;
+    let body = pou_body(alloc, pous, number, program)?;
+    let called = stated_by(alloc, pous, &body)?;
     Ok(Program {
         name: String::from_str(alloc, program.name.text.as_str())?,
         cells: cells_behind_fault(alloc, pous, Some(""), false, &variables)?,
         charts: charts_in(alloc, pous, &variables)?,
         without_cell: names_without_cell(alloc, pous.domains.types.names, &variables)?,
         types: type_texts(alloc, &pous.domains.types)?,
-        called: called_by(alloc, pous)?,
-        body: pou_body(alloc, pous, number, program)?,
+        called,
+        body,
     })
 }
 
@@ -92,7 +94,7 @@ fn check_program(
     ensures refused { IfErr result (IsFaultOf (file_view names.now.file) number) }
     ensures kept { OnOk result (broken_types (file_view names.now.file) ≡ []) }
     ensures room { OnOk result (has_room (file_view names.now.file) number ≡ true) }
-    ensures typed { IfOk result (λ p. program_view p ≡ typed_program (file_view names.now.file) number (pou_view program.now)) }
+    ensures typed { IfOk result (λ p. program_view p ≡ stated_program (file_view names.now.file) number (pou_view program.now)) }
 {
     let told = Pous::new(alloc, names)?;
     let sizes = test_pous(alloc, &told, number)?;
@@ -107,7 +109,7 @@ pub fn check(alloc: Global, names: Resolved) -> Result<Program, Fault>
     ensures refused { IfErr result (λ e. (number : ℕ) → program_number (file_view names.file) ≡ Some number → IsFaultOf (file_view names.file) number e) }
     ensures kept { OnOk result (broken_types (file_view names.file) ≡ []) }
     ensures room { OnOk result ((number : ℕ) → program_number (file_view names.file) ≡ Some number → has_room (file_view names.file) number ≡ true) }
-    ensures typed { IfOk result (λ r. (number : ℕ) → (p : PouData) → program_number (file_view names.file) ≡ Some number → pou_at (file_view names.file) number ≡ Some p → program_view r ≡ typed_program (file_view names.file) number p) }
+    ensures typed { IfOk result (λ r. (number : ℕ) → (p : PouData) → program_number (file_view names.file) ≡ Some number → pou_at (file_view names.file) number ≡ Some p → program_view r ≡ stated_program (file_view names.file) number p) }
     ensures ready { IfOk result (λ r. IsReady (program_view r)) }
 {
     let number = names.program();

@@ -120,37 +120,38 @@ module _ (f : FileData) (used : UsesItsBlocks f) (ordered : IsOrdered f) (k : �
   pub stands_before : (u : ℕ) → u < length (pous_of f) → is_among u (uses_at (uses_of f) k) ≡ true → may_be_called (kind_at f u) ≡ true → called_number f u < before_pou f k p.kind
   stands_before u below uses callable = before_as p.kind kind_is u below uses callable
 
-  instance_at : (text : List ℕ) (m : Member) (b : ℕ) → member_at f (sizes_of f) k text ≡ Some m → m.block ≡ Some b → InstanceFits (pous f) (scope_over f k p) (let i : Instance = record { block = called_number f b; offset = m.cell } in i)
-  instance_at text m b found block =
-      let at = at_name f used ordered k p there text m found in
-      let v = at.variable in
-      let of_v : block_of f v ≡ Some b = sym (ap (λ (x : Member). x.block) at.is) ∙ block in
-      let use_of = used_block text v at.named in
-      let i = is_instance v b use_of of_v in
-      let called = is_called f ordered b i.below i.marked i.callable in
-      let same : block_places f (get_or (called_order f) (called_number f b) 0) ≡ block_places f b = ap (block_places f) called.there in
-      let among = sym (member_is f used ordered k p there (sizes_of f) text) ∙ found in
-      let bound = before_chart f text p m among v at.named (local_plain v.role (instance_local f v b of_v)) in
-      let size = i.size in
-      let size_here = ap (λ (l : List Scratch). length l) same in
-      record {
-        before = stands_before b i.below (use_of b of_v) i.callable;
-        named = from_first f text p.kind (variables_in_pou p) m among;
-        within = omega (arith, bound, size, size_here);
-        stands = subst (λ (l : List Scratch). StandAt l (pou_places f k p.kind p) m.cell) (sym same)
-            (occurs_stands (block_places f b) (pou_places f k p.kind p) m.cell (occurs_same (variable_places f v) (block_places f b) (pou_places f k p.kind p) m.cell i.places at.stands));
-      }
+  module _ (runs : ℕ → Bool) where
+    instance_at : (text : List ℕ) (m : Member) (b : ℕ) → member_at f (sizes_of f) k text ≡ Some m → m.block ≡ Some b → InstanceFits (pous f runs) (scope_over f k p) (let i : Instance = record { block = called_number f b; offset = m.cell } in i)
+    instance_at text m b found block =
+        let at = at_name f used ordered k p there text m found in
+        let v = at.variable in
+        let of_v : block_of f v ≡ Some b = sym (ap (λ (x : Member). x.block) at.is) ∙ block in
+        let use_of = used_block text v at.named in
+        let i = is_instance v b use_of of_v in
+        let called = is_called f ordered b i.below i.marked i.callable in
+        let same : block_places f (get_or (called_order f) (called_number f b) 0) ≡ block_places f b = ap (block_places f) called.there in
+        let among = sym (member_is f used ordered k p there (sizes_of f) text) ∙ found in
+        let bound = before_chart f text p m among v at.named (local_plain v.role (instance_local f v b of_v)) in
+        let size = i.size in
+        let size_here = ap (λ (l : List Scratch). length l) same in
+        record {
+          before = stands_before b i.below (use_of b of_v) i.callable;
+          named = from_first f text p.kind (variables_in_pou p) m among;
+          within = omega (arith, bound, size, size_here);
+          stands = subst (λ (l : List Scratch). StandAt l (pou_places f k p.kind p) m.cell) (sym same)
+              (occurs_stands (block_places f b) (pou_places f k p.kind p) m.cell (occurs_same (variable_places f v) (block_places f b) (pou_places f k p.kind p) m.cell i.places at.stands));
+        }
 
-  instance_by : (text : List ℕ) (m : Member) (o : Option ℕ) → m.block ≡ o → member_at f (sizes_of f) k text ≡ Some m → (i : Instance) → option_map (λ b. let j : Instance = record { block = called_number f b; offset = m.cell } in j) o ≡ Some i
-      → InstanceFits (pous f) (scope_over f k p) i
-  instance_by text m None block found i same = absurd (let h : ⊥ = cc in h)
-  instance_by text m (Some b) block found i same =
-      let e : (let j : Instance = record { block = called_number f b; offset = m.cell } in j) ≡ i = cc in
-      subst (λ (j : Instance). InstanceFits (pous f) (scope_over f k p) j) e (instance_at text m b found block)
+    instance_by : (text : List ℕ) (m : Member) (o : Option ℕ) → m.block ≡ o → member_at f (sizes_of f) k text ≡ Some m → (i : Instance) → option_map (λ b. let j : Instance = record { block = called_number f b; offset = m.cell } in j) o ≡ Some i
+        → InstanceFits (pous f runs) (scope_over f k p) i
+    instance_by text m None block found i same = absurd (let h : ⊥ = cc in h)
+    instance_by text m (Some b) block found i same =
+        let e : (let j : Instance = record { block = called_number f b; offset = m.cell } in j) ≡ i = cc in
+        subst (λ (j : Instance). InstanceFits (pous f runs) (scope_over f k p) j) e (instance_at text m b found block)
 
-  instance_of_member : (text : List ℕ) (o : Option Member) → member_at f (sizes_of f) k text ≡ o → (i : Instance) → option_and_then (instance_of f) o ≡ Some i → InstanceFits (pous f) (scope_over f k p) i
-  instance_of_member text None found i same = absurd (let h : ⊥ = cc in h)
-  instance_of_member text (Some m) found i same = instance_by text m m.block refl found i same
+    instance_of_member : (text : List ℕ) (o : Option Member) → member_at f (sizes_of f) k text ≡ o → (i : Instance) → option_and_then (instance_of f) o ≡ Some i → InstanceFits (pous f runs) (scope_over f k p) i
+    instance_of_member text None found i same = absurd (let h : ⊥ = cc in h)
+    instance_of_member text (Some m) found i same = instance_by text m m.block refl found i same
 
-  pub instances_fit : (text : List ℕ) (i : Instance) → (scope_of f (sizes_of f) k).instance text ≡ Some i → InstanceFits (pous f) (scope_over f k p) i
-  instances_fit text i same = instance_of_member text (member_at f (sizes_of f) k text) refl i same
+    pub instances_fit : (text : List ℕ) (i : Instance) → (scope_of f (sizes_of f) k).instance text ≡ Some i → InstanceFits (pous f runs) (scope_over f k p) i
+    instances_fit text i same = instance_of_member text (member_at f (sizes_of f) k text) refl i same

@@ -1,7 +1,7 @@
 -- The numbers of POUs among those that may be called.
 use Rattle.std.proofs.Common.{◌≡◌, ℕ, zero, suc, ◌+◌, ◌<◌, Bool, true, false, ◌&&◌, List, [], ◌∷◌, ◌++◌, length, map, get_or, set, replicate, refl, sym, ap, ◌∙◌, arith, subst, ⊎_elim, inr, append_assoc}
 use Rattle.std.specs.Prelude.{filter}
-use Rattle.std.proofs.lemmas.List.{length-append, length-map, length-set, length-replicate, get_or-set_same, get_or-set_other, get_or-map}
+use Rattle.std.proofs.lemmas.List.{length-append, length-map, length-set, length-replicate, get_or-set_same, get_or-set_other}
 use Rattle.std.proofs.Math.Seq.{get_or-append_seam}
 use Rattle.std.proofs.lemmas.Bool.{cases_Bool, both_ways}
 use Rattle.call_order.specs.Marks.{is_marked}
@@ -13,11 +13,9 @@ use Rattle.call_order.proofs.Orders.{behind_uses, only_once, below_length, each_
 use Rattle.source_tree.specs.Syntax.{FileData}
 use Rattle.naming.specs.Broken.{is_program_pou}
 use Rattle.naming.specs.Circles.{uses_in, uses_of}
-use Rattle.naming.specs.FileScope.{pous_of, pou_at, kind_at}
-use Rattle.meaning.specs.Calls.{nothing}
+use Rattle.naming.specs.FileScope.{pous_of, kind_at}
 use Rattle.typing.specs.Reached.{reached, reached_order}
 use Rattle.typing.specs.Members.{may_be_called, called_order, numbered, numbers_of, called_number}
-use Rattle.typing.specs.TypedPrograms.{called_if, called_by}
 use Rattle.reach_laws.proofs.ReachedLaws.{IsReachedBy, reached_exact}
 use Rattle.typed_cells.specs.Premises.{IsOrdered}
 
@@ -174,11 +172,6 @@ module _ (f : FileData) (ordered : IsOrdered f) where
       ap calls inside.2 ∙ ap (filter may) (filter_at (is_marked (reached f)) inside.0 u inside.1 reached_u) ∙ filter_at may (filter (is_marked (reached f)) inside.0) u (filter (is_marked (reached f)) inside.1) may_u in
       let long : length (calls parts.0) ≡ length (calls inside.0) + length (u ∷ calls inside.1) = ap (λ (l : List ℕ). length l) calls_of ∙ length-append (calls inside.0) (u ∷ calls inside.1) in
       omega (arith, number, number_u, long)
-
-  -- the POU of a number is what the file says of it
-  pub called_is : (k : ℕ) → IsCalled k → get_or (called_by f) (called_number f k) nothing ≡ called_if f k (pou_at f k)
-  called_is k called =
-      get_or-map (λ n. called_if f n (pou_at f n)) (called_order f) (called_number f k) 0 nothing called.below ∙ ap (λ (n : ℕ). called_if f n (pou_at f n)) called.there
 
   -- the POU of a number among those that may be called
   pub record IsNumbered (n k : ℕ) : Type 0 where

@@ -80,6 +80,18 @@ pub input_plain : (r : Role) → is_input r ≡ true → is_of_chart r ≡ false
 input_plain roles.Input is = refl
 input_plain _ is = absurd (false≢true is)
 
+pub input_not_local : (r : Role) → is_input r ≡ true → is_local r ≡ false
+input_not_local roles.Input is = refl
+input_not_local _ is = absurd (false≢true is)
+
+pub input_no_step : (r : Role) → is_input r ≡ true → is_step r ≡ false
+input_no_step roles.Input is = refl
+input_no_step _ is = absurd (false≢true is)
+
+pub input_not_stored : (r : Role) → is_input r ≡ true → is_stored_action r ≡ false
+input_not_stored roles.Input is = refl
+input_not_stored _ is = absurd (false≢true is)
+
 pub other_front : (r : Role) → is_input r ≡ false → is_result r ≡ false → is_front true r ≡ false
 other_front roles.Input input none = true≢false input
 other_front roles.Result input none = true≢false none

@@ -3,15 +3,16 @@ use Rattle.std.proofs.Common.{◌≡◌, ℕ, zero, suc, ◌+◌, ◌≤◌, ◌
 use Rattle.std.specs.Prelude.{unwrap_or}
 use Rattle.std.specs.List.{AllByRecursion, slice_get}
 use Rattle.std.proofs.lemmas.Bool.{false≢true}
-use Rattle.std.proofs.lemmas.List.{length-map}
+use Rattle.std.proofs.lemmas.List.{length-append, length-map}
 use Rattle.call_order.specs.Marks.{is_marked}
 use Rattle.call_order.specs.Uses.{uses_at, is_among}
 use Rattle.source_tree.specs.Syntax.{TypeData, PouKindData, function, function_block, program, PouData, FileData}
+use Rattle.program_tree.specs.Tree.{CellData}
 use Rattle.naming.specs.declared.role.Role.{Role}
 use Rattle.naming.specs.declared.role.Role.TheVariants as roles
 use Rattle.naming.specs.Circles.{uses_of}
-use Rattle.naming.specs.FileScope.{pou_at, kind_at, standing, pou_number}
-use Rattle.naming.specs.Scopes.{Variable, result_of as result_variable, variables_of, names_in_body, variables_in_pou, is_local, is_input, is_result, is_step}
+use Rattle.naming.specs.FileScope.{pous_of, pou_at, kind_at, standing, pou_number}
+use Rattle.naming.specs.Scopes.{Variable, result_of as result_variable, variables_of, names_in_body, variables_in_pou, is_local, is_input, is_result, is_step, block_of}
 use Rattle.typing.specs.declared.next.Next.{Next}
 use Rattle.typing.specs.declared.member.Member.{Member}
 use Rattle.typing.specs.declared.scope.Port.{Port}
@@ -21,7 +22,8 @@ use Rattle.typing.specs.Typing.{is_unknown}
 use Rattle.typing.specs.Variables.{domain_of_variable}
 use Rattle.typing.specs.Places.{has_cell, is_front, in_front, size_among, cells_taken, sizes_of, places_from, first_places, first_place, places_behind}
 use Rattle.typing.specs.Members.{member_of, members_of, members_if, members_at, port_of, ports_of, result_of, called_number, is_function, function_number, signature_of, signature_at, scope_of}
-use Rattle.typing.specs.TypedPrograms.{frame_cells, called_by}
+use Rattle.typing.specs.TypedPrograms.{fault_cell, cell_for, cells_of_variable, cells_of, block_cells, frame_cells}
+use Rattle.running_pous.specs.Stated.{front_cells, stated_by}
 use Rattle.flat_core.specs.declared.flat_tree.Scratch.{Scratch}
 use Rattle.flat_form.specs.Frames.{FrameData, frames_of, scratch_at}
 use Rattle.node_core.specs.Stores.{of_cell, place_at}
@@ -33,15 +35,15 @@ use Rattle.typed_cells.specs.Variables.{variable_places, variables_places}
 use Rattle.typed_cells.specs.Premises.{UsesItsBlocks, IsOrdered}
 use Rattle.typed_cells.proofs.Occurrences.{Occurs, occurs_within, occurs_at}
 use Rattle.typed_cells.proofs.Lengths.{HasSize, used_below}
-use Rattle.typed_cells.proofs.Walks.{IsNext, pass, place_front, passed_front, passed_rest}
+use Rattle.typed_cells.proofs.Walks.{IsNext, pass, front_first, front_none, place_front, passed_front, passed_rest}
 use Rattle.typed_cells.proofs.Names.{IsOther, HasKind, others_known}
 use Rattle.typed_cells.proofs.Domains.{variable_sound}
 use Rattle.typed_cells.proofs.Cells.{no_block, first_cell}
 use Rattle.typed_cells.proofs.Numbers.{used_reached, IsCalled, is_called}
 use Rattle.typed_cells.proofs.Owners.{low, sizes_known, begins}
 use Rattle.typed_cells.proofs.Instances.{number_passes, function_may, stands_before}
-use Rattle.typed_cells.proofs.Frames.{scratch_is, frame_is}
-use Rattle.typed_cells.proofs.Roles.{input_cell, input_front, input_plain, other_front}
+use Rattle.typed_cells.proofs.Frames.{kept_cells, front_within, kept_at, frame_is}
+use Rattle.typed_cells.proofs.Roles.{input_cell, input_front, input_plain, input_not_local, input_no_step, input_not_stored, other_front}
 
 -- ---- an input
 
@@ -116,6 +118,50 @@ module _ (f : FileData) (owner : List Scratch) where
   ports (v ∷ vs) others sizes next of_function now =
       ports_by (is_input v.role) next v vs of_function refl others.0 sizes.0 now (λ n of_f behind. ports vs others.1 sizes.1 n of_f behind)
 
+-- ---- the cells of the inputs
+
+abbrev Blocks : Type 0
+Blocks = Option (List ℕ) → ℕ → List CellData
+
+module _ (f : FileData) (of_block : Blocks) where
+  abbrev own_cells : Variable → List CellData
+  own_cells v = if has_cell v.role then cells_of_variable f of_block false None v (block_of f v) else []
+
+  abbrev fronts : List Variable → List CellData
+  fronts vs = cells_of f of_block false None (in_front true vs)
+
+  one_cell : (v : Variable) → is_input v.role ≡ true → length (own_cells v) ≡ 1
+  one_cell v is =
+      let has = input_cell v.role is in
+      let none : block_of f v ≡ None = let other = input_not_local v.role is in rw other refl in
+      let step = input_no_step v.role is in
+      let stored = input_not_stored v.role is in
+      rw (has, none, step, stored) refl
+
+  abbrev AreFew : Next → List Variable → Type 0
+  AreFew next vs = length (ports_of (members_of f (sizes_of f) next vs)) ≤ length (fronts vs)
+
+  few_by : (b : Bool) (next : Next) (v : Variable) (vs : List Variable) → is_input v.role ≡ b → is_result v.role ≡ false → AreFew (places_behind f (sizes_of f) next v) vs → AreFew next (v ∷ vs)
+  few_by true next v vs is other rest =
+      let m = member_of f (first_place next v) v in
+      let ms = members_of f (sizes_of f) (places_behind f (sizes_of f) next v) vs in
+      let more : length (ports_of (members_of f (sizes_of f) next (v ∷ vs))) ≡ length (port_of m ∷ ports_of ms) = ap (λ (l : List Port). length l) (first_kept m ms is) in
+      let front : length (fronts (v ∷ vs)) ≡ length (own_cells v ++ fronts vs) = ap (λ (l : List Variable). length (cells_of f of_block false None l)) (front_first true v vs (input_front v.role is)) in
+      let parts = length-append (own_cells v) (fronts vs) in
+      let one = one_cell v is in
+      omega (arith, more, front, parts, one, rest)
+  few_by false next v vs is other rest =
+      let m = member_of f (first_place next v) v in
+      let ms = members_of f (sizes_of f) (places_behind f (sizes_of f) next v) vs in
+      let same : length (ports_of (members_of f (sizes_of f) next (v ∷ vs))) ≡ length (ports_of ms) = ap (λ (l : List Port). length l) (first_left m ms is) in
+      let front : length (fronts (v ∷ vs)) ≡ length (fronts vs) = ap (λ (l : List Variable). length (cells_of f of_block false None l)) (front_none true v vs (other_front v.role is other)) in
+      omega (arith, same, front, rest)
+
+  -- each input has a cell
+  inputs_few : (vs : List Variable) → AllByRecursion IsOther vs → (next : Next) → AreFew next vs
+  inputs_few [] others next = omega arith
+  inputs_few (v ∷ vs) others next = few_by (is_input v.role) next v vs refl others.0 (inputs_few vs others.1 (places_behind f (sizes_of f) next v))
+
 -- ---- a FUNCTION
 
 abbrev own_name : TypeData → PouData → Variable
@@ -145,7 +191,7 @@ frame_from f owner t q others sizes now =
     let size = sizes.0 in
     record { answer = λ whole known. member_fits f owner v 1 refl (λ chart. absurd (false≢true chart)) p.here known; answers = let r = rest.room in omega (arith, r); inputs = rest }
 
-module _ (f : FileData) (used : UsesItsBlocks f) (ordered : IsOrdered f) where
+module _ (f : FileData) (runs : ℕ → Bool) (used : UsesItsBlocks f) (ordered : IsOrdered f) where
   module _ (n : ℕ) (t : TypeData) (q : PouData) (there : pou_at f n ≡ Some q) (kind : q.kind ≡ function t) where
     owner_is : pou_places f n q.kind q ≡ map of_cell (frame_cells f q)
     owner_is = ap (λ (k : PouKindData). pou_places f n k q) kind
@@ -169,47 +215,57 @@ module _ (f : FileData) (used : UsesItsBlocks f) (ordered : IsOrdered f) where
         subst (λ (ms : List Member). IsFrame f (map of_cell (frame_cells f q)) ms) (sym members_are)
         (frame_from f (map of_cell (frame_cells f q)) t q (others_known q) (subst (λ (vs : List Variable). AllByRecursion (HasSize f) vs) (names_of_function t q kind) (sizes_known f used ordered n q there)) starts)
 
-    -- FAULT and the answer have cells
-    pub frame_room : 2 ≤ length (frame_cells f q)
-    frame_room = let some = frame_known.answers in let same = length-map (frame_cells f q) of_cell in omega (arith, some, same)
+    abbrev of_block : Blocks
+    of_block = block_cells f (length (pous_of f))
+
+    -- FAULT, the answer and the inputs have cells
+    front_room : 2 + length (ports_of (members_at f (sizes_of f) n)) ≤ length (front_cells f q)
+    front_room =
+        let others = other_names q in
+        let behind = places_behind f (sizes_of f) (places_from f (sizes_of f) true 1 (own_name t q ∷ others)) (own_name t q) in
+        let few = inputs_few f of_block others (others_known q) behind in
+        let inputs : length (ports_of (members_at f (sizes_of f) n)) ≡ length (ports_of (members_of f (sizes_of f) behind others)) = ap (λ (ms : List Member). length (ports_of ms)) members_are in
+        let cells : length (front_cells f q) ≡ length (fault_cell ∷ cell_for f false None (own_name t q) ∷ fronts f of_block others) =
+        ap (λ (vs : List Variable). length (fault_cell ∷ fronts f of_block vs)) (names_of_function t q kind) in
+        omega (arith, few, inputs, cells)
+
+    pub kept_room : (b : Bool) → 2 ≤ length (kept_cells f b q)
+    kept_room b = let room = front_room in let within = front_within f q b in omega (arith, room, within)
 
     module _ (called : IsCalled f ordered n) where
-      frame : frames_of (called_by f) (called_number f n) ≡ frame_for (frame_cells f q)
-      frame = frame_is f ordered n t q there kind called
+      abbrev kept : List CellData
+      kept = kept_cells f (runs (called_number f n)) q
 
-      long : length (map of_cell (frame_cells f q)) ≡ length (frame_cells f q)
-      long = length-map (frame_cells f q) of_cell
+      frame : frames_of (stated_by f runs) (called_number f n) ≡ frame_for kept
+      frame = frame_is f runs ordered n t q there kind called
 
-      place_is : (place : ℕ) → place < length (frame_cells f q) → place_at (map of_cell (frame_cells f q)) place ≡ scratch_at (frames_of (called_by f) (called_number f n)) place
-      place_is place small = sym (scratch_is (frame_cells f q) place small) ∙ ap (λ (d : FrameData). scratch_at d place) (sym frame)
+      place_is : (place : ℕ) → place < length (front_cells f q) → place_at (map of_cell (frame_cells f q)) place ≡ scratch_at (frames_of (stated_by f runs) (called_number f n)) place
+      place_is place small = kept_at f q (runs (called_number f n)) place small ∙ ap (λ (d : FrameData). scratch_at d place) (sym frame)
 
-      input_fits : (i : ℕ) → i < length (ports_of (members_at f (sizes_of f) n)) → (k : ℕ) → InputFits (pous f) (last f) (scope_of f (sizes_of f) k) (signature_of f (sizes_of f) n) i
+      input_fits : (i : ℕ) → i < length (ports_of (members_at f (sizes_of f) n)) → (k : ℕ) → InputFits (pous f runs) (last f) (scope_of f (sizes_of f) k) (signature_of f (sizes_of f) n) i
       input_fits i small k =
           let known = frame_known in
           let p = known.inputs.each i small in
-          let room = known.inputs.room in
-          let same = long in
+          let room = front_room in
           record {
             port = p.port;
             there = p.there;
-            place = λ whole kind_known. subst (λ (s : Scratch). IsPlaceOf (last f) p.port.kind s) (place_is (2 + i) (omega (arith, room, small, same))) (p.fits whole kind_known);
+            place = λ whole kind_known. subst (λ (s : Scratch). IsPlaceOf (last f) p.port.kind s) (place_is (2 + i) (omega (arith, room, small))) (p.fits whole kind_known);
           }
 
-      room_for : 2 + length (ports_of (members_at f (sizes_of f) n)) ≤ length (frames_of (called_by f) (called_number f n)).types
+      room_for : 2 + length (ports_of (members_at f (sizes_of f) n)) ≤ length (frames_of (stated_by f runs) (called_number f n)).types
       room_for =
-          let known = frame_known in
-          let room = known.inputs.room in
-          let same = long in
-          let types : length (frames_of (called_by f) (called_number f n)).types ≡ length (frame_cells f q) = ap (λ (d : FrameData). length d.types) frame ∙ length-map (frame_cells f q) _ in
-          omega (arith, room, same, types)
+          let room = front_room in
+          let within = front_within f q (runs (called_number f n)) in
+          let types : length (frames_of (stated_by f runs) (called_number f n)).types ≡ length kept = ap (λ (d : FrameData). length d.types) frame ∙ length-map kept _ in
+          omega (arith, room, within, types)
 
       answer_fits : (result_of (members_at f (sizes_of f) n)).whole ≡ true → is_unknown (result_of (members_at f (sizes_of f) n)).kind ≡ false
-          → IsPlaceOf (last f) (result_of (members_at f (sizes_of f) n)).kind (scratch_at (frames_of (called_by f) (called_number f n)) 1)
+          → IsPlaceOf (last f) (result_of (members_at f (sizes_of f) n)).kind (scratch_at (frames_of (stated_by f runs) (called_number f n)) 1)
       answer_fits whole kind_known =
           let known = frame_known in
-          let some = known.answers in
-          let same = long in
-          subst (λ (s : Scratch). IsPlaceOf (last f) (result_of (members_at f (sizes_of f) n)).kind s) (place_is 1 (omega (arith, some, same))) (known.answer whole kind_known)
+          let room = front_room in
+          subst (λ (s : Scratch). IsPlaceOf (last f) (result_of (members_at f (sizes_of f) n)).kind s) (place_is 1 (omega (arith, room))) (known.answer whole kind_known)
 
   -- ---- the FUNCTIONs that a POU calls
 
@@ -223,7 +279,7 @@ module _ (f : FileData) (used : UsesItsBlocks f) (ordered : IsOrdered f) where
       only_of program passes = absurd (false≢true passes)
 
   module _ (k : ℕ) (p : PouData) (there : pou_at f k ≡ Some p) (is : is_marked (reached f) k ≡ true) where
-    signature_at_number : (n : ℕ) → unwrap_or (option_map is_function (kind_at f n)) false ≡ true → is_among n (uses_at (uses_of f) k) ≡ true → SignatureFits (pous f) (scope_over f k p) (last f) (scope_of f (sizes_of f) k) (signature_of f (sizes_of f) n)
+    signature_at_number : (n : ℕ) → unwrap_or (option_map is_function (kind_at f n)) false ≡ true → is_among n (uses_at (uses_of f) k) ≡ true → SignatureFits (pous f runs) (scope_over f k p) (last f) (scope_of f (sizes_of f) k) (signature_of f (sizes_of f) n)
     signature_at_number n passes uses =
         let at = used_below f used ordered k n (low f used ordered k p there) uses in
         let callable = function_may (kind_at f n) passes in
@@ -237,12 +293,12 @@ module _ (f : FileData) (used : UsesItsBlocks f) (ordered : IsOrdered f) where
         }
 
     signature_by : (text : List ℕ) (o : Option ℕ) → function_number f (standing f text) ≡ o → is_called_by f k o ≡ true → (s : Signature) → option_map (signature_of f (sizes_of f)) o ≡ Some s
-        → SignatureFits (pous f) (scope_over f k p) (last f) (scope_of f (sizes_of f) k) s
+        → SignatureFits (pous f runs) (scope_over f k p) (last f) (scope_of f (sizes_of f) k) s
     signature_by text None found uses s same = absurd (let h : ⊥ = cc in h)
     signature_by text (Some n) found uses s same =
         let e : signature_of f (sizes_of f) n ≡ s = cc in
-        subst (λ (x : Signature). SignatureFits (pous f) (scope_over f k p) (last f) (scope_of f (sizes_of f) k) x) e (signature_at_number n (number_passes f is_function (pou_number (standing f text)) n found) uses)
+        subst (λ (x : Signature). SignatureFits (pous f runs) (scope_over f k p) (last f) (scope_of f (sizes_of f) k) x) e (signature_at_number n (number_passes f is_function (pou_number (standing f text)) n found) uses)
 
     pub signatures_fit : (text : List ℕ) → is_called_by f k (function_number f (standing f text)) ≡ true → (s : Signature) → signature_at f (sizes_of f) text ≡ Some s
-        → SignatureFits (pous f) (scope_over f k p) (last f) (scope_of f (sizes_of f) k) s
+        → SignatureFits (pous f runs) (scope_over f k p) (last f) (scope_of f (sizes_of f) k) s
     signatures_fit text uses s same = signature_by text (function_number f (standing f text)) refl uses s same

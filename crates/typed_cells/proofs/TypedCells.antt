@@ -19,7 +19,7 @@ use Rattle.naming.specs.Scopes.{Variable, is_step, block_of}
 use Rattle.typing.specs.declared.domain.Domain.{Domain}
 use Rattle.typing.specs.Typing.{is_unknown}
 use Rattle.typing.specs.Variables.{domain_of_variable, judged_type_if, judged_value, judged_by_block, judged_variable, judged_variables}
-use Rattle.typing.specs.Places.{has_cell, is_stored_action, in_order, size_among, sizes_of, variables_at}
+use Rattle.typing.specs.Places.{has_cell, is_stored_action, is_front, in_front, in_order, size_among, sizes_of, variables_at}
 use Rattle.typing.specs.TypedPrograms.{path_behind, cell_for, fault_cell, flag_cell, active_first, cells_for, cells_of_variable, cells_of, block_cells, cells_in}
 use Rattle.node_core.specs.Stores.{of_cell}
 use Rattle.node_core.specs.TypedFlats.{covers, IsTypedPlace}
@@ -30,7 +30,7 @@ use Rattle.typed_scopes.proofs.Wholes.{whole_also}
 use Rattle.typed_cells.specs.Places.{last}
 use Rattle.typed_cells.specs.Variables.{place_for}
 use Rattle.typed_cells.specs.Premises.{AreWhole}
-use Rattle.typed_cells.proofs.Lists.{all-in_order}
+use Rattle.typed_cells.proofs.Lists.{all-filter, all-in_order}
 use Rattle.typed_cells.proofs.Constants.{within}
 use Rattle.typed_cells.proofs.Domains.{IsOpen, IsSound, variable_sound, initial_in}
 
@@ -168,3 +168,10 @@ module _ (f : FileData) (whole : AreWhole f) where
   pub cells_ready : (k : ℕ) (before : Option (List ℕ)) (o : Bool) → AllByRecursion IsReadyCell (cells_in f before o (variables_at f k))
   unfolding AreReady
   cells_ready k before o = all_ready f (block_cells f (length (pous_of f))) false before (in_order o (variables_at f k)) (wholes k o) (blocks_ready (length (pous_of f)))
+
+  -- those of a FUNCTION's answer and its inputs
+  pub fronts_ready : (k : ℕ) → AllByRecursion IsReadyCell (cells_of f (block_cells f (length (pous_of f))) false None (in_front true (variables_at f k)))
+  unfolding AreReady
+  fronts_ready k =
+      all_ready f (block_cells f (length (pous_of f))) false None (in_front true (variables_at f k))
+      (all-filter (λ v. (judged_variable f v).whole ≡ true) (λ v. is_front true v.role) (variables_at f k) (each_whole f (variables_at f k) (whole k))) (blocks_ready (length (pous_of f)))

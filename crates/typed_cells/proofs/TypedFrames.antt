@@ -9,8 +9,8 @@ use Rattle.source_tree.specs.Syntax.{PouData, FileData}
 use Rattle.program_tree.specs.Tree.{CellData}
 use Rattle.naming.specs.FileScope.{pous_of, pou_at}
 use Rattle.naming.specs.Scopes.{Variable, variables_in_pou}
-use Rattle.typing.specs.Places.{variables_in}
-use Rattle.typing.specs.TypedPrograms.{fault_cell, block_cells, cells_in, frame_cells, type_of_cell}
+use Rattle.typing.specs.Places.{in_front, variables_in}
+use Rattle.typing.specs.TypedPrograms.{fault_cell, cells_of, block_cells, cells_in, type_of_cell}
 use Rattle.scan_model.specs.InRange.{IsInRange}
 use Rattle.flat_core.specs.declared.flat_tree.Scratch.{Scratch}
 use Rattle.flat_form.specs.Frames.{scratch_at, counted_from}
@@ -20,8 +20,8 @@ use Rattle.typed_programs.specs.Programs.{IsTypedCell, frame_places, IsTypedFram
 use Rattle.typed_scopes.proofs.Numbers.{bounds}
 use Rattle.typed_cells.specs.Places.{block_places, frame_for}
 use Rattle.typed_cells.specs.Premises.{AreWhole}
-use Rattle.typed_cells.proofs.TypedCells.{IsReadyCell, fault_ready, block_ready, cells_ready}
-use Rattle.typed_cells.proofs.Frames.{scratch_is}
+use Rattle.typed_cells.proofs.TypedCells.{IsReadyCell, fault_ready, block_ready, cells_ready, fronts_ready}
+use Rattle.typed_cells.proofs.Frames.{scratch_is, kept_cells}
 
 -- ---- the places of a frame
 
@@ -82,9 +82,13 @@ module _ (f : FileData) (whole : AreWhole f) where
     ready : (before : Option (List ℕ)) (o : Bool) → AllByRecursion IsReadyCell (cells_in f before o (variables_in_pou p))
     ready before o = subst (λ (vs : List Variable). AllByRecursion IsReadyCell (cells_in f before o vs)) (ap variables_in there) (cells_ready f whole k before o)
 
-    -- the frame of a FUNCTION
-    pub frame_typed : 2 ≤ length (frame_cells f p) → IsTypedFrame (frame_for (frame_cells f p))
-    frame_typed room = frame_of_typed (cells_in f None true (variables_in_pou p)) (omega (arith, room)) (ready None true)
+    abbrev fronts : List Variable → List CellData
+    fronts vs = cells_of f (block_cells f (length (pous_of f))) false None (in_front true vs)
+
+    -- the frame of a FUNCTION, which runs or not
+    pub frame_typed : (b : Bool) → 2 ≤ length (kept_cells f b p) → IsTypedFrame (frame_for (kept_cells f b p))
+    frame_typed true room = frame_of_typed (cells_in f None true (variables_in_pou p)) (omega (arith, room)) (ready None true)
+    frame_typed false room = frame_of_typed (fronts (variables_in_pou p)) (omega (arith, room)) (subst (λ (vs : List Variable). AllByRecursion IsReadyCell (fronts vs)) (ap variables_in there) (fronts_ready f whole k))
 
     -- the cells of a PROGRAM
     pub program_typed : All IsTypedCell (fault_cell ∷ cells_in f (Some []) false (variables_in_pou p))

@@ -1,5 +1,5 @@
 -- When the body of a POU is typed over the POU's cells, and what it owes for that: it breaks no rule on types, and uses only what it may.
-use Rattle.std.specs.Prelude.{◌≡◌, ℕ, true, List, [], All}
+use Rattle.std.specs.Prelude.{◌≡◌, ℕ, Bool, true, List, [], All}
 use Rattle.source_tree.specs.Syntax.{Stmts, PartData, BodyData, statements, chart, PouData, FileData}
 use Rattle.source_tree.specs.Levels.{AreStmtsLevelled, ArePartsLevelled}
 use Rattle.sfc_shape.specs.Shapes.{transitions_of, actions_of}
@@ -14,8 +14,8 @@ use Rattle.typed_scopes.specs.Uses.{Usable, AreStmtsWithin, ArePartsWithin}
 use Rattle.typed_scopes.specs.Charts.{NamesSteps, IsNamedBySteps}
 use Rattle.typed_cells.specs.Places.{scope_over, pous}
 
-abbrev pub IsTypedIn : FileData → ℕ → PouData → Type 0
-IsTypedIn f k p = AreTypedParts (pous f) (scope_over f k p) (typed_body (scope_of f (sizes_of f) k) p.body)
+abbrev pub IsTypedIn : FileData → (ℕ → Bool) → ℕ → PouData → Type 0
+IsTypedIn f runs k p = AreTypedParts (pous f runs) (scope_over f k p) (typed_body (scope_of f (sizes_of f) k) p.body)
 
 pub record AreStmtsSound (scope : Scope) (uses : Usable) (ss : Stmts) : Type 0 where
   pub within : AreStmtsWithin uses ss

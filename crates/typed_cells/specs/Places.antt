@@ -1,5 +1,5 @@
 -- What the places of each POU of a file take, in the order of its cells, and what its body is typed over.
-use Rattle.std.specs.Prelude.{ℕ, ℤ, pos, ◌+◌, List, [], ◌∷◌, ◌++◌, length, map, false, Option, Some, None, slice_index_or}
+use Rattle.std.specs.Prelude.{ℕ, ℤ, pos, ◌+◌, List, [], ◌∷◌, ◌++◌, length, map, Bool, false, Option, Some, None, slice_index_or}
 use Rattle.source_tree.specs.Syntax.{SpecificationData, of_type, of_values, PouKindData, function, function_block, program, PouData, FileData}
 use Rattle.program_tree.specs.Tree.{CellData}
 use Rattle.naming.specs.FileScope.{pous_of}
@@ -7,7 +7,8 @@ use Rattle.naming.specs.Types.{specification_at}
 use Rattle.naming.specs.Scopes.{Variable, result_of, variables_of, variables_in_pou}
 use Rattle.typing.specs.Places.{sizes_of, count_of_cells}
 use Rattle.typing.specs.Members.{called_order, called_number}
-use Rattle.typing.specs.TypedPrograms.{fault_cell, cells_in, block_cells, frame_cells, type_of_cell, called_by}
+use Rattle.typing.specs.TypedPrograms.{fault_cell, cells_in, block_cells, frame_cells, type_of_cell}
+use Rattle.running_pous.specs.Stated.{stated_by}
 use Rattle.flat_core.specs.declared.flat_tree.Scratch.{Scratch}
 use Rattle.flat_form.specs.Frames.{FrameData, frames_of}
 use Rattle.node_core.specs.Stores.{of_cell}
@@ -60,9 +61,9 @@ scope_over f k p = record {
   pous = before_pou f k p.kind;
 }
 
--- the POUs that may be run and called, by their numbers among them
-abbrev pub pous : FileData → Pous
-pous f = record { frames = frames_of (called_by f); instances = λ n. block_places f (slice_index_or (called_order f) n 0) }
+-- the POUs that may be run and called, by their numbers among them, of which some run
+abbrev pub pous : FileData → (ℕ → Bool) → Pous
+pous f runs = record { frames = frames_of (stated_by f runs); instances = λ n. block_places f (slice_index_or (called_order f) n 0) }
 
 -- the frame of these cells
 abbrev pub frame_for : List CellData → FrameData

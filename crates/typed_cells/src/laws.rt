@@ -11,7 +11,7 @@ ghost use Rattle.typing.specs.declared.member.Member.{Member};
 ghost use Rattle.typing.specs.Reached.{reached};
 ghost use Rattle.typing.specs.Places.{sizes_of};
 ghost use Rattle.typing.specs.Members.{member_at, scope_of, is_function};
-ghost use Rattle.typing.specs.TypedPrograms.{typed_program};
+ghost use Rattle.running_pous.specs.Stated.{shortened};
 ghost use Rattle.flat_form.specs.WellTyped.{AreRisingFrom};
 ghost use Rattle.typed_programs.specs.Statements.{IsFlagOf};
 ghost use Rattle.typed_programs.specs.Programs.{IsTypedProgram};
@@ -29,10 +29,10 @@ pub fn law_cells_at_names()
         → (text : List ℕ) (m : Member) → member_at f (sizes_of f) k text ≡ Some m → HasCellsAt f k p text m }
 {}
 
-/// What the names of a POU that is reached stand for, as far as its body may use them, fits its cells.
+/// What the names of a POU that is reached stand for, as far as its body may use them, fits its cells, whichever POUs run.
 pub fn law_scope_fits()
-    ensures { (f : FileData) → UsesItsBlocks f → IsOrdered f → (k : ℕ) (p : PouData) → pou_at f k ≡ Some p → is_marked (reached f) k ≡ true
-        → ScopeFits (pous f) (scope_over f k p) (last f) (scope_of f (sizes_of f) k) (uses_of_pou f k) }
+    ensures { (f : FileData) (runs : ℕ → Bool) → UsesItsBlocks f → IsOrdered f → (k : ℕ) (p : PouData) → pou_at f k ≡ Some p → is_marked (reached f) k ≡ true
+        → ScopeFits (pous f runs) (scope_over f k p) (last f) (scope_of f (sizes_of f) k) (uses_of_pou f k) }
 {}
 
 /// Where each name of a POU that is no FUNCTION is declared once, the cells of its chart are flags, which rise behind all cells that
@@ -43,17 +43,17 @@ pub fn law_chart_cells()
         → All (IsFlagOf (scope_over f k p)) (cells_of_chart (scope_of f (sizes_of f) k) ps) × AreRisingFrom (scope_over f k p).settable (cells_of_chart (scope_of f (sizes_of f) k) ps) }
 {}
 
-/// A body that breaks no rule, and uses only what it may, is typed over the cells of its POU.
+/// A body that breaks no rule, and uses only what it may, is typed over the cells of its POU, whichever POUs run.
 pub fn law_bodies()
-    ensures { (f : FileData) → UsesItsBlocks f → IsOrdered f → (k : ℕ) (p : PouData) → pou_at f k ≡ Some p → is_marked (reached f) k ≡ true
+    ensures { (f : FileData) (runs : ℕ → Bool) → UsesItsBlocks f → IsOrdered f → (k : ℕ) (p : PouData) → pou_at f k ≡ Some p → is_marked (reached f) k ≡ true
         → (variables_twice (is_program p.kind) [] (variables_in_pou p)).whole ≡ true → MayDo p.kind p.body → IsBodySound (scope_of f (sizes_of f) k) (uses_of_pou f k) p.body
-        → IsTypedIn f k p }
+        → IsTypedIn f runs k p }
 {}
 
 /// Where no declaration of a variable breaks a rule, and the body of each POU that is reached is typed over its cells, a PROGRAM that is
-/// reached is typed.
+/// reached is typed, whichever POUs run.
 pub fn law_programs()
-    ensures { (f : FileData) → UsesItsBlocks f → IsOrdered f → AreWhole f
-        → ((k : ℕ) (p : PouData) → pou_at f k ≡ Some p → is_marked (reached f) k ≡ true → IsTypedIn f k p)
-        → (k : ℕ) (p : PouData) → pou_at f k ≡ Some p → p.kind ≡ program → is_marked (reached f) k ≡ true → IsTypedProgram (typed_program f k p) }
+    ensures { (f : FileData) (runs : ℕ → Bool) → UsesItsBlocks f → IsOrdered f → AreWhole f
+        → ((k : ℕ) (p : PouData) → pou_at f k ≡ Some p → is_marked (reached f) k ≡ true → IsTypedIn f runs k p)
+        → (k : ℕ) (p : PouData) → pou_at f k ≡ Some p → p.kind ≡ program → is_marked (reached f) k ≡ true → IsTypedProgram (shortened f runs k p) }
 {}

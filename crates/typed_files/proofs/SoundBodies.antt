@@ -1,5 +1,5 @@
 -- In a file that breaks no rule each body is sound, and so typed over the cells of its POU.
-use Rattle.std.proofs.Common.{◌≡◌, ℕ, List, [], ◌∷◌, Option, Some, None, true, refl}
+use Rattle.std.proofs.Common.{◌≡◌, ℕ, Bool, List, [], ◌∷◌, Option, Some, None, true, refl}
 use Rattle.call_order.specs.Marks.{is_marked}
 use Rattle.rules.specs.Judgements.{also}
 use Rattle.source_tree.specs.Syntax.{PartData, BodyData, statements, chart as chart_body, PouData, FileData}
@@ -59,5 +59,5 @@ module _ (f : FileData) (names : broken_names f ≡ []) (levels : IsFileLevelled
       body_sound (scope_of f (sizes_of f) k) (uses_of_pou f k) d.body (body_used f names levels k d at) (pou_levelled f k d levels at).4 (whole_pou f names levels types k d at).body
       (body_named f (sizes_of f) k d at (names_of_body f d (pou_whole f names k d at)))
 
-  pub body_typed : UsesItsBlocks f → IsOrdered f → (k : ℕ) (d : PouData) → pou_at f k ≡ Some d → is_marked (reached f) k ≡ true → IsTypedIn f k d
-  body_typed used ordered k d at is = body_is_typed f used ordered k d at is (names_once f d (pou_whole f names k d at)) (pou_levelled f k d levels at).3 (sound k d at)
+  pub body_typed : (runs : ℕ → Bool) → UsesItsBlocks f → IsOrdered f → (k : ℕ) (d : PouData) → pou_at f k ≡ Some d → is_marked (reached f) k ≡ true → IsTypedIn f runs k d
+  body_typed runs used ordered k d at is = body_is_typed f runs used ordered k d at is (names_once f d (pou_whole f names k d at)) (pou_levelled f k d levels at).3 (sound k d at)

@@ -8,7 +8,7 @@ ghost use Rattle.naming.specs.Circles.{IsBroken};
 ghost use Rattle.bound_names.specs.BoundNames.{IsBodyWithin};
 ghost use Rattle.st_names.specs.Bound.{program_number};
 ghost use Rattle.typing.specs.Pous.{broken_types};
-ghost use Rattle.typing.specs.TypedPrograms.{typed_program};
+ghost use Rattle.running_pous.specs.Stated.{stated_program};
 ghost use Rattle.typed_cells.specs.Uses.{uses_of_pou};
 ghost use Rattle.typed_programs.specs.Programs.{IsTypedProgram};
 
@@ -17,8 +17,8 @@ pub fn law_uses()
     ensures { (f : FileData) → ((r : Refusal) → IsBroken f r → ⊥) → IsFileLevelled f → (k : ℕ) (d : PouData) → pou_at f k ≡ Some d → IsBodyWithin (uses_of_pou f k) d.body }
 {}
 
-/// Where a levelled file breaks no rule on names and none on types, its PROGRAM is typed. The count of its cells is not asked for.
+/// Where a levelled file breaks no rule on names and none on types, the program that it states is typed. The count of its cells is not asked for.
 pub fn law_typed()
     ensures { (f : FileData) → ((r : Refusal) → IsBroken f r → ⊥) → IsFileLevelled f → broken_types f ≡ []
-        → (k : ℕ) (p : PouData) → program_number f ≡ Some k → pou_at f k ≡ Some p → IsTypedProgram (typed_program f k p) }
+        → (k : ℕ) (p : PouData) → program_number f ≡ Some k → pou_at f k ≡ Some p → IsTypedProgram (stated_program f k p) }
 {}

@@ -6,13 +6,13 @@ use Rattle.source_tree.specs.SyntaxView.{file_view}
 use Rattle.naming.specs.Broken.{broken_names}
 use Rattle.naming.specs.Circles.{uses_of}
 use Rattle.front_end.specs.Texts.{HasFile}
-use Rattle.front_end.proofs.Passes.{tree_first, names_refused, sound_names}
+use Rattle.front_end.proofs.Passes.{file_first, names_refused, sound_names}
 use Rattle.front_end.proofs.accept.names_of.Goals as goal
 
 pub returns-in_err-file-clause-refused : goal.returns-in_err-file-clause-refused
 returns-in_err-file-clause-refused c =
     let p = err_from_is_err_and c.from_residual.result c.from_residual.ensures.1 in
-    rw (p.1, p.2) (tree_first c.args.text.now c.in_err-file.field-0.0 c.in_err-file.ensures.refused)
+    rw (p.1, p.2) (file_first c.args.text.now c.in_err-file.field-0.0 c.in_err-file.ensures.refused)
 
 pub returns-in_err-resolve-clause-refused : goal.returns-in_err-resolve-clause-refused
 returns-in_err-resolve-clause-refused c =

@@ -1,0 +1,4 @@
+pub mod Shortness
+pub mod AlikeCounts
+pub mod RunningCounts
+pub mod StatedCounts

@@ -1,0 +1,4 @@
+pub mod SameUses
+pub mod SameCalls
+pub mod StatedScans
+pub mod StatedVerdicts

@@ -1,0 +1,3 @@
+pub mod RunningLaws
+pub mod StatedPous
+pub mod StatedLemmas

@@ -1,0 +1,4 @@
+pub mod Uses
+pub mod Bodies
+pub mod Running
+pub mod Stated

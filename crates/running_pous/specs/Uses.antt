@@ -1,0 +1,55 @@
+-- The POUs that expressions and statements use: the FUNCTIONs that they call, and the FUNCTION_BLOCKs whose bodies they run, by their numbers.
+use Rattle.std.specs.Prelude.{ℕ, ◌==◌, List, [], ◌∷◌, ◌++◌, if◌then◌else◌}
+use Rattle.program_tree.specs.Tree.{Expression, number, cell, unary, chain, call, answer, Operands, no_operands, operand, Expressions, no_expressions, expression, TransitionData, Statement, assign, run, choice, cases, repeat, chart, Statements, no_statements, statement, Choices, no_choices, choose, Entries, no_entries, entry, Actions, no_actions, action, CalledData, block, function}
+
+abbrev mutual
+  pub uses_in : Expression → List ℕ
+  uses_in (number v) = []
+  uses_in (cell place) = []
+  uses_in (unary o t e) = uses_in e
+  uses_in (chain e os) = uses_in e ++ uses_in_operands os
+  uses_in (call f t es) = uses_in_all es
+  uses_in (answer f es) = f ∷ uses_in_all es
+
+  pub uses_in_operands : Operands → List ℕ
+  uses_in_operands no_operands = []
+  uses_in_operands (operand o t e os) = uses_in e ++ uses_in_operands os
+
+  pub uses_in_all : Expressions → List ℕ
+  uses_in_all no_expressions = []
+  uses_in_all (expression e es) = uses_in e ++ uses_in_all es
+
+abbrev pub uses_of_transitions : List TransitionData → List ℕ
+uses_of_transitions [] = []
+uses_of_transitions (t ∷ ts) = uses_in t.condition ++ uses_of_transitions ts
+
+-- A FOR without turns uses nothing, as none of its statements ever runs.
+abbrev mutual
+  pub uses_of : Statement → List ℕ
+  uses_of (assign target e) = uses_in e
+  uses_of (run b offset) = b ∷ []
+  uses_of (choice arms other) = uses_of_choices arms ++ uses_of_all other
+  uses_of (cases kind e es other) = uses_in e ++ (uses_of_entries es ++ uses_of_all other)
+  uses_of (repeat turns body) = if turns.count == 0 then [] else uses_of_all body
+  uses_of (chart steps actions ts) = uses_of_actions actions ++ uses_of_transitions ts
+
+  pub uses_of_all : Statements → List ℕ
+  uses_of_all no_statements = []
+  uses_of_all (statement t ts) = uses_of t ++ uses_of_all ts
+
+  pub uses_of_choices : Choices → List ℕ
+  uses_of_choices no_choices = []
+  uses_of_choices (choose e ss arms) = uses_in e ++ (uses_of_all ss ++ uses_of_choices arms)
+
+  pub uses_of_entries : Entries → List ℕ
+  uses_of_entries no_entries = []
+  uses_of_entries (entry labels ss es) = uses_of_all ss ++ uses_of_entries es
+
+  pub uses_of_actions : Actions → List ℕ
+  uses_of_actions no_actions = []
+  uses_of_actions (action latch associations ss rest) = uses_of_all ss ++ uses_of_actions rest
+
+-- what the body of a POU uses
+abbrev pub uses_of_called : CalledData → List ℕ
+uses_of_called (block body) = uses_of_all body
+uses_of_called (function types ranges start body) = uses_of_all body
