@@ -94,7 +94,7 @@ impl Checker {
                 };
                 self.is_refuted = self.is_refuted | step.clause.literals().is_empty();
                 // Where memory is wanting here, `fresh` is as right as ever, and takes longer.
-                add(&mut self.test, step.clause.literals());
+                add(&mut self.test, step.clause.literals(), step.hints.numbers());
                 Ok(Ack)
             }
             Outcome::UnknownHint(number) => Err(StepFault::UnknownHint(number)),

@@ -5,7 +5,7 @@ ghost use Rattle.clause_core.specs.Steps.{VariablesBelow};
 ghost use Rattle.clause_core.specs.Freshness.{IsFresh};
 ghost use Rattle.derivation_check.specs.Tests.{IsOver};
 
-use clause_core::{Cnf, Lit, is_unit};
+use clause_core::{Cnf, Lit, Truth, is_unit};
 use std::alloc::{AllocError, Global};
 use watched_propagation::{Code, Propagator};
 
@@ -75,8 +75,51 @@ fn shows_at(propagator: &mut Propagator, literals: &[Lit], place: usize) -> Resu
     Ok(is_shown)
 }
 
-/// Whether it is shown that the clause is fresh over what is held, by the literal at a place that is guessed, or by the
-/// last that shows it.
+// Begins a level in which these literals are false, and propagates; whether that is so, without a conflict.
+fn make_false(propagator: &mut Propagator, literals: &[Lit]) -> Result<bool, AllocError>
+    ensures held { propagator.new.held ≡ propagator.old.held }
+    ensures size { length propagator.new.values ≡ length propagator.old.values }
+{
+    let mut has_level = false;
+    for literal in literals {
+        let code = Code::of(*literal).negated();
+        if propagator.value(code) == Truth::False {
+            return Ok(false);
+        }
+        has_level = assume(propagator, code, has_level)?;
+    }
+    Ok(propagator.propagate()?.is_none())
+}
+
+// Whether it is shown by a literal of a part of the clause that it is fresh, where all others are false. Half of the part is made
+// false at a time, so that a level serves all literals of the other half.
+fn shows_within(
+    propagator: &mut Propagator,
+    literals: &[Lit],
+    part: &[Lit],
+) -> Result<bool, AllocError>
+    requires { VariablesBelow (length propagator.old.values) literals.now }
+    ensures fresh { IfOk result (λ yes. IsTrue yes → IsFresh propagator.old.held literals.now) }
+    ensures held { propagator.new.held ≡ propagator.old.held }
+    ensures size { length propagator.new.values ≡ length propagator.old.values }
+{
+    if part.len() <= 1 {
+        return Ok(is_shown(propagator, literals));
+    }
+    let level = propagator.level();
+    let (front, back) = part.split_at(part.len() / 2);
+    if make_false(propagator, front)? && shows_within(propagator, literals, back)? {
+        return Ok(true);
+    }
+    propagator.go_back(level);
+    if make_false(propagator, back)? && shows_within(propagator, literals, front)? {
+        return Ok(true);
+    }
+    propagator.go_back(level);
+    Ok(false)
+}
+
+/// Whether it is shown that the clause is fresh over what is held, by the literal at a place that is guessed, or by another.
 pub(crate) fn shows_fresh(
     propagator: &mut Propagator,
     literals: &[Lit],
@@ -91,10 +134,7 @@ pub(crate) fn shows_fresh(
     if shows_at(propagator, literals, guess)? {
         return Ok(true);
     }
-    for place in (0..literals.len()).rev() {
-        if place != guess && shows_at(propagator, literals, place)? {
-            return Ok(true);
-        }
-    }
-    Ok(false)
+    let is_shown = shows_within(propagator, literals, literals)?;
+    propagator.go_back(0);
+    Ok(is_shown)
 }

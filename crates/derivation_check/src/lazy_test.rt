@@ -11,13 +11,23 @@ use crate::fresh_test::{propagator_over, shows_fresh};
 use crate::implication_graph::ImplicationGraph;
 use clause_core::{Cnf, Lit};
 use std::alloc::Global;
-use watched_propagation::Propagator;
+use watched_propagation::{ClauseRef, Propagator};
 
 /// Formulas of this many variables or more have no test.
 const MOST_VARIABLES: u32 = 0x8000_0000;
 
-/// Takes in a clause that is held behind the others. Where memory is wanting there is no test any more.
-pub(crate) fn add(test: &mut Option<Propagator>, literals: &[Lit])
+// Looks no more at those clauses of hints of which the last clause is a part.
+fn let_hints_go(propagator: &mut Propagator, hints: &[u32])
+    ensures { propagator.new ≡ propagator.old }
+{
+    let last = propagator.last();
+    for number in hints {
+        propagator.let_go(ClauseRef { number: *number }, last);
+    }
+}
+
+/// Takes in a clause that is held behind the others, and that its hints led to. Where memory is wanting there is no test any more.
+pub(crate) fn add(test: &mut Option<Propagator>, literals: &[Lit], hints: &[u32])
     requires { IfSome test.old (λ p. VariablesBelow (length p.values) literals.now) }
     ensures { (f : Formula) → IsTestOf f test.old → IsTestOf (with_clause f literals.now) test.new }
 {
@@ -25,6 +35,7 @@ pub(crate) fn add(test: &mut Option<Propagator>, literals: &[Lit])
         None => {}
         Some(mut propagator) => {
             if let Ok(_) = propagator.add_given(literals) {
+                let_hints_go(&mut propagator, hints);
                 *test = Some(propagator);
             }
         }

@@ -1,2 +1,2 @@
-pub mod Parameters
+pub mod Fits
 pub mod ValueMeanings

@@ -1,17 +1,20 @@
 // Judging calls of FUNCTIONs (IEC 61131-3, 2.5.1).
 ghost use Rattle.std.specs.Prelude.{◌≡◌, ◌<◌, ◌^◌, Option, Some, true, slice_set, IfOk, option_map};
 ghost use Rattle.std.specs.List.{list_all};
-ghost use Rattle.source_tree.specs.SyntaxView.{name_view, tree_view, argument_view, arguments_view};
+ghost use Rattle.source_tree.specs.SyntaxView.{name_view, arguments_view};
 ghost use Rattle.rules.specs.Judgements.{ok};
-ghost use Rattle.typing.specs.Judged.{place_for, places_for, has_all_below, gives_all, wanted_by, judged_port, fits_port, fits_placed, fit_placed, judged_given, judged_answer, judged_user_call};
+ghost use Rattle.typing.specs.Judged.{place_for, places_for, has_all_below, gives_all, wanted_by, judged_port, fit_placed, judged_given, judged_user_call};
 ghost use Rattle.rules.specs.Outcomes.{outcome_of};
+ghost use Rattle.typing.specs.Typing.{own_of_answer};
+ghost use Rattle.expr_types.specs.Fits.{own_fits_port, fits_unless_named};
 ghost use Rattle.typing.specs.Outcomes.{named_outcome, given_outcome, answer_outcome};
 
-use crate::expressions::judge_expr;
-use crate::kinds::{port_type, type_of};
+use crate::expressions::judge_with_own;
+use crate::judged::{JudgedArguments, JudgedExpr};
+use own_types::port_type;
 use plc_types::DataType;
 use rules::{Outcome, Rule};
-use source_tree::{Argument, Expr, Name};
+use source_tree::{Argument, Name};
 use std::alloc::{AllocError, Global};
 use typing::{Port, Scope, Signature};
 
@@ -117,15 +120,15 @@ fn judge_port(port: Option<Port>) -> Outcome
     }
 }
 
-// Whether an argument is of its input's type.
-fn fits_port<S: Scope>(scope: &S, port: Option<Port>, argument: &Expr) -> bool
-    ensures { result ≡ fits_port (S.means scope.now) port (tree_view argument.now) }
+// Whether an argument that was judged is of its input's type.
+fn fits_port(port: Option<Port>, judged: JudgedExpr) -> bool
+    ensures { result ≡ own_fits_port port judged.own }
 {
     match port {
         None => true,
         Some(port) => {
             let kind = port_type(port);
-            type_of(scope, Some(kind), argument).is_same(kind)
+            judged.kind(Some(kind)).is_same(kind)
         }
     }
 }
@@ -140,30 +143,14 @@ fn judge_named(name: &Option<Name>, fits: bool, judged: Outcome) -> Outcome
     }
 }
 
-// Whether an argument at a place, where it has no name, is of the type of the input at this place.
-fn fits_placed<S: Scope>(scope: &S, signature: Signature, place: usize, argument: &Argument) -> bool
-    ensures { result ≡ fits_placed (S.means scope.now) signature place (argument_view argument.now).0 (argument_view argument.now).1 }
+// Whether an argument, where it has no name, is of its input's type.
+fn fits_unless_named(name: &Option<Name>, fits: bool) -> bool
+    ensures { result ≡ fits_unless_named (option_map name_view name.now) fits }
 {
-    match argument.name {
-        None => fits_port(
-            scope,
-            scope.port(signature.function, place),
-            &argument.value,
-        ),
+    match name {
+        None => fits,
         Some(_) => true,
     }
-}
-
-// Whether all arguments that have no name are of the types of the inputs at their places.
-fn fit_placed<S: Scope>(scope: &S, signature: Signature, arguments: &[Argument]) -> bool
-    ensures { result ≡ fit_placed (S.means scope.now) signature 0 (arguments_view arguments.now) }
-{
-    for (place, argument) in arguments.iter().enumerate() {
-        if !fits_placed(scope, signature, place, argument) {
-            return false;
-        }
-    }
-    true
 }
 
 // Arguments, each where the type of its input is wanted.
@@ -173,19 +160,23 @@ fn judge_given<S: Scope>(
     scope: &S,
     signature: Signature,
     arguments: &[Argument],
-) -> Result<Outcome, AllocError>
-    ensures { IfOk result (λ o. o ≡ given_outcome (S.means scope.now) signature 0 (outcome_of ok) (arguments_view arguments.now)) }
+) -> Result<JudgedArguments, AllocError>
+    ensures outcome { IfOk result (λ j. j.outcome ≡ given_outcome (S.means scope.now) signature 0 (outcome_of ok) (arguments_view arguments.now)) }
+    ensures fit { IfOk result (λ j. j.fit ≡ fit_placed (S.means scope.now) signature 0 (arguments_view arguments.now)) }
 {
-    let mut judged = Outcome::ok();
+    let mut outcome = Outcome::ok();
+    let mut fit = true;
     for (place, argument) in arguments.iter().enumerate() {
         let to = place_for(scope, signature, place, &argument.name);
         let port = scope.port(signature.function, to);
-        let value = judge_expr(alloc, scope, wanted_by(port), &argument.value)?;
-        let fits = fits_port(scope, port, &argument.value);
-        let parts = value.also(judge_port(port));
-        judged = judged.also(judge_named(&argument.name, fits, parts));
+        let value = judge_with_own(alloc, scope, wanted_by(port), &argument.value)?;
+        let fits = fits_port(port, value);
+        let parts = value.outcome.also(judge_port(port));
+        let placed = fits_unless_named(&argument.name, fits);
+        outcome = outcome.also(judge_named(&argument.name, fits, parts));
+        fit = fit && placed;
     }
-    Ok(judged)
+    Ok(JudgedArguments { outcome, fit })
 }
 
 // A call of a FUNCTION whose arguments were judged.
@@ -196,30 +187,38 @@ fn judge_answer<S: Scope>(
     at: usize,
     signature: Signature,
     arguments: &[Argument],
-    parts: Outcome,
+    judged: JudgedArguments,
 ) -> Result<Outcome, AllocError>
-    ensures { IfOk result (λ o. o ≡ answer_outcome (S.means scope.now) at signature (arguments_view arguments.now) parts) }
+    requires { judged.fit ≡ fit_placed (S.means scope.now) signature 0 (arguments_view arguments.now) }
+    ensures { IfOk result (λ o. o ≡ answer_outcome (S.means scope.now) at signature (arguments_view arguments.now) judged.outcome) }
 {
     let all = gives_all(alloc, scope, signature, arguments)?;
-    let fit = fit_placed(scope, signature, arguments);
-    let counted = parts.require(all, Rule::ArgumentCount, at);
-    let fitting = counted.require(fit, Rule::OperandType, at);
+    let counted = judged.outcome.require(all, Rule::ArgumentCount, at);
+    let fitting = counted.require(judged.fit, Rule::OperandType, at);
     Ok(fitting.also(judge_port(Some(signature.result))))
 }
 
-/// Whether a call of what may be a FUNCTION is whole, and what it breaks first.
+/// Whether a call of what may be a FUNCTION is whole, and what it breaks first; and its own type.
 #[cycle(judge_expr)]
 pub(crate) fn judge_user_call<S: Scope>(
     alloc: Global,
     scope: &S,
     name: &Name,
     arguments: &[Argument],
-) -> Result<Outcome, AllocError>
-    ensures { IfOk result (λ o. o ≡ outcome_of (judged_user_call (S.means scope.now) (name_view name.now).at ((S.means scope.now).signature (name_view name.now).text) (arguments_view arguments.now) (λ s. judged_given (S.means scope.now) s 0 (arguments_view arguments.now)))) }
+) -> Result<JudgedExpr, AllocError>
+    ensures outcome { IfOk result (λ j. j.outcome ≡ outcome_of (judged_user_call (S.means scope.now) (name_view name.now).at ((S.means scope.now).signature (name_view name.now).text) (arguments_view arguments.now) (λ s. judged_given (S.means scope.now) s 0 (arguments_view arguments.now)))) }
+    ensures own { IfOk result (λ j. j.own ≡ own_of_answer ((S.means scope.now).signature (name_view name.now).text)) }
 {
     let Some(signature) = scope.signature(name.text.as_str()) else {
-        return Ok(Outcome::suppressed());
+        return Ok(JudgedExpr {
+            outcome: Outcome::suppressed(),
+            own: None,
+        });
     };
     let parts = judge_given(alloc, scope, signature, arguments)?;
-    judge_answer(alloc, scope, name.at, signature, arguments, parts)
+    let outcome = judge_answer(alloc, scope, name.at, signature, arguments, parts)?;
+    Ok(JudgedExpr {
+        outcome,
+        own: Some(port_type(signature.result)),
+    })
 }

@@ -1,20 +1,24 @@
 // Judging calls of standard functions (IEC 61131-3, 2.5.1.5).
-ghost use Rattle.std.specs.Prelude.{◌≡◌, ◌&&◌, IfOk};
+ghost use Rattle.std.specs.Prelude.{◌≡◌, IfOk};
 ghost use Rattle.naming.specs.Library.{standard_function};
 ghost use Rattle.source_tree.specs.SyntaxView.{name_view, tree_view, arguments_view};
-ghost use Rattle.typing.specs.Typing.{common_type, takes_operands, takes_count, count_of};
+ghost use Rattle.typing.specs.Typing.{common_type, own_of_call, own_of_arguments, takes_count, count_of};
 ghost use Rattle.rules.specs.Judgements.{ok};
-ghost use Rattle.typing.specs.Judged.{fits_at, fit_from, judged_call, judged_arguments, judged_alone, judged_given};
+ghost use Rattle.typing.specs.Judged.{fit_from, judged_call, judged_arguments, judged_alone, judged_given};
 ghost use Rattle.rules.specs.Outcomes.{outcome_of};
 ghost use Rattle.typing.specs.Outcomes.{amount_outcome, arguments_outcome, alone_outcome};
-ghost use Rattle.expr_types.specs.Parameters.{parameter_view};
+ghost use Rattle.expr_types.specs.Fits.{own_fits};
+ghost use Rattle.own_types.specs.Parameters.{parameter_view};
 
 use crate::amounts::is_amount;
 use crate::answers::judge_user_call;
-use crate::expressions::judge_expr;
-use crate::kinds::{or_dint, own_of_arguments, place_of, type_of};
-use crate::parameters::{Parameter, parameter_of, takes_count, takes_operands, wanted_at};
+use crate::expressions::judge_with_own;
+use crate::judged::{JudgedArguments, JudgedExpr};
 use naming::standard_function;
+use own_types::{
+    Parameter, or_dint, own_of_arguments, parameter_of, place_of, result_of, takes_count,
+    takes_operands, wanted_at,
+};
 use plc_types::{DataType, StandardFunction};
 use rules::{Outcome, Rule};
 use source_tree::{Argument, Expr, Name};
@@ -33,48 +37,18 @@ pub fn common_type<S: Scope>(
     or_dint(own_of_arguments(scope, function, arguments).or(wanted))
 }
 
-// Whether an argument is of the type that is wanted where the operands are of a type.
-fn fits_at<S: Scope>(scope: &S, parameter: Parameter, kind: DataType, argument: &Expr) -> bool
-    ensures { result ≡ fits_at (S.means scope.now) (parameter_view parameter) kind (tree_view argument.now) }
+// Whether an argument that was judged is of the type that is wanted where the operands are of a type.
+fn is_fitting(parameter: Parameter, kind: DataType, judged: JudgedExpr) -> bool
+    ensures { result ≡ own_fits (parameter_view parameter) kind judged.own }
 {
     match parameter {
         Parameter::Fixed(own) => {
             let own = DataType::Elementary(own);
-            type_of(scope, Some(own), argument).is_same(own)
+            judged.kind(Some(own)).is_same(own)
         }
-        Parameter::Common => type_of(scope, Some(kind), argument).is_same(kind),
+        Parameter::Common => judged.kind(Some(kind)).is_same(kind),
         Parameter::Amount => true,
     }
-}
-
-// Whether all arguments are of the types that are wanted.
-fn all_fit<S: Scope>(
-    scope: &S,
-    function: StandardFunction,
-    kind: DataType,
-    arguments: &[Argument],
-) -> bool
-    ensures { result ≡ fit_from (S.means scope.now) function kind 0 (arguments_view arguments.now) }
-{
-    for (place, argument) in arguments.iter().enumerate() {
-        let parameter = parameter_of(function, place);
-        if !fits_at(scope, parameter, kind, &argument.value) {
-            return false;
-        }
-    }
-    true
-}
-
-// Whether a function takes operands of a type, and all arguments are of the types that are wanted.
-fn are_operands<S: Scope>(
-    scope: &S,
-    function: StandardFunction,
-    kind: DataType,
-    arguments: &[Argument],
-) -> bool
-    ensures { result ≡ takes_operands function kind && fit_from (S.means scope.now) function kind 0 (arguments_view arguments.now) }
-{
-    takes_operands(function, kind) && all_fit(scope, function, kind, arguments)
 }
 
 // Whether a function takes as many arguments as there are.
@@ -103,7 +77,7 @@ fn judge_amount<S: Scope>(
     }
 }
 
-/// Whether a call is whole where a type is wanted, or none, and what it breaks first.
+/// Whether a call is whole where a type is wanted, or none, and what it breaks first; and its own type.
 #[cycle(judge_expr)]
 pub(crate) fn judge_call<S: Scope>(
     alloc: Global,
@@ -111,20 +85,25 @@ pub(crate) fn judge_call<S: Scope>(
     wanted: Option<DataType>,
     name: &Name,
     arguments: &[Argument],
-) -> Result<Outcome, AllocError>
-    ensures { IfOk result (λ o. o ≡ outcome_of (judged_call (S.means scope.now) wanted (name_view name.now).at (standard_function (name_view name.now).text) ((S.means scope.now).signature (name_view name.now).text) (arguments_view arguments.now) (judged_alone (S.means scope.now) (arguments_view arguments.now)) (λ f t. judged_arguments (S.means scope.now) f t 0 (arguments_view arguments.now)) (λ s. judged_given (S.means scope.now) s 0 (arguments_view arguments.now)))) }
+) -> Result<JudgedExpr, AllocError>
+    ensures outcome { IfOk result (λ j. j.outcome ≡ outcome_of (judged_call (S.means scope.now) wanted (name_view name.now).at (standard_function (name_view name.now).text) ((S.means scope.now).signature (name_view name.now).text) (arguments_view arguments.now) (judged_alone (S.means scope.now) (arguments_view arguments.now)) (λ f t. judged_arguments (S.means scope.now) f t 0 (arguments_view arguments.now)) (λ s. judged_given (S.means scope.now) s 0 (arguments_view arguments.now)))) }
+    ensures own { IfOk result (λ j. j.own ≡ own_of_call (standard_function (name_view name.now).text) ((S.means scope.now).signature (name_view name.now).text) (λ f. own_of_arguments (S.means scope.now) f 0 (arguments_view arguments.now))) }
 {
     let Some(function) = standard_function(name.text.as_str()) else {
         return judge_user_call(alloc, scope, name, arguments);
     };
+    let of_operands = own_of_arguments(scope, function, arguments);
+    let own = result_of(function).or(of_operands);
     if !takes_all(function, arguments) {
         let alone = judge_alone(alloc, scope, arguments)?;
-        return Ok(alone.require(false, Rule::ArgumentCount, name.at));
+        let outcome = alone.require(false, Rule::ArgumentCount, name.at);
+        return Ok(JudgedExpr { outcome, own });
     }
-    let kind = common_type(scope, wanted, function, arguments);
-    let fits = are_operands(scope, function, kind, arguments);
+    let kind = or_dint(of_operands.or(wanted));
     let judged = judge_arguments(alloc, scope, function, kind, arguments)?;
-    Ok(judged.require(fits, Rule::OperandType, name.at))
+    let fits = takes_operands(function, kind) && judged.fit;
+    let outcome = judged.outcome.require(fits, Rule::OperandType, name.at);
+    Ok(JudgedExpr { outcome, own })
 }
 
 // Arguments where the operands are of a type.
@@ -135,16 +114,21 @@ fn judge_arguments<S: Scope>(
     function: StandardFunction,
     kind: DataType,
     arguments: &[Argument],
-) -> Result<Outcome, AllocError>
-    ensures { IfOk result (λ o. o ≡ arguments_outcome (S.means scope.now) function kind 0 (outcome_of ok) (arguments_view arguments.now)) }
+) -> Result<JudgedArguments, AllocError>
+    ensures outcome { IfOk result (λ j. j.outcome ≡ arguments_outcome (S.means scope.now) function kind 0 (outcome_of ok) (arguments_view arguments.now)) }
+    ensures fit { IfOk result (λ j. j.fit ≡ fit_from (S.means scope.now) function kind 0 (arguments_view arguments.now)) }
 {
-    let mut judged = Outcome::ok();
+    let mut outcome = Outcome::ok();
+    let mut fit = true;
     for (place, argument) in arguments.iter().enumerate() {
         let parameter = parameter_of(function, place);
-        let value = judge_expr(alloc, scope, wanted_at(parameter, kind), &argument.value)?;
-        judged = judged.also(judge_amount(scope, parameter, &argument.value, value));
+        let value = judge_with_own(alloc, scope, wanted_at(parameter, kind), &argument.value)?;
+        let judged = judge_amount(scope, parameter, &argument.value, value.outcome);
+        let fits = is_fitting(parameter, kind, value);
+        outcome = outcome.also(judged);
+        fit = fit && fits;
     }
-    Ok(judged)
+    Ok(JudgedArguments { outcome, fit })
 }
 
 // Arguments each alone, where a function does not take so many.
@@ -158,7 +142,8 @@ fn judge_alone<S: Scope>(
 {
     let mut judged = Outcome::ok();
     for argument in arguments {
-        judged = judged.also(judge_expr(alloc, scope, None, &argument.value)?);
+        let value = judge_with_own(alloc, scope, None, &argument.value)?;
+        judged = judged.also(value.outcome);
     }
     Ok(judged)
 }

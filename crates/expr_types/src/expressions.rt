@@ -1,15 +1,19 @@
 // Judging expressions.
-ghost use Rattle.std.specs.Prelude.{◌≡◌, IfOk};
+ghost use Rattle.std.specs.Prelude.{◌≡◌, IfOk, Some, false};
 ghost use Rattle.source_tree.specs.SyntaxView.{tree_view, links_view};
+ghost use Rattle.source_tree.specs.Syntax.{unary};
+ghost use Rattle.typing.specs.Typing.{kind_at, own, own_of_literal, or_else, or_dint, place_of_literal};
 ghost use Rattle.typing.specs.Judged.{judged_literal, judged_meaning, takes_sign, negative_literal, judged, judged_condition};
 ghost use Rattle.rules.specs.Outcomes.{outcome_of};
 ghost use Rattle.typing.specs.Outcomes.{links_outcome};
+ghost use Rattle.own_types.specs.Names.{meant};
 
 use crate::calls::judge_call;
-use crate::kinds::{
-    has_bits, is_bool, is_unknown, next_type, operand_type, place_of, takes, type_of,
+use crate::judged::JudgedExpr;
+use own_types::{
+    chain_types, has_bits, is_bool, is_literal_of, is_number, is_unknown, kind_at, next_type,
+    or_dint, own, own_of_literal, place_of, place_of_literal, takes,
 };
-use crate::literals::{is_literal_of, is_number, place_of_literal};
 use plc_types::{DataType, UnaryOperator};
 use rules::{Outcome, Rule};
 use source_tree::{Expr, Link, Literal};
@@ -29,6 +33,19 @@ fn judge_literal(kind: DataType, minus: bool, at: usize, literal: Literal) -> Ou
     }
 }
 
+// A literal with no sign before it.
+fn judge_plain(wanted: Option<DataType>, literal: Literal) -> JudgedExpr
+    ensures outcome { result.outcome ≡ outcome_of (judged_literal (or_dint (or_else (own_of_literal literal) wanted)) false (place_of_literal literal) literal) }
+    ensures own { result.own ≡ own_of_literal literal }
+{
+    let own = own_of_literal(literal);
+    let kind = or_dint(own.or(wanted));
+    JudgedExpr {
+        outcome: judge_literal(kind, false, place_of_literal(literal), literal),
+        own,
+    }
+}
+
 /// A name is whole where its declaration is.
 pub fn judge_meaning(meaning: Option<Meaning>) -> Outcome
     ensures { result ≡ outcome_of (judged_meaning meaning) }
@@ -36,6 +53,17 @@ pub fn judge_meaning(meaning: Option<Meaning>) -> Outcome
     match meaning {
         Some(meaning) if meaning.whole => Outcome::ok(),
         _ => Outcome::suppressed(),
+    }
+}
+
+// A name that was looked up.
+fn judge_name(meaning: Option<Meaning>) -> JudgedExpr
+    ensures outcome { result.outcome ≡ outcome_of (judged_meaning meaning) }
+    ensures own { result.own ≡ kind_at meaning }
+{
+    JudgedExpr {
+        outcome: judge_meaning(meaning),
+        own: kind_at(meaning),
     }
 }
 
@@ -58,9 +86,39 @@ pub fn negative_literal(operator: UnaryOperator, operand: &Expr) -> Option<Liter
     }
 }
 
-/// Whether an expression is whole where a type is wanted, or none, and what it breaks first.
+/// Whether an expression is whole where a type is wanted, or none, and what it breaks first; and its own type, in the same walk.
 #[cycle(judge_expr)]
-#[tactic(auto, using(typing_laws::proofs::Judging::judging))]
+pub fn judge_with_own<S: Scope>(
+    alloc: Global,
+    scope: &S,
+    wanted: Option<DataType>,
+    expr: &Expr,
+) -> Result<JudgedExpr, AllocError>
+    ensures outcome { IfOk result (λ j. j.outcome ≡ outcome_of (judged (S.means scope.now) wanted (tree_view expr.now))) }
+    ensures own { IfOk result (λ j. j.own ≡ own (S.means scope.now) (tree_view expr.now)) }
+{
+    match expr {
+        Expr::Literal(literal) => Ok(judge_plain(wanted, *literal)),
+        Expr::Path(path) => Ok(judge_name(scope.meaning(path))),
+        Expr::Enumerator(_, value) => Ok(judge_name(scope.value(value))),
+        Expr::Paren(_, inner) => judge_with_own(alloc, scope, wanted, inner),
+        Expr::Unary(operator, at, operand) => {
+            judge_unary(alloc, scope, wanted, *operator, *at, operand)
+        }
+        Expr::Chain(first, links) => {
+            let types = chain_types(scope, wanted, first, links);
+            let left = judge_first(alloc, scope, types.kind, types.meaning, first)?;
+            let outcome = judge_links(alloc, scope, types.kind, left, links)?;
+            Ok(JudgedExpr {
+                outcome,
+                own: types.own,
+            })
+        }
+        Expr::Call(name, _, arguments) => judge_call(alloc, scope, wanted, name, arguments),
+    }
+}
+
+/// Whether an expression is whole where a type is wanted, or none, and what it breaks first.
 pub fn judge_expr<S: Scope>(
     alloc: Global,
     scope: &S,
@@ -69,30 +127,62 @@ pub fn judge_expr<S: Scope>(
 ) -> Result<Outcome, AllocError>
     ensures { IfOk result (λ o. o ≡ outcome_of (judged (S.means scope.now) wanted (tree_view expr.now))) }
 {
-    match expr {
-        Expr::Literal(literal) => {
-            let kind = type_of(scope, wanted, expr);
-            Ok(judge_literal(kind, false, place_of_literal(*literal), *literal))
+    let judged = judge_with_own(alloc, scope, wanted, expr)?;
+    Ok(judged.outcome)
+}
+
+// A unary operator before its operand.
+#[cycle(judge_expr)]
+fn judge_unary<S: Scope>(
+    alloc: Global,
+    scope: &S,
+    wanted: Option<DataType>,
+    operator: UnaryOperator,
+    at: usize,
+    operand: &Expr,
+) -> Result<JudgedExpr, AllocError>
+    ensures outcome { IfOk result (λ j. j.outcome ≡ outcome_of (judged (S.means scope.now) wanted (unary operator at (tree_view operand.now)))) }
+    ensures own { IfOk result (λ j. j.own ≡ own (S.means scope.now) (tree_view operand.now)) }
+{
+    match negative_literal(operator, operand) {
+        Some(literal) => {
+            let of_operand = own(scope, operand);
+            let kind = or_dint(of_operand.or(wanted));
+            Ok(JudgedExpr {
+                outcome: judge_literal(kind, true, at, literal),
+                own: of_operand,
+            })
         }
-        Expr::Path(path) => Ok(judge_meaning(scope.meaning(path))),
-        Expr::Enumerator(_, value) => Ok(judge_meaning(scope.value(value))),
-        Expr::Paren(_, inner) => judge_expr(alloc, scope, wanted, inner),
-        Expr::Unary(operator, at, operand) => {
-            let kind = type_of(scope, wanted, operand);
-            match negative_literal(*operator, operand) {
-                Some(literal) => Ok(judge_literal(kind, true, *at, literal)),
-                None => {
-                    let judged = judge_expr(alloc, scope, Some(kind), operand)?;
-                    Ok(judged.require(takes_sign(*operator, kind), Rule::OperandType, *at))
-                }
-            }
+        None => {
+            let inner = judge_with_own(alloc, scope, wanted, operand)?;
+            let fits = takes_sign(operator, inner.kind(wanted));
+            let outcome = inner.outcome.require(fits, Rule::OperandType, at);
+            Ok(JudgedExpr {
+                outcome,
+                own: inner.own,
+            })
         }
-        Expr::Chain(first, links) => {
-            let kind = operand_type(scope, wanted, first, links);
-            let left = judge_expr(alloc, scope, Some(kind), first)?;
-            judge_links(alloc, scope, kind, left, links)
+    }
+}
+
+// The first operand of a chain, by what it stands for.
+#[cycle(judge_expr)]
+fn judge_first<S: Scope>(
+    alloc: Global,
+    scope: &S,
+    kind: DataType,
+    meaning: Option<Meaning>,
+    first: &Expr,
+) -> Result<Outcome, AllocError>
+    requires { meaning ≡ meant (S.means scope.now) (tree_view first.now) }
+    ensures { IfOk result (λ o. o ≡ outcome_of (judged (S.means scope.now) (Some kind) (tree_view first.now))) }
+{
+    match meaning {
+        Some(meaning) => Ok(judge_meaning(Some(meaning))),
+        None => {
+            let judged = judge_with_own(alloc, scope, Some(kind), first)?;
+            Ok(judged.outcome)
         }
-        Expr::Call(name, _, arguments) => judge_call(alloc, scope, wanted, name, arguments),
     }
 }
 
@@ -110,10 +200,11 @@ fn judge_links<S: Scope>(
     let mut kind = kind;
     let mut left = left;
     for link in links {
-        let right = judge_expr(alloc, scope, Some(kind), &link.right)?;
-        let fits = takes(link.operator, kind)
-            && type_of(scope, Some(kind), &link.right).is_same(kind);
-        left = left.also(right).require(fits, Rule::OperandType, link.at);
+        let right = judge_with_own(alloc, scope, Some(kind), &link.right)?;
+        let fits = takes(link.operator, kind) && right.kind(Some(kind)).is_same(kind);
+        left = left
+            .also(right.outcome)
+            .require(fits, Rule::OperandType, link.at);
         kind = next_type(link.operator, kind);
     }
     Ok(left)
@@ -129,7 +220,7 @@ pub fn judge_condition<S: Scope>(
 ) -> Result<Outcome, AllocError>
     ensures { IfOk result (λ o. o ≡ outcome_of (judged_condition (S.means scope.now) rule (tree_view expr.now))) }
 {
-    let fits = is_bool(type_of(scope, None, expr));
-    let judged = judge_expr(alloc, scope, None, expr)?;
-    Ok(judged.require(fits, rule, place_of(expr)))
+    let judged = judge_with_own(alloc, scope, None, expr)?;
+    let fits = is_bool(judged.kind(None));
+    Ok(judged.outcome.require(fits, rule, place_of(expr)))
 }

@@ -1,4 +1,4 @@
-// The types of expressions, the rules on them that are broken, and the typed expressions that they stand for.
+// The rules on the types of expressions that are broken, and the typed expressions that they stand for.
 #![tactic(auto)]
 
 mod alone;
@@ -6,18 +6,15 @@ mod amounts;
 mod answers;
 mod calls;
 mod expressions;
-mod kinds;
-mod literals;
-mod numbers;
-mod parameters;
+mod judged;
 mod typed_answers;
 mod typed_calls;
 mod typed_expressions;
 mod value_meanings;
 
 pub use alone::meaning_alone;
-pub use expressions::{judge_condition, judge_expr, judge_meaning};
-pub use kinds::{bool_type, kind_at, or_dint, place_of, type_of};
-pub use numbers::range;
+pub use expressions::{judge_condition, judge_expr, judge_meaning, judge_with_own};
+pub use judged::JudgedExpr;
+pub use own_types::{bool_type, kind_at, or_dint, place_of, range, type_of};
 pub use typed_expressions::{cell_of, constant_of, meaning_read, type_expr};
 pub use value_meanings::valued;

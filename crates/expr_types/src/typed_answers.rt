@@ -16,7 +16,7 @@ use typing::{Scope, Signature};
 fn zeros(alloc: Global, count: usize) -> Result<Vec<TypedExpr>, AllocError>
     ensures { IfOk result (λ list. exprs_view list.items ≡ replicate count (number (pos 0))) }
 {
-    let mut list = Vec::new(alloc);
+    let mut list = Vec::with_capacity(alloc, count)?;
     for _ in 0..count {
         list.push(TypedExpr::Number(0))?;
     }

@@ -7,10 +7,10 @@ ghost use Rattle.typing.specs.Typed.{amount_in, function_of, typed_answer, typed
 
 use crate::amounts::{amount_value, number_in};
 use crate::calls::common_type;
-use crate::parameters::{Parameter, parameter_of, result_of, wanted_at};
 use crate::typed_answers::type_answer;
 use crate::typed_expressions::type_expr;
 use naming::standard_function;
+use own_types::{Parameter, parameter_of, result_of, wanted_at};
 use plc_types::{DataType, Function, StandardFunction};
 use program_tree::TypedExpr;
 use source_tree::{Argument, Name};
@@ -79,7 +79,7 @@ fn type_operands<S: Scope>(
 ) -> Result<Vec<TypedExpr>, AllocError>
     ensures { IfOk result (λ operands. operands_view operands.items ≡ typed_operands (S.means scope.now) function kind 0 (arguments_view arguments.now)) }
 {
-    let mut operands = Vec::new(alloc);
+    let mut operands = Vec::with_capacity(alloc, arguments.len())?;
     for (place, argument) in arguments.iter().enumerate() {
         let parameter = parameter_of(function, place);
         if parameter != Parameter::Amount {

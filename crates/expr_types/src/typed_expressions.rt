@@ -1,16 +1,19 @@
 // Typed expressions.
-ghost use Rattle.std.specs.Prelude.{◌≡◌, map, IfOk};
+ghost use Rattle.std.specs.Prelude.{◌≡◌, map, IfOk, Some};
 ghost use Rattle.source_tree.specs.SyntaxView.{tree_view, links_view};
 ghost use Rattle.program_tree.specs.View.{expr_view, operands_view};
-ghost use Rattle.typing.specs.Typed.{number_of, read_of, meaning_read, typed, typed_links, value_of_number, constant_of};
+ghost use Rattle.typing.specs.Typed.{number_of, read_of, meaning_read, typed, typed_signed, typed_links, value_of_number, constant_of};
+ghost use Rattle.typing.specs.Typing.{type_of};
+ghost use Rattle.typing.specs.Judged.{negative_literal};
+ghost use Rattle.own_types.specs.Names.{meant};
 ghost use Rattle.typing.specs.TypedStatements.{place_cell, cell_of};
 
 use crate::expressions::negative_literal;
-use crate::kinds::{next_type, operand_type, type_of};
-use crate::literals::{literal_value, negated};
-use crate::numbers::wrapped;
 use crate::typed_calls::type_call;
-use plc_types::DataType;
+use own_types::{
+    chain_types, literal_value, look_up, negated, next_type, or_dint, type_of, wrapped,
+};
+use plc_types::{DataType, UnaryOperator};
 use program_tree::{Operand, TypedExpr};
 use source_tree::{Expr, Link, Literal};
 use std::alloc::{AllocError, Global};
@@ -95,22 +98,55 @@ pub fn type_expr<S: Scope>(
         Expr::Enumerator(_, value) => Ok(meaning_read(scope.value(value))),
         Expr::Paren(_, inner) => type_expr(alloc, scope, wanted, inner),
         Expr::Unary(operator, _, operand) => {
-            let kind = type_of(scope, wanted, operand);
-            match negative_literal(*operator, operand) {
-                Some(literal) => Ok(number_of(kind, true, literal)),
-                None => {
-                    let inner = type_expr(alloc, scope, Some(kind), operand)?;
-                    Ok(TypedExpr::Unary(*operator, kind.carrier(), Box::new(alloc, inner)?))
-                }
-            }
+            type_unary(alloc, scope, wanted, *operator, operand)
         }
         Expr::Chain(first, links) => {
-            let kind = operand_type(scope, wanted, first, links);
-            let first = type_expr(alloc, scope, Some(kind), first)?;
-            let operands = type_links(alloc, scope, kind, links)?;
-            Ok(TypedExpr::Chain(Box::new(alloc, first)?, operands))
+            let types = chain_types(scope, wanted, first, links);
+            let left = type_first(alloc, scope, types.kind, types.meaning, first)?;
+            let operands = type_links(alloc, scope, types.kind, links)?;
+            Ok(TypedExpr::Chain(Box::new(alloc, left)?, operands))
         }
         Expr::Call(name, _, arguments) => type_call(alloc, scope, wanted, name, arguments),
+    }
+}
+
+// What a unary operator and its operand stand for.
+#[cycle(type_expr)]
+fn type_unary<S: Scope>(
+    alloc: Global,
+    scope: &S,
+    wanted: Option<DataType>,
+    operator: UnaryOperator,
+    operand: &Expr,
+) -> Result<TypedExpr, AllocError>
+    ensures { IfOk result (λ e. expr_view e ≡ typed_signed (type_of (S.means scope.now) wanted (tree_view operand.now)) operator (negative_literal operator (tree_view operand.now)) (typed (S.means scope.now) (Some (type_of (S.means scope.now) wanted (tree_view operand.now))) (tree_view operand.now))) }
+{
+    let seen = look_up(scope, operand);
+    let kind = or_dint(seen.own.or(wanted));
+    match negative_literal(operator, operand) {
+        Some(literal) => Ok(number_of(kind, true, literal)),
+        None => {
+            let inner = type_first(alloc, scope, kind, seen.meaning, operand)?;
+            Ok(TypedExpr::Unary(operator, kind.carrier(), Box::new(alloc, inner)?))
+        }
+    }
+}
+
+// The operand that stands first, by what it stands for.
+#[cycle(type_expr)]
+fn type_first<S: Scope>(
+    alloc: Global,
+    scope: &S,
+    kind: DataType,
+    meaning: Option<Meaning>,
+    first: &Expr,
+) -> Result<TypedExpr, AllocError>
+    requires { meaning ≡ meant (S.means scope.now) (tree_view first.now) }
+    ensures { IfOk result (λ e. expr_view e ≡ typed (S.means scope.now) (Some kind) (tree_view first.now)) }
+{
+    match meaning {
+        Some(meaning) => Ok(meaning_read(Some(meaning))),
+        None => type_expr(alloc, scope, Some(kind), first),
     }
 }
 
@@ -138,7 +174,7 @@ fn type_links<S: Scope>(
     ensures { IfOk result (λ operands. operands_view operands.items ≡ typed_links (S.means scope.now) kind (links_view links.now)) }
 {
     let mut kind = kind;
-    let mut operands = Vec::new(alloc);
+    let mut operands = Vec::with_capacity(alloc, links.len())?;
     for link in links {
         let right = type_expr(alloc, scope, Some(kind), &link.right)?;
         operands.push(Operand {

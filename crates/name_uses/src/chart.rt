@@ -1,7 +1,8 @@
-// The names that the parts of a chart use, and its initial step.
-ghost use Rattle.std.specs.Prelude.{◌≡◌, count_by, option_map, OnOk, IfOk};
+// The names that the parts of a chart use, the FUNCTIONs that they call, and its initial step.
+ghost use Rattle.std.specs.Prelude.{◌≡◌, ◌++◌, count_by, option_map, OnOk, IfOk};
 ghost use Rattle.source_tree.specs.SyntaxView.{name_view, chart_step_view, chart_transition_view, chart_action_view, part_view, parts_view};
 ghost use Rattle.naming.specs.Broken.{in_own_name, in_own_name_if, in_chart_step, in_transition, in_action, in_part, in_chart_parts, is_initial_part, place_of_part, place_of_chart, in_chart};
+ghost use Rattle.naming.specs.Circles.{calls_in, calls_in_stmts, calls_in_part, calls_in_parts};
 ghost use Rattle.pou_scope.specs.NamesView.{file_in, pou_in};
 ghost use Rattle.rules.specs.Outcomes.{outcome_of, both};
 
@@ -17,7 +18,7 @@ use std::alloc::{AllocError, Global};
 fn own_name(scope: &Scope<'_, '_>, name: &Name) -> Outcome
     ensures { result ≡ outcome_of (in_own_name (pou_in scope.now.names) (name_view name.now)) }
 {
-    Outcome::whole_if(!scope.names.is_doubled(name))
+    Outcome::whole_if(!scope.names.own.is_doubled(name))
 }
 
 // The name of a transition, where it has one.
@@ -39,76 +40,93 @@ fn walk_step(scope: &Scope<'_, '_>, step: &ChartStep, outcome: &mut Outcome)
     walk_associations(scope, &step.actions, outcome);
 }
 
-// Keeps what a transition breaks.
+// Keeps what a transition breaks, and appends the FUNCTIONs that it calls.
 #[tactic(auto, using(rules::proofs::Outcomes::both_on, rules::proofs::Outcomes::both_ok))]
 fn walk_transition(
     alloc: Global,
     scope: &Scope<'_, '_>,
     transition: &ChartTransition,
     outcome: &mut Outcome,
+    calls: &mut Vec<usize>,
 ) -> Result<(), AllocError>
-    ensures { OnOk result (outcome.new ≡ both outcome.old (outcome_of (in_transition (file_in scope.now.names) (pou_in scope.now.names) (chart_transition_view transition.now)))) }
+    ensures judged { OnOk result (outcome.new ≡ both outcome.old (outcome_of (in_transition (file_in scope.now.names) (pou_in scope.now.names) (chart_transition_view transition.now)))) }
+    ensures calls { OnOk result (calls.new.items ≡ calls.old.items ++ calls_in (file_in scope.now.names) (chart_transition_view transition.now).condition) }
 {
     *outcome = outcome.also(own_name_if(scope, &transition.name));
     walk_steps(alloc, scope, &transition.from, outcome)?;
     walk_steps(alloc, scope, &transition.to, outcome)?;
-    walk_expr(scope, &transition.condition, outcome);
-    Ok(())
+    walk_expr(scope, &transition.condition, outcome, calls)
 }
 
-// Keeps what an action breaks.
+// Keeps what an action breaks, and appends the FUNCTIONs that it calls.
 #[tactic(auto, using(rules::proofs::Outcomes::both_on, rules::proofs::Outcomes::both_ok))]
-fn walk_action(scope: &Scope<'_, '_>, action: &ChartAction, outcome: &mut Outcome)
-    ensures { outcome.new ≡ both outcome.old (outcome_of (in_action (file_in scope.now.names) (pou_in scope.now.names) (chart_action_view action.now))) }
+fn walk_action(
+    scope: &Scope<'_, '_>,
+    action: &ChartAction,
+    outcome: &mut Outcome,
+    calls: &mut Vec<usize>,
+) -> Result<(), AllocError>
+    ensures judged { OnOk result (outcome.new ≡ both outcome.old (outcome_of (in_action (file_in scope.now.names) (pou_in scope.now.names) (chart_action_view action.now)))) }
+    ensures calls { OnOk result (calls.new.items ≡ calls.old.items ++ calls_in_stmts (file_in scope.now.names) (chart_action_view action.now).body) }
 {
     *outcome = outcome.also(own_name(scope, &action.name));
-    walk_stmts(scope, &action.body, outcome);
+    walk_stmts(scope, &action.body, outcome, calls)
 }
 
-// Keeps what a part of a chart breaks.
+// Keeps what a part of a chart breaks, and appends the FUNCTIONs that it calls.
 fn walk_part(
     alloc: Global,
     scope: &Scope<'_, '_>,
     part: &ChartPart,
     outcome: &mut Outcome,
+    calls: &mut Vec<usize>,
 ) -> Result<(), AllocError>
-    ensures { OnOk result (outcome.new ≡ both outcome.old (outcome_of (in_part (file_in scope.now.names) (pou_in scope.now.names) (part_view part.now)))) }
+    ensures judged { OnOk result (outcome.new ≡ both outcome.old (outcome_of (in_part (file_in scope.now.names) (pou_in scope.now.names) (part_view part.now)))) }
+    ensures calls { OnOk result (calls.new.items ≡ calls.old.items ++ calls_in_part (file_in scope.now.names) (part_view part.now)) }
 {
     match part {
-        ChartPart::Step(step) => walk_step(scope, step, outcome),
-        ChartPart::Transition(transition) => walk_transition(alloc, scope, transition, outcome)?,
-        ChartPart::Action(action) => walk_action(scope, action, outcome),
+        ChartPart::Step(step) => {
+            walk_step(scope, step, outcome);
+            Ok(())
+        }
+        ChartPart::Transition(transition) => {
+            walk_transition(alloc, scope, transition, outcome, calls)
+        }
+        ChartPart::Action(action) => walk_action(scope, action, outcome, calls),
     }
-    Ok(())
 }
 
-// Keeps what the parts of a chart break.
+// Keeps what the parts of a chart break, and appends the FUNCTIONs that they call.
 #[tactic(auto, using(rules::proofs::Outcomes::both_on, rules::proofs::Outcomes::both_ok))]
 fn walk_parts(
     alloc: Global,
     scope: &Scope<'_, '_>,
     parts: &[ChartPart],
     outcome: &mut Outcome,
+    calls: &mut Vec<usize>,
 ) -> Result<(), AllocError>
-    ensures { OnOk result (outcome.new ≡ both outcome.old (outcome_of (in_chart_parts (file_in scope.now.names) (pou_in scope.now.names) (parts_view parts.now)))) }
+    ensures judged { OnOk result (outcome.new ≡ both outcome.old (outcome_of (in_chart_parts (file_in scope.now.names) (pou_in scope.now.names) (parts_view parts.now)))) }
+    ensures calls { OnOk result (calls.new.items ≡ calls.old.items ++ calls_in_parts (file_in scope.now.names) (parts_view parts.now)) }
 {
     for part in parts {
-        walk_part(alloc, scope, part, outcome)?;
+        walk_part(alloc, scope, part, outcome, calls)?;
     }
     Ok(())
 }
 
-// What the parts of a chart break.
+// What the parts of a chart break. Appends the FUNCTIONs that they call.
 #[tactic(auto, using(rules::proofs::Outcomes::ok_both))]
 fn judged_parts(
     alloc: Global,
     scope: &Scope<'_, '_>,
     parts: &[ChartPart],
+    calls: &mut Vec<usize>,
 ) -> Result<Outcome, AllocError>
-    ensures { IfOk result (λ o. o ≡ outcome_of (in_chart_parts (file_in scope.now.names) (pou_in scope.now.names) (parts_view parts.now))) }
+    ensures judged { IfOk result (λ o. o ≡ outcome_of (in_chart_parts (file_in scope.now.names) (pou_in scope.now.names) (parts_view parts.now))) }
+    ensures calls { OnOk result (calls.new.items ≡ calls.old.items ++ calls_in_parts (file_in scope.now.names) (parts_view parts.now)) }
 {
     let mut outcome = Outcome::ok();
-    walk_parts(alloc, scope, parts, &mut outcome)?;
+    walk_parts(alloc, scope, parts, &mut outcome, calls)?;
     Ok(outcome)
 }
 
@@ -156,15 +174,17 @@ fn place_of_chart(parts: &[ChartPart]) -> usize
     }
 }
 
-/// What a chart breaks.
+/// What a chart breaks. Appends the FUNCTIONs that it calls.
 pub fn judged_chart(
     alloc: Global,
     scope: &Scope<'_, '_>,
     parts: &[ChartPart],
+    calls: &mut Vec<usize>,
 ) -> Result<Outcome, AllocError>
-    ensures { IfOk result (λ o. o ≡ outcome_of (in_chart (file_in scope.now.names) (pou_in scope.now.names) (parts_view parts.now))) }
+    ensures judged { IfOk result (λ o. o ≡ outcome_of (in_chart (file_in scope.now.names) (pou_in scope.now.names) (parts_view parts.now))) }
+    ensures calls { OnOk result (calls.new.items ≡ calls.old.items ++ calls_in_parts (file_in scope.now.names) (parts_view parts.now)) }
 {
-    let judged = judged_parts(alloc, scope, parts)?;
+    let judged = judged_parts(alloc, scope, parts, calls)?;
     if judged.whole && initial_count(parts) != 1 {
         return Ok(Outcome::breaks(Rule::NotOneInitialStep, place_of_chart(parts)));
     }

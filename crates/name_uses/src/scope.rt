@@ -1,9 +1,9 @@
 // The names that the body of a POU may use, and what their uses break.
 ghost use Rattle.std.specs.Prelude.{◌≡◌, option_map, IfSome};
 ghost use Rattle.source_tree.specs.SyntaxView.{name_view, names_view, path_view, file_view, pou_view};
-ghost use Rattle.naming.specs.Broken.{member_by, in_member, in_members, in_flag, in_named, in_variable, in_outer, in_target, in_path, argument_by, in_argument_named, in_argument_name, in_called, in_enumerator, in_instance, instance_of, in_connected, alone};
+ghost use Rattle.naming.specs.Broken.{member_by, in_member, in_members, in_flag, in_named, in_variable, in_outer, in_target, in_path, argument_by, in_argument_named, in_argument_name, in_called, in_enumerator, in_instance, in_connected, alone};
 ghost use Rattle.naming.specs.FileScope.{pou_at, standing};
-ghost use Rattle.pou_scope.specs.NamesView.{file_in, pou_in, scope_named, AreNamesOf};
+ghost use Rattle.pou_scope.specs.NamesView.{file_in, pou_in, AreNamesOf};
 ghost use Rattle.rules.specs.Outcomes.{outcome_of};
 ghost use Rattle.naming.specs.Scopes.{scope_of, seen_named};
 
@@ -73,29 +73,13 @@ fn flag(first: &Name, members: &[Name]) -> Outcome
     }
 }
 
-/// The block of an instance whose declaration breaks no rule.
-pub fn instance_of(seen: Option<Seen>) -> Option<usize>
-    ensures { result ≡ instance_of seen }
-{
-    match seen {
-        Some(seen) if seen.whole => seen.block,
-        _ => None,
-    }
-}
-
 impl Scope<'_, '_> {
     // What is known of a name in the POU of a number.
     fn seen_in(&self, number: usize, name: &Name) -> Option<Option<Seen>>
         ensures { let f = file_in self.now.names in result ≡ option_map (λ p. seen_named f (scope_of p) (name_view name.now).text) (pou_at f number) }
     {
         match self.pous.get(number) {
-            Some(own) => {
-                let names = Names {
-                    file: self.names.file,
-                    own,
-                };
-                Some(names.seen(name))
-            }
+            Some(own) => Some(own.seen(name)),
             None => None,
         }
     }
@@ -153,7 +137,7 @@ impl Scope<'_, '_> {
     fn outer(&self, name: &Name) -> Outcome
         ensures { result ≡ outcome_of (in_outer (file_in self.now.names) (pou_in self.now.names) (name_view name.now)) }
     {
-        if self.names.is_fault(name) {
+        if self.names.own.is_fault(name) {
             return misused(name);
         }
         self.names.file.use_at(name)
@@ -191,7 +175,9 @@ impl Scope<'_, '_> {
         if let Some(seen) = self.names.seen(first) {
             return self.variable(seen, first, &path.members);
         }
-        if !self.names.is_fault(first) && is_value(self.names.file.types.names.standing(first)) {
+        if !self.names.own.is_fault(first)
+            && is_value(self.names.file.types.names.standing(first))
+        {
             return too_deep(&path.members);
         }
         self.outer(first)

@@ -1,53 +1,74 @@
-// The names that expressions and statements use.
-ghost use Rattle.std.specs.Prelude.{◌≡◌};
+// The names that expressions and statements use, and the FUNCTIONs that they call.
+ghost use Rattle.std.specs.Prelude.{◌≡◌, ◌++◌, OnOk};
 ghost use Rattle.source_tree.specs.SyntaxView.{tree_view, links_view, initial_view, label_view, labels_view, iteration_view, arguments_view, connection_view, connections_view, stmt_view, stmts_view, arms_view, entries_view};
 ghost use Rattle.naming.specs.Broken.{in_tree, in_links, in_label, in_labels, in_step, in_iteration, in_arguments, in_connection, in_connections, in_stmt, in_stmts, in_arms, in_entries};
+ghost use Rattle.naming.specs.Circles.{calls_in, calls_in_links, calls_in_arguments, calls_in_step, calls_in_iteration, calls_in_connection, calls_in_connections, calls_in_stmt, calls_in_stmts, calls_in_arms, calls_in_entries};
 ghost use Rattle.pou_scope.specs.NamesView.{file_in, pou_in};
 ghost use Rattle.rules.specs.Outcomes.{outcome_of, both};
 
-use crate::scope::{Scope, instance_of};
-use naming::Callee;
+use crate::scope::Scope;
+use naming::{Callee, append_called};
+use pou_scope::instance_of;
 use rules::Outcome;
 use source_tree::{Argument, Arm, Connection, Entry, Expr, Iteration, Label, Link, Stmt};
+use std::alloc::AllocError;
 
-/// Keeps what an expression breaks.
+/// Keeps what an expression breaks, and appends the FUNCTIONs that it calls.
 #[cycle(walk_expr)]
 #[tactic(auto, using(rules::proofs::Outcomes::both_on, rules::proofs::Outcomes::both_ok))]
-pub fn walk_expr(scope: &Scope<'_, '_>, expr: &Expr, outcome: &mut Outcome)
-    ensures { outcome.new ≡ both outcome.old (outcome_of (in_tree (file_in scope.now.names) (pou_in scope.now.names) (tree_view expr.now))) }
+pub fn walk_expr(
+    scope: &Scope<'_, '_>,
+    expr: &Expr,
+    outcome: &mut Outcome,
+    calls: &mut Vec<usize>,
+) -> Result<(), AllocError>
+    ensures judged { OnOk result (outcome.new ≡ both outcome.old (outcome_of (in_tree (file_in scope.now.names) (pou_in scope.now.names) (tree_view expr.now)))) }
+    ensures calls { OnOk result (calls.new.items ≡ calls.old.items ++ calls_in (file_in scope.now.names) (tree_view expr.now)) }
 {
     match expr {
-        Expr::Literal(_) => {}
-        Expr::Path(path) => *outcome = outcome.also(scope.path(path)),
+        Expr::Literal(_) => Ok(()),
+        Expr::Path(path) => {
+            *outcome = outcome.also(scope.path(path));
+            Ok(())
+        }
         Expr::Enumerator(kind, value) => {
             *outcome = outcome.also(scope.enumerator(kind, value));
+            Ok(())
         }
-        Expr::Paren(_, inner) => walk_expr(scope, inner, outcome),
-        Expr::Unary(_, _, inner) => walk_expr(scope, inner, outcome),
+        Expr::Paren(_, inner) => walk_expr(scope, inner, outcome, calls),
+        Expr::Unary(_, _, inner) => walk_expr(scope, inner, outcome, calls),
         Expr::Chain(left, links) => {
-            walk_expr(scope, left, outcome);
-            walk_links(scope, links, outcome);
+            walk_expr(scope, left, outcome, calls)?;
+            walk_links(scope, links, outcome, calls)
         }
         Expr::Call(function, _, arguments) => {
             let callee = scope.names.file.callee(function);
             *outcome = outcome.also(scope.called(callee, function));
-            walk_arguments(scope, callee, arguments, outcome);
+            append_called(calls, callee)?;
+            walk_arguments(scope, callee, arguments, outcome, calls)
         }
     }
 }
 
-// Keeps what operands break.
+// Keeps what operands break, and appends the FUNCTIONs that they call.
 #[cycle(walk_expr)]
 #[tactic(auto, using(rules::proofs::Outcomes::both_on, rules::proofs::Outcomes::both_ok))]
-fn walk_links(scope: &Scope<'_, '_>, links: &[Link], outcome: &mut Outcome)
-    ensures { outcome.new ≡ both outcome.old (outcome_of (in_links (file_in scope.now.names) (pou_in scope.now.names) (links_view links.now))) }
+fn walk_links(
+    scope: &Scope<'_, '_>,
+    links: &[Link],
+    outcome: &mut Outcome,
+    calls: &mut Vec<usize>,
+) -> Result<(), AllocError>
+    ensures judged { OnOk result (outcome.new ≡ both outcome.old (outcome_of (in_links (file_in scope.now.names) (pou_in scope.now.names) (links_view links.now)))) }
+    ensures calls { OnOk result (calls.new.items ≡ calls.old.items ++ calls_in_links (file_in scope.now.names) (links_view links.now)) }
 {
     for link in links {
-        walk_expr(scope, &link.right, outcome);
+        walk_expr(scope, &link.right, outcome, calls)?;
     }
+    Ok(())
 }
 
-// Keeps what the arguments of a call break, which calls this.
+// Keeps what the arguments of a call break, which calls this, and appends the FUNCTIONs that they call.
 #[cycle(walk_expr)]
 #[tactic(auto, using(rules::proofs::Outcomes::both_on, rules::proofs::Outcomes::both_ok))]
 fn walk_arguments(
@@ -55,13 +76,16 @@ fn walk_arguments(
     callee: Callee,
     arguments: &[Argument],
     outcome: &mut Outcome,
-)
-    ensures { outcome.new ≡ both outcome.old (outcome_of (in_arguments (file_in scope.now.names) (pou_in scope.now.names) callee (arguments_view arguments.now))) }
+    calls: &mut Vec<usize>,
+) -> Result<(), AllocError>
+    ensures judged { OnOk result (outcome.new ≡ both outcome.old (outcome_of (in_arguments (file_in scope.now.names) (pou_in scope.now.names) callee (arguments_view arguments.now)))) }
+    ensures calls { OnOk result (calls.new.items ≡ calls.old.items ++ calls_in_arguments (file_in scope.now.names) (arguments_view arguments.now)) }
 {
     for argument in arguments {
         *outcome = outcome.also(scope.argument_name(callee, &argument.name));
-        walk_expr(scope, &argument.value, outcome);
+        walk_expr(scope, &argument.value, outcome, calls)?;
     }
+    Ok(())
 }
 
 // A label.
@@ -83,135 +107,180 @@ fn walk_labels(scope: &Scope<'_, '_>, labels: &[Label], outcome: &mut Outcome)
     }
 }
 
-// Keeps what the step of a FOR breaks.
+// Keeps what the step of a FOR breaks, and appends the FUNCTIONs that it calls.
 #[tactic(auto, using(rules::proofs::Outcomes::both_on, rules::proofs::Outcomes::both_ok))]
-fn walk_step(scope: &Scope<'_, '_>, step: &Option<Expr>, outcome: &mut Outcome)
-    ensures { outcome.new ≡ both outcome.old (outcome_of (in_step (file_in scope.now.names) (pou_in scope.now.names) (initial_view step.now))) }
+fn walk_step(
+    scope: &Scope<'_, '_>,
+    step: &Option<Expr>,
+    outcome: &mut Outcome,
+    calls: &mut Vec<usize>,
+) -> Result<(), AllocError>
+    ensures judged { OnOk result (outcome.new ≡ both outcome.old (outcome_of (in_step (file_in scope.now.names) (pou_in scope.now.names) (initial_view step.now)))) }
+    ensures calls { OnOk result (calls.new.items ≡ calls.old.items ++ calls_in_step (file_in scope.now.names) (initial_view step.now)) }
 {
     match step {
-        Some(step) => walk_expr(scope, step, outcome),
-        None => {}
+        Some(step) => walk_expr(scope, step, outcome, calls),
+        None => Ok(()),
     }
 }
 
-// Keeps what stands between FOR and DO breaks.
+// Keeps what stands between FOR and DO breaks, and appends the FUNCTIONs that it calls.
 #[tactic(auto, using(rules::proofs::Outcomes::both_on, rules::proofs::Outcomes::both_ok))]
-fn walk_iteration(scope: &Scope<'_, '_>, iteration: &Iteration, outcome: &mut Outcome)
-    ensures { outcome.new ≡ both outcome.old (outcome_of (in_iteration (file_in scope.now.names) (pou_in scope.now.names) (iteration_view iteration.now))) }
+fn walk_iteration(
+    scope: &Scope<'_, '_>,
+    iteration: &Iteration,
+    outcome: &mut Outcome,
+    calls: &mut Vec<usize>,
+) -> Result<(), AllocError>
+    ensures judged { OnOk result (outcome.new ≡ both outcome.old (outcome_of (in_iteration (file_in scope.now.names) (pou_in scope.now.names) (iteration_view iteration.now)))) }
+    ensures calls { OnOk result (calls.new.items ≡ calls.old.items ++ calls_in_iteration (file_in scope.now.names) (iteration_view iteration.now)) }
 {
     *outcome = outcome.also(scope.control(&iteration.control));
-    walk_expr(scope, &iteration.first, outcome);
-    walk_expr(scope, &iteration.last, outcome);
-    walk_step(scope, &iteration.step, outcome);
+    walk_expr(scope, &iteration.first, outcome, calls)?;
+    walk_expr(scope, &iteration.last, outcome, calls)?;
+    walk_step(scope, &iteration.step, outcome, calls)
 }
 
-// Keeps what a connection of a call of a block breaks.
+// Keeps what a connection of a call of a block breaks, and appends the FUNCTIONs that it calls.
 #[tactic(auto, using(rules::proofs::Outcomes::both_on, rules::proofs::Outcomes::both_ok))]
 fn walk_connection(
     scope: &Scope<'_, '_>,
     block: Option<usize>,
     connection: &Connection,
     outcome: &mut Outcome,
-)
-    ensures { outcome.new ≡ both outcome.old (outcome_of (in_connection (file_in scope.now.names) (pou_in scope.now.names) block (connection_view connection.now))) }
+    calls: &mut Vec<usize>,
+) -> Result<(), AllocError>
+    ensures judged { OnOk result (outcome.new ≡ both outcome.old (outcome_of (in_connection (file_in scope.now.names) (pou_in scope.now.names) block (connection_view connection.now)))) }
+    ensures calls { OnOk result (calls.new.items ≡ calls.old.items ++ calls_in_connection (file_in scope.now.names) (connection_view connection.now)) }
 {
     match connection {
         Connection::Input(name, value) => {
             *outcome = outcome.also(scope.connected(block, name));
-            walk_expr(scope, value, outcome);
+            walk_expr(scope, value, outcome, calls)
         }
         Connection::Output(name, target) => {
             *outcome = outcome.also(scope.connected(block, name));
             *outcome = outcome.also(scope.target(target));
+            Ok(())
         }
     }
 }
 
-// Keeps what the connections of a call of a block break.
+// Keeps what the connections of a call of a block break, and appends the FUNCTIONs that they call.
 #[tactic(auto, using(rules::proofs::Outcomes::both_on, rules::proofs::Outcomes::both_ok))]
 fn walk_connections(
     scope: &Scope<'_, '_>,
     block: Option<usize>,
     connections: &[Connection],
     outcome: &mut Outcome,
-)
-    ensures { outcome.new ≡ both outcome.old (outcome_of (in_connections (file_in scope.now.names) (pou_in scope.now.names) block (connections_view connections.now))) }
+    calls: &mut Vec<usize>,
+) -> Result<(), AllocError>
+    ensures judged { OnOk result (outcome.new ≡ both outcome.old (outcome_of (in_connections (file_in scope.now.names) (pou_in scope.now.names) block (connections_view connections.now)))) }
+    ensures calls { OnOk result (calls.new.items ≡ calls.old.items ++ calls_in_connections (file_in scope.now.names) (connections_view connections.now)) }
 {
     for connection in connections {
-        walk_connection(scope, block, connection, outcome);
+        walk_connection(scope, block, connection, outcome, calls)?;
     }
+    Ok(())
 }
 
-/// Keeps what statements break.
+/// Keeps what statements break, and appends the FUNCTIONs that they call.
 #[cycle(walk_stmts)]
 #[tactic(auto, using(rules::proofs::Outcomes::both_on, rules::proofs::Outcomes::both_ok))]
-pub fn walk_stmts(scope: &Scope<'_, '_>, stmts: &[Stmt], outcome: &mut Outcome)
-    ensures { outcome.new ≡ both outcome.old (outcome_of (in_stmts (file_in scope.now.names) (pou_in scope.now.names) (stmts_view stmts.now))) }
+pub fn walk_stmts(
+    scope: &Scope<'_, '_>,
+    stmts: &[Stmt],
+    outcome: &mut Outcome,
+    calls: &mut Vec<usize>,
+) -> Result<(), AllocError>
+    ensures judged { OnOk result (outcome.new ≡ both outcome.old (outcome_of (in_stmts (file_in scope.now.names) (pou_in scope.now.names) (stmts_view stmts.now)))) }
+    ensures calls { OnOk result (calls.new.items ≡ calls.old.items ++ calls_in_stmts (file_in scope.now.names) (stmts_view stmts.now)) }
 {
     for stmt in stmts {
-        walk_stmt(scope, stmt, outcome);
+        walk_stmt(scope, stmt, outcome, calls)?;
     }
+    Ok(())
 }
 
-// Keeps what a statement breaks.
+// Keeps what a statement breaks, and appends the FUNCTIONs that it calls.
 #[cycle(walk_stmts)]
 #[tactic(auto, using(rules::proofs::Outcomes::both_on, rules::proofs::Outcomes::both_ok))]
-fn walk_stmt(scope: &Scope<'_, '_>, stmt: &Stmt, outcome: &mut Outcome)
-    ensures { outcome.new ≡ both outcome.old (outcome_of (in_stmt (file_in scope.now.names) (pou_in scope.now.names) (stmt_view stmt.now))) }
+fn walk_stmt(
+    scope: &Scope<'_, '_>,
+    stmt: &Stmt,
+    outcome: &mut Outcome,
+    calls: &mut Vec<usize>,
+) -> Result<(), AllocError>
+    ensures judged { OnOk result (outcome.new ≡ both outcome.old (outcome_of (in_stmt (file_in scope.now.names) (pou_in scope.now.names) (stmt_view stmt.now)))) }
+    ensures calls { OnOk result (calls.new.items ≡ calls.old.items ++ calls_in_stmt (file_in scope.now.names) (stmt_view stmt.now)) }
 {
     match stmt {
-        Stmt::Empty => {}
+        Stmt::Empty => Ok(()),
         Stmt::Assign(target, value) => {
             *outcome = outcome.also(scope.target(target));
-            walk_expr(scope, value, outcome);
+            walk_expr(scope, value, outcome, calls)
         }
         Stmt::Call(name, _, connections) => {
             let seen = scope.names.seen(name);
             *outcome = outcome.also(scope.instance(seen, name));
-            walk_connections(scope, instance_of(seen), connections, outcome);
+            walk_connections(scope, instance_of(seen), connections, outcome, calls)
         }
         Stmt::If(arms, other) => {
-            walk_arms(scope, arms, outcome);
+            walk_arms(scope, arms, outcome, calls)?;
             match other {
-                Some(stmts) => walk_stmts(scope, stmts, outcome),
-                None => {}
+                Some(stmts) => walk_stmts(scope, stmts, outcome, calls),
+                None => Ok(()),
             }
         }
         Stmt::Case(selector, entries, other) => {
-            walk_expr(scope, selector, outcome);
-            walk_entries(scope, entries, outcome);
+            walk_expr(scope, selector, outcome, calls)?;
+            walk_entries(scope, entries, outcome, calls)?;
             match other {
-                Some(stmts) => walk_stmts(scope, stmts, outcome),
-                None => {}
+                Some(stmts) => walk_stmts(scope, stmts, outcome, calls),
+                None => Ok(()),
             }
         }
         Stmt::For(iteration, body) => {
-            walk_iteration(scope, iteration, outcome);
-            walk_stmts(scope, body, outcome);
+            walk_iteration(scope, iteration, outcome, calls)?;
+            walk_stmts(scope, body, outcome, calls)
         }
     }
 }
 
-// Keeps what the arms of an IF break.
+// Keeps what the arms of an IF break, and appends the FUNCTIONs that they call.
 #[cycle(walk_stmts)]
 #[tactic(auto, using(rules::proofs::Outcomes::both_on, rules::proofs::Outcomes::both_ok))]
-fn walk_arms(scope: &Scope<'_, '_>, arms: &[Arm], outcome: &mut Outcome)
-    ensures { outcome.new ≡ both outcome.old (outcome_of (in_arms (file_in scope.now.names) (pou_in scope.now.names) (arms_view arms.now))) }
+fn walk_arms(
+    scope: &Scope<'_, '_>,
+    arms: &[Arm],
+    outcome: &mut Outcome,
+    calls: &mut Vec<usize>,
+) -> Result<(), AllocError>
+    ensures judged { OnOk result (outcome.new ≡ both outcome.old (outcome_of (in_arms (file_in scope.now.names) (pou_in scope.now.names) (arms_view arms.now)))) }
+    ensures calls { OnOk result (calls.new.items ≡ calls.old.items ++ calls_in_arms (file_in scope.now.names) (arms_view arms.now)) }
 {
     for arm in arms {
-        walk_expr(scope, &arm.condition, outcome);
-        walk_stmts(scope, &arm.body, outcome);
+        walk_expr(scope, &arm.condition, outcome, calls)?;
+        walk_stmts(scope, &arm.body, outcome, calls)?;
     }
+    Ok(())
 }
 
-// Keeps what the entries of a CASE break.
+// Keeps what the entries of a CASE break, and appends the FUNCTIONs that they call.
 #[cycle(walk_stmts)]
 #[tactic(auto, using(rules::proofs::Outcomes::both_on, rules::proofs::Outcomes::both_ok))]
-fn walk_entries(scope: &Scope<'_, '_>, entries: &[Entry], outcome: &mut Outcome)
-    ensures { outcome.new ≡ both outcome.old (outcome_of (in_entries (file_in scope.now.names) (pou_in scope.now.names) (entries_view entries.now))) }
+fn walk_entries(
+    scope: &Scope<'_, '_>,
+    entries: &[Entry],
+    outcome: &mut Outcome,
+    calls: &mut Vec<usize>,
+) -> Result<(), AllocError>
+    ensures judged { OnOk result (outcome.new ≡ both outcome.old (outcome_of (in_entries (file_in scope.now.names) (pou_in scope.now.names) (entries_view entries.now)))) }
+    ensures calls { OnOk result (calls.new.items ≡ calls.old.items ++ calls_in_entries (file_in scope.now.names) (entries_view entries.now)) }
 {
     for entry in entries {
         walk_labels(scope, &entry.labels, outcome);
-        walk_stmts(scope, &entry.body, outcome);
+        walk_stmts(scope, &entry.body, outcome, calls)?;
     }
+    Ok(())
 }

@@ -1,2 +1,4 @@
 pub mod NamesView
 pub mod SlottedView
+pub mod InFileView
+pub mod AllSeen

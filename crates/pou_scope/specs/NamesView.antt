@@ -1,10 +1,12 @@
 -- What the names of a POU stand for: a file, and the POU's scope.
-use Rattle.std.specs.Prelude.{◌≡◌, ℕ, List, map, option_map}
+use Rattle.std.specs.Prelude.{◌≡◌, ◌-◌, ℕ, List, Option, map, option_map, option_and_then}
+use Rattle.std.specs.HashMap.{get_by_text}
 use Rattle.std.specs.List.{slice_get}
 use Rattle.source_tree.specs.Syntax.{PouData, FileData}
 use Rattle.source_tree.specs.SyntaxView.{file_view, pou_view}
 use Rattle.pou_scope.specs.declared.pou_names.NamesOfPou.{NamesOfPou}
-use Rattle.pou_scope.specs.declared.pou_names.Names.{Names}
+use Rattle.pou_scope.specs.declared.names.Names.{Names}
+use Rattle.naming.specs.declared.seen.Seen.{Seen}
 use Rattle.naming.specs.FileScope.{pou_at}
 use Rattle.naming.specs.Scopes.{PouScope, scope_of, seen_named}
 use Rattle.naming.specs.ScopeView.{variables_view}
@@ -24,6 +26,13 @@ pous_named ns = map (λ n. pou_view n.pou.now) ns
 abbrev pub scopes_named : List NamesOfPou → List PouScope
 scopes_named ns = map scope_named ns
 
+abbrev pub seens_named : List NamesOfPou → List (List Seen)
+seens_named ns = map (λ n. n.seen.items) ns
+
+-- what is known of the variable of a name
+abbrev pub seen_by : NamesOfPou → List ℕ → Option Seen
+seen_by n text = option_and_then (λ s. slice_get n.seen.items (s.number - 1)) (get_by_text n.slots text)
+
 -- of the names of each POU of a file the same is known as in the file
 abbrev pub AreNamesOf : FileData → List NamesOfPou → Type 0
-AreNamesOf f ns = (number : ℕ) → (text : List ℕ) → option_map (λ n. seen_named f (scope_named n) text) (slice_get ns number) ≡ option_map (λ p. seen_named f (scope_of p) text) (pou_at f number)
+AreNamesOf f ns = (number : ℕ) → (text : List ℕ) → option_map (λ n. seen_by n text) (slice_get ns number) ≡ option_map (λ p. seen_named f (scope_of p) text) (pou_at f number)

@@ -1,5 +1,5 @@
 -- The scope of variables and their slots.
-use Rattle.pou_scope.specs.declared.variable_uses.Slotted.{Slotted}
+use Rattle.pou_scope.specs.declared.slotted.Slotted.{Slotted}
 use Rattle.naming.specs.Scopes.{PouScope, scope_with}
 use Rattle.naming.specs.ScopeView.{variables_view}
 

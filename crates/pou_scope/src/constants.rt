@@ -7,7 +7,8 @@ ghost use Rattle.rules.specs.Outcomes.{outcome_of};
 ghost use Rattle.naming.specs.Scopes.{seen_named};
 ghost use Rattle.naming.specs.ScopeView.{variable_view};
 
-use crate::pou_names::Names;
+use crate::names::Names;
+use crate::typed::is_typed;
 use file_scope::misused;
 use naming::{Declared, Seen};
 use rules::Outcome;
@@ -29,7 +30,7 @@ impl Names<'_, '_> {
                 }
             }
             None => {
-                if self.is_fault(name) {
+                if self.own.is_fault(name) {
                     return misused(name);
                 }
                 self.file.value_name(name)
@@ -71,7 +72,7 @@ impl Names<'_, '_> {
     {
         match constant {
             Expr::Path(path) => {
-                if self.is_circular(user, &path.first) {
+                if self.own.is_circular(user, &path.first) {
                     return misused(&path.first);
                 }
                 self.value(&path.first)
@@ -105,7 +106,7 @@ impl Names<'_, '_> {
         ensures { result ≡ outcome_of (in_named_type (file_in self.now) (variable_view variable.now) (name_view name.now)) }
     {
         if variable.role.is_result() {
-            return Outcome::whole_if(self.is_typed(variable));
+            return Outcome::whole_if(is_typed(self.file, variable));
         }
         if self.file.block_named(name).is_none() {
             return self.file.type_name(name);

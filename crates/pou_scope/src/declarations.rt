@@ -1,12 +1,13 @@
 // What the declarations of a POU break, and the blocks of its instances.
-ghost use Rattle.std.specs.Prelude.{◌≡◌, ◌++◌, OnOk};
-ghost use Rattle.naming.specs.Broken.{in_declarations};
-ghost use Rattle.naming.specs.Circles.{blocks_used, block_used};
+ghost use Rattle.std.specs.Prelude.{◌≡◌, ◌++◌, OnOk, Some};
+ghost use Rattle.naming.specs.Broken.{in_declarations, instance_of};
+ghost use Rattle.naming.specs.Circles.{blocks_used};
+ghost use Rattle.pou_scope.specs.AllSeen.{blocks_seen};
 ghost use Rattle.pou_scope.specs.NamesView.{file_in, pou_in};
 ghost use Rattle.rules.specs.Outcomes.{outcome_of, both};
 
-use crate::pou_names::Names;
-use naming::append_number;
+use crate::names::Names;
+use naming::{Seen, append_number};
 use rules::Outcome;
 use std::alloc::AllocError;
 
@@ -20,12 +21,29 @@ pub fn walk_declarations(names: &Names<'_, '_>, outcome: &mut Outcome)
     }
 }
 
+/// The block of an instance whose declaration breaks no rule.
+pub fn instance_of(seen: Option<Seen>) -> Option<usize>
+    ensures { result ≡ instance_of seen }
+{
+    match seen {
+        Some(seen) if seen.whole => seen.block,
+        _ => None,
+    }
+}
+
+// Appends the blocks of instances whose declarations break no rule, of which this is known.
+fn append_seen(all: &[Seen], blocks: &mut Vec<usize>) -> Result<(), AllocError>
+    ensures { OnOk result (blocks.new.items ≡ blocks.old.items ++ blocks_seen all.now) }
+{
+    for seen in all {
+        append_number(blocks, instance_of(Some(*seen)))?;
+    }
+    Ok(())
+}
+
 /// Appends the blocks of instances whose declarations break no rule.
 pub fn append_blocks(names: &Names<'_, '_>, blocks: &mut Vec<usize>) -> Result<(), AllocError>
     ensures { OnOk result (blocks.new.items ≡ blocks.old.items ++ blocks_used (file_in names.now) (pou_in names.now) (pou_in names.now).variables) }
 {
-    for variable in &names.own.variables {
-        append_number(blocks, names.block_used(variable))?;
-    }
-    Ok(())
+    append_seen(&names.own.seen, blocks)
 }

@@ -1,38 +1,22 @@
 // Which variables of a POU use which, and which uses lead back to their user.
 ghost use Rattle.std.specs.Prelude.{◌≡◌, ◌++◌, option_map, OnOk, IfOk};
 ghost use Rattle.call_order.specs.Uses.{graph_of, HasCircles};
-ghost use Rattle.source_tree.specs.SyntaxView.{name_view, tree_view, type_view};
-ghost use Rattle.naming.specs.DeclarationUses.{variable_number, used_by_constant, used_by_type, used_by_initial, variable_uses};
+ghost use Rattle.source_tree.specs.SyntaxView.{tree_view, type_view};
+ghost use Rattle.naming.specs.DeclarationUses.{used_by_constant, used_by_type, used_by_initial, variable_uses};
 ghost use Rattle.naming.specs.Scopes.{scope_with};
 ghost use Rattle.naming.specs.ScopeView.{variable_view, variables_view};
 ghost use Rattle.naming.specs.Slots.{slot_among};
 ghost use Rattle.naming.specs.Table.{Holds};
+ghost use Rattle.pou_scope.specs.SlottedView.{scope_slotted};
 
-use crate::slots::{Slots, slot_at};
+use crate::slots::Slots;
+use crate::slotted::Slotted;
 use call_order::circular_uses;
-use naming::{Declared, append_number, number_by};
-use source_tree::{Expr, Name, TypeName};
+use naming::{Declared, append_number};
+use source_tree::{Expr, TypeName};
 use std::alloc::{AllocError, Global};
 
-// The variables of a POU, and their slots.
-#[derive(Clone, Copy)]
-struct Slotted<'a> {
-    has_fault: bool,
-    slots: &'a Slots,
-    variables: &'a [Declared<'a>],
-    ghost held: { Holds slots.now (slot_among has_fault (variables_view variables.now)) },
-}
-
 impl Slotted<'_> {
-    ghost use Rattle.pou_scope.specs.SlottedView.{scope_slotted};
-
-    // The variable of a name that is declared once, by its number.
-    fn number(&self, name: &Name) -> Option<usize>
-        ensures { result ≡ variable_number (scope_slotted self.now) (name_view name.now).text }
-    {
-        number_by(slot_at(self.slots, name.text.as_str()))
-    }
-
     // Appends the variable that a constant uses.
     fn append_constant(&self, used: &mut Vec<usize>, constant: &Expr) -> Result<(), AllocError>
         ensures { OnOk result (used.new.items ≡ used.old.items ++ used_by_constant (scope_slotted self.now) (tree_view constant.now)) }

@@ -6,13 +6,14 @@ ghost use Rattle.source_tree.specs.SyntaxView.{body_view, file_view};
 ghost use Rattle.naming.specs.Broken.{in_pou_scope, in_pou, in_pous};
 ghost use Rattle.naming.specs.Circles.{blocks_used, calls_in_body, uses_of};
 ghost use Rattle.naming.specs.FileScope.{pous_of};
-ghost use Rattle.pou_scope.specs.NamesView.{file_in, pou_in, pous_named, scopes_named};
+ghost use Rattle.pou_scope.specs.NamesView.{file_in, pou_in, pous_named, scopes_named, seens_named};
+ghost use Rattle.pou_scope.specs.AllSeen.{seen_in};
 ghost use Rattle.rules.specs.Outcomes.{outcome_of};
 ghost use Rattle.naming.specs.Scopes.{scope_of};
 ghost use Rattle.naming.specs.ScopeView.{pous_view};
 
 use file_scope::FileScope;
-use name_uses::{Scope, append_in_body, walk_body};
+use name_uses::{Scope, walk_body};
 use pou_scope::{Names, NamesOfPou, append_blocks, names_of_pou, walk_declarations};
 use rules::{Outcome, Refusal};
 use source_tree::Pou;
@@ -25,14 +26,19 @@ pub struct Judged {
     pub uses: Vec<Vec<usize>>,
 }
 
-/// The names of each POU.
-pub fn all_names<'a>(alloc: Global, pous: &[&'a Pou]) -> Result<Vec<NamesOfPou<'a>>, AllocError>
+/// The names of each POU of a file.
+pub fn all_names<'a>(
+    alloc: Global,
+    file: &FileScope<'_>,
+    pous: &[&'a Pou],
+) -> Result<Vec<NamesOfPou<'a>>, AllocError>
     ensures pous { IfOk result (λ all. pous_named all.items ≡ pous_view pous.now) }
     ensures scopes { IfOk result (λ all. scopes_named all.items ≡ map scope_of (pous_view pous.now)) }
+    ensures seen { IfOk result (λ all. seens_named all.items ≡ map (seen_in (file_view file.now.types.names.file.now)) (pous_view pous.now)) }
 {
     let mut all = Vec::new(alloc);
     for pou in pous {
-        all.push(names_of_pou(alloc, pou)?)?;
+        all.push(names_of_pou(alloc, file, pou)?)?;
     }
     Ok(all)
 }
@@ -47,8 +53,7 @@ fn judge_pou(alloc: Global, scope: &Scope<'_, '_>) -> Result<(Outcome, Vec<usize
     walk_declarations(names, &mut outcome);
     let mut uses = Vec::new(alloc);
     append_blocks(names, &mut uses)?;
-    walk_body(alloc, scope, &names.own.pou.body, &mut outcome)?;
-    append_in_body(names.file, &names.own.pou.body, &mut uses)?;
+    walk_body(alloc, scope, &names.own.pou.body, &mut outcome, &mut uses)?;
     Ok((outcome, uses))
 }
 
@@ -61,6 +66,7 @@ pub fn judge_pous<'a, 'f>(
 ) -> Result<Judged, AllocError>
     requires pous { pous_named all.now ≡ pous_of (file_view file.now.types.names.file.now) }
     requires scopes { scopes_named all.now ≡ map scope_of (pous_of (file_view file.now.types.names.file.now)) }
+    requires seen { seens_named all.now ≡ map (seen_in (file_view file.now.types.names.file.now)) (pous_of (file_view file.now.types.names.file.now)) }
     ensures broken { let f = file_view file.now.types.names.file.now in OnOk result (first.new ≡ earlier first.old (first_in (in_pous f (pous_of f)))) }
     ensures wholes { let f = file_view file.now.types.names.file.now in IfOk result (λ judged. judged.wholes.items ≡ map (λ p. (in_pou f p).whole) (pous_of f)) }
     ensures uses { let f = file_view file.now.types.names.file.now in IfOk result (λ judged. graph_of judged.uses.items ≡ uses_of f) }

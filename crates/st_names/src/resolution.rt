@@ -11,7 +11,8 @@ ghost use Rattle.naming.specs.Broken.{is_program_pou, in_pou, not_one, names_twi
 ghost use Rattle.naming.specs.Circles.{uses_of, IsBroken};
 ghost use Rattle.naming.specs.FileScope.{types_of, pous_of, names_of, pou_at};
 ghost use Rattle.naming.specs.FirstOf.{IsFirstOf};
-ghost use Rattle.pou_scope.specs.NamesView.{pous_named, scopes_named};
+ghost use Rattle.pou_scope.specs.NamesView.{pous_named, scopes_named, seens_named};
+ghost use Rattle.pou_scope.specs.AllSeen.{seen_in};
 ghost use Rattle.naming.specs.Scopes.{scope_of};
 ghost use Rattle.naming.specs.ScopeView.{types_view, pous_view};
 ghost use Rattle.naming.specs.Slots.{slot_named};
@@ -132,6 +133,7 @@ fn judge_file<'a, 'f>(
     requires pous { pous_view list.now.pous.items ≡ pous_of (file_view scope.now.types.names.file.now) }
     requires named { pous_named all.now ≡ pous_of (file_view scope.now.types.names.file.now) }
     requires scopes { scopes_named all.now ≡ map scope_of (pous_of (file_view scope.now.types.names.file.now)) }
+    requires seen { seens_named all.now ≡ map (seen_in (file_view scope.now.types.names.file.now)) (pous_of (file_view scope.now.types.names.file.now)) }
     requires once { let f = file_view scope.now.types.names.file.now in first.old ≡ first_in (not_one (pous_of f) ++ names_twice [] (names_of f)) }
     ensures broken { OnOk result (first.new ≡ first_in (broken_names (file_view scope.now.types.names.file.now))) }
     ensures wholes { let f = file_view scope.now.types.names.file.now in IfOk result (λ judged. judged.wholes.items ≡ map (λ p. (in_pou f p).whole) (pous_of f)) }
@@ -180,7 +182,7 @@ fn walk_file(alloc: Global, file: &SourceFile) -> Result<(Option<Refusal>, Bindi
     let list = list_declarations(alloc, file)?;
     let mut first = not_one(&list.pous);
     let scope = file_scope(alloc, file, &list, &mut first)?;
-    let all = all_names(alloc, &list.pous)?;
+    let all = all_names(alloc, &scope, &list.pous)?;
     let judged = judge_file(alloc, &scope, &list, &all, &mut first)?;
     let numbers = order_of(alloc, file, &list.pous, &judged, &mut first)?;
     let program = program_number(&list.pous);

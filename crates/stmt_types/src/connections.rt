@@ -8,7 +8,7 @@ ghost use Rattle.program_tree.specs.View.{stmt_view};
 ghost use Rattle.typing.specs.Typing.{by_path};
 ghost use Rattle.typing.specs.JudgedStatements.{member, judged_input, judged_output, judged_connection, connected, connects_twice, is_input_of_instance, has_right_arrow, judged_invoke};
 ghost use Rattle.rules.specs.Judgements.{ok};
-ghost use Rattle.rules.specs.Outcomes.{outcome_of};
+ghost use Rattle.rules.specs.Outcomes.{outcome_of, both};
 ghost use Rattle.typing.specs.Outcomes.{connections_outcome};
 ghost use Rattle.typing.specs.TypedStatements.{typed_inputs, typed_outputs, typed_run, typed_invoke};
 
@@ -22,6 +22,13 @@ use rules::{Outcome, Rule};
 use source_tree::{Connection, Expr, Name, Path};
 use std::alloc::{AllocError, Global};
 use typing::{Instance, Meaning, Scope};
+
+// What judging connections finds: what they break, and whether inputs are connected by `:=` and outputs by `=>`.
+#[derive(Clone, Copy, Debug, PartialEq, Eq)]
+struct JudgedConnections {
+    judged: Outcome,
+    right: bool,
+}
 
 // The path of an instance's input or output.
 fn member(alloc: Global, instance: &Name, name: &Name) -> Result<Path, AllocError>
@@ -81,25 +88,54 @@ fn judge_output(
     parts.require(fits, Rule::ValueType, at)
 }
 
+// Whether a name is that of an instance's input.
+fn is_input_of_instance(meaning: Option<Meaning>) -> bool
+    ensures { result ≡ is_input_of_instance meaning }
+{
+    match meaning {
+        None => false,
+        Some(meaning) => meaning.assignable,
+    }
+}
+
+// A connection's name is looked up once.
 fn judge_connection<S: Scope>(
     alloc: Global,
     scope: &S,
     controls: &[usize],
     instance: &Name,
     connection: &Connection,
-) -> Result<Outcome, AllocError>
-    ensures { IfOk result (λ o. o ≡ outcome_of (judged_connection (S.means scope.now) controls.now (name_view instance.now) (connection_view connection.now))) }
+) -> Result<JudgedConnections, AllocError>
+    ensures judged { IfOk result (λ c. c.judged ≡ outcome_of (judged_connection (S.means scope.now) controls.now (name_view instance.now) (connection_view connection.now))) }
+    ensures right { IfOk result (λ c. c.right ≡ has_right_arrow (S.means scope.now) (name_view instance.now) (connection_view connection.now)) }
 {
     match connection {
         Connection::Input(name, value) => {
             let meaning = meaning_of_member(alloc, scope, instance, name)?;
-            judge_input(alloc, scope, meaning, name, value)
+            Ok(JudgedConnections {
+                judged: judge_input(alloc, scope, meaning, name, value)?,
+                right: is_input_of_instance(meaning),
+            })
         }
         Connection::Output(name, target) => {
             let meaning = meaning_of_member(alloc, scope, instance, name)?;
             let to = scope.meaning(target);
-            Ok(judge_output(controls, meaning, to, target.first.at))
+            Ok(JudgedConnections {
+                judged: judge_output(controls, meaning, to, target.first.at),
+                right: !is_input_of_instance(meaning),
+            })
         }
+    }
+}
+
+// Connections, and one more.
+fn with_next(so_far: JudgedConnections, next: JudgedConnections) -> JudgedConnections
+    ensures judged { result.judged ≡ both so_far.judged next.judged }
+    ensures right { result.right ≡ (so_far.right && next.right) }
+{
+    JudgedConnections {
+        judged: so_far.judged.also(next.judged),
+        right: so_far.right && next.right,
     }
 }
 
@@ -109,14 +145,19 @@ fn judge_connections<S: Scope>(
     controls: &[usize],
     instance: &Name,
     connections: &[Connection],
-) -> Result<Outcome, AllocError>
-    ensures { IfOk result (λ o. o ≡ connections_outcome (S.means scope.now) controls.now (name_view instance.now) (outcome_of ok) (connections_view connections.now)) }
+) -> Result<JudgedConnections, AllocError>
+    ensures judged { IfOk result (λ c. c.judged ≡ connections_outcome (S.means scope.now) controls.now (name_view instance.now) (outcome_of ok) (connections_view connections.now)) }
+    ensures right { IfOk result (λ c. c.right ≡ list_all (has_right_arrow (S.means scope.now) (name_view instance.now)) (connections_view connections.now)) }
 {
-    let mut judged = Outcome::ok();
+    let mut all = JudgedConnections {
+        judged: Outcome::ok(),
+        right: true,
+    };
     for connection in connections {
-        judged = judged.also(judge_connection(alloc, scope, controls, instance, connection)?);
+        let next = judge_connection(alloc, scope, controls, instance, connection)?;
+        all = with_next(all, next);
     }
-    Ok(judged)
+    Ok(all)
 }
 
 // The name that is connected.
@@ -151,67 +192,16 @@ fn connects_twice(alloc: Global, connections: &[Connection]) -> Result<bool, All
     Ok(false)
 }
 
-// Whether a name is that of an instance's input.
-fn is_input_of_instance(meaning: Option<Meaning>) -> bool
-    ensures { result ≡ is_input_of_instance meaning }
-{
-    match meaning {
-        None => false,
-        Some(meaning) => meaning.assignable,
-    }
-}
-
-fn has_right_arrow<S: Scope>(
+// Whether each name is connected once, where it is known whether inputs are connected by `:=` and outputs by `=>`.
+fn connects_rightly(
     alloc: Global,
-    scope: &S,
-    instance: &Name,
-    connection: &Connection,
-) -> Result<bool, AllocError>
-    ensures { IfOk result (λ right. right ≡ has_right_arrow (S.means scope.now) (name_view instance.now) (connection_view connection.now)) }
-{
-    match connection {
-        Connection::Input(name, _) => {
-            let meaning = meaning_of_member(alloc, scope, instance, name)?;
-            Ok(is_input_of_instance(meaning))
-        }
-        Connection::Output(name, _) => {
-            let meaning = meaning_of_member(alloc, scope, instance, name)?;
-            Ok(!is_input_of_instance(meaning))
-        }
-    }
-}
-
-// Whether inputs are connected by `:=` and outputs by `=>`.
-fn have_right_arrows<S: Scope>(
-    alloc: Global,
-    scope: &S,
-    instance: &Name,
+    right: bool,
     connections: &[Connection],
 ) -> Result<bool, AllocError>
-    ensures { IfOk result (λ right. right ≡ list_all (has_right_arrow (S.means scope.now) (name_view instance.now)) (connections_view connections.now)) }
-{
-    for connection in connections {
-        if !has_right_arrow(alloc, scope, instance, connection)? {
-            return Ok(false);
-        }
-    }
-    Ok(true)
-}
-
-// Whether each name is connected once, inputs by `:=` and outputs by `=>`.
-fn connects_rightly<S: Scope>(
-    alloc: Global,
-    scope: &S,
-    instance: &Name,
-    connections: &[Connection],
-) -> Result<bool, AllocError>
-    ensures { IfOk result (λ right. right ≡ (not (connects_twice [] (connections_view connections.now)) && list_all (has_right_arrow (S.means scope.now) (name_view instance.now)) (connections_view connections.now))) }
+    ensures { IfOk result (λ rightly. rightly ≡ (not (connects_twice [] (connections_view connections.now)) && right)) }
 {
     let twice = connects_twice(alloc, connections)?;
-    if twice {
-        return Ok(false);
-    }
-    have_right_arrows(alloc, scope, instance, connections)
+    Ok(!twice && right)
 }
 
 /// A call of an instance connects each name once, inputs by `:=` and outputs by `=>`.
@@ -226,8 +216,12 @@ pub(crate) fn judge_invoke<S: Scope>(
     ensures { IfOk result (λ o. o ≡ outcome_of (judged_invoke (S.means scope.now) controls.now (name_view instance.now) (connections_view connections.now))) }
 {
     let parts = judge_connections(alloc, scope, controls, instance, connections)?;
-    let right = connects_rightly(alloc, scope, instance, connections)?;
-    Ok(parts.require(right, Rule::ArgumentCount, instance.at))
+    let right = connects_rightly(alloc, parts.right, connections)?;
+    Ok(
+        parts
+            .judged
+            .require(right, Rule::ArgumentCount, instance.at),
+    )
 }
 
 // Appends the assignments of the inputs that are given.

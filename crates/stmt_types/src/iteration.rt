@@ -21,6 +21,20 @@ use source_tree::{Expr, Iteration};
 use std::alloc::{AllocError, Global};
 use typing::{Meaning, Place, Scope};
 
+// What judging a bound finds: what it breaks, and its value, or 0 where it has none.
+#[derive(Clone, Copy, Debug, PartialEq, Eq)]
+struct JudgedBound {
+    judged: Outcome,
+    value: i64,
+}
+
+/// What judging the turns of a FOR finds: what stands between FOR and DO breaks, and the rule that its turns break.
+#[derive(Clone, Copy, Debug, PartialEq, Eq)]
+pub(crate) struct JudgedTurns {
+    pub judged: Outcome,
+    pub rule: Option<Rule>,
+}
+
 fn is_among(controls: &[usize], cell: usize) -> bool
     ensures { result ≡ list_any (λ control. cell == control) controls.now }
 {
@@ -80,31 +94,49 @@ fn judge_control(controls: &[usize], meaning: Option<Meaning>, at: usize) -> Out
     judge_meaning(meaning).require(may_control(controls, meaning), Rule::NotAssignable, at)
 }
 
-// A bound or a step is constant.
+fn value_or_zero(value: Option<i64>) -> i64
+    ensures { result ≡ value_or_zero value }
+{
+    match value {
+        None => 0,
+        Some(value) => value,
+    }
+}
+
+// A bound or a step is constant; its value goes on to the count of turns.
 #[tactic(auto, using(typing_laws::proofs::Judging::judging))]
 fn judge_bound<S: Scope>(
     alloc: Global,
     scope: &S,
     kind: DataType,
     bound: &Expr,
-) -> Result<Outcome, AllocError>
-    ensures { IfOk result (λ o. o ≡ outcome_of (judged_bound (S.means scope.now) kind (tree_view bound.now))) }
+) -> Result<JudgedBound, AllocError>
+    ensures judged { IfOk result (λ b. b.judged ≡ outcome_of (judged_bound (S.means scope.now) kind (tree_view bound.now))) }
+    ensures value { IfOk result (λ b. b.value ≡ bound_value (S.means scope.now) kind (tree_view bound.now)) }
 {
     let value = constant_value(alloc, scope, Some(kind), bound)?;
     let judged = judge_expr(alloc, scope, Some(kind), bound)?;
-    Ok(judged.require(value.is_some(), Rule::NotConstant, place_of(bound)))
+    Ok(JudgedBound {
+        judged: judged.require(value.is_some(), Rule::NotConstant, place_of(bound)),
+        value: value_or_zero(value),
+    })
 }
 
+// A step that is not written is 1.
 fn judge_step<S: Scope>(
     alloc: Global,
     scope: &S,
     kind: DataType,
     step: &Option<Expr>,
-) -> Result<Outcome, AllocError>
-    ensures { IfOk result (λ o. o ≡ outcome_of (judged_step (S.means scope.now) kind (initial_view step.now))) }
+) -> Result<JudgedBound, AllocError>
+    ensures judged { IfOk result (λ b. b.judged ≡ outcome_of (judged_step (S.means scope.now) kind (initial_view step.now))) }
+    ensures value { IfOk result (λ b. b.value ≡ step_value (S.means scope.now) kind (initial_view step.now)) }
 {
     match step {
-        None => Ok(Outcome::ok()),
+        None => Ok(JudgedBound {
+            judged: Outcome::ok(),
+            value: 1,
+        }),
         Some(step) => judge_bound(alloc, scope, kind, step),
     }
 }
@@ -124,31 +156,6 @@ fn step_is_typed<S: Scope>(scope: &S, kind: DataType, step: &Option<Expr>) -> bo
     }
 }
 
-/// What stands between FOR and DO, by what the control variable's name stands for; the bounds and the step are of
-/// its type.
-#[tactic(auto, using(typing_laws::proofs::Judging::judging))]
-pub(crate) fn judge_turns<S: Scope>(
-    alloc: Global,
-    scope: &S,
-    controls: &[usize],
-    meaning: Option<Meaning>,
-    iteration: &Iteration,
-) -> Result<Outcome, AllocError>
-    ensures { IfOk result (λ o. o ≡ outcome_of (judged_turns (S.means scope.now) controls.now meaning (iteration_view iteration.now))) }
-{
-    let kind = or_dint(kind_at(meaning));
-    let at = iteration.control.at;
-    let first = judge_bound(alloc, scope, kind, &iteration.first)?;
-    let last = judge_bound(alloc, scope, kind, &iteration.last)?;
-    let step = judge_step(alloc, scope, kind, &iteration.step)?;
-    let fits = is_typed(scope, kind, &iteration.first)
-        && is_typed(scope, kind, &iteration.last)
-        && step_is_typed(scope, kind, &iteration.step);
-    let bounds = first.also(last.also(step));
-    let parts = judge_control(controls, meaning, at).also(bounds);
-    Ok(parts.require(fits, Rule::ValueType, at))
-}
-
 // The values that what a name stands for may have.
 fn range_at(meaning: Option<Meaning>) -> Range
     ensures { result ≡ range_at meaning }
@@ -157,6 +164,35 @@ fn range_at(meaning: Option<Meaning>) -> Range
         None => range(Elementary::Dint),
         Some(meaning) => meaning.range,
     }
+}
+
+/// What stands between FOR and DO, and the turns, by what the control variable's name stands for; the bounds and the step
+/// are of its type. Each of them is evaluated once.
+#[tactic(auto, using(typing_laws::proofs::Judging::judging))]
+pub(crate) fn judge_turns<S: Scope>(
+    alloc: Global,
+    scope: &S,
+    controls: &[usize],
+    meaning: Option<Meaning>,
+    iteration: &Iteration,
+) -> Result<JudgedTurns, AllocError>
+    requires { meaning ≡ (S.means scope.now).means (by_path (alone (name_view iteration.now.control))) }
+    ensures judged { IfOk result (λ t. t.judged ≡ outcome_of (judged_turns (S.means scope.now) controls.now meaning (iteration_view iteration.now))) }
+    ensures rule { IfOk result (λ t. t.rule ≡ turns_rule (S.means scope.now) (iteration_view iteration.now)) }
+{
+    let kind = or_dint(kind_at(meaning));
+    let at = iteration.control.at;
+    let first = judge_bound(alloc, scope, kind, &iteration.first)?;
+    let last = judge_bound(alloc, scope, kind, &iteration.last)?;
+    let step = judge_step(alloc, scope, kind, &iteration.step)?;
+    let rule = broken_by_turns(range_at(meaning), first.value, last.value, step.value);
+    let fits = is_typed(scope, kind, &iteration.first)
+        && is_typed(scope, kind, &iteration.last)
+        && step_is_typed(scope, kind, &iteration.step);
+    let bounds = first.judged.also(last.judged.also(step.judged));
+    let parts = judge_control(controls, meaning, at).also(bounds);
+    let judged = parts.require(fits, Rule::ValueType, at);
+    Ok(JudgedTurns { judged, rule })
 }
 
 // The value of a bound, or 0 where it has none.
@@ -168,10 +204,8 @@ fn bound_value<S: Scope>(
 ) -> Result<i64, AllocError>
     ensures { IfOk result (λ value. value ≡ bound_value (S.means scope.now) kind (tree_view bound.now)) }
 {
-    match constant_value(alloc, scope, Some(kind), bound)? {
-        None => Ok(0),
-        Some(value) => Ok(value),
-    }
+    let value = constant_value(alloc, scope, Some(kind), bound)?;
+    Ok(value_or_zero(value))
 }
 
 // A step that is not written is 1.
@@ -187,23 +221,6 @@ fn step_value<S: Scope>(
         None => Ok(1),
         Some(step) => bound_value(alloc, scope, kind, step),
     }
-}
-
-/// The rule that the turns of a FOR break.
-pub fn turns_rule<S: Scope>(
-    alloc: Global,
-    scope: &S,
-    meaning: Option<Meaning>,
-    iteration: &Iteration,
-) -> Result<Option<Rule>, AllocError>
-    requires { meaning ≡ (S.means scope.now).means (by_path (alone (name_view iteration.now.control))) }
-    ensures { IfOk result (λ rule. rule ≡ turns_rule (S.means scope.now) (iteration_view iteration.now)) }
-{
-    let kind = or_dint(kind_at(meaning));
-    let first = bound_value(alloc, scope, kind, &iteration.first)?;
-    let last = bound_value(alloc, scope, kind, &iteration.last)?;
-    let step = step_value(alloc, scope, kind, &iteration.step)?;
-    Ok(broken_by_turns(range_at(meaning), first, last, step))
 }
 
 /// The turns of a FOR.

@@ -6,6 +6,7 @@ mod constants;
 mod iteration;
 mod labels;
 mod laws;
+mod seen_labels;
 mod selection;
 mod statements;
 mod turns;

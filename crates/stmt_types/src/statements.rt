@@ -6,11 +6,9 @@ ghost use Rattle.rules.specs.Outcomes.{outcome_of};
 ghost use Rattle.typing.specs.Outcomes.{stmt_outcome, stmts_outcome, arms_outcome, bodies_outcome, else_outcome};
 
 use crate::connections::judge_invoke;
-use crate::iteration::{is_assignable, judge_turns, turns_rule, with_control};
+use crate::iteration::{is_assignable, judge_turns, with_control};
 use crate::selection::judge_selection;
-use expr_types::{
-    judge_condition, judge_expr, judge_meaning, kind_at, meaning_alone, or_dint, type_of,
-};
+use expr_types::{judge_condition, judge_meaning, judge_with_own, kind_at, meaning_alone, or_dint};
 use rules::{Outcome, Rule};
 use source_tree::{Arm, Entry, Expr, Path, Stmt};
 use std::alloc::{AllocError, Global};
@@ -38,13 +36,10 @@ fn judge_assign<S: Scope>(
     let meaning = scope.meaning(path);
     let wanted = kind_at(meaning);
     let target = judge_target(controls, meaning, path.first.at);
-    let fits = type_of(scope, wanted, value).is_same(or_dint(wanted));
-    let judged = judge_expr(alloc, scope, wanted, value)?;
-    Ok(
-        target
-            .also(judged)
-            .require(fits, Rule::ValueType, path.first.at),
-    )
+    let judged = judge_with_own(alloc, scope, wanted, value)?;
+    let fits = judged.kind(wanted).is_same(or_dint(wanted));
+    let parts = target.also(judged.outcome);
+    Ok(parts.require(fits, Rule::ValueType, path.first.at))
 }
 
 #[cycle(judge_stmts)]
@@ -80,9 +75,8 @@ fn judge_stmt<S: Scope>(
             let meaning = meaning_alone(alloc, scope, &iteration.control)?;
             let turns = judge_turns(alloc, scope, controls, meaning, iteration)?;
             let inner = with_control(alloc, controls, meaning)?;
-            let parts = judge_all(alloc, scope, &inner, turns, body)?;
-            let rule = turns_rule(alloc, scope, meaning, iteration)?;
-            Ok(so_far.also(parts.ruled(rule, iteration.at)))
+            let parts = judge_all(alloc, scope, &inner, turns.judged, body)?;
+            Ok(so_far.also(parts.ruled(turns.rule, iteration.at)))
         }
     }
 }

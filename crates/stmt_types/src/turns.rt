@@ -1,7 +1,7 @@
 // How many turns a FOR has, and whether it may have them.
-ghost use Rattle.std.specs.Prelude.{◌≡◌, ◌≤◌};
+ghost use Rattle.std.specs.Prelude.{◌≡◌, ◌+◌, ◌+ℤ◌, ◌*ℤ◌, ◌&&◌, pos, min};
 ghost use Rattle.plc_types.specs.Types.{in_range};
-ghost use Rattle.typing.specs.Constants.{goes_on, turns_within, turn_count, are_in_range, broken_by_turns};
+ghost use Rattle.typing.specs.Constants.{goes_on, turn_count, are_in_range, broken_by_turns};
 
 use plc_types::Range;
 use rules::Rule;
@@ -10,7 +10,7 @@ use rules::Rule;
 const MOST_TURNS: u16 = 4096;
 
 // A turn begins with a value that does not pass the last one, in the direction of the step.
-fn goes_on(value: i128, last: i128, step: i128) -> bool
+fn goes_on(value: i64, last: i64, step: i64) -> bool
     ensures { result ≡ goes_on value last step }
 {
     if 0 < step {
@@ -20,28 +20,28 @@ fn goes_on(value: i128, last: i128, step: i128) -> bool
     }
 }
 
-// How many turns there are from a value on, up to a bound.
-fn turns_within(bound: u16, first: i64, last: i64, step: i64) -> u16
-    ensures count { result ≡ turns_within bound first last step }
-    ensures bound { result ≤ bound }
+// The first turn and so many more; 4,097 stand for any greater number.
+fn with_first(more: u64) -> u16
+    ensures { result ≡ min 4097 (more + 1) }
 {
-    let last = i128::from(last);
-    let step = i128::from(step);
-    let mut value = i128::from(first);
-    for count in 0..bound {
-        if !goes_on(value, last, step) {
-            return count;
-        }
-        value += step;
+    if more < u64::from(MOST_TURNS) {
+        more as u16 + 1
+    } else {
+        MOST_TURNS + 1
     }
-    bound
 }
 
 /// How many turns a FOR has; 4,097 stand for any greater number.
 pub fn turn_count(first: i64, last: i64, step: i64) -> u16
     ensures { result ≡ turn_count first last step }
 {
-    turns_within(MOST_TURNS + 1, first, last, step)
+    if !goes_on(first, last, step) {
+        return 0;
+    }
+    if step == 0 {
+        return MOST_TURNS + 1;
+    }
+    with_first(last.abs_diff(first) / step.unsigned_abs())
 }
 
 fn in_range(value: i128, range: Range) -> bool
@@ -50,19 +50,30 @@ fn in_range(value: i128, range: Range) -> bool
     i128::from(range.low) <= value && value <= i128::from(range.high)
 }
 
-// Whether the value of each of so many turns, and the one that ends the FOR, lie in a range.
+fn are_both_in_range(first: i128, end: i128, range: Range) -> bool
+    ensures { result ≡ (in_range first range && in_range end range) }
+{
+    in_range(first, range) && in_range(end, range)
+}
+
+// The value that so many steps lead to.
+fn end_of(count: u16, first: i64, step: i64) -> i128
+    ensures { result ≡ first +ℤ (pos count *ℤ step) }
+{
+    let first = i128::from(first);
+    let count = i128::from(count);
+    let step = i128::from(step);
+    let far = count * step;
+    first + far
+}
+
+// Whether the value of each of so many turns, and the one that ends the FOR, lie in a range: the first and the last of
+// these values do.
 fn are_in_range(count: u16, first: i64, step: i64, range: Range) -> bool
     ensures { result ≡ are_in_range count first step range }
 {
-    let step = i128::from(step);
-    let mut value = i128::from(first);
-    for _ in 0..count {
-        if !in_range(value, range) {
-            return false;
-        }
-        value += step;
-    }
-    in_range(value, range)
+    let end = end_of(count, first, step);
+    are_both_in_range(i128::from(first), end, range)
 }
 
 /// The rule that the turns of a FOR break, whose control variable has a range.

@@ -1,20 +1,21 @@
 -- A propagator, when a clause is added, when a clause comes to watch, and when the trail changes.
-use Rattle.std.proofs.Common.{◌≡◌, ◌≢◌, ◌⊎◌, ℕ, zero, suc, ◌<◌, ◌≤◌, ◌+◌, ◌-◌, List, [], ◌∷◌, ◌++◌, length, get_or, take, refl, sym, ◌∙◌, ap, subst, ⊎_elim, arith}
+use Rattle.std.proofs.Common.{◌≡◌, ◌≢◌, ℕ, zero, suc, ◌<◌, ◌≤◌, ◌+◌, ◌-◌, List, [], ◌∷◌, ◌++◌, length, get_or, take, refl, sym, ◌∙◌, ap, subst, ⊎_elim, IsTrue, set, arith}
 use Rattle.std.specs.List.{Contains}
 use Rattle.std.proofs.lemmas.Bool.{cases_lt}
-use Rattle.std.proofs.lemmas.List.{length-append, take_at, take-append-le}
+use Rattle.std.proofs.lemmas.List.{get_or_append_left, get_or_past, get_or-set_same, get_or-set_other, length-append, length-set, take_at, take-append-le}
 use Rattle.std.proofs.lemmas.List.Elements.{Contains-append_left, Contains-push, Contains-push_cases}
 use Rattle.watched_propagation.specs.declared.watch.Pair.{Pair}
 use Rattle.watched_propagation.specs.declared.watch.Watch.{Watch}
 use Rattle.propagation_trail.specs.Codes.{negated}
 use Rattle.propagation_trail.specs.Trails.{TrailState, assigned}
-use Rattle.watched_propagation.specs.Watching.{no_pair, pair_in, IsWatch, IsSettled, below_level, IsWatching, KeepsWatched, KeepsWatching}
+use Rattle.watched_propagation.specs.Watching.{no_pair, clause_in, pair_in, is_part, IsCovered, IsWatch, IsSettled, below_level, IsWatching, KeepsWatched, KeepsWatching}
 use Rattle.watched_propagation.specs.Propagations.{IsPropagator, IsWatchable, IsLearnable}
+use Rattle.propagation_trail.proofs.Tables.{cases_eq}
 use Rattle.watched_propagation.proofs.Settling.{Contains-take, Contains-clause, IsWatching-clauses}
 
--- pairs that are the same at each place
-IsWatching-pairs : (clauses : List (List ℕ)) (pairs others : List Pair) (lists : List (List Watch)) (t : TrailState) → ((k : ℕ) → pair_in others k ≡ pair_in pairs k) → IsWatching clauses pairs lists t → IsWatching clauses others lists t
-IsWatching-pairs clauses pairs others lists t same h = record {
+-- pairs of which each watches no more than before
+IsWatching-less : (clauses : List (List ℕ)) (pairs others : List Pair) (lists : List (List Watch)) (t : TrailState) → ((k w : ℕ) → IsWatch (pair_in others k) w → IsWatch (pair_in pairs k) w) → IsWatching clauses pairs lists t → IsWatching clauses others lists t
+IsWatching-less clauses pairs others lists t back h = record {
   listing = record {
     inside = λ k w i. h.listing.inside k w (back k w i);
     listed = λ k w i. h.listing.listed k w (back k w i);
@@ -25,11 +26,12 @@ IsWatching-pairs clauses pairs others lists t same h = record {
   size = h.size;
 }
   where
-    back : (k w : ℕ) → IsWatch (pair_in others k) w → IsWatch (pair_in pairs k) w
-    back k w i = subst (λ z. IsWatch z w) (same k) i
-
     settled : (first second : List ℕ) → IsSettled clauses pairs first second → IsSettled clauses others first second
     settled first second s = record { meets = λ k w i m. s.meets k w (back k w i) m }
+
+-- pairs that are the same at each place
+IsWatching-pairs : (clauses : List (List ℕ)) (pairs others : List Pair) (lists : List (List Watch)) (t : TrailState) → ((k : ℕ) → pair_in others k ≡ pair_in pairs k) → IsWatching clauses pairs lists t → IsWatching clauses others lists t
+IsWatching-pairs clauses pairs others lists t same h = IsWatching-less clauses pairs others lists t (λ k w i. subst (λ z. IsWatch z w) (same k) i) h
 
 push-none : (pairs : List Pair) (k : ℕ) → pair_in (pairs ++ no_pair ∷ []) k ≡ pair_in pairs k
 push-none [] zero = refl
@@ -40,7 +42,7 @@ push-none (p ∷ ps) (suc k) = push-none ps k
 pub add_loose : (clauses : List (List ℕ)) (pairs : List Pair) (lists : List (List Watch)) (t : TrailState) (loose : List ℕ) (k : ℕ) → IsPropagator clauses pairs lists t loose → IsPropagator clauses pairs lists t (loose ++ k ∷ [])
 add_loose clauses pairs lists t loose k h = record {
   watching = h.watching;
-  unwatched = λ j lt e. Contains-append_left loose (k ∷ []) j (h.unwatched j lt e);
+  unwatched = λ j lt e n. Contains-append_left loose (k ∷ []) j (h.unwatched j lt e n);
   paired = h.paired;
   few = h.few;
 }
@@ -48,16 +50,26 @@ add_loose clauses pairs lists t loose k h = record {
 pub add_pair : (clauses : List (List ℕ)) (pairs : List Pair) (lists : List (List Watch)) (t : TrailState) (loose : List ℕ) → IsPropagator clauses pairs lists t loose → IsPropagator clauses (pairs ++ no_pair ∷ []) lists t loose
 add_pair clauses pairs lists t loose h = record {
   watching = IsWatching-pairs clauses pairs (pairs ++ no_pair ∷ []) lists t (push-none pairs) h.watching;
-  unwatched = λ j lt e. h.unwatched j lt (ap (λ (p : Pair). p.first) (sym (push-none pairs j)) ∙ e ∙ ap (λ (p : Pair). p.second) (push-none pairs j));
+  unwatched = λ j lt e n. h.unwatched j lt (ap (λ (p : Pair). p.first) (sym (push-none pairs j)) ∙ e ∙ ap (λ (p : Pair). p.second) (push-none pairs j)) n;
   paired = let s = length-append pairs (no_pair ∷ []) in let le = h.paired in omega arith;
   few = h.few;
+}
+
+-- what a later clause is a part of stays so
+IsCovered-more : (clauses : List (List ℕ)) (c : List ℕ) (k : ℕ) → k < length clauses → IsCovered clauses k → IsCovered (clauses ++ c ∷ []) k
+IsCovered-more clauses c k lt h = record {
+  by = h.by;
+  later = h.later;
+  within = let s = length-append clauses (c ∷ []) in let i = h.within in omega arith;
+  part = subst (λ z. IsTrue (is_part z (clause_in (clauses ++ c ∷ []) k))) (sym (get_or_append_left clauses (c ∷ []) [] h.by h.within))
+      (subst (λ z. IsTrue (is_part (clause_in clauses h.by) z)) (sym (get_or_append_left clauses (c ∷ []) [] k lt)) h.part);
 }
 
 pub add_clause : (clauses : List (List ℕ)) (pairs : List Pair) (lists : List (List Watch)) (t : TrailState) (loose : List ℕ) (c : List ℕ) → length clauses < length pairs → IsPropagator clauses pairs lists t (loose ++ length clauses ∷ []) → IsPropagator (clauses ++ c ∷ []) pairs lists t (loose ++ length clauses ∷ [])
 add_clause clauses pairs lists t loose c lt h = record {
   watching = IsWatching-clauses clauses (clauses ++ c ∷ []) pairs lists t (Contains-clause clauses c) h.watching;
-  unwatched = λ j l e. ⊎_elim
-      (λ less. h.unwatched j less e)
+  unwatched = λ j l e n. ⊎_elim
+      (λ less. h.unwatched j less e (λ by. n (IsCovered-more clauses c j less by)))
       (λ le. let same : length clauses ≡ j = omega (arith, length-append clauses (c ∷ []), l) in subst (Contains (loose ++ length clauses ∷ [])) same (Contains-push loose (length clauses)))
       (cases_lt j (length clauses));
   paired = let s = length-append clauses (c ∷ []) in omega arith;
@@ -68,7 +80,7 @@ add_clause clauses pairs lists t loose c lt h = record {
 pub go_on : (clauses : List (List ℕ)) (pairs others : List Pair) (lists next : List (List Watch)) (t s : TrailState) (loose : List ℕ) → IsWatching clauses others next s → KeepsWatched pairs others → length pairs ≤ length others → length s.values ≡ length t.values → IsPropagator clauses pairs lists t loose → IsPropagator clauses others next s loose
 go_on clauses pairs others lists next t s loose w k le size h = record {
   watching = w;
-  unwatched = λ j lt e. h.unwatched j lt (k j e);
+  unwatched = λ j lt e n. h.unwatched j lt (k j e) n;
   paired = let p = h.paired in omega arith;
   few = let f = h.few in omega arith;
 }
@@ -80,10 +92,10 @@ go_on_trail clauses pairs lists t s loose k size h = go_on clauses pairs pairs l
 pub take_loose : (clauses : List (List ℕ)) (pairs : List Pair) (lists : List (List Watch)) (t : TrailState) (loose front rest : List ℕ) (k : ℕ) → loose ≡ front ++ k ∷ [] → rest ≡ take (length loose - 1) loose → (pair_in pairs k).first ≢ (pair_in pairs k).second → IsPropagator clauses pairs lists t loose → IsPropagator clauses pairs lists t rest
 take_loose clauses pairs lists t loose front rest k is left n h = record {
   watching = h.watching;
-  unwatched = λ j lt e. ⊎_elim
+  unwatched = λ j lt e no. ⊎_elim
       (λ m. subst (λ z. Contains z j) (sym same) m)
       (λ r. absurd (n (subst (λ z. (pair_in pairs z).first ≡ (pair_in pairs z).second) (sym r) e)))
-      (Contains-push_cases front k j (subst (λ z. Contains z j) is (h.unwatched j lt e)));
+      (Contains-push_cases front k j (subst (λ z. Contains z j) is (h.unwatched j lt e no)));
   paired = h.paired;
   few = h.few;
 }
@@ -116,3 +128,27 @@ watchable_learned t s one other h e = subst (λ z. IsWatchable z one one × IsWa
   where
     below : (j : ℕ) → j < length t.starts → (x : ℕ) → Contains (below_level (assigned t one) j) x → Contains (below_level t j) x
     below j l x m = subst (λ z. Contains z x) (take-append-le (get_or t.starts j 0) t.literals (one ∷ []) (h.rising.within j l)) m
+
+-- a clause that a later one is a part of watches nothing any more
+none-watches : (w : ℕ) → IsWatch no_pair w → ⊥
+none-watches w i = i.two refl
+
+let-go-back : (pairs : List Pair) (k j w : ℕ) → IsWatch (pair_in (set pairs k no_pair) j) w → IsWatch (pair_in pairs j) w
+let-go-back pairs k j w i = ⊎_elim
+    (λ e. ⊎_elim
+    (λ lt. absurd (none-watches w (subst (λ z. IsWatch z w) (ap (λ z. pair_in (set pairs k no_pair) z) e ∙ get_or-set_same pairs k no_pair no_pair lt) i)))
+    (λ le. absurd (none-watches w (subst (λ z. IsWatch z w) (get_or_past (set pairs k no_pair) j no_pair (let s = length-set pairs k no_pair in omega arith)) i)))
+    (cases_lt k (length pairs)))
+    (λ n. subst (λ z. IsWatch z w) (get_or-set_other pairs k j no_pair no_pair n) i)
+    (cases_eq j k)
+
+pub let_go : (clauses : List (List ℕ)) (pairs : List Pair) (lists : List (List Watch)) (t : TrailState) (loose : List ℕ) (k : ℕ) → IsCovered clauses k → IsPropagator clauses pairs lists t loose → IsPropagator clauses (set pairs k no_pair) lists t loose
+let_go clauses pairs lists t loose k covered h = record {
+  watching = IsWatching-less clauses pairs (set pairs k no_pair) lists t (let-go-back pairs k) h.watching;
+  unwatched = λ j lt e no. ⊎_elim
+      (λ is. absurd (no (subst (IsCovered clauses) (sym is) covered)))
+      (λ n. h.unwatched j lt (subst (λ (z : Pair). z.first ≡ z.second) (get_or-set_other pairs k j no_pair no_pair n) e) no)
+      (cases_eq j k);
+  paired = let s = length-set pairs k no_pair in let p = h.paired in omega arith;
+  few = h.few;
+}

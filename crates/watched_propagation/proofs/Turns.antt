@@ -1,5 +1,5 @@
 -- A visit of the clauses that watch a false literal, turn by turn.
-use Rattle.std.proofs.Common.{◌≡◌, ◌≢◌, ◌⊎◌, ℕ, ◌<◌, ◌≤◌, ◌+◌, ◌-◌, List, [], length, set, refl, sym, ◌∙◌, ap, subst, inl, inr, ⊎_elim, arith, Bool, true, false, Option, Some, None}
+use Rattle.std.proofs.Common.{◌≡◌, ℕ, ◌<◌, ◌≤◌, ◌+◌, ◌-◌, List, [], length, set, refl, sym, ◌∙◌, ap, subst, inl, inr, ⊎_elim, arith, Bool, false, Option, Some, None}
 use Rattle.std.specs.List.{Contains, swap_remove}
 use Rattle.std.specs.Option.{is_some}
 use Rattle.std.proofs.lemmas.Bool.{cases_lt, true≢false}

@@ -1,5 +1,5 @@
 -- Clauses that watch two of their literals.
-use Rattle.std.specs.Prelude.{◌≡◌, ◌≢◌, ◌⊎◌, ℕ, ◌*◌, ◌<◌, ◌≤◌, List, [], length, take, slice_index_or, Contains, false}
+use Rattle.std.specs.Prelude.{◌≡◌, ◌≢◌, ◌⊎◌, ℕ, ◌*◌, ◌<◌, ◌≤◌, Bool, true, false, nat_eq, if◌then◌else◌, IsTrue, List, [], ◌∷◌, length, take, slice_index_or, Contains}
 use Rattle.watched_propagation.specs.declared.watch.Pair.{Pair}
 use Rattle.watched_propagation.specs.declared.watch.Watch.{Watch}
 use Rattle.propagation_trail.specs.Codes.{negated}
@@ -71,9 +71,22 @@ pub record IsWatching (clauses : List (List ℕ)) (pairs : List Pair) (lists : L
 abbrev pub KeepsWatched : List Pair → List Pair → Type 0
 KeepsWatched pairs others = (k : ℕ) → (pair_in others k).first ≡ (pair_in others k).second → (pair_in pairs k).first ≡ (pair_in pairs k).second
 
--- a clause that watches nothing stands among the loose ones
+-- the literals of the first clause stand in the second, in the same order
+abbrev pub is_part : List ℕ → List ℕ → Bool
+is_part [] whole = true
+is_part (p ∷ ps) [] = false
+is_part (p ∷ ps) (w ∷ ws) = if nat_eq p w then is_part ps ws else is_part (p ∷ ps) ws
+
+-- a later clause is a part of this one
+pub record IsCovered (clauses : List (List ℕ)) (k : ℕ) : Type 0 where
+  pub by : ℕ
+  pub later : k < by
+  pub within : by < length clauses
+  pub part : IsTrue (is_part (clause_in clauses by) (clause_in clauses k))
+
+-- a clause that watches nothing, and that no later one is a part of, stands among the loose ones
 abbrev pub IsLoose : List (List ℕ) → List Pair → List ℕ → Type 0
-IsLoose clauses pairs loose = (k : ℕ) → k < length clauses → (pair_in pairs k).first ≡ (pair_in pairs k).second → Contains loose k
+IsLoose clauses pairs loose = (k : ℕ) → k < length clauses → (pair_in pairs k).first ≡ (pair_in pairs k).second → (IsCovered clauses k → ⊥) → Contains loose k
 
 -- the trail may go on so: the invariant stays, whatever the clauses are
 abbrev pub KeepsWatching : TrailState → TrailState → Type 0

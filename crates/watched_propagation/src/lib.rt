@@ -7,6 +7,7 @@
 // attach       two literals of a new clause to watch
 // adding       new clauses
 // closed       whether nothing is left to propagate
+// covered      clauses of which a later one is a part
 // propagator   all of it together
 #![tactic(auto)]
 
@@ -14,6 +15,7 @@ mod adding;
 mod arena;
 mod attach;
 mod closed;
+mod covered;
 mod levels;
 mod propagator;
 mod visit;

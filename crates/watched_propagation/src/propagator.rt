@@ -8,6 +8,7 @@ ghost use Rattle.clause_core.specs.Propagation.{IsClosed};
 use crate::adding::{add_given, add_learned};
 use crate::arena::Arena;
 use crate::closed::is_closed;
+use crate::covered::let_go;
 use crate::levels::{assume, decide, go_back};
 use crate::visit::propagate;
 use crate::watch::{Pair, WatchList, watch_lists};
@@ -103,6 +104,29 @@ impl Propagator {
             one.number,
             other.number,
         )
+    }
+
+    /// The clause that was added last.
+    pub fn last(&self) -> ClauseRef {
+        ClauseRef {
+            number: low(self.arena.len()),
+        }
+    }
+
+    /// Looks at a clause no more where a later one is a part of it, literal for literal in the same order. Both stay held: where
+    /// the later one is neither false nor unit, the other is not either.
+    pub fn let_go(&mut self, clause: ClauseRef, by: ClauseRef)
+        ensures { self.new ≡ self.old }
+    {
+        let_go(
+            &self.arena,
+            self.pairs.as_mut_slice(),
+            self.lists.as_slice(),
+            &self.trail,
+            self.loose.as_slice(),
+            clause.place(),
+            by.place(),
+        );
     }
 
     /// Makes a literal true by decision, in a level of its own. Where propagation is not at its end, or

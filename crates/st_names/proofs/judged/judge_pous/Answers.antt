@@ -10,14 +10,21 @@ use Rattle.naming.specs.FileScope.{pous_of}
 use Rattle.pou_scope.specs.NamesView.{scope_named, pous_named}
 use Rattle.rules.specs.Outcomes.{outcome_of}
 use Rattle.naming.specs.Scopes.{scope_of}
-use Rattle.pou_scope.proofs.JudgedLemmas.{are_names, scope_at, uses_is}
+use Rattle.pou_scope.proofs.JudgedLemmas.{are_names, scope_at, seen_at, uses_is}
 use Rattle.naming.proofs.ListLemmas.{then_more}
 use Rattle.rules.proofs.Outcomes.{outcome_first, outcome_whole, first_before}
 use Rattle.naming.proofs.Steps.{view-drop}
 use Rattle.st_names.proofs.judged.judge_pous.Goals as goal
 
 pub invariant_of-judge_pou : goal.invariant_of-judge_pou
-invariant_of-judge_pou c = record { all = are_names (file_view c.args.file.now.types.names.file.now) c.args.all.now c.requires.scopes }
+invariant_of-judge_pou c = record { all = are_names (file_view c.args.file.now.types.names.file.now) c.args.all.now c.requires.scopes c.requires.seen }
+
+pub invariant_of-names : goal.invariant_of-names
+invariant_of-names c =
+    let f = file_view c.args.file.now.types.names.file.now in
+    let all = c.args.all.now in
+    let below : c.loop-own.own-index < length all = omega arith in
+    record { known = seen_at f all (pous_of f) c.loop-own.own-index c.own-item.result c.requires.pous c.requires.scopes c.requires.seen below c.own-item.is }
 
 pub loop-own-preserved : goal.loop-own-preserved
 loop-own-preserved c =

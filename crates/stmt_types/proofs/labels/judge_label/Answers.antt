@@ -7,7 +7,7 @@ use Rattle.typing_laws.proofs.Labelling.{outcome_of-label}
 use Rattle.stmt_types.proofs.labels.judge_label.Goals as goal
 
 pub returns : goal.returns
-returns g c = λ seen is_constants is_range is_new.
-    outcome_of-label (g.S.Scope.means c.args.scope.now) c.args.kind seen (label_view c.args.label.now) c.if-is_of_type.fits c.is_in_order.result c.args.is_new c.args.constants c.require.result c.require-2.result c.require-3.result
-    (search rules) (c.is_in_order.ensures ∙ ap (λ (r : Range). int_le r.low r.high) is_range) (is_new ∙ ap (λ (r : Range). not (overlaps seen r)) is_range)
-    is_constants (search rules) (search rules) (search rules)
+returns g c = λ seen is_judged is_range is_fit is_new.
+    outcome_of-label (g.S.Scope.means c.args.scope.now) c.args.kind seen (label_view c.args.label.now) c.args.constants.fit c.is_in_order.result c.args.is_new c.args.constants.judged c.require.result c.require-2.result c.require-3.result
+    is_fit (c.is_in_order.ensures ∙ ap (λ (r : Range). int_le r.low r.high) is_range) (is_new ∙ ap (λ (r : Range). not (overlaps seen r)) is_range)
+    is_judged (search rules) (search rules) (search rules)

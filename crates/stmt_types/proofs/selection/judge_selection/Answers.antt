@@ -9,9 +9,9 @@ use Rattle.stmt_types.proofs.selection.judge_selection.Goals as goal
 
 pub returns-then-not-judged : goal.returns-then-not-judged
 returns-then-not-judged g c =
-    outcome_of-unselected (g.S.Scope.means c.args.scope.now) (tree_view c.args.selector.now) (entries_view c.args.entries.now) c.in_ok-judged.judged c.in_ok-judged.ensures (not-true c.in_ok-judged.judged.whole c.if-not-judged.true)
+    outcome_of-unselected (g.S.Scope.means c.args.scope.now) (tree_view c.args.selector.now) (entries_view c.args.entries.now) c.in_ok-judged.judged.outcome c.in_ok-judged.ensures.outcome (not-true c.in_ok-judged.judged.outcome.whole c.if-not-judged.true)
 
 pub returns : goal.returns
 returns g c =
-    outcome_of-selection (g.S.Scope.means c.args.scope.now) (tree_view c.args.selector.now) (entries_view c.args.entries.now) c.in_ok-judged.judged c.in_ok-labels.labels c.also.result c.in_ok-judged.ensures (not-false c.in_ok-judged.judged.whole c.if-not-judged.false)
-    (c.in_ok-labels.ensures ∙ ap (λ t. outcome_of (judged_labels (g.S.Scope.means c.args.scope.now) t [] (all_labels (entries_view c.args.entries.now)))) c.type_of.ensures) c.also.ensures
+    outcome_of-selection (g.S.Scope.means c.args.scope.now) (tree_view c.args.selector.now) (entries_view c.args.entries.now) c.in_ok-judged.judged.outcome c.in_ok-labels.labels c.also.result c.in_ok-judged.ensures.outcome (not-false c.in_ok-judged.judged.outcome.whole c.if-not-judged.false)
+    (c.in_ok-labels.ensures ∙ ap (λ t. outcome_of (judged_labels (g.S.Scope.means c.args.scope.now) t [] (all_labels (entries_view c.args.entries.now)))) c.in_ok-judged.ensures.kind) c.also.ensures

@@ -1,8 +1,0 @@
-use Rattle.std.proofs.Common.{◌≡◌, drop}
-use Rattle.source_tree.specs.SyntaxView.{arguments_view}
-use Rattle.typing.specs.Judged.{fit_placed}
-use Rattle.expr_types.proofs.answers.fit_placed.Given as goal
-
-abbrev pub invariant-loop-place : goal.invariant-loop-place
-invariant-loop-place g l =
-    fit_placed (g.S.Scope.means l.scope) l.signature l.place (arguments_view (drop l.place l.arguments)) ≡ fit_placed (g.S.Scope.means l.scope) l.signature 0 (arguments_view l.arguments)

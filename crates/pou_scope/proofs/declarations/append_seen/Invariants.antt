@@ -1,0 +1,6 @@
+use Rattle.std.proofs.Common.{◌≡◌, ◌++◌, drop}
+use Rattle.pou_scope.specs.AllSeen.{blocks_seen}
+use Rattle.pou_scope.proofs.declarations.append_seen.Given as goal
+
+abbrev pub invariant-loop-seen : goal.invariant-loop-seen
+invariant-loop-seen l = l.blocks.items ++ blocks_seen (drop l.seen-index l.all) ≡ l.fn.blocks.items ++ blocks_seen l.all

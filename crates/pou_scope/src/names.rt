@@ -1,0 +1,30 @@
+// The names of a POU, in the file around it.
+ghost use Rattle.std.specs.Prelude.{◌≡◌};
+ghost use Rattle.source_tree.specs.SyntaxView.{name_view, file_view};
+ghost use Rattle.naming.specs.Scopes.{scope_with, seen_named};
+ghost use Rattle.naming.specs.ScopeView.{variables_view};
+ghost use Rattle.pou_scope.specs.AllSeen.{all_seen};
+
+use crate::pou_names::NamesOfPou;
+use file_scope::FileScope;
+use naming::Seen;
+use source_tree::Name;
+
+/// A POU's names, and those of the file around it.
+#[derive(Clone, Copy)]
+pub struct Names<'a, 'f> {
+    pub file: &'a FileScope<'f>,
+    pub own: &'a NamesOfPou<'f>,
+    ghost known: { own.now.seen.items ≡ all_seen (file_view file.now.types.names.file.now) (scope_with own.now.has_fault (variables_view own.now.variables.items)) },
+}
+
+impl Names<'_, '_> {
+    ghost use Rattle.pou_scope.specs.NamesView.{file_in, pou_in};
+
+    /// What is known of the variable of a name.
+    pub fn seen(&self, name: &Name) -> Option<Seen>
+        ensures { result ≡ seen_named (file_in self.now) (pou_in self.now) (name_view name.now).text }
+    {
+        self.own.seen(name)
+    }
+}

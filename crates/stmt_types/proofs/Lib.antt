@@ -1,0 +1,3 @@
+pub mod SeenLemmas
+pub mod StepLemmas
+pub mod ArrowLemmas
