@@ -25,10 +25,10 @@ no_answer : (o : Option Signature) (given : Signature → List PlacedData) → v
 no_answer None given = refl
 no_answer (Some g) given = refl
 
-no_result : (s : Scope) (wanted : Option DataType) (f : Option StandardFunction) (o : Option Signature) (args : Arguments) (operands : StandardFunction → DataType → Expressions) (given : Signature → List PlacedData)
-    → value_of_number (typed_result s wanted f o args operands given) ≡ pos 0
-no_result s wanted None o args operands given = no_answer o given
-no_result s wanted (Some f) o args operands given = refl
+no_result : (s : Scope) (expected : Option DataType) (f : Option StandardFunction) (o : Option Signature) (args : Arguments) (operands : StandardFunction → DataType → Expressions) (given : Signature → List PlacedData)
+    → value_of_number (typed_result s expected f o args operands given) ≡ pos 0
+no_result s expected None o args operands given = no_answer o given
+no_result s expected (Some f) o args operands given = refl
 
 signed_by : (k l : DataType) (o : UnaryOperator) (m : Option Literal) (d e : Expression) → k ≡ l → value_of_number (typed_signed k o m d) ≡ value_of_number (typed_signed l o m e)
 signed_by k l o None d e same = refl
@@ -50,19 +50,19 @@ module _ (s t : Scope) (alike : AreAlike s t) where
     are_constant_alike (link o at e ls) = λ i. is_constant_alike e i && are_constant_alike ls i
 
   mutual
-    typed_alike : (wanted : Option DataType) (e : Tree) → is_constant s e ≡ true → typed s wanted e ≡ typed t wanted e
-    typed_alike wanted (literal l) h = refl
-    typed_alike wanted (path p) h = read_alike (s.means (by_path p)) (t.means (by_path p)) (alike.means (by_path p)) h
-    typed_alike wanted (enumerator n v) h = read_alike (s.means (by_value v)) (t.means (by_value v)) (alike.means (by_value v)) h
-    typed_alike wanted (paren at e) h = typed_alike wanted e h
-    typed_alike wanted (unary o at e) h =
-        let k = type_of s wanted e in
-        (λ i. typed_signed k o (negative_literal o e) (typed_alike (Some k) e h i)) ∙ ap (λ (x : DataType). typed_signed x o (negative_literal o e) (typed t (Some x) e)) (type_alike s t alike wanted e)
-    typed_alike wanted (chain e ls) h =
+    typed_alike : (expected : Option DataType) (e : Tree) → is_constant s e ≡ true → typed s expected e ≡ typed t expected e
+    typed_alike expected (literal l) h = refl
+    typed_alike expected (path p) h = read_alike (s.means (by_path p)) (t.means (by_path p)) (alike.means (by_path p)) h
+    typed_alike expected (enumerator n v) h = read_alike (s.means (by_value v)) (t.means (by_value v)) (alike.means (by_value v)) h
+    typed_alike expected (paren at e) h = typed_alike expected e h
+    typed_alike expected (unary o at e) h =
+        let k = type_of s expected e in
+        (λ i. typed_signed k o (negative_literal o e) (typed_alike (Some k) e h i)) ∙ ap (λ (x : DataType). typed_signed x o (negative_literal o e) (typed t (Some x) e)) (type_alike s t alike expected e)
+    typed_alike expected (chain e ls) h =
         let two = and_parts (is_constant s e) (are_constant s ls) h in
-        let k = operand_type s wanted e ls in
-        (λ i. typed_chain (typed_alike (Some k) e two.0 i) (typed_links_alike k ls two.1 i)) ∙ ap (λ (x : DataType). typed_chain (typed t (Some x) e) (typed_links t x ls)) (operand_alike s t alike wanted e ls)
-    typed_alike wanted (call n at args) h = absurd (true≢false (sym h))
+        let k = operand_type s expected e ls in
+        (λ i. typed_chain (typed_alike (Some k) e two.0 i) (typed_links_alike k ls two.1 i)) ∙ ap (λ (x : DataType). typed_chain (typed t (Some x) e) (typed_links t x ls)) (operand_alike s t alike expected e ls)
+    typed_alike expected (call n at args) h = absurd (true≢false (sym h))
 
     typed_links_alike : (k : DataType) (ls : Links) → are_constant s ls ≡ true → typed_links s k ls ≡ typed_links t k ls
     typed_links_alike k no_links h = refl
@@ -70,30 +70,30 @@ module _ (s t : Scope) (alike : AreAlike s t) where
         let two = and_parts (is_constant s e) (are_constant s ls) h in
         λ i. operand o (carrier k) (typed_alike (Some k) e two.0 i) (typed_links_alike (next_type o k) ls two.1 i)
 
-  pub value_of_alike : (wanted : Option DataType) (e : Tree) → constant_value s wanted e ≡ constant_value t wanted e
-  value_of_alike wanted e = by (is_constant s e) refl
+  pub value_of_alike : (expected : Option DataType) (e : Tree) → constant_value s expected e ≡ constant_value t expected e
+  value_of_alike expected e = by (is_constant s e) refl
     where
       of : Bool → Expression → Option ℤ
       of b x = if b && not (faults no_callees 0 x []) then Some (value_of no_callees 0 x []) else None
 
-      by : (b : Bool) → is_constant s e ≡ b → constant_value s wanted e ≡ constant_value t wanted e
-      by true h = (λ i. of (is_constant_alike e i) (typed_alike wanted e h i))
-      by false h = ap (λ (b : Bool). of b (typed s wanted e)) h ∙ sym (ap (λ (b : Bool). of b (typed t wanted e)) (sym (is_constant_alike e) ∙ h))
+      by : (b : Bool) → is_constant s e ≡ b → constant_value s expected e ≡ constant_value t expected e
+      by true h = (λ i. of (is_constant_alike e i) (typed_alike expected e h i))
+      by false h = ap (λ (b : Bool). of b (typed s expected e)) h ∙ sym (ap (λ (b : Bool). of b (typed t expected e)) (sym (is_constant_alike e) ∙ h))
 
   -- the value of a label
-  number_by : (wanted : Option DataType) (e : Tree) → value_of_number (typed s wanted e) ≡ value_of_number (typed t wanted e)
-  number_by wanted (literal l) = refl
-  number_by wanted (path p) = number_alike (s.means (by_path p)) (t.means (by_path p)) (alike.means (by_path p))
-  number_by wanted (enumerator n v) = number_alike (s.means (by_value v)) (t.means (by_value v)) (alike.means (by_value v))
-  number_by wanted (paren at e) = number_by wanted e
-  number_by wanted (unary o at e) =
-      let k = type_of s wanted e in
-      let l = type_of t wanted e in
-      signed_by k l o (negative_literal o e) (typed s (Some k) e) (typed t (Some l) e) (type_alike s t alike wanted e)
-  number_by wanted (chain e ls) = refl
-  number_by wanted (call n at args) =
-      no_result s wanted (standard_function n.text) (s.signature n.text) args (λ f k. typed_operands s f k 0 args) (λ g. typed_given s g 0 args)
-      ∙ sym (no_result t wanted (standard_function n.text) (t.signature n.text) args (λ f k. typed_operands t f k 0 args) (λ g. typed_given t g 0 args))
+  number_by : (expected : Option DataType) (e : Tree) → value_of_number (typed s expected e) ≡ value_of_number (typed t expected e)
+  number_by expected (literal l) = refl
+  number_by expected (path p) = number_alike (s.means (by_path p)) (t.means (by_path p)) (alike.means (by_path p))
+  number_by expected (enumerator n v) = number_alike (s.means (by_value v)) (t.means (by_value v)) (alike.means (by_value v))
+  number_by expected (paren at e) = number_by expected e
+  number_by expected (unary o at e) =
+      let k = type_of s expected e in
+      let l = type_of t expected e in
+      signed_by k l o (negative_literal o e) (typed s (Some k) e) (typed t (Some l) e) (type_alike s t alike expected e)
+  number_by expected (chain e ls) = refl
+  number_by expected (call n at args) =
+      no_result s expected (standard_function n.text) (s.signature n.text) args (λ f k. typed_operands s f k 0 args) (λ g. typed_given s g 0 args)
+      ∙ sym (no_result t expected (standard_function n.text) (t.signature n.text) args (λ f k. typed_operands t f k 0 args) (λ g. typed_given t g 0 args))
 
   pub constant_alike : (k : DataType) (e : Tree) → constant_of s k e ≡ constant_of t k e
   constant_alike k e = number_by (Some k) e

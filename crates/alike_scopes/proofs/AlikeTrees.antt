@@ -11,8 +11,8 @@ use Rattle.source_tree.specs.Syntax.{Named, Tree, literal, path, enumerator, par
 use Rattle.naming.specs.Library.{standard_function}
 use Rattle.typing.specs.declared.scope.Port.{Port}
 use Rattle.typing.specs.declared.scope.Signature.{Signature}
-use Rattle.typing.specs.Typing.{Scope, by_path, by_value, bool_type, compares, or_else, or_dint, Parameter, fixed, common, amount, parameter_of, own_if_common, own_of_call, own, own_of_links, own_of_arguments, own_of_first, type_of, common_type, operand_type, next_type, takes, takes_operands, takes_count, count_of, is_amount, is_amount_value, number_in, is_bool, place_of, port_type}
-use Rattle.typing.specs.Judged.{negative_literal, judged_unary, wanted_at, fits_at, fit_from, judged_amount, place_for, places_for, has_all_below, gives_all, wanted_by, judged_port, fits_port, judged_named, fits_placed, fit_placed, judged_answer, judged_user_call, judged_call, judged, judged_links, judged_arguments, judged_given, judged_alone, judged_condition}
+use Rattle.typing.specs.Typing.{Scope, by_path, by_value, bool_type, compares, or_else, or_dint, Parameter, fixed, common, amount, parameter_of, synthesized_if_common, synthesized_of_call, synthesized, synthesized_of_links, synthesized_of_arguments, synthesized_of_first, type_of, common_type, operand_type, next_type, takes, takes_operands, takes_count, count_of, is_amount, is_amount_value, number_in, is_bool, place_of, port_type}
+use Rattle.typing.specs.Judged.{negative_literal, judged_unary, expected_at, fits_at, fit_from, judged_amount, place_for, places_for, has_all_below, gives_all, expected_by, judged_port, fits_port, judged_named, fits_placed, fit_placed, judged_answer, judged_user_call, judged_call, judged, judged_links, judged_arguments, judged_given, judged_alone, judged_condition}
 use Rattle.std.specs.Prelude.{not}
 use Rattle.alike_scopes.specs.AlikeScopes.{AreAlike}
 use Rattle.alike_scopes.proofs.AlikeNames.{kind_alike, meaning_alike}
@@ -21,35 +21,35 @@ module _ (s t : Scope) (alike : AreAlike s t) where
   -- ---- types
 
   mutual
-    pub own_alike : (e : Tree) → own s e ≡ own t e
+    pub own_alike : (e : Tree) → synthesized s e ≡ synthesized t e
     own_alike (literal l) = refl
     own_alike (path p) = kind_alike (s.means (by_path p)) (t.means (by_path p)) (alike.means (by_path p))
     own_alike (enumerator n v) = kind_alike (s.means (by_value v)) (t.means (by_value v)) (alike.means (by_value v))
     own_alike (paren at e) = own_alike e
     own_alike (unary o at e) = own_alike e
-    own_alike (chain e ls) = λ i. if compares ls then Some bool_type else or_else (own_alike e i) (own_of_links_alike ls i)
-    own_alike (call n at args) = λ i. own_of_call (standard_function n.text) (alike.signature n.text i) (λ f. own_of_arguments_alike f 0 args i)
+    own_alike (chain e ls) = λ i. if compares ls then Some bool_type else or_else (own_alike e i) (synthesized_of_links_alike ls i)
+    own_alike (call n at args) = λ i. synthesized_of_call (standard_function n.text) (alike.signature n.text i) (λ f. synthesized_of_arguments_alike f 0 args i)
 
-    pub own_of_links_alike : (ls : Links) → own_of_links s ls ≡ own_of_links t ls
-    own_of_links_alike no_links = refl
-    own_of_links_alike (link o at e ls) = λ i. or_else (own_alike e i) (own_of_links_alike ls i)
+    pub synthesized_of_links_alike : (ls : Links) → synthesized_of_links s ls ≡ synthesized_of_links t ls
+    synthesized_of_links_alike no_links = refl
+    synthesized_of_links_alike (link o at e ls) = λ i. or_else (own_alike e i) (synthesized_of_links_alike ls i)
 
-    pub own_of_arguments_alike : (f : StandardFunction) (place : ℕ) (args : Arguments) → own_of_arguments s f place args ≡ own_of_arguments t f place args
-    own_of_arguments_alike f place no_arguments = refl
-    own_of_arguments_alike f place (argument n e args) = λ i. or_else (own_if_common (parameter_of f place) (own_alike e i)) (own_of_arguments_alike f (place + 1) args i)
+    pub synthesized_of_arguments_alike : (f : StandardFunction) (place : ℕ) (args : Arguments) → synthesized_of_arguments s f place args ≡ synthesized_of_arguments t f place args
+    synthesized_of_arguments_alike f place no_arguments = refl
+    synthesized_of_arguments_alike f place (argument n e args) = λ i. or_else (synthesized_if_common (parameter_of f place) (own_alike e i)) (synthesized_of_arguments_alike f (place + 1) args i)
 
-  pub type_alike : (wanted : Option DataType) (e : Tree) → type_of s wanted e ≡ type_of t wanted e
-  type_alike wanted e = λ i. or_dint (or_else (own_alike e i) wanted)
+  pub type_alike : (expected : Option DataType) (e : Tree) → type_of s expected e ≡ type_of t expected e
+  type_alike expected e = λ i. or_dint (or_else (own_alike e i) expected)
 
-  pub common_alike : (wanted : Option DataType) (f : StandardFunction) (args : Arguments) → common_type s wanted f args ≡ common_type t wanted f args
-  common_alike wanted f args = λ i. or_dint (or_else (own_of_arguments_alike f 0 args i) wanted)
+  pub common_alike : (expected : Option DataType) (f : StandardFunction) (args : Arguments) → common_type s expected f args ≡ common_type t expected f args
+  common_alike expected f args = λ i. or_dint (or_else (synthesized_of_arguments_alike f 0 args i) expected)
 
-  first_alike : (ls : Links) → own_of_first s ls ≡ own_of_first t ls
+  first_alike : (ls : Links) → synthesized_of_first s ls ≡ synthesized_of_first t ls
   first_alike no_links = refl
   first_alike (link o at e ls) = own_alike e
 
-  pub operand_alike : (wanted : Option DataType) (e : Tree) (ls : Links) → operand_type s wanted e ls ≡ operand_type t wanted e ls
-  operand_alike wanted e ls = λ i. if compares ls then or_dint (or_else (own_alike e i) (first_alike ls i)) else or_dint (or_else (or_else (own_alike e i) (own_of_links_alike ls i)) wanted)
+  pub operand_alike : (expected : Option DataType) (e : Tree) (ls : Links) → operand_type s expected e ls ≡ operand_type t expected e ls
+  operand_alike expected e ls = λ i. if compares ls then or_dint (or_else (own_alike e i) (first_alike ls i)) else or_dint (or_else (or_else (own_alike e i) (synthesized_of_links_alike ls i)) expected)
 
   -- an expression of a type
   pub same_alike : (k : DataType) (e : Tree) → is_same_type (type_of s (Some k) e) k ≡ is_same_type (type_of t (Some k) e) k
@@ -58,7 +58,7 @@ module _ (s t : Scope) (alike : AreAlike s t) where
   -- ---- arguments
 
   fits_at_alike : (p : Parameter) (k : DataType) (e : Tree) → fits_at s p k e ≡ fits_at t p k e
-  fits_at_alike (fixed x) k e = ap (λ (y : DataType). is_same_type y (or_dint (wanted_at (fixed x) k))) (type_alike (wanted_at (fixed x) k) e)
+  fits_at_alike (fixed x) k e = ap (λ (y : DataType). is_same_type y (or_dint (expected_at (fixed x) k))) (type_alike (expected_at (fixed x) k) e)
   fits_at_alike common k e = same_alike k e
   fits_at_alike amount k e = refl
 
@@ -108,33 +108,33 @@ module _ (s t : Scope) (alike : AreAlike s t) where
   user_call_by at None args f g each = refl
   user_call_by at (Some x) args f g each = each x refl
 
-  call_by : (wanted : Option DataType) (at : ℕ) (f : Option StandardFunction) (args : Arguments) (o p : Option Signature) (a b : Judgement) (os ps : StandardFunction → DataType → Judgement) (is js : Signature → Judgement)
-      → judged_user_call s at o args is ≡ judged_user_call t at p args js → a ≡ b → ((x : StandardFunction) (k : DataType) → os x k ≡ ps x k) → judged_call s wanted at f o args a os is ≡ judged_call t wanted at f p args b ps js
-  call_by wanted at None args o p a b os ps is js user same each = user
-  call_by wanted at (Some f) args o p a b os ps is js user same each =
-      let k = common_type s wanted f args in
+  call_by : (expected : Option DataType) (at : ℕ) (f : Option StandardFunction) (args : Arguments) (o p : Option Signature) (a b : Judgement) (os ps : StandardFunction → DataType → Judgement) (is js : Signature → Judgement)
+      → judged_user_call s at o args is ≡ judged_user_call t at p args js → a ≡ b → ((x : StandardFunction) (k : DataType) → os x k ≡ ps x k) → judged_call s expected at f o args a os is ≡ judged_call t expected at f p args b ps js
+  call_by expected at None args o p a b os ps is js user same each = user
+  call_by expected at (Some f) args o p a b os ps is js user same each =
+      let k = common_type s expected f args in
       (λ i. if takes_count f (count_of args) then require (each f k i) (takes_operands f k && fit_from_alike f k 0 args i) OperandType at else require (same i) false ArgumentCount at)
-      ∙ ap (λ (x : DataType). if takes_count f (count_of args) then require (ps f x) (takes_operands f x && fit_from t f x 0 args) OperandType at else require b false ArgumentCount at) (common_alike wanted f args)
+      ∙ ap (λ (x : DataType). if takes_count f (count_of args) then require (ps f x) (takes_operands f x && fit_from t f x 0 args) OperandType at else require b false ArgumentCount at) (common_alike expected f args)
 
   mutual
-    pub judged_alike : (wanted : Option DataType) (e : Tree) → judged s wanted e ≡ judged t wanted e
-    judged_alike wanted (literal l) = refl
-    judged_alike wanted (path p) = meaning_alike (s.means (by_path p)) (t.means (by_path p)) (alike.means (by_path p))
-    judged_alike wanted (enumerator n v) = meaning_alike (s.means (by_value v)) (t.means (by_value v)) (alike.means (by_value v))
-    judged_alike wanted (paren at e) = judged_alike wanted e
-    judged_alike wanted (unary o at e) =
-        let k = type_of s wanted e in
-        (λ i. judged_unary k o at (negative_literal o e) (judged_alike (Some k) e i)) ∙ ap (λ (x : DataType). judged_unary x o at (negative_literal o e) (judged t (Some x) e)) (type_alike wanted e)
-    judged_alike wanted (chain e ls) =
-        let k = operand_type s wanted e ls in
+    pub judged_alike : (expected : Option DataType) (e : Tree) → judged s expected e ≡ judged t expected e
+    judged_alike expected (literal l) = refl
+    judged_alike expected (path p) = meaning_alike (s.means (by_path p)) (t.means (by_path p)) (alike.means (by_path p))
+    judged_alike expected (enumerator n v) = meaning_alike (s.means (by_value v)) (t.means (by_value v)) (alike.means (by_value v))
+    judged_alike expected (paren at e) = judged_alike expected e
+    judged_alike expected (unary o at e) =
+        let k = type_of s expected e in
+        (λ i. judged_unary k o at (negative_literal o e) (judged_alike (Some k) e i)) ∙ ap (λ (x : DataType). judged_unary x o at (negative_literal o e) (judged t (Some x) e)) (type_alike expected e)
+    judged_alike expected (chain e ls) =
+        let k = operand_type s expected e ls in
         judged_links_alike k (judged s (Some k) e) ls
         ∙ ap (λ (j : Judgement). judged_links t k j ls) (judged_alike (Some k) e)
-        ∙ ap (λ (x : DataType). judged_links t x (judged t (Some x) e) ls) (operand_alike wanted e ls)
-    judged_alike wanted (call n at args) =
+        ∙ ap (λ (x : DataType). judged_links t x (judged t (Some x) e) ls) (operand_alike expected e ls)
+    judged_alike expected (call n at args) =
         let own_s = λ (x : Signature). judged_given s x 0 args in
         let own_t = λ (x : Signature). judged_given t x 0 args in
         let user = user_call_by n.at (s.signature n.text) args own_s own_t (λ x is. let inputs = alike.input n.text x is in answer_alike n.at x inputs args (own_s x) (own_t x) (judged_given_alike x inputs 0 args)) in
-        call_by wanted n.at (standard_function n.text) args (s.signature n.text) (t.signature n.text) (judged_alone s args) (judged_alone t args) (λ f k. judged_arguments s f k 0 args) (λ f k. judged_arguments t f k 0 args) own_s own_t
+        call_by expected n.at (standard_function n.text) args (s.signature n.text) (t.signature n.text) (judged_alone s args) (judged_alone t args) (λ f k. judged_arguments s f k 0 args) (λ f k. judged_arguments t f k 0 args) own_s own_t
         (user ∙ ap (λ (o : Option Signature). judged_user_call t n.at o args own_t) (alike.signature n.text)) (judged_alone_alike args) (λ f k. judged_arguments_alike f k 0 args)
 
     judged_links_alike : (k : DataType) (left : Judgement) (ls : Links) → judged_links s k left ls ≡ judged_links t k left ls
@@ -149,7 +149,7 @@ module _ (s t : Scope) (alike : AreAlike s t) where
     judged_arguments_alike f k place no_arguments = refl
     judged_arguments_alike f k place (argument n e args) =
         let p = parameter_of f place in
-        let w = wanted_at p k in
+        let w = expected_at p k in
         λ i. also (amount_alike p e (judged s w e) (judged t w e) (judged_alike w e) i) (judged_arguments_alike f k (place + 1) args i)
 
     judged_given_alike : (g : Signature) → ((name : List ℕ) → s.input g.function name ≡ t.input g.function name) → (place : ℕ) (args : Arguments) → judged_given s g place args ≡ judged_given t g place args
@@ -158,9 +158,9 @@ module _ (s t : Scope) (alike : AreAlike s t) where
         let p = s.port g.function (place_for s g place n) in
         let q = t.port g.function (place_for t g place n) in
         let port : p ≡ q = alike.port g.function (place_for s g place n) ∙ ap (t.port g.function) (place_alike g inputs place n) in
-        let own : judged_named n (fits_port s p e) (also (judged s (wanted_by p) e) (judged_port p)) ≡ judged_named n (fits_port t q e) (also (judged t (wanted_by q) e) (judged_port q)) =
-        (λ i. judged_named n (fits_port_alike p e i) (also (judged_alike (wanted_by p) e i) (judged_port p)))
-        ∙ ap (λ (x : Option Port). judged_named n (fits_port t x e) (also (judged t (wanted_by x) e) (judged_port x))) port in
+        let own : judged_named n (fits_port s p e) (also (judged s (expected_by p) e) (judged_port p)) ≡ judged_named n (fits_port t q e) (also (judged t (expected_by q) e) (judged_port q)) =
+        (λ i. judged_named n (fits_port_alike p e i) (also (judged_alike (expected_by p) e i) (judged_port p)))
+        ∙ ap (λ (x : Option Port). judged_named n (fits_port t x e) (also (judged t (expected_by x) e) (judged_port x))) port in
         λ i. also (own i) (judged_given_alike g inputs (place + 1) args i)
 
     judged_alone_alike : (args : Arguments) → judged_alone s args ≡ judged_alone t args

@@ -61,20 +61,21 @@ fn tree_of(alloc: Global, toks: &[Tok<'_>], end: usize) -> Result<SourceFile, Fa
     Ok(parse_file(alloc, toks, end)?)
 }
 
-fn resolved(alloc: Global, file: SourceFile) -> Result<Resolved, Fault>
-    requires { IsFileLevelled (file_view file) }
-    ensures { IfOk result (λ names. HasSoundNames (file_view names.file)) }
+fn resolved(alloc: Global, file: &SourceFile) -> Result<Resolved<'_>, Fault>
+    requires { IsFileLevelled (file_view file.now) }
+    ensures { IfOk result (λ names. HasSoundNames (file_view names.file.now)) }
 {
     Ok(resolve(alloc, file)?)
 }
 
 // The program of a file, which is typed, since the file breaks no rule.
-fn checked(alloc: Global, names: Resolved) -> Result<Program, Fault>
-    requires { HasSoundNames (file_view names.file) }
+fn checked(alloc: Global, names: &Resolved<'_>) -> Result<Program, Fault>
+    requires { HasSoundNames (file_view names.now.file.now) }
     ensures fit { IfOk result (λ p. IsProgram (program_view p)) }
     ensures typed { IfOk result (λ p. IsTypedProgram (program_view p)) }
 {
-    Ok(check(alloc, names)?)
+    let checked = check(alloc, names)?;
+    Ok(checked.program(alloc)?)
 }
 
 /// Reads the program of the file, and prints how many tokens, cells and nodes it has or why it was not read, and the time of
@@ -120,9 +121,9 @@ fn read<R: Clock + Print>(
     stages.done(rt, "lex")?;
     let file = tree_of(alloc, &toks, text.len())?;
     stages.done(rt, "parse")?;
-    let names = resolved(alloc, file)?;
+    let names = resolved(alloc, &file)?;
     stages.done(rt, "resolve")?;
-    let program = checked(alloc, names)?;
+    let program = checked(alloc, &names)?;
     stages.done(rt, "check")?;
     let flat = flatten(alloc, &program)?;
     stages.done(rt, "flatten")?;

@@ -7,7 +7,7 @@ use Rattle.typing.specs.Typing.{Scope}
 use Rattle.typing.specs.Domains.{values_scope}
 
 abbrev pub file_of : FileTypes → FileData
-file_of s = file_view s.names.now.file
+file_of s = file_view s.names.now.file.now
 
 abbrev pub values_in : FileTypes → Scope
 values_in s = values_scope (file_of s)

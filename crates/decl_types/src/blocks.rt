@@ -11,8 +11,8 @@ use source_tree::{Pou, PouKind, TypeName};
 use st_names::Resolved;
 
 /// The POU of a number, where there is one.
-pub fn pou_at(names: &Resolved, number: usize) -> Option<&Pou>
-    ensures { option_map (λ p. pou_view p.now) result ≡ pou_at (file_view names.now.file) number }
+pub fn pou_at<'a>(names: &'a Resolved<'_>, number: usize) -> Option<&'a Pou>
+    ensures { option_map (λ p. pou_view p.now) result ≡ pou_at (file_view names.now.file.now) number }
 {
     if number < names.pou_count() {
         Some(names.pou(number))
@@ -50,8 +50,8 @@ fn pou_number(standing: Option<Standing>) -> Option<usize>
 }
 
 // The FUNCTION_BLOCK that a name stands for, by its number.
-fn block_number(names: &Resolved, name: &str) -> Option<usize>
-    ensures { result ≡ block_number (file_view names.now.file) (standing (file_view names.now.file) name.now) }
+fn block_number(names: &Resolved<'_>, name: &str) -> Option<usize>
+    ensures { result ≡ block_number (file_view names.now.file.now) (standing (file_view names.now.file.now) name.now) }
 {
     let number = pou_number(names.standing(name))?;
     if is_block(pou_at(names, number)) {
@@ -62,8 +62,8 @@ fn block_number(names: &Resolved, name: &str) -> Option<usize>
 }
 
 /// The FUNCTION that a name stands for, by its number.
-pub fn function_number(names: &Resolved, name: &str) -> Option<usize>
-    ensures { result ≡ function_number (file_view names.now.file) (standing (file_view names.now.file) name.now) }
+pub fn function_number(names: &Resolved<'_>, name: &str) -> Option<usize>
+    ensures { result ≡ function_number (file_view names.now.file.now) (standing (file_view names.now.file.now) name.now) }
 {
     let number = pou_number(names.standing(name))?;
     if is_function(pou_at(names, number)) {
@@ -74,8 +74,8 @@ pub fn function_number(names: &Resolved, name: &str) -> Option<usize>
 }
 
 // The block of a type by name.
-fn block_of_type(names: &Resolved, kind: &TypeName) -> Option<usize>
-    ensures { result ≡ block_of_type (file_view names.now.file) (type_view kind.now) }
+fn block_of_type(names: &Resolved<'_>, kind: &TypeName) -> Option<usize>
+    ensures { result ≡ block_of_type (file_view names.now.file.now) (type_view kind.now) }
 {
     match kind {
         TypeName::Elementary(_, _) | TypeName::Subrange(_, _, _) => None,
@@ -84,8 +84,8 @@ fn block_of_type(names: &Resolved, kind: &TypeName) -> Option<usize>
 }
 
 /// The block of a variable that is an instance, by its number.
-pub fn block_of(names: &Resolved, variable: &Declared<'_>) -> Option<usize>
-    ensures { result ≡ block_of (file_view names.now.file) (variable_view variable.now) }
+pub(crate) fn block_of(names: &Resolved<'_>, variable: &Declared<'_>) -> Option<usize>
+    ensures { result ≡ block_of (file_view names.now.file.now) (variable_view variable.now) }
 {
     match variable.role {
         Role::Local => block_of_type(names, variable.kind?),

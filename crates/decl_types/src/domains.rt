@@ -4,12 +4,10 @@ ghost use Rattle.source_tree.specs.SyntaxView.{file_view};
 ghost use Rattle.naming.specs.FileScope.{types_of};
 ghost use Rattle.typing.specs.OwnDomains.{own_domains};
 
-use crate::elementary_domains::{elementary_domain, no_domain};
+use crate::elementary_domains::no_domain;
 use crate::file_types::FileTypes;
 use crate::own_domains::own_domains;
-use crate::subranges::subrange_domain;
 use naming::Standing;
-use source_tree::TypeName;
 use st_names::Resolved;
 use std::alloc::{AllocError, Global};
 use typing::Domain;
@@ -20,21 +18,21 @@ use typing::Domain;
 pub struct Domains<'p> {
     pub types: FileTypes<'p>,
     own: Vec<Domain>,
-    ghost spelled: { own.items ≡ own_domains (file_view types.names.now.file) 0 (types_of (file_view types.names.now.file)) },
+    ghost spelled: { own.items ≡ own_domains (file_view types.names.now.file.now) 0 (types_of (file_view types.names.now.file.now)) },
 }
 
 impl<'p> Domains<'p> {
     ghost use Rattle.std.specs.Prelude.{◌≡◌, IfOk};
-    ghost use Rattle.source_tree.specs.SyntaxView.{type_view, file_view};
+    ghost use Rattle.source_tree.specs.SyntaxView.{file_view};
     ghost use Rattle.naming.specs.FileScope.{standing};
     ghost use Rattle.decl_types.specs.Bodies.{file_in};
-    ghost use Rattle.typing.specs.Domains.{named_domain, domain_of};
+    ghost use Rattle.typing.specs.Domains.{named_domain};
 
     /// The types of a file with their domains.
-    pub fn new(alloc: Global, names: &'p Resolved) -> Result<Domains<'p>, AllocError>
-        ensures { IfOk result (λ s. file_in s ≡ file_view names.now.file) }
+    pub fn new(alloc: Global, names: &'p Resolved<'p>) -> Result<Domains<'p>, AllocError>
+        ensures { IfOk result (λ s. file_in s ≡ file_view names.now.file.now) }
     {
-        let types = FileTypes::new(alloc, names)?;
+        let types = FileTypes::new(names);
         let own = own_domains(alloc, &types)?;
         Ok(Domains { types, own })
     }
@@ -49,19 +47,6 @@ impl<'p> Domains<'p> {
                 self.own.get(end).copied().unwrap_or(no_domain())
             }
             _ => no_domain(),
-        }
-    }
-
-    /// The values that a type allows.
-    pub fn of_type(&self, alloc: Global, kind: &TypeName) -> Result<Domain, AllocError>
-        ensures { IfOk result (λ d. d ≡ domain_of (file_in self.now) (type_view kind.now)) }
-    {
-        match kind {
-            TypeName::Elementary(kind, _) => Ok(elementary_domain(*kind)),
-            TypeName::Subrange(kind, at, bounds) => {
-                subrange_domain(alloc, &self.types, *kind, *at, bounds)
-            }
-            TypeName::Named(name) => Ok(self.named(name.text.as_str())),
         }
     }
 }

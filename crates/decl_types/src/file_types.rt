@@ -9,18 +9,16 @@ ghost use Rattle.typing.specs.OwnDomains.{count_of_values};
 use crate::elementary_domains::has_few;
 use expr_types::valued;
 use naming::Standing;
-use pou_scope::declared_types;
 use source_tree::{Name, Path, Specification, TypeDeclaration};
 use st_names::Resolved;
-use std::alloc::{AllocError, Global};
 use typing::{Instance, Meaning, Port, Scope, Signature};
 
 /// A file whose names are bound, and the types that it declares, by their numbers.
 #[derive(Drop)]
 pub struct FileTypes<'p> {
-    pub names: &'p Resolved,
-    pub types: Vec<&'p TypeDeclaration>,
-    ghost declared: { ∥ types_view types.items ≡ types_of (file_view names.now.file) ∥₁ },
+    pub names: &'p Resolved<'p>,
+    pub types: &'p [&'p TypeDeclaration],
+    ghost declared: { ∥ types_view types.now ≡ types_of (file_view names.now.file.now) ∥₁ },
 }
 
 // A value of the type of a number, by its own number.
@@ -38,18 +36,18 @@ fn value_of_type(kind: usize, number: usize, specification: &Specification) -> M
 }
 
 impl<'p> FileTypes<'p> {
-    ghost use Rattle.std.specs.Prelude.{◌≡◌, IfOk};
+    ghost use Rattle.std.specs.Prelude.{◌≡◌};
     ghost use Rattle.source_tree.specs.SyntaxView.{file_view};
     ghost use Rattle.naming.specs.FileScope.{standing};
     ghost use Rattle.decl_types.specs.Bodies.{file_of};
     ghost use Rattle.typing.specs.Domains.{value_at};
 
     /// The types of a file.
-    pub fn new(alloc: Global, names: &'p Resolved) -> Result<FileTypes<'p>, AllocError>
-        ensures { IfOk result (λ s. file_of s ≡ file_view names.now.file) }
+    pub fn new(names: &'p Resolved<'p>) -> FileTypes<'p>
+        ensures { file_of result ≡ file_view names.now.file.now }
     {
-        let types = declared_types(alloc, &names.file)?;
-        Ok(FileTypes { names, types })
+        let types = names.types();
+        FileTypes { names, types }
     }
 
     /// What a name stands for as a value.

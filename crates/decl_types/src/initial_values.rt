@@ -1,13 +1,15 @@
 // The values that variables begin with.
-ghost use Rattle.std.specs.Prelude.{◌≡◌, option_map, IfOk};
+ghost use Rattle.std.specs.Prelude.{◌≡◌, option_map, Some, Bool, if◌then◌else◌, IfOk};
 ghost use Rattle.source_tree.specs.SyntaxView.{tree_view};
 ghost use Rattle.plc_types.specs.Types.{in_range};
 ghost use Rattle.decl_types.specs.Bodies.{file_of};
 ghost use Rattle.rules.specs.Outcomes.{outcome_of};
+ghost use Rattle.typing.specs.Domains.{values_scope};
+ghost use Rattle.typing.specs.Typed.{constant_of};
 ghost use Rattle.typing.specs.Variables.{judged_initial, judged_value, given_value, start_of};
 
 use crate::file_types::FileTypes;
-use expr_types::{constant_of, judge_expr, place_of, type_of};
+use expr_types::{constant_of, judge_and_synthesize, place_of};
 use plc_types::Range;
 use rules::{Outcome, Rule};
 use source_tree::Expr;
@@ -29,81 +31,65 @@ fn judge_given(
     domain: Domain,
     at: usize,
     value: &Expr,
+    given: i64,
 ) -> Result<Outcome, AllocError>
+    requires { given ≡ constant_of (values_scope (file_of file.now)) domain.kind (tree_view value.now) }
     ensures { IfOk result (λ o. o ≡ outcome_of (judged_initial (file_of file.now) domain at (Some (tree_view value.now)))) }
 {
     let kind = domain.kind;
-    let given = constant_of(alloc, file, kind, value)?;
-    let fits = type_of(file, Some(kind), value).is_same(kind);
-    let judged = judge_expr(alloc, file, Some(kind), value)?;
-    let of_type = judged.require(fits, Rule::ValueType, at);
+    let judged = judge_and_synthesize(alloc, file, Some(kind), value)?;
+    let fits = judged.kind(Some(kind)).is_same(kind);
+    let of_type = judged.outcome.require(fits, Rule::ValueType, at);
     let within = is_in(given, domain.range);
     Ok(of_type.require(within, Rule::OutsideType, place_of(value)))
 }
 
-// What an initial value breaks, where one is written.
+// What an initial value breaks, where one is written, and that value, or that of the type.
 fn judge_initial(
     alloc: Global,
     file: &FileTypes<'_>,
     domain: Domain,
     at: usize,
     initial: Option<&Expr>,
-) -> Result<Outcome, AllocError>
-    ensures { IfOk result (λ o. o ≡ outcome_of (judged_initial (file_of file.now) domain at (option_map (λ e. tree_view e.now) initial.entry))) }
+) -> Result<(Outcome, i64), AllocError>
+    ensures judged { IfOk result (λ r. r.0 ≡ outcome_of (judged_initial (file_of file.now) domain at (option_map (λ e. tree_view e.now) initial.entry))) }
+    ensures value { IfOk result (λ r. r.1 ≡ given_value (file_of file.now) domain (option_map (λ e. tree_view e.now) initial.entry)) }
 {
     match initial {
-        None => Ok(Outcome::ok()),
-        Some(value) => judge_given(alloc, file, domain, at, value),
+        None => Ok((Outcome::ok(), domain.start)),
+        Some(value) => {
+            let given = constant_of(alloc, file, domain.kind, value)?;
+            let judged = judge_given(alloc, file, domain, at, value, given)?;
+            Ok((judged, given))
+        }
     }
 }
 
-/// What an initial value breaks; that of a type that breaks a rule is not looked at.
-pub(crate) fn judge_value(
-    alloc: Global,
-    file: &FileTypes<'_>,
-    domain: Domain,
-    at: usize,
-    initial: Option<&Expr>,
-) -> Result<Outcome, AllocError>
-    ensures { IfOk result (λ o. o ≡ outcome_of (judged_value (file_of file.now) domain at (option_map (λ e. tree_view e.now) initial.entry))) }
+// The value that is written, where it breaks no rule, or that of the type.
+fn start_with(whole: bool, given: i64, domain: Domain) -> i64
+    ensures { result ≡ (if whole then given else domain.start) }
 {
-    if domain.whole {
-        judge_initial(alloc, file, domain, at, initial)
-    } else {
-        Ok(Outcome::suppressed())
-    }
+    if whole { given } else { domain.start }
 }
 
-// The initial value that is written, or that of the type.
-fn given_value(
-    alloc: Global,
-    file: &FileTypes<'_>,
-    domain: Domain,
-    initial: Option<&Expr>,
-) -> Result<i64, AllocError>
-    ensures { IfOk result (λ value. value ≡ given_value (file_of file.now) domain (option_map (λ e. tree_view e.now) initial.entry)) }
-{
-    match initial {
-        None => Ok(domain.start),
-        Some(value) => constant_of(alloc, file, domain.kind, value),
-    }
-}
-
-/// The value that a variable of a domain begins with: the initial value, or that of the type where none is written or
-/// where it breaks a rule.
+/// What an initial value breaks, where that of a type that breaks a rule is not looked at; and the value that a variable of a domain
+/// begins with: the initial value, or that of the type where none is written or where it breaks a rule.
 #[tactic(auto, unfolding(rules::specs::Outcomes::outcome_of))]
-pub fn start_of(
+pub(crate) fn judged_initial_value(
     alloc: Global,
     file: &FileTypes<'_>,
     domain: Domain,
     at: usize,
     initial: Option<&Expr>,
-) -> Result<i64, AllocError>
-    ensures { IfOk result (λ value. value ≡ start_of (file_of file.now) domain at (option_map (λ e. tree_view e.now) initial.entry)) }
+) -> Result<(Outcome, i64), AllocError>
+    ensures judged { IfOk result (λ r. r.0 ≡ outcome_of (judged_value (file_of file.now) domain at (option_map (λ e. tree_view e.now) initial.entry))) }
+    ensures start { IfOk result (λ r. r.1 ≡ start_of (file_of file.now) domain at (option_map (λ e. tree_view e.now) initial.entry)) }
 {
-    if judge_initial(alloc, file, domain, at, initial)?.whole {
-        given_value(alloc, file, domain, initial)
+    let (judged, given) = judge_initial(alloc, file, domain, at, initial)?;
+    let start = start_with(judged.whole, given, domain);
+    if domain.whole {
+        Ok((judged, start))
     } else {
-        Ok(domain.start)
+        Ok((Outcome::suppressed(), start))
     }
 }

@@ -1,19 +1,20 @@
-// What types break where they are spelled.
+// What types break where they are spelled, and the values that they allow.
 ghost use Rattle.std.specs.Prelude.{◌≡◌, IfOk, Bool, if◌then◌else◌};
 ghost use Rattle.source_tree.specs.SyntaxView.{name_view, type_view, specification_view};
 ghost use Rattle.naming.specs.FileScope.{types_of};
 ghost use Rattle.decl_types.specs.Bodies.{file_in};
-ghost use Rattle.typing.specs.Domains.{judged_type, judged_specification};
+ghost use Rattle.typing.specs.Domains.{domain_of, judged_type, judged_specification};
 ghost use Rattle.rules.specs.Judgements.{ok, suppressed};
 ghost use Rattle.rules.specs.Outcomes.{outcome_of};
 ghost use Rattle.typing.specs.Outcomes.{types_outcome};
 
 use crate::domains::Domains;
-use crate::elementary_domains::has_few;
-use crate::subranges::judge_subrange;
+use crate::elementary_domains::{elementary_domain, has_few};
+use crate::subranges::judged_subrange_domain;
 use rules::{Outcome, Rule};
 use source_tree::{Name, Specification, TypeName};
 use std::alloc::{AllocError, Global};
+use typing::Domain;
 
 // A name is whole where its declaration is, and breaks no rule by itself.
 fn sound_or_silent(whole: bool) -> Outcome
@@ -26,20 +27,24 @@ fn sound_or_silent(whole: bool) -> Outcome
     }
 }
 
-/// What a type breaks where it is spelled; a type by name is whole where its declaration is.
-pub(crate) fn judge_type(
+/// What a type breaks where it is spelled, and the values that it allows; a type by name is whole where its declaration is.
+pub(crate) fn judged_type(
     alloc: Global,
     domains: &Domains<'_>,
     kind: &TypeName,
-) -> Result<Outcome, AllocError>
-    ensures { IfOk result (λ o. o ≡ outcome_of (judged_type (file_in domains.now) (type_view kind.now))) }
+) -> Result<(Outcome, Domain), AllocError>
+    ensures judged { IfOk result (λ r. r.0 ≡ outcome_of (judged_type (file_in domains.now) (type_view kind.now))) }
+    ensures domain { IfOk result (λ r. r.1 ≡ domain_of (file_in domains.now) (type_view kind.now)) }
 {
     match kind {
-        TypeName::Elementary(_, _) => Ok(Outcome::ok()),
+        TypeName::Elementary(kind, _) => Ok((Outcome::ok(), elementary_domain(*kind))),
         TypeName::Subrange(kind, at, bounds) => {
-            judge_subrange(alloc, &domains.types, *kind, *at, bounds)
+            judged_subrange_domain(alloc, &domains.types, *kind, *at, bounds)
         }
-        TypeName::Named(name) => Ok(sound_or_silent(domains.named(name.text.as_str()).whole)),
+        TypeName::Named(name) => {
+            let domain = domains.named(name.text.as_str());
+            Ok((sound_or_silent(domain.whole), domain))
+        }
     }
 }
 
@@ -53,7 +58,10 @@ fn judge_specification(
     ensures { IfOk result (λ o. o ≡ outcome_of (judged_specification (file_in domains.now) (name_view name.now) (specification_view specification.now))) }
 {
     match specification {
-        Specification::Type(kind) => judge_type(alloc, domains, kind),
+        Specification::Type(kind) => {
+            let (judged, _) = judged_type(alloc, domains, kind)?;
+            Ok(judged)
+        }
         Specification::Enumeration(_, _, others) => {
             if has_few(others) {
                 Ok(Outcome::ok())

@@ -10,10 +10,10 @@ mod judged_types;
 mod names_of_types;
 mod own_domains;
 mod subranges;
-mod variables;
+mod told;
 
-pub use blocks::{block_of, function_number, pou_at};
+pub use blocks::{function_number, pou_at};
 pub use domains::Domains;
 pub use judged_types::judge_types;
 pub use names_of_types::type_texts;
-pub use variables::{domain_of, initial_of, judge_variable, judge_variables};
+pub use told::{Told, judge_told, told_in};

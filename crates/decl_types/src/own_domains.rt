@@ -9,7 +9,7 @@ ghost use Rattle.typing.specs.OwnDomains.{own_domains};
 
 use crate::elementary_domains::{elementary_domain, enumeration_domain, no_domain};
 use crate::file_types::FileTypes;
-use crate::subranges::subrange_domain;
+use crate::subranges::judged_subrange_domain;
 use source_tree::{Specification, TypeName};
 use std::alloc::{AllocError, Global};
 use typing::Domain;
@@ -24,7 +24,10 @@ fn spelled_domain(
 {
     match kind {
         TypeName::Elementary(kind, _) => Ok(elementary_domain(*kind)),
-        TypeName::Subrange(kind, at, bounds) => subrange_domain(alloc, file, *kind, *at, bounds),
+        TypeName::Subrange(kind, at, bounds) => {
+            let (_, domain) = judged_subrange_domain(alloc, file, *kind, *at, bounds)?;
+            Ok(domain)
+        }
         TypeName::Named(_) => Ok(no_domain()),
     }
 }

@@ -7,7 +7,7 @@ ghost use Rattle.rules.specs.Outcomes.{outcome_of};
 
 use crate::elementary_domains::no_domain;
 use crate::file_types::FileTypes;
-use expr_types::{constant_of, judge_expr, place_of, type_of};
+use expr_types::{constant_of, judge_and_synthesize, place_of};
 use plc_types::{DataType, Elementary, Range};
 use rules::{Outcome, Rule};
 use source_tree::{Bounds, Expr};
@@ -45,50 +45,58 @@ fn judge_bound(
     ensures { IfOk result (λ o. o ≡ outcome_of (judged_bound_of (file_of file.now) kind (tree_view bound.now))) }
 {
     let kind = DataType::Elementary(kind);
-    let fits = type_of(file, Some(kind), bound).is_same(kind);
-    let judged = judge_expr(alloc, file, Some(kind), bound)?;
-    Ok(judged.require(fits, Rule::OperandType, place_of(bound)))
+    let judged = judge_and_synthesize(alloc, file, Some(kind), bound)?;
+    let fits = judged.kind(Some(kind)).is_same(kind);
+    Ok(
+        judged
+            .outcome
+            .require(fits, Rule::OperandType, place_of(bound)),
+    )
 }
 
-/// A subrange is one of an integer type, and its bounds are in order.
-pub(crate) fn judge_subrange(
+// A subrange with these bounds is one of an integer type, and they are in order.
+fn judge_subrange(
     alloc: Global,
     file: &FileTypes<'_>,
     kind: Elementary,
     at: usize,
     bounds: &Bounds,
+    range: Range,
 ) -> Result<Outcome, AllocError>
+    requires { range ≡ bounds_of (file_of file.now) kind (bounds_view bounds.now) }
     ensures { IfOk result (λ o. o ≡ outcome_of (judged_subrange (file_of file.now) kind at (bounds_view bounds.now))) }
 {
     let low = judge_bound(alloc, file, kind, &bounds.low)?;
     let high = judge_bound(alloc, file, kind, &bounds.high)?;
-    let range = bounds_of(alloc, file, kind, bounds)?;
     let parts = low.also(high);
     let limits = parts.require(kind.is_integer(), Rule::OperandType, at);
     let in_order = are_in_order(range);
     Ok(limits.require(in_order, Rule::OutsideType, place_of(&bounds.low)))
 }
 
-/// The values of a subrange that breaks no rule.
+/// What a subrange breaks, and its values.
 #[tactic(auto, unfolding(rules::specs::Outcomes::outcome_of))]
-pub fn subrange_domain(
+pub(crate) fn judged_subrange_domain(
     alloc: Global,
     file: &FileTypes<'_>,
     kind: Elementary,
     at: usize,
     bounds: &Bounds,
-) -> Result<Domain, AllocError>
-    ensures { IfOk result (λ d. d ≡ subrange_domain (file_of file.now) kind at (bounds_view bounds.now)) }
+) -> Result<(Outcome, Domain), AllocError>
+    ensures judged { IfOk result (λ r. r.0 ≡ outcome_of (judged_subrange (file_of file.now) kind at (bounds_view bounds.now))) }
+    ensures domain { IfOk result (λ r. r.1 ≡ subrange_domain (file_of file.now) kind at (bounds_view bounds.now)) }
 {
-    if !judge_subrange(alloc, file, kind, at, bounds)?.whole {
-        return Ok(no_domain());
-    }
     let range = bounds_of(alloc, file, kind, bounds)?;
-    Ok(Domain {
+    let judged = judge_subrange(alloc, file, kind, at, bounds, range)?;
+    if !judged.whole {
+        return Ok((judged, no_domain()));
+    }
+    let domain = Domain {
         kind: DataType::Elementary(kind),
         range,
         limited: true,
         start: range.low,
         whole: true,
-    })
+    };
+    Ok((judged, domain))
 }

@@ -1,4 +1,4 @@
--- What is wanted of an expression matters to its judgement only by the type that it then has.
+-- What is expected of an expression matters to its judgement only by the type that it then has.
 use Rattle.std.proofs.Common.{◌≡◌, ℕ, ◌+◌, ◌&&◌, Bool, true, false, if◌then◌else◌, Option, Some, None, refl, ap, ◌∙◌}
 use Rattle.plc_types.specs.declared.data_type.DataType.{DataType}
 use Rattle.plc_types.specs.declared.data_type.DataType.TheVariants.{Elementary}
@@ -11,12 +11,12 @@ use Rattle.naming.specs.Library.{standard_function}
 use Rattle.source_tree.specs.Syntax.{Tree, literal, path, enumerator, paren, unary, chain, call, Arguments, no_arguments, argument}
 use Rattle.rules.specs.Judgements.{Judgement, also, require}
 use Rattle.typing.specs.declared.scope.Signature.{Signature}
-use Rattle.typing.specs.Typing.{Scope, bool_type, or_else, or_dint, compares, own, own_of_first, own_of_links, own_of_call, own_of_arguments, type_of, common_type, takes_operands, takes_count, count_of, place_of_literal}
+use Rattle.typing.specs.Typing.{Scope, bool_type, or_else, or_dint, compares, synthesized, synthesized_of_first, synthesized_of_links, synthesized_of_call, synthesized_of_arguments, type_of, common_type, takes_operands, takes_count, count_of, place_of_literal}
 use Rattle.typing.specs.Judged.{judged_literal, judged_unary, negative_literal, fit_from, judged_call, judged, judged_links, judged_arguments, judged_given, judged_alone}
 
--- the type that an expression has is its type where that type is wanted
-pub type_of-again : (scope : Scope) (wanted : Option DataType) (e : Tree) → type_of scope (Some (type_of scope wanted e)) e ≡ type_of scope wanted e
-type_of-again scope wanted e = again (own scope e) wanted
+-- the type that an expression has is its type where that type is expected
+pub type_of-again : (scope : Scope) (expected : Option DataType) (e : Tree) → type_of scope (Some (type_of scope expected e)) e ≡ type_of scope expected e
+type_of-again scope expected e = again (synthesized scope e) expected
   where
     again : (o w : Option DataType) → or_dint (or_else o (Some (or_dint (or_else o w)))) ≡ or_dint (or_else o w)
     again None w = refl
@@ -39,10 +39,10 @@ module _ (scope : Scope) (from to : ElementaryType) (t u : DataType) where
 
 module _ (scope : Scope) (w v : Option DataType) (at : ℕ) (s : Option Signature) (args : Arguments) where
   abbrev call_of : Option DataType → Option StandardFunction → Judgement
-  call_of wanted f = judged_call scope wanted at f s args (judged_alone scope args) (λ g t. judged_arguments scope g t 0 args) (λ x. judged_given scope x 0 args)
+  call_of expected f = judged_call scope expected at f s args (judged_alone scope args) (λ g t. judged_arguments scope g t 0 args) (λ x. judged_given scope x 0 args)
 
   abbrev call_type : Option DataType → Option StandardFunction → DataType
-  call_type wanted f = or_dint (or_else (own_of_call f s (λ g. own_of_arguments scope g 0 args)) wanted)
+  call_type expected f = or_dint (or_else (synthesized_of_call f s (λ g. synthesized_of_arguments scope g 0 args)) expected)
 
   abbrev operands_of : StandardFunction → DataType → Judgement
   operands_of f t =
@@ -71,9 +71,9 @@ judged-same scope w v (enumerator t n) h = refl
 judged-same scope w v (paren at e) h = judged-same scope w v e h
 judged-same scope w v (unary o at e) h = ap (λ (t : DataType). judged_unary t o at (negative_literal o e) (judged scope (Some t) e)) h
 judged-same scope w v (chain e ls) h =
-    ap (λ (t : DataType). judged_links scope t (judged scope (Some t) e) ls) (operands_for (compares ls) (own scope e) (own_of_first scope ls) (own_of_links scope ls) w v h)
+    ap (λ (t : DataType). judged_links scope t (judged scope (Some t) e) ls) (operands_for (compares ls) (synthesized scope e) (synthesized_of_first scope ls) (synthesized_of_links scope ls) w v h)
 judged-same scope w v (call n at args) h = call-same scope w v n.at (scope.signature n.text) args (standard_function n.text) h
 
--- an expression is judged alike where the type that it has is wanted
-pub judged-again : (scope : Scope) (wanted : Option DataType) (e : Tree) → judged scope (Some (type_of scope wanted e)) e ≡ judged scope wanted e
-judged-again scope wanted e = judged-same scope (Some (type_of scope wanted e)) wanted e (type_of-again scope wanted e)
+-- an expression is judged alike where the type that it has is expected
+pub judged-again : (scope : Scope) (expected : Option DataType) (e : Tree) → judged scope (Some (type_of scope expected e)) e ≡ judged scope expected e
+judged-again scope expected e = judged-same scope (Some (type_of scope expected e)) expected e (type_of-again scope expected e)

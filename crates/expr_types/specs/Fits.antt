@@ -1,4 +1,4 @@
--- Whether arguments are of the types that are wanted, where their own types are known.
+-- Whether arguments are of the types that are expected, where their synthesized types are known.
 use Rattle.std.specs.Prelude.{Bool, true, Option, Some, None}
 use Rattle.plc_types.specs.declared.data_type.DataType.{DataType}
 use Rattle.plc_types.specs.declared.data_type.DataType.TheVariants.{Elementary}
@@ -8,15 +8,15 @@ use Rattle.typing.specs.declared.scope.Port.{Port}
 use Rattle.typing.specs.Typing.{or_else, or_dint, port_type, Parameter, fixed, common, amount}
 
 -- of a standard function, where the operands are of a type
-abbrev pub own_fits : Parameter → DataType → Option DataType → Bool
-own_fits (fixed k) t o = is_same_type (or_dint (or_else o (Some (Elementary k)))) (Elementary k)
-own_fits common t o = is_same_type (or_dint (or_else o (Some t))) t
-own_fits amount t o = true
+abbrev pub synthesized_fits : Parameter → DataType → Option DataType → Bool
+synthesized_fits (fixed k) t o = is_same_type (or_dint (or_else o (Some (Elementary k)))) (Elementary k)
+synthesized_fits common t o = is_same_type (or_dint (or_else o (Some t))) t
+synthesized_fits amount t o = true
 
 -- for an input of a FUNCTION
-abbrev pub own_fits_port : Option Port → Option DataType → Bool
-own_fits_port None o = true
-own_fits_port (Some p) o = is_same_type (or_dint (or_else o (Some (port_type p)))) (port_type p)
+abbrev pub synthesized_fits_port : Option Port → Option DataType → Bool
+synthesized_fits_port None o = true
+synthesized_fits_port (Some p) o = is_same_type (or_dint (or_else o (Some (port_type p)))) (port_type p)
 
 -- of those without a name
 abbrev pub fits_unless_named : Option Named → Bool → Bool

@@ -3,9 +3,9 @@ ghost use Rattle.std.specs.Prelude.{◌≡◌};
 ghost use Rattle.source_tree.specs.SyntaxView.{tree_view};
 ghost use Rattle.typing.specs.Typing.{signed_number, number_in, is_amount_value, is_amount, amount_value};
 
-use own_types::{is_bool, is_number, literal_value, negated, type_of};
 use plc_types::UnaryOperator;
 use source_tree::Expr;
+use synthesized_types::{is_bool, is_number, literal_value, negated, type_of};
 use typing::Scope;
 
 // The value of a number behind a minus sign.

@@ -3,19 +3,19 @@ ghost use Rattle.std.specs.Prelude.{◌≡◌, ◌<◌, ◌^◌, Option, Some, t
 ghost use Rattle.std.specs.List.{list_all};
 ghost use Rattle.source_tree.specs.SyntaxView.{name_view, arguments_view};
 ghost use Rattle.rules.specs.Judgements.{ok};
-ghost use Rattle.typing.specs.Judged.{place_for, places_for, has_all_below, gives_all, wanted_by, judged_port, fit_placed, judged_given, judged_user_call};
+ghost use Rattle.typing.specs.Judged.{place_for, places_for, has_all_below, gives_all, expected_by, judged_port, fit_placed, judged_given, judged_user_call};
 ghost use Rattle.rules.specs.Outcomes.{outcome_of};
-ghost use Rattle.typing.specs.Typing.{own_of_answer};
-ghost use Rattle.expr_types.specs.Fits.{own_fits_port, fits_unless_named};
+ghost use Rattle.typing.specs.Typing.{synthesized_of_answer};
+ghost use Rattle.expr_types.specs.Fits.{synthesized_fits_port, fits_unless_named};
 ghost use Rattle.typing.specs.Outcomes.{named_outcome, given_outcome, answer_outcome};
 
-use crate::expressions::judge_with_own;
+use crate::expressions::judge_and_synthesize;
 use crate::judged::{JudgedArguments, JudgedExpr};
-use own_types::port_type;
 use plc_types::DataType;
 use rules::{Outcome, Rule};
 use source_tree::{Argument, Name};
 use std::alloc::{AllocError, Global};
+use synthesized_types::port_type;
 use typing::{Port, Scope, Signature};
 
 /// The place of the input that an argument at a place is for.
@@ -100,9 +100,9 @@ fn gives_all<S: Scope>(
     has_all_below(alloc, signature.count, &places)
 }
 
-/// The type that is wanted of an argument for an input; where there is no such input, none is.
-pub fn wanted_by(port: Option<Port>) -> Option<DataType>
-    ensures { result ≡ wanted_by port }
+/// The type that is expected of an argument for an input; where there is no such input, none is.
+pub fn expected_by(port: Option<Port>) -> Option<DataType>
+    ensures { result ≡ expected_by port }
 {
     match port {
         None => None,
@@ -122,7 +122,7 @@ fn judge_port(port: Option<Port>) -> Outcome
 
 // Whether an argument that was judged is of its input's type.
 fn fits_port(port: Option<Port>, judged: JudgedExpr) -> bool
-    ensures { result ≡ own_fits_port port judged.own }
+    ensures { result ≡ synthesized_fits_port port judged.synthesized }
 {
     match port {
         None => true,
@@ -153,7 +153,7 @@ fn fits_unless_named(name: &Option<Name>, fits: bool) -> bool
     }
 }
 
-// Arguments, each where the type of its input is wanted.
+// Arguments, each where the type of its input is expected.
 #[cycle(judge_expr)]
 fn judge_given<S: Scope>(
     alloc: Global,
@@ -169,7 +169,7 @@ fn judge_given<S: Scope>(
     for (place, argument) in arguments.iter().enumerate() {
         let to = place_for(scope, signature, place, &argument.name);
         let port = scope.port(signature.function, to);
-        let value = judge_with_own(alloc, scope, wanted_by(port), &argument.value)?;
+        let value = judge_and_synthesize(alloc, scope, expected_by(port), &argument.value)?;
         let fits = fits_port(port, value);
         let parts = value.outcome.also(judge_port(port));
         let placed = fits_unless_named(&argument.name, fits);
@@ -198,7 +198,7 @@ fn judge_answer<S: Scope>(
     Ok(fitting.also(judge_port(Some(signature.result))))
 }
 
-/// Whether a call of what may be a FUNCTION is whole, and what it breaks first; and its own type.
+/// Whether a call of what may be a FUNCTION is whole, and what it breaks first; and its synthesized type.
 #[cycle(judge_expr)]
 pub(crate) fn judge_user_call<S: Scope>(
     alloc: Global,
@@ -207,18 +207,18 @@ pub(crate) fn judge_user_call<S: Scope>(
     arguments: &[Argument],
 ) -> Result<JudgedExpr, AllocError>
     ensures outcome { IfOk result (λ j. j.outcome ≡ outcome_of (judged_user_call (S.means scope.now) (name_view name.now).at ((S.means scope.now).signature (name_view name.now).text) (arguments_view arguments.now) (λ s. judged_given (S.means scope.now) s 0 (arguments_view arguments.now)))) }
-    ensures own { IfOk result (λ j. j.own ≡ own_of_answer ((S.means scope.now).signature (name_view name.now).text)) }
+    ensures synthesized { IfOk result (λ j. j.synthesized ≡ synthesized_of_answer ((S.means scope.now).signature (name_view name.now).text)) }
 {
     let Some(signature) = scope.signature(name.text.as_str()) else {
         return Ok(JudgedExpr {
             outcome: Outcome::suppressed(),
-            own: None,
+            synthesized: None,
         });
     };
     let parts = judge_given(alloc, scope, signature, arguments)?;
     let outcome = judge_answer(alloc, scope, name.at, signature, arguments, parts)?;
     Ok(JudgedExpr {
         outcome,
-        own: Some(port_type(signature.result)),
+        synthesized: Some(port_type(signature.result)),
     })
 }

@@ -2,44 +2,44 @@
 ghost use Rattle.std.specs.Prelude.{◌≡◌, IfOk};
 ghost use Rattle.naming.specs.Library.{standard_function};
 ghost use Rattle.source_tree.specs.SyntaxView.{name_view, tree_view, arguments_view};
-ghost use Rattle.typing.specs.Typing.{common_type, own_of_call, own_of_arguments, takes_count, count_of};
+ghost use Rattle.typing.specs.Typing.{common_type, synthesized_of_call, synthesized_of_arguments, takes_count, count_of};
 ghost use Rattle.rules.specs.Judgements.{ok};
 ghost use Rattle.typing.specs.Judged.{fit_from, judged_call, judged_arguments, judged_alone, judged_given};
 ghost use Rattle.rules.specs.Outcomes.{outcome_of};
 ghost use Rattle.typing.specs.Outcomes.{amount_outcome, arguments_outcome, alone_outcome};
-ghost use Rattle.expr_types.specs.Fits.{own_fits};
-ghost use Rattle.own_types.specs.Parameters.{parameter_view};
+ghost use Rattle.expr_types.specs.Fits.{synthesized_fits};
+ghost use Rattle.synthesized_types.specs.Parameters.{parameter_view};
 
 use crate::amounts::is_amount;
 use crate::answers::judge_user_call;
-use crate::expressions::judge_with_own;
+use crate::expressions::judge_and_synthesize;
 use crate::judged::{JudgedArguments, JudgedExpr};
 use naming::standard_function;
-use own_types::{
-    Parameter, or_dint, own_of_arguments, parameter_of, place_of, result_of, takes_count,
-    takes_operands, wanted_at,
-};
 use plc_types::{DataType, StandardFunction};
 use rules::{Outcome, Rule};
 use source_tree::{Argument, Expr, Name};
 use std::alloc::{AllocError, Global};
+use synthesized_types::{
+    Parameter, expected_at, or_dint, parameter_of, place_of, result_of, synthesized_of_arguments,
+    takes_count, takes_operands,
+};
 use typing::Scope;
 
 /// The one type of a call's operands.
 pub fn common_type<S: Scope>(
     scope: &S,
-    wanted: Option<DataType>,
+    expected: Option<DataType>,
     function: StandardFunction,
     arguments: &[Argument],
 ) -> DataType
-    ensures { result ≡ common_type (S.means scope.now) wanted function (arguments_view arguments.now) }
+    ensures { result ≡ common_type (S.means scope.now) expected function (arguments_view arguments.now) }
 {
-    or_dint(own_of_arguments(scope, function, arguments).or(wanted))
+    or_dint(synthesized_of_arguments(scope, function, arguments).or(expected))
 }
 
-// Whether an argument that was judged is of the type that is wanted where the operands are of a type.
+// Whether an argument that was judged is of the type that is expected where the operands are of a type.
 fn is_fitting(parameter: Parameter, kind: DataType, judged: JudgedExpr) -> bool
-    ensures { result ≡ own_fits (parameter_view parameter) kind judged.own }
+    ensures { result ≡ synthesized_fits (parameter_view parameter) kind judged.synthesized }
 {
     match parameter {
         Parameter::Fixed(own) => {
@@ -77,33 +77,39 @@ fn judge_amount<S: Scope>(
     }
 }
 
-/// Whether a call is whole where a type is wanted, or none, and what it breaks first; and its own type.
+/// Whether a call is whole where a type is expected, or none, and what it breaks first; and its synthesized type.
 #[cycle(judge_expr)]
 pub(crate) fn judge_call<S: Scope>(
     alloc: Global,
     scope: &S,
-    wanted: Option<DataType>,
+    expected: Option<DataType>,
     name: &Name,
     arguments: &[Argument],
 ) -> Result<JudgedExpr, AllocError>
-    ensures outcome { IfOk result (λ j. j.outcome ≡ outcome_of (judged_call (S.means scope.now) wanted (name_view name.now).at (standard_function (name_view name.now).text) ((S.means scope.now).signature (name_view name.now).text) (arguments_view arguments.now) (judged_alone (S.means scope.now) (arguments_view arguments.now)) (λ f t. judged_arguments (S.means scope.now) f t 0 (arguments_view arguments.now)) (λ s. judged_given (S.means scope.now) s 0 (arguments_view arguments.now)))) }
-    ensures own { IfOk result (λ j. j.own ≡ own_of_call (standard_function (name_view name.now).text) ((S.means scope.now).signature (name_view name.now).text) (λ f. own_of_arguments (S.means scope.now) f 0 (arguments_view arguments.now))) }
+    ensures outcome { IfOk result (λ j. j.outcome ≡ outcome_of (judged_call (S.means scope.now) expected (name_view name.now).at (standard_function (name_view name.now).text) ((S.means scope.now).signature (name_view name.now).text) (arguments_view arguments.now) (judged_alone (S.means scope.now) (arguments_view arguments.now)) (λ f t. judged_arguments (S.means scope.now) f t 0 (arguments_view arguments.now)) (λ s. judged_given (S.means scope.now) s 0 (arguments_view arguments.now)))) }
+    ensures synthesized { IfOk result (λ j. j.synthesized ≡ synthesized_of_call (standard_function (name_view name.now).text) ((S.means scope.now).signature (name_view name.now).text) (λ f. synthesized_of_arguments (S.means scope.now) f 0 (arguments_view arguments.now))) }
 {
     let Some(function) = standard_function(name.text.as_str()) else {
         return judge_user_call(alloc, scope, name, arguments);
     };
-    let of_operands = own_of_arguments(scope, function, arguments);
-    let own = result_of(function).or(of_operands);
+    let of_operands = synthesized_of_arguments(scope, function, arguments);
+    let synthesized = result_of(function).or(of_operands);
     if !takes_all(function, arguments) {
         let alone = judge_alone(alloc, scope, arguments)?;
         let outcome = alone.require(false, Rule::ArgumentCount, name.at);
-        return Ok(JudgedExpr { outcome, own });
+        return Ok(JudgedExpr {
+            outcome,
+            synthesized,
+        });
     }
-    let kind = or_dint(of_operands.or(wanted));
+    let kind = or_dint(of_operands.or(expected));
     let judged = judge_arguments(alloc, scope, function, kind, arguments)?;
     let fits = takes_operands(function, kind) && judged.fit;
     let outcome = judged.outcome.require(fits, Rule::OperandType, name.at);
-    Ok(JudgedExpr { outcome, own })
+    Ok(JudgedExpr {
+        outcome,
+        synthesized,
+    })
 }
 
 // Arguments where the operands are of a type.
@@ -122,7 +128,12 @@ fn judge_arguments<S: Scope>(
     let mut fit = true;
     for (place, argument) in arguments.iter().enumerate() {
         let parameter = parameter_of(function, place);
-        let value = judge_with_own(alloc, scope, wanted_at(parameter, kind), &argument.value)?;
+        let value = judge_and_synthesize(
+            alloc,
+            scope,
+            expected_at(parameter, kind),
+            &argument.value,
+        )?;
         let judged = judge_amount(scope, parameter, &argument.value, value.outcome);
         let fits = is_fitting(parameter, kind, value);
         outcome = outcome.also(judged);
@@ -142,7 +153,7 @@ fn judge_alone<S: Scope>(
 {
     let mut judged = Outcome::ok();
     for argument in arguments {
-        let value = judge_with_own(alloc, scope, None, &argument.value)?;
+        let value = judge_and_synthesize(alloc, scope, None, &argument.value)?;
         judged = judged.also(value.outcome);
     }
     Ok(judged)

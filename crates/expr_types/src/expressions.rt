@@ -2,22 +2,22 @@
 ghost use Rattle.std.specs.Prelude.{◌≡◌, IfOk, Some, false};
 ghost use Rattle.source_tree.specs.SyntaxView.{tree_view, links_view};
 ghost use Rattle.source_tree.specs.Syntax.{unary};
-ghost use Rattle.typing.specs.Typing.{kind_at, own, own_of_literal, or_else, or_dint, place_of_literal};
+ghost use Rattle.typing.specs.Typing.{kind_at, synthesized, synthesized_of_literal, or_else, or_dint, place_of_literal};
 ghost use Rattle.typing.specs.Judged.{judged_literal, judged_meaning, takes_sign, negative_literal, judged, judged_condition};
 ghost use Rattle.rules.specs.Outcomes.{outcome_of};
 ghost use Rattle.typing.specs.Outcomes.{links_outcome};
-ghost use Rattle.own_types.specs.Names.{meant};
+ghost use Rattle.synthesized_types.specs.Names.{meant};
 
 use crate::calls::judge_call;
 use crate::judged::JudgedExpr;
-use own_types::{
-    chain_types, has_bits, is_bool, is_literal_of, is_number, is_unknown, kind_at, next_type,
-    or_dint, own, own_of_literal, place_of, place_of_literal, takes,
-};
 use plc_types::{DataType, UnaryOperator};
 use rules::{Outcome, Rule};
 use source_tree::{Expr, Link, Literal};
 use std::alloc::{AllocError, Global};
+use synthesized_types::{
+    chain_types, has_bits, is_bool, is_literal_of, is_number, is_unknown, kind_at, next_type,
+    or_dint, place_of, place_of_literal, synthesized, synthesized_of_literal, takes,
+};
 use typing::{Meaning, Scope};
 
 // A literal is a value of its type; of one whose type is unknown nothing is said.
@@ -34,15 +34,15 @@ fn judge_literal(kind: DataType, minus: bool, at: usize, literal: Literal) -> Ou
 }
 
 // A literal with no sign before it.
-fn judge_plain(wanted: Option<DataType>, literal: Literal) -> JudgedExpr
-    ensures outcome { result.outcome ≡ outcome_of (judged_literal (or_dint (or_else (own_of_literal literal) wanted)) false (place_of_literal literal) literal) }
-    ensures own { result.own ≡ own_of_literal literal }
+fn judge_plain(expected: Option<DataType>, literal: Literal) -> JudgedExpr
+    ensures outcome { result.outcome ≡ outcome_of (judged_literal (or_dint (or_else (synthesized_of_literal literal) expected)) false (place_of_literal literal) literal) }
+    ensures synthesized { result.synthesized ≡ synthesized_of_literal literal }
 {
-    let own = own_of_literal(literal);
-    let kind = or_dint(own.or(wanted));
+    let synthesized = synthesized_of_literal(literal);
+    let kind = or_dint(synthesized.or(expected));
     JudgedExpr {
         outcome: judge_literal(kind, false, place_of_literal(literal), literal),
-        own,
+        synthesized,
     }
 }
 
@@ -59,11 +59,11 @@ pub fn judge_meaning(meaning: Option<Meaning>) -> Outcome
 // A name that was looked up.
 fn judge_name(meaning: Option<Meaning>) -> JudgedExpr
     ensures outcome { result.outcome ≡ outcome_of (judged_meaning meaning) }
-    ensures own { result.own ≡ kind_at meaning }
+    ensures synthesized { result.synthesized ≡ kind_at meaning }
 {
     JudgedExpr {
         outcome: judge_meaning(meaning),
-        own: kind_at(meaning),
+        synthesized: kind_at(meaning),
     }
 }
 
@@ -86,48 +86,48 @@ pub fn negative_literal(operator: UnaryOperator, operand: &Expr) -> Option<Liter
     }
 }
 
-/// Whether an expression is whole where a type is wanted, or none, and what it breaks first; and its own type, in the same walk.
+/// Whether an expression is whole where a type is expected, or none, and what it breaks first; and its synthesized type, in the same walk.
 #[cycle(judge_expr)]
-pub fn judge_with_own<S: Scope>(
+pub fn judge_and_synthesize<S: Scope>(
     alloc: Global,
     scope: &S,
-    wanted: Option<DataType>,
+    expected: Option<DataType>,
     expr: &Expr,
 ) -> Result<JudgedExpr, AllocError>
-    ensures outcome { IfOk result (λ j. j.outcome ≡ outcome_of (judged (S.means scope.now) wanted (tree_view expr.now))) }
-    ensures own { IfOk result (λ j. j.own ≡ own (S.means scope.now) (tree_view expr.now)) }
+    ensures outcome { IfOk result (λ j. j.outcome ≡ outcome_of (judged (S.means scope.now) expected (tree_view expr.now))) }
+    ensures synthesized { IfOk result (λ j. j.synthesized ≡ synthesized (S.means scope.now) (tree_view expr.now)) }
 {
     match expr {
-        Expr::Literal(literal) => Ok(judge_plain(wanted, *literal)),
+        Expr::Literal(literal) => Ok(judge_plain(expected, *literal)),
         Expr::Path(path) => Ok(judge_name(scope.meaning(path))),
         Expr::Enumerator(_, value) => Ok(judge_name(scope.value(value))),
-        Expr::Paren(_, inner) => judge_with_own(alloc, scope, wanted, inner),
+        Expr::Paren(_, inner) => judge_and_synthesize(alloc, scope, expected, inner),
         Expr::Unary(operator, at, operand) => {
-            judge_unary(alloc, scope, wanted, *operator, *at, operand)
+            judge_unary(alloc, scope, expected, *operator, *at, operand)
         }
         Expr::Chain(first, links) => {
-            let types = chain_types(scope, wanted, first, links);
+            let types = chain_types(scope, expected, first, links);
             let left = judge_first(alloc, scope, types.kind, types.meaning, first)?;
             let outcome = judge_links(alloc, scope, types.kind, left, links)?;
             Ok(JudgedExpr {
                 outcome,
-                own: types.own,
+                synthesized: types.synthesized,
             })
         }
-        Expr::Call(name, _, arguments) => judge_call(alloc, scope, wanted, name, arguments),
+        Expr::Call(name, _, arguments) => judge_call(alloc, scope, expected, name, arguments),
     }
 }
 
-/// Whether an expression is whole where a type is wanted, or none, and what it breaks first.
+/// Whether an expression is whole where a type is expected, or none, and what it breaks first.
 pub fn judge_expr<S: Scope>(
     alloc: Global,
     scope: &S,
-    wanted: Option<DataType>,
+    expected: Option<DataType>,
     expr: &Expr,
 ) -> Result<Outcome, AllocError>
-    ensures { IfOk result (λ o. o ≡ outcome_of (judged (S.means scope.now) wanted (tree_view expr.now))) }
+    ensures { IfOk result (λ o. o ≡ outcome_of (judged (S.means scope.now) expected (tree_view expr.now))) }
 {
-    let judged = judge_with_own(alloc, scope, wanted, expr)?;
+    let judged = judge_and_synthesize(alloc, scope, expected, expr)?;
     Ok(judged.outcome)
 }
 
@@ -136,30 +136,30 @@ pub fn judge_expr<S: Scope>(
 fn judge_unary<S: Scope>(
     alloc: Global,
     scope: &S,
-    wanted: Option<DataType>,
+    expected: Option<DataType>,
     operator: UnaryOperator,
     at: usize,
     operand: &Expr,
 ) -> Result<JudgedExpr, AllocError>
-    ensures outcome { IfOk result (λ j. j.outcome ≡ outcome_of (judged (S.means scope.now) wanted (unary operator at (tree_view operand.now)))) }
-    ensures own { IfOk result (λ j. j.own ≡ own (S.means scope.now) (tree_view operand.now)) }
+    ensures outcome { IfOk result (λ j. j.outcome ≡ outcome_of (judged (S.means scope.now) expected (unary operator at (tree_view operand.now)))) }
+    ensures synthesized { IfOk result (λ j. j.synthesized ≡ synthesized (S.means scope.now) (tree_view operand.now)) }
 {
     match negative_literal(operator, operand) {
         Some(literal) => {
-            let of_operand = own(scope, operand);
-            let kind = or_dint(of_operand.or(wanted));
+            let of_operand = synthesized(scope, operand);
+            let kind = or_dint(of_operand.or(expected));
             Ok(JudgedExpr {
                 outcome: judge_literal(kind, true, at, literal),
-                own: of_operand,
+                synthesized: of_operand,
             })
         }
         None => {
-            let inner = judge_with_own(alloc, scope, wanted, operand)?;
-            let fits = takes_sign(operator, inner.kind(wanted));
+            let inner = judge_and_synthesize(alloc, scope, expected, operand)?;
+            let fits = takes_sign(operator, inner.kind(expected));
             let outcome = inner.outcome.require(fits, Rule::OperandType, at);
             Ok(JudgedExpr {
                 outcome,
-                own: inner.own,
+                synthesized: inner.synthesized,
             })
         }
     }
@@ -180,7 +180,7 @@ fn judge_first<S: Scope>(
     match meaning {
         Some(meaning) => Ok(judge_meaning(Some(meaning))),
         None => {
-            let judged = judge_with_own(alloc, scope, Some(kind), first)?;
+            let judged = judge_and_synthesize(alloc, scope, Some(kind), first)?;
             Ok(judged.outcome)
         }
     }
@@ -200,7 +200,7 @@ fn judge_links<S: Scope>(
     let mut kind = kind;
     let mut left = left;
     for link in links {
-        let right = judge_with_own(alloc, scope, Some(kind), &link.right)?;
+        let right = judge_and_synthesize(alloc, scope, Some(kind), &link.right)?;
         let fits = takes(link.operator, kind) && right.kind(Some(kind)).is_same(kind);
         left = left
             .also(right.outcome)
@@ -220,7 +220,7 @@ pub fn judge_condition<S: Scope>(
 ) -> Result<Outcome, AllocError>
     ensures { IfOk result (λ o. o ≡ outcome_of (judged_condition (S.means scope.now) rule (tree_view expr.now))) }
 {
-    let judged = judge_with_own(alloc, scope, None, expr)?;
+    let judged = judge_and_synthesize(alloc, scope, None, expr)?;
     let fits = is_bool(judged.kind(None));
     Ok(judged.outcome.require(fits, rule, place_of(expr)))
 }

@@ -13,8 +13,8 @@ mod typed_expressions;
 mod value_meanings;
 
 pub use alone::meaning_alone;
-pub use expressions::{judge_condition, judge_expr, judge_meaning, judge_with_own};
+pub use expressions::{judge_and_synthesize, judge_condition, judge_expr, judge_meaning};
 pub use judged::JudgedExpr;
-pub use own_types::{bool_type, kind_at, or_dint, place_of, range, type_of};
+pub use synthesized_types::{bool_type, kind_at, or_dint, place_of, range, type_of};
 pub use typed_expressions::{cell_of, constant_of, meaning_read, type_expr};
 pub use value_meanings::valued;

@@ -5,7 +5,7 @@ ghost use Rattle.program_tree.specs.Tree.{number};
 ghost use Rattle.program_tree.specs.View.{expr_view, exprs_view, arguments_view as operands_view};
 ghost use Rattle.typing.specs.Typed.{placed, typed_answer, typed_given};
 
-use crate::answers::{place_for, wanted_by};
+use crate::answers::{expected_by, place_for};
 use crate::typed_expressions::type_expr;
 use program_tree::TypedExpr;
 use source_tree::{Argument, Name};
@@ -62,8 +62,8 @@ fn type_given<S: Scope>(
     let mut values = zeros(alloc, signature.count)?;
     for (place, argument) in arguments.iter().enumerate() {
         let to = place_for(scope, signature, place, &argument.name);
-        let wanted = wanted_by(scope.port(signature.function, to));
-        let value = type_expr(alloc, scope, wanted, &argument.value)?;
+        let expected = expected_by(scope.port(signature.function, to));
+        let value = type_expr(alloc, scope, expected, &argument.value)?;
         put(&mut values, to, value);
     }
     Ok(values)

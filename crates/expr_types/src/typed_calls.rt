@@ -10,11 +10,11 @@ use crate::calls::common_type;
 use crate::typed_answers::type_answer;
 use crate::typed_expressions::type_expr;
 use naming::standard_function;
-use own_types::{Parameter, parameter_of, result_of, wanted_at};
 use plc_types::{DataType, Function, StandardFunction};
 use program_tree::TypedExpr;
 use source_tree::{Argument, Name};
 use std::alloc::{AllocError, Global};
+use synthesized_types::{Parameter, expected_at, parameter_of, result_of};
 use typing::Scope;
 
 // The amount of a shift: its second argument.
@@ -45,21 +45,21 @@ fn function_of(function: StandardFunction, arguments: &[Argument]) -> Function
     }
 }
 
-/// The typed expression that a call stands for where a type is wanted, or none.
+/// The typed expression that a call stands for where a type is expected, or none.
 #[cycle(type_expr)]
 pub(crate) fn type_call<S: Scope>(
     alloc: Global,
     scope: &S,
-    wanted: Option<DataType>,
+    expected: Option<DataType>,
     name: &Name,
     arguments: &[Argument],
 ) -> Result<TypedExpr, AllocError>
-    ensures { IfOk result (λ e. expr_view e ≡ typed_result (S.means scope.now) wanted (standard_function (name_view name.now).text) ((S.means scope.now).signature (name_view name.now).text) (arguments_view arguments.now) (λ f t. typed_operands (S.means scope.now) f t 0 (arguments_view arguments.now)) (λ s. typed_given (S.means scope.now) s 0 (arguments_view arguments.now))) }
+    ensures { IfOk result (λ e. expr_view e ≡ typed_result (S.means scope.now) expected (standard_function (name_view name.now).text) ((S.means scope.now).signature (name_view name.now).text) (arguments_view arguments.now) (λ f t. typed_operands (S.means scope.now) f t 0 (arguments_view arguments.now)) (λ s. typed_given (S.means scope.now) s 0 (arguments_view arguments.now))) }
 {
     let Some(function) = standard_function(name.text.as_str()) else {
         return type_answer(alloc, scope, name, arguments);
     };
-    let kind = common_type(scope, wanted, function, arguments);
+    let kind = common_type(scope, expected, function, arguments);
     let operands = type_operands(alloc, scope, function, kind, arguments)?;
     Ok(TypedExpr::Call(
         function_of(function, arguments),
@@ -83,8 +83,8 @@ fn type_operands<S: Scope>(
     for (place, argument) in arguments.iter().enumerate() {
         let parameter = parameter_of(function, place);
         if parameter != Parameter::Amount {
-            let wanted = wanted_at(parameter, kind);
-            operands.push(type_expr(alloc, scope, wanted, &argument.value)?)?;
+            let expected = expected_at(parameter, kind);
+            operands.push(type_expr(alloc, scope, expected, &argument.value)?)?;
         }
     }
     Ok(operands)

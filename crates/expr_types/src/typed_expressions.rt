@@ -5,18 +5,18 @@ ghost use Rattle.program_tree.specs.View.{expr_view, operands_view};
 ghost use Rattle.typing.specs.Typed.{number_of, read_of, meaning_read, typed, typed_signed, typed_links, value_of_number, constant_of};
 ghost use Rattle.typing.specs.Typing.{type_of};
 ghost use Rattle.typing.specs.Judged.{negative_literal};
-ghost use Rattle.own_types.specs.Names.{meant};
+ghost use Rattle.synthesized_types.specs.Names.{meant};
 ghost use Rattle.typing.specs.TypedStatements.{place_cell, cell_of};
 
 use crate::expressions::negative_literal;
 use crate::typed_calls::type_call;
-use own_types::{
-    chain_types, literal_value, look_up, negated, next_type, or_dint, type_of, wrapped,
-};
 use plc_types::{DataType, UnaryOperator};
 use program_tree::{Operand, TypedExpr};
 use source_tree::{Expr, Link, Literal};
 use std::alloc::{AllocError, Global};
+use synthesized_types::{
+    chain_types, literal_value, look_up, negated, next_type, or_dint, type_of, wrapped,
+};
 use typing::{Meaning, Place, Scope};
 
 // A literal's number.
@@ -79,34 +79,34 @@ pub fn value_of_number(number: &TypedExpr) -> i64
     }
 }
 
-/// The typed expression that an expression stands for where a type is wanted, or none.
+/// The typed expression that an expression stands for where a type is expected, or none.
 #[cycle(type_expr)]
 pub fn type_expr<S: Scope>(
     alloc: Global,
     scope: &S,
-    wanted: Option<DataType>,
+    expected: Option<DataType>,
     expr: &Expr,
 ) -> Result<TypedExpr, AllocError>
-    ensures { IfOk result (λ e. expr_view e ≡ typed (S.means scope.now) wanted (tree_view expr.now)) }
+    ensures { IfOk result (λ e. expr_view e ≡ typed (S.means scope.now) expected (tree_view expr.now)) }
 {
     match expr {
         Expr::Literal(literal) => {
-            let kind = type_of(scope, wanted, expr);
+            let kind = type_of(scope, expected, expr);
             Ok(number_of(kind, false, *literal))
         }
         Expr::Path(path) => Ok(meaning_read(scope.meaning(path))),
         Expr::Enumerator(_, value) => Ok(meaning_read(scope.value(value))),
-        Expr::Paren(_, inner) => type_expr(alloc, scope, wanted, inner),
+        Expr::Paren(_, inner) => type_expr(alloc, scope, expected, inner),
         Expr::Unary(operator, _, operand) => {
-            type_unary(alloc, scope, wanted, *operator, operand)
+            type_unary(alloc, scope, expected, *operator, operand)
         }
         Expr::Chain(first, links) => {
-            let types = chain_types(scope, wanted, first, links);
+            let types = chain_types(scope, expected, first, links);
             let left = type_first(alloc, scope, types.kind, types.meaning, first)?;
             let operands = type_links(alloc, scope, types.kind, links)?;
             Ok(TypedExpr::Chain(Box::new(alloc, left)?, operands))
         }
-        Expr::Call(name, _, arguments) => type_call(alloc, scope, wanted, name, arguments),
+        Expr::Call(name, _, arguments) => type_call(alloc, scope, expected, name, arguments),
     }
 }
 
@@ -115,14 +115,14 @@ pub fn type_expr<S: Scope>(
 fn type_unary<S: Scope>(
     alloc: Global,
     scope: &S,
-    wanted: Option<DataType>,
+    expected: Option<DataType>,
     operator: UnaryOperator,
     operand: &Expr,
 ) -> Result<TypedExpr, AllocError>
-    ensures { IfOk result (λ e. expr_view e ≡ typed_signed (type_of (S.means scope.now) wanted (tree_view operand.now)) operator (negative_literal operator (tree_view operand.now)) (typed (S.means scope.now) (Some (type_of (S.means scope.now) wanted (tree_view operand.now))) (tree_view operand.now))) }
+    ensures { IfOk result (λ e. expr_view e ≡ typed_signed (type_of (S.means scope.now) expected (tree_view operand.now)) operator (negative_literal operator (tree_view operand.now)) (typed (S.means scope.now) (Some (type_of (S.means scope.now) expected (tree_view operand.now))) (tree_view operand.now))) }
 {
     let seen = look_up(scope, operand);
-    let kind = or_dint(seen.own.or(wanted));
+    let kind = or_dint(seen.synthesized.or(expected));
     match negative_literal(operator, operand) {
         Some(literal) => Ok(number_of(kind, true, literal)),
         None => {
@@ -150,7 +150,7 @@ fn type_first<S: Scope>(
     }
 }
 
-/// The value of a constant where a type is wanted.
+/// The value of a constant where a type is expected.
 pub fn constant_of<S: Scope>(
     alloc: Global,
     scope: &S,

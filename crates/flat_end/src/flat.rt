@@ -10,17 +10,19 @@ ghost use Rattle.rules.specs.declared.rule.Rule.TheVariants.{TooManyStatements};
 ghost use Rattle.front_end.specs.Texts.{HasFile, AreNamesSound, IsProgram};
 ghost use Rattle.node_core.specs.TypedFlats.{IsTypedFlat};
 ghost use Rattle.rules.specs.Faults.{IfRefused};
+ghost use Rattle.st_types.specs.CheckedFiles.{file_checked};
 ghost use Rattle.typed_programs.specs.Programs.{IsTypedProgram};
 ghost use Rattle.flat_end.specs.FlatTexts.{HasNoFlatForm};
 
 use fb_inline::flatten;
 use flat_core::Flat;
 use flat_count::is_short;
-use front_end::{names_of, program_of};
+use front_end::{checked_of, file_of, names_of, program_of};
 use program_tree::Program;
 use rules::{Fault, Refusal, Rule};
+use source_tree::SourceFile;
 use st_names::Resolved;
-use st_types::outline;
+use st_types::Checked;
 use std::alloc::{AllocError, Global};
 
 /// A program and its flat form.
@@ -31,11 +33,11 @@ pub struct Accepted {
 }
 
 // Whether a file's program is too long by the outline of its FUNCTIONs with long frames, so that these need not be spread.
-fn is_outline_long(alloc: Global, names: &Resolved) -> Result<bool, AllocError>
-    requires { AreNamesSound (file_view names.now.file) }
-    ensures { IfOk result (λ long. IsTrue long → (text : List ℕ) → HasFile text (file_view names.now.file) → HasNoFlatForm text (record { rule = TooManyStatements; at = 0 })) }
+fn is_outline_long(alloc: Global, checked: &Checked<'_>) -> Result<bool, AllocError>
+    requires { AreNamesSound (file_checked checked.now) }
+    ensures { IfOk result (λ long. IsTrue long → (text : List ℕ) → HasFile text (file_checked checked.now) → HasNoFlatForm text (record { rule = TooManyStatements; at = 0 })) }
 {
-    match outline(alloc, names)? {
+    match checked.outline(alloc)? {
         None => Ok(false),
         Some(program) => {
             let short = is_short(alloc, &program)?;
@@ -44,23 +46,48 @@ fn is_outline_long(alloc: Global, names: &Resolved) -> Result<bool, AllocError>
     }
 }
 
-// The program of a text's file whose names are bound, unless its outline is too long.
-fn short_program(alloc: Global, names: Resolved) -> Result<Program, Fault>
-    requires { AreNamesSound (file_view names.file) }
-    ensures program { IfOk result (λ p. (text : List ℕ) → HasFile text (file_view names.file) → IsProgram text (program_view p)) }
+// The program of a text's file that breaks no rule, unless its outline is too long.
+fn program_by_outline(alloc: Global, checked: Checked<'_>) -> Result<Program, Fault>
+    requires { AreNamesSound (file_checked checked) }
+    ensures program { IfOk result (λ p. (text : List ℕ) → HasFile text (file_checked checked.entry) → IsProgram text (program_view p)) }
     ensures fit { IfOk result (λ p. IsFitToRun (program_view p)) }
-    ensures typed { IfOk result (λ p. (text : List ℕ) → HasFile text (file_view names.file) → IsTypedProgram (program_view p)) }
-    ensures refused { IfErr result (λ e. (text : List ℕ) → HasFile text (file_view names.file) → IfRefused (HasNoFlatForm text) e) }
+    ensures typed { IfOk result (λ p. (text : List ℕ) → HasFile text (file_checked checked.entry) → IsTypedProgram (program_view p)) }
+    ensures refused { IfErr result (λ e. (text : List ℕ) → HasFile text (file_checked checked.entry) → IfRefused (HasNoFlatForm text) e) }
 {
-    let long = is_outline_long(alloc, &names)?;
+    let long = is_outline_long(alloc, &checked)?;
     if long {
         return Err(Fault::Refused(Refusal {
             rule: Rule::TooManyStatements,
             at: 0,
         }));
     }
-    match program_of(alloc, names) {
-        Ok(program) => Ok(program),
+    Ok(program_of(alloc, checked)?)
+}
+
+// The program of a text's file whose names are bound, unless its outline is too long.
+fn short_program(alloc: Global, names: &Resolved<'_>) -> Result<Program, Fault>
+    requires { AreNamesSound (file_view names.now.file.now) }
+    ensures program { IfOk result (λ p. (text : List ℕ) → HasFile text (file_view names.now.file.now) → IsProgram text (program_view p)) }
+    ensures fit { IfOk result (λ p. IsFitToRun (program_view p)) }
+    ensures typed { IfOk result (λ p. (text : List ℕ) → HasFile text (file_view names.now.file.now) → IsTypedProgram (program_view p)) }
+    ensures refused { IfErr result (λ e. (text : List ℕ) → HasFile text (file_view names.now.file.now) → IfRefused (HasNoFlatForm text) e) }
+{
+    match checked_of(alloc, names) {
+        Ok(checked) => program_by_outline(alloc, checked),
+        Err(Fault::Refused(refusal)) => Err(Fault::Refused(refusal)),
+        Err(Fault::Memory) => Err(Fault::Memory),
+    }
+}
+
+// The program of a text's file, unless its outline is too long.
+fn short_file(alloc: Global, file: &SourceFile) -> Result<Program, Fault>
+    ensures program { IfOk result (λ p. (text : List ℕ) → HasFile text (file_view file.now) → IsProgram text (program_view p)) }
+    ensures fit { IfOk result (λ p. IsFitToRun (program_view p)) }
+    ensures typed { IfOk result (λ p. (text : List ℕ) → HasFile text (file_view file.now) → IsTypedProgram (program_view p)) }
+    ensures refused { IfErr result (λ e. (text : List ℕ) → HasFile text (file_view file.now) → IfRefused (HasNoFlatForm text) e) }
+{
+    match names_of(alloc, file) {
+        Ok(names) => short_program(alloc, &names),
         Err(Fault::Refused(refusal)) => Err(Fault::Refused(refusal)),
         Err(Fault::Memory) => Err(Fault::Memory),
     }
@@ -73,8 +100,8 @@ fn accept_short(alloc: Global, text: &[u8]) -> Result<Program, Fault>
     ensures typed { IfOk result (λ p. IsTypedProgram (program_view p)) }
     ensures refused { IfErr result (IfRefused (HasNoFlatForm text.now)) }
 {
-    match names_of(alloc, text) {
-        Ok(names) => short_program(alloc, names),
+    match file_of(alloc, text) {
+        Ok(file) => short_file(alloc, &file),
         Err(Fault::Refused(refusal)) => Err(Fault::Refused(refusal)),
         Err(Fault::Memory) => Err(Fault::Memory),
     }

@@ -1,5 +1,5 @@
 -- What each pass says of a text.
-use Rattle.std.proofs.Common.{◌≡◌, [], ◌++◌, List, ℕ, true, Some, Result, Ok, Err, subst, inl, inr}
+use Rattle.std.proofs.Common.{◌≡◌, [], ◌++◌, List, ℕ, true, Some, Result, Ok, Err, sym, subst, inl, inr}
 use Rattle.std.specs.Prelude.{IfOk, IfErr, OnOk}
 use Rattle.source_tree.specs.declared.token.Tok.{Tok}
 use Rattle.rules.specs.declared.fault.Fault.{Fault}
@@ -85,7 +85,17 @@ err_more (Ok a) P Q each h = h
 err_more (Err e) P Q each h = each e h
 
 -- what the typing of a file says of each text of that file
-pub program_read : (f : FileData) (r : Result Program Fault) → AreNamesSound f → OnOk r (broken_types f ≡ []) → OnOk r ((n : ℕ) → program_number f ≡ Some n → has_room f n ≡ true)
+pub program_read : {E : Type 0} (f : FileData) (r : Result Program E) → AreNamesSound f → OnOk r (broken_types f ≡ []) → OnOk r ((n : ℕ) → program_number f ≡ Some n → has_room f n ≡ true)
     → IfOk r (λ p. (n : ℕ) (q : PouData) → program_number f ≡ Some n → pou_at f n ≡ Some q → program_view p ≡ stated_program f n q) → IfOk r (λ p. (text : List ℕ) → HasFile text f → IsProgram text (program_view p))
 program_read f (Ok p) names types room typed = λ text h. let one = one_pou f (none_broken f names) in program_of text f one.number one.pou (program_view p) h names one.one types room typed
 program_read f (Err e) names types room typed = typed
+
+-- a file whose names are bound, where it is the file that was given
+pub sound_in : {A E : Type 0} (f : FileData) (r : Result A E) (file : A → FileData) → IfOk r (λ n. file n ≡ f) → OnOk r (broken_names f ≡ []) → OnOk r ((k : ℕ) → ¬ (Reaches (uses_of f) k k))
+    → IfOk r (λ n. AreNamesSound (file n))
+sound_in f (Ok n) file same kept acyclic = subst AreNamesSound (sym same) (sound_names f kept acyclic)
+sound_in f (Err e) file same kept acyclic = same
+
+-- what is said of each text of a file is said of each text of the same file
+pub of_file : (P : List ℕ → Type 0) (f g : FileData) → f ≡ g → ((text : List ℕ) → HasFile text f → P text) → (text : List ℕ) → HasFile text g → P text
+of_file P f g same each text h = each text (subst (HasFile text) (sym same) h)

@@ -6,6 +6,7 @@ ghost use Rattle.front_end.specs.StandardBlocks.{prelude_text};
 ghost use Rattle.front_end.specs.Texts.{HasTokens, HasNoTokens, HasTree, HasNoTree, HasFile, HasNoFile, AreNamesSound, IsProgram, IsNoProgram};
 ghost use Rattle.rules.specs.Faults.{IfRefused};
 ghost use Rattle.scan_model.specs.InRange.{IsProgram as IsFitToRun};
+ghost use Rattle.st_types.specs.CheckedFiles.{file_checked};
 ghost use Rattle.typed_programs.specs.Programs.{IsTypedProgram};
 
 use crate::prelude::prelude;
@@ -15,8 +16,8 @@ use source_tree::{SourceFile, Tok};
 use st_lexer::lex;
 use st_names::{Resolved, resolve};
 use st_parser::parse_file;
-use st_types::check;
-use std::alloc::Global;
+use st_types::{Checked, check};
+use std::alloc::{AllocError, Global};
 
 // How many bytes a text may have.
 const LIMIT: usize = 1_048_576;
@@ -52,9 +53,9 @@ fn blocks(alloc: Global) -> Result<SourceFile, Fault>
     tree_of(alloc, prelude())
 }
 
-// The file of a text: the blocks of the prelude, and then its own items; or the first rule up to the grammar that it breaks, and where it
-// breaks none, the first that the prelude breaks.
-fn file_of(alloc: Global, text: &[u8]) -> Result<SourceFile, Fault>
+/// The file of a text: the blocks of the prelude, and then its own items; or the first rule up to the grammar that it breaks, and where it
+/// breaks none, the first that the prelude breaks.
+pub fn file_of(alloc: Global, text: &[u8]) -> Result<SourceFile, Fault>
     ensures file { IfOk result (λ f. HasFile text.now (file_view f)) }
     ensures refused { IfErr result (IfRefused (HasNoFile text.now)) }
 {
@@ -64,25 +65,55 @@ fn file_of(alloc: Global, text: &[u8]) -> Result<SourceFile, Fault>
     Ok(file)
 }
 
-/// The file of a text with its names bound, or the first rule up to those on names that the text breaks.
-pub fn names_of(alloc: Global, text: &[u8]) -> Result<Resolved, Fault>
-    ensures file { IfOk result (λ n. HasFile text.now (file_view n.file)) }
-    ensures names { IfOk result (λ n. AreNamesSound (file_view n.file)) }
-    ensures refused { IfErr result (IfRefused (IsNoProgram text.now)) }
+/// A text's file with its names bound, or the first rule on names that the file breaks.
+pub fn names_of(alloc: Global, file: &SourceFile) -> Result<Resolved<'_>, Fault>
+    ensures file { IfOk result (λ n. file_view n.file.now ≡ file_view file.now) }
+    ensures names { IfOk result (λ n. AreNamesSound (file_view n.file.now)) }
+    ensures refused { IfErr result (λ e. (text : List ℕ) → HasFile text (file_view file.now) → IfRefused (IsNoProgram text) e) }
 {
-    let file = file_of(alloc, text)?;
-    Ok(resolve(alloc, file)?)
+    resolve(alloc, file)
 }
 
-/// The program of a text's file whose names are bound, or the first rule on types that the file breaks, or M2.
-pub fn program_of(alloc: Global, names: Resolved) -> Result<Program, Fault>
-    requires { AreNamesSound (file_view names.file) }
-    ensures program { IfOk result (λ p. (text : List ℕ) → HasFile text (file_view names.file) → IsProgram text (program_view p)) }
-    ensures fit { IfOk result (λ p. IsFitToRun (program_view p)) }
-    ensures typed { IfOk result (λ p. (text : List ℕ) → HasFile text (file_view names.file) → IsTypedProgram (program_view p)) }
-    ensures refused { IfErr result (λ e. (text : List ℕ) → HasFile text (file_view names.file) → IfRefused (IsNoProgram text) e) }
+/// A text's file whose names are bound, with its types checked, or the first rule on types that the file breaks, or M2.
+pub fn checked_of<'p>(alloc: Global, names: &'p Resolved<'p>) -> Result<Checked<'p>, Fault>
+    requires { AreNamesSound (file_view names.now.file.now) }
+    ensures file { IfOk result (λ c. file_checked c ≡ file_view names.now.file.now) }
+    ensures refused { IfErr result (λ e. (text : List ℕ) → HasFile text (file_view names.now.file.now) → IfRefused (IsNoProgram text) e) }
 {
     check(alloc, names)
+}
+
+/// The program of a text's file that breaks no rule. Fails where memory runs out.
+pub fn program_of(alloc: Global, checked: Checked<'_>) -> Result<Program, AllocError>
+    requires { AreNamesSound (file_checked checked) }
+    ensures program { IfOk result (λ p. (text : List ℕ) → HasFile text (file_checked checked.entry) → IsProgram text (program_view p)) }
+    ensures fit { IfOk result (λ p. IsFitToRun (program_view p)) }
+    ensures typed { IfOk result (λ p. (text : List ℕ) → HasFile text (file_checked checked.entry) → IsTypedProgram (program_view p)) }
+{
+    checked.program(alloc)
+}
+
+// The program of a text's file whose names are bound, or the first rule on types that the file breaks, or M2.
+fn accept_names(alloc: Global, names: &Resolved<'_>) -> Result<Program, Fault>
+    requires { AreNamesSound (file_view names.now.file.now) }
+    ensures program { IfOk result (λ p. (text : List ℕ) → HasFile text (file_view names.now.file.now) → IsProgram text (program_view p)) }
+    ensures fit { IfOk result (λ p. IsFitToRun (program_view p)) }
+    ensures typed { IfOk result (λ p. (text : List ℕ) → HasFile text (file_view names.now.file.now) → IsTypedProgram (program_view p)) }
+    ensures refused { IfErr result (λ e. (text : List ℕ) → HasFile text (file_view names.now.file.now) → IfRefused (IsNoProgram text) e) }
+{
+    let checked = checked_of(alloc, names)?;
+    Ok(program_of(alloc, checked)?)
+}
+
+// The program of a text's file, or the first rule on names or types that the file breaks, or M2.
+fn accept_file(alloc: Global, file: &SourceFile) -> Result<Program, Fault>
+    ensures program { IfOk result (λ p. (text : List ℕ) → HasFile text (file_view file.now) → IsProgram text (program_view p)) }
+    ensures fit { IfOk result (λ p. IsFitToRun (program_view p)) }
+    ensures typed { IfOk result (λ p. (text : List ℕ) → HasFile text (file_view file.now) → IsTypedProgram (program_view p)) }
+    ensures refused { IfErr result (λ e. (text : List ℕ) → HasFile text (file_view file.now) → IfRefused (IsNoProgram text) e) }
+{
+    let names = names_of(alloc, file)?;
+    accept_names(alloc, &names)
 }
 
 /// The program that a text states, or the first rule that it breaks of those on size, tokens, words that are left
@@ -93,6 +124,6 @@ pub fn accept_text(alloc: Global, text: &[u8]) -> Result<Program, Fault>
     ensures typed { IfOk result (λ p. IsTypedProgram (program_view p)) }
     ensures refused { IfErr result (IfRefused (IsNoProgram text.now)) }
 {
-    let names = names_of(alloc, text)?;
-    program_of(alloc, names)
+    let file = file_of(alloc, text)?;
+    accept_file(alloc, &file)
 }

@@ -5,5 +5,5 @@ mod accept;
 mod laws;
 mod prelude;
 
-pub use accept::{accept_text, names_of, program_of, tokens_of};
+pub use accept::{accept_text, checked_of, file_of, names_of, program_of, tokens_of};
 pub use laws::one_acceptance;

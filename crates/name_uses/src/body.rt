@@ -9,25 +9,27 @@ ghost use Rattle.rules.specs.Outcomes.{outcome_of, both};
 use crate::chart::judged_chart;
 use crate::scope::Scope;
 use crate::walk::walk_stmts;
+use pou_scope::Numbers;
 use rules::Outcome;
 use source_tree::Body;
 use std::alloc::{AllocError, Global};
 
-/// Keeps what a body breaks, and appends the FUNCTIONs that it calls.
+/// Keeps what a body breaks and the numbers of its uses of variables, and appends the FUNCTIONs that it calls.
 pub fn walk_body(
     alloc: Global,
     scope: &Scope<'_, '_>,
     body: &Body,
     outcome: &mut Outcome,
+    numbers: &mut Numbers,
     calls: &mut Vec<usize>,
 ) -> Result<(), AllocError>
     ensures judged { OnOk result (outcome.new ≡ both outcome.old (outcome_of (in_body (file_in scope.now.names) (pou_in scope.now.names) (body_view body.now)))) }
     ensures calls { OnOk result (calls.new.items ≡ calls.old.items ++ calls_in_body (file_in scope.now.names) (body_view body.now)) }
 {
     match body {
-        Body::Statements(stmts) => walk_stmts(scope, stmts, outcome, calls),
+        Body::Statements(stmts) => walk_stmts(scope, stmts, outcome, numbers, calls),
         Body::Chart(chart) => {
-            *outcome = outcome.also(judged_chart(alloc, scope, &chart.parts, calls)?);
+            *outcome = outcome.also(judged_chart(alloc, scope, &chart.parts, numbers, calls)?);
             Ok(())
         }
     }

@@ -10,6 +10,7 @@ use crate::associations::walk_associations;
 use crate::scope::Scope;
 use crate::step_lists::walk_steps;
 use crate::walk::{walk_expr, walk_stmts};
+use pou_scope::Numbers;
 use rules::{Outcome, Rule};
 use source_tree::{ChartAction, ChartPart, ChartStep, ChartTransition, Name};
 use std::alloc::{AllocError, Global};
@@ -47,6 +48,7 @@ fn walk_transition(
     scope: &Scope<'_, '_>,
     transition: &ChartTransition,
     outcome: &mut Outcome,
+    numbers: &mut Numbers,
     calls: &mut Vec<usize>,
 ) -> Result<(), AllocError>
     ensures judged { OnOk result (outcome.new ≡ both outcome.old (outcome_of (in_transition (file_in scope.now.names) (pou_in scope.now.names) (chart_transition_view transition.now)))) }
@@ -55,7 +57,7 @@ fn walk_transition(
     *outcome = outcome.also(own_name_if(scope, &transition.name));
     walk_steps(alloc, scope, &transition.from, outcome)?;
     walk_steps(alloc, scope, &transition.to, outcome)?;
-    walk_expr(scope, &transition.condition, outcome, calls)
+    walk_expr(scope, &transition.condition, outcome, numbers, calls)
 }
 
 // Keeps what an action breaks, and appends the FUNCTIONs that it calls.
@@ -64,13 +66,14 @@ fn walk_action(
     scope: &Scope<'_, '_>,
     action: &ChartAction,
     outcome: &mut Outcome,
+    numbers: &mut Numbers,
     calls: &mut Vec<usize>,
 ) -> Result<(), AllocError>
     ensures judged { OnOk result (outcome.new ≡ both outcome.old (outcome_of (in_action (file_in scope.now.names) (pou_in scope.now.names) (chart_action_view action.now)))) }
     ensures calls { OnOk result (calls.new.items ≡ calls.old.items ++ calls_in_stmts (file_in scope.now.names) (chart_action_view action.now).body) }
 {
     *outcome = outcome.also(own_name(scope, &action.name));
-    walk_stmts(scope, &action.body, outcome, calls)
+    walk_stmts(scope, &action.body, outcome, numbers, calls)
 }
 
 // Keeps what a part of a chart breaks, and appends the FUNCTIONs that it calls.
@@ -79,6 +82,7 @@ fn walk_part(
     scope: &Scope<'_, '_>,
     part: &ChartPart,
     outcome: &mut Outcome,
+    numbers: &mut Numbers,
     calls: &mut Vec<usize>,
 ) -> Result<(), AllocError>
     ensures judged { OnOk result (outcome.new ≡ both outcome.old (outcome_of (in_part (file_in scope.now.names) (pou_in scope.now.names) (part_view part.now)))) }
@@ -90,9 +94,9 @@ fn walk_part(
             Ok(())
         }
         ChartPart::Transition(transition) => {
-            walk_transition(alloc, scope, transition, outcome, calls)
+            walk_transition(alloc, scope, transition, outcome, numbers, calls)
         }
-        ChartPart::Action(action) => walk_action(scope, action, outcome, calls),
+        ChartPart::Action(action) => walk_action(scope, action, outcome, numbers, calls),
     }
 }
 
@@ -103,13 +107,14 @@ fn walk_parts(
     scope: &Scope<'_, '_>,
     parts: &[ChartPart],
     outcome: &mut Outcome,
+    numbers: &mut Numbers,
     calls: &mut Vec<usize>,
 ) -> Result<(), AllocError>
     ensures judged { OnOk result (outcome.new ≡ both outcome.old (outcome_of (in_chart_parts (file_in scope.now.names) (pou_in scope.now.names) (parts_view parts.now)))) }
     ensures calls { OnOk result (calls.new.items ≡ calls.old.items ++ calls_in_parts (file_in scope.now.names) (parts_view parts.now)) }
 {
     for part in parts {
-        walk_part(alloc, scope, part, outcome, calls)?;
+        walk_part(alloc, scope, part, outcome, numbers, calls)?;
     }
     Ok(())
 }
@@ -120,13 +125,14 @@ fn judged_parts(
     alloc: Global,
     scope: &Scope<'_, '_>,
     parts: &[ChartPart],
+    numbers: &mut Numbers,
     calls: &mut Vec<usize>,
 ) -> Result<Outcome, AllocError>
     ensures judged { IfOk result (λ o. o ≡ outcome_of (in_chart_parts (file_in scope.now.names) (pou_in scope.now.names) (parts_view parts.now))) }
     ensures calls { OnOk result (calls.new.items ≡ calls.old.items ++ calls_in_parts (file_in scope.now.names) (parts_view parts.now)) }
 {
     let mut outcome = Outcome::ok();
-    walk_parts(alloc, scope, parts, &mut outcome, calls)?;
+    walk_parts(alloc, scope, parts, &mut outcome, numbers, calls)?;
     Ok(outcome)
 }
 
@@ -174,17 +180,18 @@ fn place_of_chart(parts: &[ChartPart]) -> usize
     }
 }
 
-/// What a chart breaks. Appends the FUNCTIONs that it calls.
+/// What a chart breaks. Keeps the numbers of its uses of variables, and appends the FUNCTIONs that it calls.
 pub fn judged_chart(
     alloc: Global,
     scope: &Scope<'_, '_>,
     parts: &[ChartPart],
+    numbers: &mut Numbers,
     calls: &mut Vec<usize>,
 ) -> Result<Outcome, AllocError>
     ensures judged { IfOk result (λ o. o ≡ outcome_of (in_chart (file_in scope.now.names) (pou_in scope.now.names) (parts_view parts.now))) }
     ensures calls { OnOk result (calls.new.items ≡ calls.old.items ++ calls_in_parts (file_in scope.now.names) (parts_view parts.now)) }
 {
-    let judged = judged_parts(alloc, scope, parts, calls)?;
+    let judged = judged_parts(alloc, scope, parts, numbers, calls)?;
     if judged.whole && initial_count(parts) != 1 {
         return Ok(Outcome::breaks(Rule::NotOneInitialStep, place_of_chart(parts)));
     }

@@ -1,5 +1,5 @@
 // The names that the body of a POU may use, and what their uses break.
-ghost use Rattle.std.specs.Prelude.{◌≡◌, option_map, IfSome};
+ghost use Rattle.std.specs.Prelude.{◌≡◌, option_map, IfOk, IfSome, None};
 ghost use Rattle.source_tree.specs.SyntaxView.{name_view, names_view, path_view, file_view, pou_view};
 ghost use Rattle.naming.specs.Broken.{member_by, in_member, in_members, in_flag, in_named, in_variable, in_outer, in_target, in_path, argument_by, in_argument_named, in_argument_name, in_called, in_enumerator, in_instance, in_connected, alone};
 ghost use Rattle.naming.specs.FileScope.{pou_at, standing};
@@ -9,9 +9,10 @@ ghost use Rattle.naming.specs.Scopes.{scope_of, seen_named};
 
 use file_scope::{misused, too_deep, unknown};
 use naming::{Callee, Seen, is_value};
-use pou_scope::{Names, NamesOfPou};
+use pou_scope::{Names, NamesOfPou, Numbers};
 use rules::Outcome;
 use source_tree::{Name, Path};
+use std::alloc::AllocError;
 
 /// The names of a POU, and those of all POUs of its file.
 #[derive(Clone, Copy)]
@@ -74,62 +75,97 @@ fn flag(first: &Name, members: &[Name]) -> Outcome
 }
 
 impl Scope<'_, '_> {
-    // What is known of a name in the POU of a number.
-    fn seen_in(&self, number: usize, name: &Name) -> Option<Option<Seen>>
-        ensures { let f = file_in self.now.names in result ≡ option_map (λ p. seen_named f (scope_of p) (name_view name.now).text) (pou_at f number) }
+    // What is known of a name in the POU of a number. Keeps the number of its use.
+    fn seen_in(
+        &self,
+        numbers: &mut Numbers,
+        number: usize,
+        name: &Name,
+    ) -> Result<Option<Option<Seen>>, AllocError>
+        ensures { let f = file_in self.now.names in IfOk result (λ seen. seen ≡ option_map (λ p. seen_named f (scope_of p) (name_view name.now).text) (pou_at f number)) }
     {
         match self.pous.get(number) {
-            Some(own) => Some(own.seen(name)),
-            None => None,
+            Some(own) => {
+                let seen = own.used(numbers, name)?;
+                Ok(Some(seen))
+            }
+            None => Ok(None),
         }
     }
 
     // A member of the block of a number.
-    fn member(&self, block: usize, name: &Name) -> Outcome
-        ensures { result ≡ outcome_of (in_member (file_in self.now.names) block (name_view name.now)) }
+    fn member(
+        &self,
+        numbers: &mut Numbers,
+        block: usize,
+        name: &Name,
+    ) -> Result<Outcome, AllocError>
+        ensures { IfOk result (λ o. o ≡ outcome_of (in_member (file_in self.now.names) block (name_view name.now))) }
     {
-        match self.seen_in(block, name) {
-            Some(seen) => member_by(seen, name),
-            None => Outcome::suppressed(),
+        match self.seen_in(numbers, block, name)? {
+            Some(seen) => Ok(member_by(seen, name)),
+            None => Ok(Outcome::suppressed()),
         }
     }
 
     // The names behind an instance of the block of a number.
-    fn members(&self, block: usize, first: &Name, members: &[Name]) -> Outcome
-        ensures { result ≡ outcome_of (in_members (file_in self.now.names) block (name_view first.now) (names_view members.now)) }
+    fn members(
+        &self,
+        numbers: &mut Numbers,
+        block: usize,
+        first: &Name,
+        members: &[Name],
+    ) -> Result<Outcome, AllocError>
+        ensures { IfOk result (λ o. o ≡ outcome_of (in_members (file_in self.now.names) block (name_view first.now) (names_view members.now))) }
     {
         let Some((name, rest)) = members.split_first() else {
-            return misused(first);
+            return Ok(misused(first));
         };
-        let member = self.member(block, name);
-        if member.whole { too_deep(rest) } else { member }
+        let member = self.member(numbers, block, name)?;
+        if member.whole {
+            Ok(too_deep(rest))
+        } else {
+            Ok(member)
+        }
     }
 
     // A path that begins with a name of the POU whose declaration breaks no rule.
-    fn named(&self, seen: Seen, first: &Name, members: &[Name]) -> Outcome
-        ensures { result ≡ outcome_of (in_named (file_in self.now.names) seen (record { first = name_view first.now; members = names_view members.now })) }
+    fn named(
+        &self,
+        numbers: &mut Numbers,
+        seen: Seen,
+        first: &Name,
+        members: &[Name],
+    ) -> Result<Outcome, AllocError>
+        ensures { IfOk result (λ o. o ≡ outcome_of (in_named (file_in self.now.names) seen (record { first = name_view first.now; members = names_view members.now }))) }
     {
         let role = seen.role;
         if role.is_step() {
-            flag(first, members)
+            Ok(flag(first, members))
         } else if role.is_action() || role.is_transition() {
-            misused(first)
+            Ok(misused(first))
         } else {
             match seen.block {
-                Some(block) => self.members(block, first, members),
-                None => too_deep(members),
+                Some(block) => self.members(numbers, block, first, members),
+                None => Ok(too_deep(members)),
             }
         }
     }
 
     // A path that begins with a name of the POU.
-    fn variable(&self, seen: Seen, first: &Name, members: &[Name]) -> Outcome
-        ensures { result ≡ outcome_of (in_variable (file_in self.now.names) seen (record { first = name_view first.now; members = names_view members.now })) }
+    fn variable(
+        &self,
+        numbers: &mut Numbers,
+        seen: Seen,
+        first: &Name,
+        members: &[Name],
+    ) -> Result<Outcome, AllocError>
+        ensures { IfOk result (λ o. o ≡ outcome_of (in_variable (file_in self.now.names) seen (record { first = name_view first.now; members = names_view members.now }))) }
     {
         if seen.whole {
-            self.named(seen, first, members)
+            self.named(numbers, seen, first, members)
         } else {
-            Outcome::suppressed()
+            Ok(Outcome::suppressed())
         }
     }
 
@@ -144,43 +180,55 @@ impl Scope<'_, '_> {
     }
 
     // A target, by its names.
-    fn target_of(&self, first: &Name, members: &[Name]) -> Outcome
-        ensures { let f = file_in self.now.names in let p = pou_in self.now.names in let n = name_view first.now in result ≡ outcome_of (in_target f p (seen_named f p n.text) (record { first = n; members = names_view members.now })) }
+    fn target_of(
+        &self,
+        numbers: &mut Numbers,
+        first: &Name,
+        members: &[Name],
+    ) -> Result<Outcome, AllocError>
+        ensures { let f = file_in self.now.names in let p = pou_in self.now.names in let n = name_view first.now in IfOk result (λ o. o ≡ outcome_of (in_target f p (seen_named f p n.text) (record { first = n; members = names_view members.now }))) }
     {
-        match self.names.seen(first) {
-            Some(seen) => self.variable(seen, first, members),
-            None => self.outer(first),
+        match self.names.used(numbers, first)? {
+            Some(seen) => self.variable(numbers, seen, first, members),
+            None => Ok(self.outer(first)),
         }
     }
 
-    /// The path of a target.
-    pub fn target(&self, path: &Path) -> Outcome
-        ensures { let f = file_in self.now.names in let p = pou_in self.now.names in let q = path_view path.now in result ≡ outcome_of (in_target f p (seen_named f p q.first.text) q) }
+    /// The path of a target. Keeps the numbers of its names.
+    pub fn target(&self, numbers: &mut Numbers, path: &Path) -> Result<Outcome, AllocError>
+        ensures { let f = file_in self.now.names in let p = pou_in self.now.names in let q = path_view path.now in IfOk result (λ o. o ≡ outcome_of (in_target f p (seen_named f p q.first.text) q)) }
     {
-        self.target_of(&path.first, &path.members)
+        self.target_of(numbers, &path.first, &path.members)
     }
 
-    /// The control variable of a FOR.
-    pub fn control(&self, name: &Name) -> Outcome
-        ensures { let f = file_in self.now.names in let p = pou_in self.now.names in let n = name_view name.now in result ≡ outcome_of (in_target f p (seen_named f p n.text) (alone n)) }
+    /// The control variable of a FOR. Keeps its number.
+    pub fn control(&self, numbers: &mut Numbers, name: &Name) -> Result<Outcome, AllocError>
+        ensures { let f = file_in self.now.names in let p = pou_in self.now.names in let n = name_view name.now in IfOk result (λ o. o ≡ outcome_of (in_target f p (seen_named f p n.text) (alone n))) }
     {
-        self.target_of(name, &[])
+        self.target_of(numbers, name, &[])
     }
 
-    /// A path that is read.
-    pub fn path(&self, path: &Path) -> Outcome
-        ensures { let f = file_in self.now.names in let p = pou_in self.now.names in let q = path_view path.now in result ≡ outcome_of (in_path f p (seen_named f p q.first.text) q) }
+    // A path that is read, whose first name is that of no variable.
+    fn outer_path(&self, path: &Path) -> Outcome
+        ensures { let f = file_in self.now.names in let p = pou_in self.now.names in result ≡ outcome_of (in_path f p None (path_view path.now)) }
     {
         let first = &path.first;
-        if let Some(seen) = self.names.seen(first) {
-            return self.variable(seen, first, &path.members);
-        }
         if !self.names.own.is_fault(first)
             && is_value(self.names.file.types.names.standing(first))
         {
             return too_deep(&path.members);
         }
         self.outer(first)
+    }
+
+    /// A path that is read. Keeps the numbers of its names.
+    pub fn path(&self, numbers: &mut Numbers, path: &Path) -> Result<Outcome, AllocError>
+        ensures { let f = file_in self.now.names in let p = pou_in self.now.names in let q = path_view path.now in IfOk result (λ o. o ≡ outcome_of (in_path f p (seen_named f p q.first.text) q)) }
+    {
+        match self.names.used(numbers, &path.first)? {
+            Some(seen) => self.variable(numbers, seen, &path.first, &path.members),
+            None => Ok(self.outer_path(path)),
+        }
     }
 
     /// `kind#value`.
@@ -201,26 +249,36 @@ impl Scope<'_, '_> {
     }
 
     // The name of an argument.
-    fn argument_named(&self, callee: Callee, name: &Name) -> Outcome
-        ensures { result ≡ outcome_of (in_argument_named (file_in self.now.names) callee (name_view name.now)) }
+    fn argument_named(
+        &self,
+        numbers: &mut Numbers,
+        callee: Callee,
+        name: &Name,
+    ) -> Result<Outcome, AllocError>
+        ensures { IfOk result (λ o. o ≡ outcome_of (in_argument_named (file_in self.now.names) callee (name_view name.now))) }
     {
         match callee {
-            Callee::Standard => unknown(name),
-            Callee::Function(number) => match self.seen_in(number, name) {
-                Some(seen) => argument_by(seen, name),
-                None => Outcome::suppressed(),
+            Callee::Standard => Ok(unknown(name)),
+            Callee::Function(number) => match self.seen_in(numbers, number, name)? {
+                Some(seen) => Ok(argument_by(seen, name)),
+                None => Ok(Outcome::suppressed()),
             },
-            Callee::Unknown => Outcome::ok(),
+            Callee::Unknown => Ok(Outcome::ok()),
         }
     }
 
-    /// The name of an argument, where it has one.
-    pub fn argument_name(&self, callee: Callee, name: &Option<Name>) -> Outcome
-        ensures { result ≡ outcome_of (in_argument_name (file_in self.now.names) callee (option_map name_view name.now)) }
+    /// The name of an argument, where it has one. Keeps its number.
+    pub fn argument_name(
+        &self,
+        numbers: &mut Numbers,
+        callee: Callee,
+        name: &Option<Name>,
+    ) -> Result<Outcome, AllocError>
+        ensures { IfOk result (λ o. o ≡ outcome_of (in_argument_name (file_in self.now.names) callee (option_map name_view name.now))) }
     {
         match name {
-            Some(name) => self.argument_named(callee, name),
-            None => Outcome::ok(),
+            Some(name) => self.argument_named(numbers, callee, name),
+            None => Ok(Outcome::ok()),
         }
     }
 
@@ -243,13 +301,18 @@ impl Scope<'_, '_> {
         }
     }
 
-    /// The name of a connection of a block's call.
-    pub fn connected(&self, block: Option<usize>, name: &Name) -> Outcome
-        ensures { result ≡ outcome_of (in_connected (file_in self.now.names) block (name_view name.now)) }
+    /// The name of a connection of a block's call. Keeps its number.
+    pub fn connected(
+        &self,
+        numbers: &mut Numbers,
+        block: Option<usize>,
+        name: &Name,
+    ) -> Result<Outcome, AllocError>
+        ensures { IfOk result (λ o. o ≡ outcome_of (in_connected (file_in self.now.names) block (name_view name.now))) }
     {
         match block {
-            Some(block) => self.member(block, name),
-            None => Outcome::ok(),
+            Some(block) => self.member(numbers, block, name),
+            None => Ok(Outcome::ok()),
         }
     }
 }

@@ -8,18 +8,19 @@ ghost use Rattle.rules.specs.Outcomes.{outcome_of, both};
 
 use crate::scope::Scope;
 use naming::{Callee, append_called};
-use pou_scope::instance_of;
+use pou_scope::{Numbers, instance_of};
 use rules::Outcome;
 use source_tree::{Argument, Arm, Connection, Entry, Expr, Iteration, Label, Link, Stmt};
 use std::alloc::AllocError;
 
-/// Keeps what an expression breaks, and appends the FUNCTIONs that it calls.
+/// Keeps what an expression breaks and the numbers of its uses of variables, and appends the FUNCTIONs that it calls.
 #[cycle(walk_expr)]
 #[tactic(auto, using(rules::proofs::Outcomes::both_on, rules::proofs::Outcomes::both_ok))]
 pub fn walk_expr(
     scope: &Scope<'_, '_>,
     expr: &Expr,
     outcome: &mut Outcome,
+    numbers: &mut Numbers,
     calls: &mut Vec<usize>,
 ) -> Result<(), AllocError>
     ensures judged { OnOk result (outcome.new ≡ both outcome.old (outcome_of (in_tree (file_in scope.now.names) (pou_in scope.now.names) (tree_view expr.now)))) }
@@ -28,24 +29,24 @@ pub fn walk_expr(
     match expr {
         Expr::Literal(_) => Ok(()),
         Expr::Path(path) => {
-            *outcome = outcome.also(scope.path(path));
+            *outcome = outcome.also(scope.path(numbers, path)?);
             Ok(())
         }
         Expr::Enumerator(kind, value) => {
             *outcome = outcome.also(scope.enumerator(kind, value));
             Ok(())
         }
-        Expr::Paren(_, inner) => walk_expr(scope, inner, outcome, calls),
-        Expr::Unary(_, _, inner) => walk_expr(scope, inner, outcome, calls),
+        Expr::Paren(_, inner) => walk_expr(scope, inner, outcome, numbers, calls),
+        Expr::Unary(_, _, inner) => walk_expr(scope, inner, outcome, numbers, calls),
         Expr::Chain(left, links) => {
-            walk_expr(scope, left, outcome, calls)?;
-            walk_links(scope, links, outcome, calls)
+            walk_expr(scope, left, outcome, numbers, calls)?;
+            walk_links(scope, links, outcome, numbers, calls)
         }
         Expr::Call(function, _, arguments) => {
             let callee = scope.names.file.callee(function);
             *outcome = outcome.also(scope.called(callee, function));
             append_called(calls, callee)?;
-            walk_arguments(scope, callee, arguments, outcome, calls)
+            walk_arguments(scope, callee, arguments, outcome, numbers, calls)
         }
     }
 }
@@ -57,13 +58,14 @@ fn walk_links(
     scope: &Scope<'_, '_>,
     links: &[Link],
     outcome: &mut Outcome,
+    numbers: &mut Numbers,
     calls: &mut Vec<usize>,
 ) -> Result<(), AllocError>
     ensures judged { OnOk result (outcome.new ≡ both outcome.old (outcome_of (in_links (file_in scope.now.names) (pou_in scope.now.names) (links_view links.now)))) }
     ensures calls { OnOk result (calls.new.items ≡ calls.old.items ++ calls_in_links (file_in scope.now.names) (links_view links.now)) }
 {
     for link in links {
-        walk_expr(scope, &link.right, outcome, calls)?;
+        walk_expr(scope, &link.right, outcome, numbers, calls)?;
     }
     Ok(())
 }
@@ -76,14 +78,15 @@ fn walk_arguments(
     callee: Callee,
     arguments: &[Argument],
     outcome: &mut Outcome,
+    numbers: &mut Numbers,
     calls: &mut Vec<usize>,
 ) -> Result<(), AllocError>
     ensures judged { OnOk result (outcome.new ≡ both outcome.old (outcome_of (in_arguments (file_in scope.now.names) (pou_in scope.now.names) callee (arguments_view arguments.now)))) }
     ensures calls { OnOk result (calls.new.items ≡ calls.old.items ++ calls_in_arguments (file_in scope.now.names) (arguments_view arguments.now)) }
 {
     for argument in arguments {
-        *outcome = outcome.also(scope.argument_name(callee, &argument.name));
-        walk_expr(scope, &argument.value, outcome, calls)?;
+        *outcome = outcome.also(scope.argument_name(numbers, callee, &argument.name)?);
+        walk_expr(scope, &argument.value, outcome, numbers, calls)?;
     }
     Ok(())
 }
@@ -113,13 +116,14 @@ fn walk_step(
     scope: &Scope<'_, '_>,
     step: &Option<Expr>,
     outcome: &mut Outcome,
+    numbers: &mut Numbers,
     calls: &mut Vec<usize>,
 ) -> Result<(), AllocError>
     ensures judged { OnOk result (outcome.new ≡ both outcome.old (outcome_of (in_step (file_in scope.now.names) (pou_in scope.now.names) (initial_view step.now)))) }
     ensures calls { OnOk result (calls.new.items ≡ calls.old.items ++ calls_in_step (file_in scope.now.names) (initial_view step.now)) }
 {
     match step {
-        Some(step) => walk_expr(scope, step, outcome, calls),
+        Some(step) => walk_expr(scope, step, outcome, numbers, calls),
         None => Ok(()),
     }
 }
@@ -130,15 +134,16 @@ fn walk_iteration(
     scope: &Scope<'_, '_>,
     iteration: &Iteration,
     outcome: &mut Outcome,
+    numbers: &mut Numbers,
     calls: &mut Vec<usize>,
 ) -> Result<(), AllocError>
     ensures judged { OnOk result (outcome.new ≡ both outcome.old (outcome_of (in_iteration (file_in scope.now.names) (pou_in scope.now.names) (iteration_view iteration.now)))) }
     ensures calls { OnOk result (calls.new.items ≡ calls.old.items ++ calls_in_iteration (file_in scope.now.names) (iteration_view iteration.now)) }
 {
-    *outcome = outcome.also(scope.control(&iteration.control));
-    walk_expr(scope, &iteration.first, outcome, calls)?;
-    walk_expr(scope, &iteration.last, outcome, calls)?;
-    walk_step(scope, &iteration.step, outcome, calls)
+    *outcome = outcome.also(scope.control(numbers, &iteration.control)?);
+    walk_expr(scope, &iteration.first, outcome, numbers, calls)?;
+    walk_expr(scope, &iteration.last, outcome, numbers, calls)?;
+    walk_step(scope, &iteration.step, outcome, numbers, calls)
 }
 
 // Keeps what a connection of a call of a block breaks, and appends the FUNCTIONs that it calls.
@@ -148,6 +153,7 @@ fn walk_connection(
     block: Option<usize>,
     connection: &Connection,
     outcome: &mut Outcome,
+    numbers: &mut Numbers,
     calls: &mut Vec<usize>,
 ) -> Result<(), AllocError>
     ensures judged { OnOk result (outcome.new ≡ both outcome.old (outcome_of (in_connection (file_in scope.now.names) (pou_in scope.now.names) block (connection_view connection.now)))) }
@@ -155,12 +161,12 @@ fn walk_connection(
 {
     match connection {
         Connection::Input(name, value) => {
-            *outcome = outcome.also(scope.connected(block, name));
-            walk_expr(scope, value, outcome, calls)
+            *outcome = outcome.also(scope.connected(numbers, block, name)?);
+            walk_expr(scope, value, outcome, numbers, calls)
         }
         Connection::Output(name, target) => {
-            *outcome = outcome.also(scope.connected(block, name));
-            *outcome = outcome.also(scope.target(target));
+            *outcome = outcome.also(scope.connected(numbers, block, name)?);
+            *outcome = outcome.also(scope.target(numbers, target)?);
             Ok(())
         }
     }
@@ -173,31 +179,33 @@ fn walk_connections(
     block: Option<usize>,
     connections: &[Connection],
     outcome: &mut Outcome,
+    numbers: &mut Numbers,
     calls: &mut Vec<usize>,
 ) -> Result<(), AllocError>
     ensures judged { OnOk result (outcome.new ≡ both outcome.old (outcome_of (in_connections (file_in scope.now.names) (pou_in scope.now.names) block (connections_view connections.now)))) }
     ensures calls { OnOk result (calls.new.items ≡ calls.old.items ++ calls_in_connections (file_in scope.now.names) (connections_view connections.now)) }
 {
     for connection in connections {
-        walk_connection(scope, block, connection, outcome, calls)?;
+        walk_connection(scope, block, connection, outcome, numbers, calls)?;
     }
     Ok(())
 }
 
-/// Keeps what statements break, and appends the FUNCTIONs that they call.
+/// Keeps what statements break and the numbers of their uses of variables, and appends the FUNCTIONs that they call.
 #[cycle(walk_stmts)]
 #[tactic(auto, using(rules::proofs::Outcomes::both_on, rules::proofs::Outcomes::both_ok))]
 pub fn walk_stmts(
     scope: &Scope<'_, '_>,
     stmts: &[Stmt],
     outcome: &mut Outcome,
+    numbers: &mut Numbers,
     calls: &mut Vec<usize>,
 ) -> Result<(), AllocError>
     ensures judged { OnOk result (outcome.new ≡ both outcome.old (outcome_of (in_stmts (file_in scope.now.names) (pou_in scope.now.names) (stmts_view stmts.now)))) }
     ensures calls { OnOk result (calls.new.items ≡ calls.old.items ++ calls_in_stmts (file_in scope.now.names) (stmts_view stmts.now)) }
 {
     for stmt in stmts {
-        walk_stmt(scope, stmt, outcome, calls)?;
+        walk_stmt(scope, stmt, outcome, numbers, calls)?;
     }
     Ok(())
 }
@@ -209,6 +217,7 @@ fn walk_stmt(
     scope: &Scope<'_, '_>,
     stmt: &Stmt,
     outcome: &mut Outcome,
+    numbers: &mut Numbers,
     calls: &mut Vec<usize>,
 ) -> Result<(), AllocError>
     ensures judged { OnOk result (outcome.new ≡ both outcome.old (outcome_of (in_stmt (file_in scope.now.names) (pou_in scope.now.names) (stmt_view stmt.now)))) }
@@ -217,32 +226,39 @@ fn walk_stmt(
     match stmt {
         Stmt::Empty => Ok(()),
         Stmt::Assign(target, value) => {
-            *outcome = outcome.also(scope.target(target));
-            walk_expr(scope, value, outcome, calls)
+            *outcome = outcome.also(scope.target(numbers, target)?);
+            walk_expr(scope, value, outcome, numbers, calls)
         }
         Stmt::Call(name, _, connections) => {
-            let seen = scope.names.seen(name);
+            let seen = scope.names.used(numbers, name)?;
             *outcome = outcome.also(scope.instance(seen, name));
-            walk_connections(scope, instance_of(seen), connections, outcome, calls)
+            walk_connections(
+                scope,
+                instance_of(seen),
+                connections,
+                outcome,
+                numbers,
+                calls,
+            )
         }
         Stmt::If(arms, other) => {
-            walk_arms(scope, arms, outcome, calls)?;
+            walk_arms(scope, arms, outcome, numbers, calls)?;
             match other {
-                Some(stmts) => walk_stmts(scope, stmts, outcome, calls),
+                Some(stmts) => walk_stmts(scope, stmts, outcome, numbers, calls),
                 None => Ok(()),
             }
         }
         Stmt::Case(selector, entries, other) => {
-            walk_expr(scope, selector, outcome, calls)?;
-            walk_entries(scope, entries, outcome, calls)?;
+            walk_expr(scope, selector, outcome, numbers, calls)?;
+            walk_entries(scope, entries, outcome, numbers, calls)?;
             match other {
-                Some(stmts) => walk_stmts(scope, stmts, outcome, calls),
+                Some(stmts) => walk_stmts(scope, stmts, outcome, numbers, calls),
                 None => Ok(()),
             }
         }
         Stmt::For(iteration, body) => {
-            walk_iteration(scope, iteration, outcome, calls)?;
-            walk_stmts(scope, body, outcome, calls)
+            walk_iteration(scope, iteration, outcome, numbers, calls)?;
+            walk_stmts(scope, body, outcome, numbers, calls)
         }
     }
 }
@@ -254,14 +270,15 @@ fn walk_arms(
     scope: &Scope<'_, '_>,
     arms: &[Arm],
     outcome: &mut Outcome,
+    numbers: &mut Numbers,
     calls: &mut Vec<usize>,
 ) -> Result<(), AllocError>
     ensures judged { OnOk result (outcome.new ≡ both outcome.old (outcome_of (in_arms (file_in scope.now.names) (pou_in scope.now.names) (arms_view arms.now)))) }
     ensures calls { OnOk result (calls.new.items ≡ calls.old.items ++ calls_in_arms (file_in scope.now.names) (arms_view arms.now)) }
 {
     for arm in arms {
-        walk_expr(scope, &arm.condition, outcome, calls)?;
-        walk_stmts(scope, &arm.body, outcome, calls)?;
+        walk_expr(scope, &arm.condition, outcome, numbers, calls)?;
+        walk_stmts(scope, &arm.body, outcome, numbers, calls)?;
     }
     Ok(())
 }
@@ -273,6 +290,7 @@ fn walk_entries(
     scope: &Scope<'_, '_>,
     entries: &[Entry],
     outcome: &mut Outcome,
+    numbers: &mut Numbers,
     calls: &mut Vec<usize>,
 ) -> Result<(), AllocError>
     ensures judged { OnOk result (outcome.new ≡ both outcome.old (outcome_of (in_entries (file_in scope.now.names) (pou_in scope.now.names) (entries_view entries.now)))) }
@@ -280,7 +298,7 @@ fn walk_entries(
 {
     for entry in entries {
         walk_labels(scope, &entry.labels, outcome);
-        walk_stmts(scope, &entry.body, outcome, calls)?;
+        walk_stmts(scope, &entry.body, outcome, numbers, calls)?;
     }
     Ok(())
 }

@@ -24,7 +24,7 @@ use Rattle.typing.specs.declared.scope.Signature.{Signature}
 use Rattle.typing.specs.declared.scope.Instance.{Instance}
 use Rattle.typing.specs.declared.next.Next.{Next}
 use Rattle.typing.specs.Typing.{Scope, by_path, by_value, kind_at, type_of, operand_type, next_type, Parameter, fixed, common, amount, parameter_of}
-use Rattle.typing.specs.Judged.{negative_literal, wanted_at, place_for, wanted_by}
+use Rattle.typing.specs.Judged.{negative_literal, expected_at, place_for, expected_by}
 use Rattle.typing.specs.Typed.{PlacedData, placed, read_of, meaning_read, typed_signed, with_operand, typed_answer, typed_result, typed, typed_links, typed_operands, typed_given}
 use Rattle.typing.specs.JudgedStatements.{member}
 use Rattle.typing.specs.TypedStatements.{typed_inputs, typed_outputs, typed_run, typed_invoke, and_then, typed_stmts, typed_arms, typed_entries, typed_else}
@@ -176,12 +176,12 @@ module _ (c : Counting) where
       same_operands f j k place no_arguments = refl
       same_operands f j k place (argument n e args) =
           let p = parameter_of f place in
-          same_operand p _ _ _ _ (same_in (wanted_at p j) (wanted_at p k) e) (same_operands f j k (place + 1) args)
+          same_operand p _ _ _ _ (same_in (expected_at p j) (expected_at p k) e) (same_operands f j k (place + 1) args)
 
       same_given : (g : Signature) → ((name : List ℕ) → s.input g.function name ≡ t.input g.function name) → (place : ℕ) (args : Arguments) → map given_count (typed_given s g place args) ≡ map given_count (typed_given t g place args)
       same_given g inputs place no_arguments = refl
       same_given g inputs place (argument n e args) =
-          let here = same_in (wanted_by (s.port g.function (place_for s g place n))) (wanted_by (t.port g.function (place_for t g place n))) e in
+          let here = same_in (expected_by (s.port g.function (place_for s g place n))) (expected_by (t.port g.function (place_for t g place n))) e in
           λ i. (place_same g inputs place n i, here i) ∷ same_given g inputs (place + 1) args i
 
     -- ---- statements

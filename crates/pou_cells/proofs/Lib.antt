@@ -1,3 +1,3 @@
+pub mod ToldLemmas
 pub mod TableLemmas
-pub mod PlacingLemmas
 pub mod SizeLemmas

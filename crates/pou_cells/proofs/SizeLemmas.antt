@@ -6,14 +6,13 @@ use Rattle.std.proofs.Math.Nat.{min-eq_left, min-eq_right}
 use Rattle.std.proofs.Math.ListN.{get_or-map as get_or-mapped}
 use Rattle.std.proofs.lemmas.List.{map-set}
 use Rattle.std.proofs.lemmas.Bool.{cases_lt, lt-ltb, le-ltb, le-leb, lt-leb, ltb-true, and_parts}
-use Rattle.source_tree.specs.Syntax.{PouData, FileData}
-use Rattle.naming.specs.FileScope.{pou_at}
-use Rattle.naming.specs.Scopes.{Variable, variables_in_pou, is_step}
-use Rattle.typing.specs.declared.member.Member.{Member}
-use Rattle.typing.specs.declared.next.Next.{Next}
-use Rattle.typing.specs.Places.{has_cell, size_among, count_of_cells, first_places, places_behind, variables_in, variables_at, sizes_along}
-use Rattle.typing.specs.Members.{members_of, members_if, members_at}
-use Rattle.pou_cells.specs.Placing.{taken_by, cells_of_all, capped, capped_cells, capped_along}
+use Rattle.source_tree.specs.Syntax.{FileData}
+use Rattle.naming.specs.Scopes.{is_step}
+use Rattle.typing.specs.Places.{has_cell, size_among, count_of_cells, variables_at, sizes_along}
+use Rattle.decl_types.specs.Told.{ToldData}
+use Rattle.pou_cells.specs.ToldPlaces.{told_at, told_cells, told_count}
+use Rattle.pou_cells.specs.Placing.{capped, capped_cells, capped_along}
+use Rattle.pou_cells.proofs.ToldLemmas.{told_count-is}
 
 -- a number that is passed, or is not
 capped_small : (n : ℕ) → n < 2 ^ 64 - 1 → capped n ≡ n
@@ -56,49 +55,41 @@ by_cell : (x : Bool) (m n : ℕ) → m ≡ capped n → (if x then m else 0) ≡
 by_cell true m n e = e
 by_cell false m n e = refl
 
-capped_taken : (s : List ℕ) (m : Member) → taken_by (map capped s) m ≡ capped (taken_by s m)
-capped_taken s m =
-    by_cell (has_cell m.role) (if is_step m.role then 2 else size_among (map capped s) m.block) (if is_step m.role then 2 else size_among s m.block)
-    (by_step (is_step m.role) (size_among (map capped s) m.block) (size_among s m.block) (capped_size s m.block))
+capped_taken : (s : List ℕ) (t : ToldData) → told_cells (map capped s) t ≡ capped (told_cells s t)
+capped_taken s t =
+    by_cell (has_cell t.role) (if is_step t.role then 2 else size_among (map capped s) t.block) (if is_step t.role then 2 else size_among s t.block)
+    (by_step (is_step t.role) (size_among (map capped s) t.block) (size_among s t.block) (capped_size s t.block))
 
 -- how many cells variables take
-capped_cells-is : (s : List ℕ) (ms : List Member) → capped_cells (map capped s) ms ≡ capped (cells_of_all s ms)
+capped_cells-is : (s : List ℕ) (ts : List ToldData) → capped_cells (map capped s) ts ≡ capped (told_count s ts)
 capped_cells-is s [] = refl
-capped_cells-is s (m ∷ ms) = rw (capped_taken s m, capped_cells-is s ms) (capped_sum (taken_by s m) (cells_of_all s ms))
+capped_cells-is s (t ∷ ts) = rw (capped_taken s t, capped_cells-is s ts) (capped_sum (told_cells s t) (told_count s ts))
 
-pub capped_once : (s : List ℕ) (ms : List Member) → capped (capped_cells s ms) ≡ capped_cells s ms
+pub capped_once : (s : List ℕ) (ts : List ToldData) → capped (capped_cells s ts) ≡ capped_cells s ts
 capped_once s [] = refl
-capped_once s (m ∷ ms) = capped_twice (taken_by s m + capped_cells s ms)
+capped_once s (t ∷ ts) = capped_twice (told_cells s t + capped_cells s ts)
 
-pub capped_start : (s : List ℕ) (ms : List Member) → capped (0 + capped_cells s ms) ≡ capped_cells s ms
-capped_start s ms = let same : 0 + capped_cells s ms ≡ capped_cells s ms = omega arith in ap capped same ∙ capped_once s ms
+pub capped_start : (s : List ℕ) (ts : List ToldData) → capped (0 + capped_cells s ts) ≡ capped_cells s ts
+capped_start s ts = let same : 0 + capped_cells s ts ≡ capped_cells s ts = omega arith in ap capped same ∙ capped_once s ts
 
 -- one variable more
-pub capped_more : (s : List ℕ) (m : Member) (ms : List Member) (count next : ℕ) → next ≡ capped (count + taken_by s m) → capped (next + capped_cells s ms) ≡ capped (count + capped_cells s (m ∷ ms))
-capped_more s m ms count next is =
-    let t = taken_by s m in
-    let r = capped_cells s ms in
-    let sum : count + t + r ≡ count + (t + r) = omega arith in
-    ap (λ (x : ℕ). capped (x + r)) is ∙ capped_left (count + t) r ∙ ap capped sum ∙ sym (capped_right count (t + r))
-
-cells_of_all-is : (f : FileData) (told s : List ℕ) (next : Next) (vs : List Variable) → cells_of_all s (members_of f told next vs) ≡ count_of_cells f s vs
-cells_of_all-is f told s next [] = refl
-cells_of_all-is f told s next (v ∷ vs) = rw (cells_of_all-is f told s (places_behind f told next v) vs) refl
-
-in_pou : (f : FileData) (told s : List ℕ) (o : Option PouData) → cells_of_all s (members_if f told o) ≡ count_of_cells f s (variables_in o)
-in_pou f told s None = refl
-in_pou f told s (Some p) = let vs = variables_in_pou p in cells_of_all-is f told s (first_places f told p.kind vs) vs
+pub capped_more : (s : List ℕ) (t : ToldData) (ts : List ToldData) (count next : ℕ) → next ≡ capped (count + told_cells s t) → capped (next + capped_cells s ts) ≡ capped (count + capped_cells s (t ∷ ts))
+capped_more s t ts count next is =
+    let n = told_cells s t in
+    let r = capped_cells s ts in
+    let sum : count + n + r ≡ count + (n + r) = omega arith in
+    ap (λ (x : ℕ). capped (x + r)) is ∙ capped_left (count + n) r ∙ ap capped sum ∙ sym (capped_right count (n + r))
 
 -- how many cells a POU has
-pub capped_count : (f : FileData) (told s : List ℕ) (k : ℕ) → capped_cells (map capped s) (members_at f told k) ≡ capped (count_of_cells f s (variables_at f k))
-capped_count f told s k = capped_cells-is s (members_at f told k) ∙ ap capped (in_pou f told s (pou_at f k))
+pub capped_count : (f : FileData) (s : List ℕ) (k : ℕ) → capped_cells (map capped s) (told_at f k) ≡ capped (count_of_cells f s (variables_at f k))
+capped_count f s k = capped_cells-is s (told_at f k) ∙ ap capped (told_count-is f s (variables_at f k))
 
 -- the sizes of POUs
 capped_along-is : (f : FileData) (s ks : List ℕ) → capped_along f (map capped s) ks ≡ map capped (sizes_along f s ks)
 capped_along-is f s [] = refl
 capped_along-is f s (k ∷ ks) =
     let n = count_of_cells f s (variables_at f k) in
-    ap (λ (x : ℕ). capped_along f (set (map capped s) k x) ks) (capped_count f [] s k)
+    ap (λ (x : ℕ). capped_along f (set (map capped s) k x) ks) (capped_count f s k)
     ∙ ap (λ (l : List ℕ). capped_along f l ks) (sym (map-set capped s k n))
     ∙ capped_along-is f (set s k n) ks
 

@@ -7,15 +7,20 @@ use Rattle.std.proofs.lemmas.Option.{slice_get-map, slice_get_cases}
 use Rattle.std.proofs.lemmas.List.{map-append}
 use Rattle.source_tree.specs.Syntax.{PouData, FileData}
 use Rattle.st_names.specs.declared.bound.Bound.{Bound}
-use Rattle.st_names.specs.Bound.{bound_of, bound_named}
+use Rattle.st_names.specs.Bound.{bound_of, bound_named, variables_at as kept_at}
 use Rattle.naming.specs.FileScope.{pous_of, pou_at}
 use Rattle.naming.specs.Scopes.{Variable, variables_in_pou}
 use Rattle.naming.specs.Slots.{found}
 use Rattle.typing.specs.declared.scope.Port.{Port}
-use Rattle.typing.specs.Places.{first_places}
+use Rattle.typing.specs.Places.{first_places, variables_in}
 use Rattle.typing.specs.declared.member.Member.{Member}
 use Rattle.typing.specs.Members.{members_in, members_if, members_at, ports_of, member_in, member_at}
+use Rattle.decl_types.specs.declared.told.Told.{Told}
+use Rattle.decl_types.specs.Told.{ToldData, told_in}
+use Rattle.decl_types.specs.ToldView.{told_view}
 use Rattle.pou_cells.specs.PouTables.{all_members, all_ports}
+use Rattle.pou_cells.specs.ToldPlaces.{told_at}
+use Rattle.pou_cells.specs.ToldMembers.{all_told}
 use Rattle.typing_laws.proofs.NamedLemmas.{IsFound, found_is, not_found_is}
 
 -- what is left from a number on begins with what stands there
@@ -81,24 +86,24 @@ pub member_at-is : (f : FileData) (sizes : List ℕ) (number : ℕ) (text : List
 member_at-is f sizes number text r got is e = by_pou f sizes text (pou_at f number) r got is e
 
 -- one POU more in a table
-pub one_pou_more : {A : Type 0} → (g : PouData → List A) (ps : List PouData) (vs : List (Vec A Global)) (v : Vec A Global) (k : ℕ) (p : PouData) (all : List (List A)) → slice_get ps k ≡ Some p → v.items ≡ g p
-    → map (λ u. u.items) vs ++ map g (drop k ps) ≡ all → map (λ u. u.items) (vs ++ v ∷ []) ++ map g (drop (k + 1) ps) ≡ all
-one_pou_more g ps vs v k p all here is known =
-    ap (λ l. l ++ map g (drop (k + 1) ps)) (map-append (λ u. u.items) vs (v ∷ [])) ∙ append_assoc (map (λ u. u.items) vs) (v.items ∷ []) (map g (drop (k + 1) ps))
-    ∙ ap (λ x. map (λ u. u.items) vs ++ x ∷ map g (drop (k + 1) ps)) is ∙ ap (λ l. map (λ u. u.items) vs ++ map g l) (sym (drop_at ps k p here)) ∙ known
+one_pou_more : {A B : Type 0} → (h : A → B) (g : PouData → B) (ps : List PouData) (vs : List A) (v : A) (k : ℕ) (p : PouData) (all : List B) → slice_get ps k ≡ Some p → h v ≡ g p
+    → map h vs ++ map g (drop k ps) ≡ all → map h (vs ++ v ∷ []) ++ map g (drop (k + 1) ps) ≡ all
+one_pou_more h g ps vs v k p all here is known =
+    ap (λ l. l ++ map g (drop (k + 1) ps)) (map-append h vs (v ∷ [])) ∙ append_assoc (map h vs) (h v ∷ []) (map g (drop (k + 1) ps))
+    ∙ ap (λ x. map h vs ++ x ∷ map g (drop (k + 1) ps)) is ∙ ap (λ l. map h vs ++ map g l) (sym (drop_at ps k p here)) ∙ known
 
 -- the same where it is told by its number
-one_more : (f : FileData) (sizes : List ℕ) (vs : List (Vec Member Global)) (v : Vec Member Global) (k : ℕ) (all : List (List Member)) (o : Option PouData) → pou_at f k ≡ o → k < length (pous_of f)
-    → v.items ≡ members_if f sizes o → map (λ u. u.items) vs ++ map (members_in f sizes) (drop k (pous_of f)) ≡ all
-    → map (λ u. u.items) (vs ++ v ∷ []) ++ map (members_in f sizes) (drop (k + 1) (pous_of f)) ≡ all
-one_more f sizes vs v k all None there below is known =
+one_more : {A B : Type 0} → (h : A → B) (g : PouData → B) (f : FileData) (vs : List A) (v : A) (k : ℕ) (all : List B) (o : Option PouData) → pou_at f k ≡ o → k < length (pous_of f)
+    → ((p : PouData) → o ≡ Some p → h v ≡ g p) → map h vs ++ map g (drop k (pous_of f)) ≡ all → map h (vs ++ v ∷ []) ++ map g (drop (k + 1) (pous_of f)) ≡ all
+one_more h g f vs v k all None there below is known =
     let here = slice_get_cases (pous_of f) k in
     absurd (⊎_elim (λ found. let h : ⊥ = cc in h) (λ past. omega (arith, below, past.0)) here.1)
-one_more f sizes vs v k all (Some p) there below is known = one_pou_more (members_in f sizes) (pous_of f) vs v k p all there is known
+one_more h g f vs v k all (Some p) there below is known = one_pou_more h g (pous_of f) vs v k p all there (is p refl) known
 
 pub one_number_more : (f : FileData) (sizes : List ℕ) (vs : List (Vec Member Global)) (v : Vec Member Global) (k : ℕ) (all : List (List Member)) → k < length (pous_of f) → v.items ≡ members_at f sizes k
     → map (λ u. u.items) vs ++ map (members_in f sizes) (drop k (pous_of f)) ≡ all → map (λ u. u.items) (vs ++ v ∷ []) ++ map (members_in f sizes) (drop (k + 1) (pous_of f)) ≡ all
-one_number_more f sizes vs v k all below is known = one_more f sizes vs v k all (pou_at f k) refl below is known
+one_number_more f sizes vs v k all below is known =
+    one_more (λ (u : Vec Member Global). u.items) (members_in f sizes) f vs v k all (pou_at f k) refl below (λ p there. is ∙ ap (members_if f sizes) there) known
 
 pub ports_of_all : (vs : List (Vec Member Global)) (ms : List (List Member)) → map (λ v. v.items) vs ≡ ms → map (λ v. ports_of v.items) vs ≡ map ports_of ms
 ports_of_all vs ms e = each vs ∙ ap (map ports_of) e
@@ -106,3 +111,32 @@ ports_of_all vs ms e = each vs ∙ ap (map ports_of) e
     each : (us : List (Vec Member Global)) → map (λ v. ports_of v.items) us ≡ map ports_of (map (λ v. v.items) us)
     each [] = refl
     each (u ∷ us) = ap (λ l. ports_of u.items ∷ l) (each us)
+
+-- ---- what is told of the variables of POUs
+
+abbrev told_items : Vec Told Global → List ToldData
+told_items v = map told_view v.items
+
+abbrev told_in_pou : FileData → PouData → List ToldData
+told_in_pou f p = told_in f (variables_in_pou p)
+
+told_if-is : (f : FileData) (o : Option PouData) → unwrap_or (option_map (told_in_pou f) o) [] ≡ told_in f (variables_in o)
+told_if-is f None = refl
+told_if-is f (Some p) = refl
+
+pub told_at-is : (f : FileData) (vs : List (Vec Told Global)) (k : ℕ) → map told_items vs ≡ all_told f → unwrap_or (option_map told_items (slice_get vs k)) [] ≡ told_at f k
+told_at-is f vs k known =
+    ap (λ o. unwrap_or o []) (sym (slice_get-map told_items vs k) ∙ ap (λ l. slice_get l k) known ∙ slice_get-map (told_in_pou f) (pous_of f) k) ∙ told_if-is f (pou_at f k)
+
+-- the variables that are kept with the names of a file
+pub told_variables : (f : FileData) (vs : List Variable) (k : ℕ) → vs ≡ kept_at f k → told_in f vs ≡ told_at f k
+told_variables f vs k kept = ap (told_in f) (kept ∙ same (pou_at f k))
+  where
+    same : (o : Option PouData) → unwrap_or (option_map variables_in_pou o) [] ≡ variables_in o
+    same None = refl
+    same (Some p) = refl
+
+pub one_told_more : (f : FileData) (vs : List (Vec Told Global)) (v : Vec Told Global) (k : ℕ) → k < length (pous_of f) → told_items v ≡ told_at f k
+    → map told_items vs ++ map (told_in_pou f) (drop k (pous_of f)) ≡ all_told f → map told_items (vs ++ v ∷ []) ++ map (told_in_pou f) (drop (k + 1) (pous_of f)) ≡ all_told f
+one_told_more f vs v k below is known =
+    one_more told_items (told_in_pou f) f vs v k (all_told f) (pou_at f k) refl below (λ p there. is ∙ ap (λ o. told_in f (variables_in o)) there) known

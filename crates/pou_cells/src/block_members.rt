@@ -1,94 +1,71 @@
 // The names of POUs, and what they stand for.
-ghost use Rattle.std.specs.Prelude.{◌≡◌, IfOk};
-ghost use Rattle.source_tree.specs.SyntaxView.{pou_view};
-ghost use Rattle.naming.specs.ScopeView.{variable_view};
-ghost use Rattle.decl_types.specs.Bodies.{file_in};
-ghost use Rattle.typing.specs.Members.{place_at, meaning_of, member_of, members_in, seen_from, place_of_input, port_of, ports_of};
+ghost use Rattle.std.specs.Prelude.{◌≡◌, map, IfOk};
+ghost use Rattle.source_tree.specs.SyntaxView.{pou_kind_view};
+ghost use Rattle.typing.specs.Members.{seen_from, place_of_input, port_of, ports_of};
+ghost use Rattle.decl_types.specs.ToldView.{told_view};
+ghost use Rattle.pou_cells.specs.ToldMembers.{told_meaning, told_member, told_members};
 
 use crate::places::{first_place, first_places, places_behind};
-use crate::roles::{has_cell, is_input, may_be_assigned, may_control};
-use decl_types::{Domains, block_of, domain_of, initial_of, judge_variable};
-use naming::{Declared, Role};
-use pou_scope::declared_variables;
-use source_tree::Pou;
+use crate::roles::{has_cell, may_be_assigned, may_control};
+use decl_types::Told;
+use source_tree::PouKind;
 use std::alloc::{AllocError, Global};
 use typing::{Meaning, Member, Place, Port};
 
 // The place of what has no cells is the value that it begins with.
-fn place_at(
-    alloc: Global,
-    domains: &Domains<'_>,
-    cell: usize,
-    variable: &Declared<'_>,
-) -> Result<Place, AllocError>
-    ensures { IfOk result (λ place. place ≡ place_at (file_in domains.now) cell (variable_view variable.now)) }
+fn place_at(cell: usize, told: &Told<'_>) -> Place
+    ensures { result ≡ (told_meaning cell (told_view told.now)).place }
 {
-    if has_cell(variable.role) {
-        return Ok(Place::Cell(cell));
+    if has_cell(told.role) {
+        Place::Cell(cell)
+    } else {
+        Place::Value(told.initial)
     }
-    let value = initial_of(alloc, domains, variable)?;
-    Ok(Place::Value(value))
 }
 
 // What a variable stands for whose first cell, where it has one, is at a place.
-#[tactic(auto, unfolding(rules::specs::Outcomes::outcome_of))]
-fn meaning_of(
-    alloc: Global,
-    domains: &Domains<'_>,
-    cell: usize,
-    variable: &Declared<'_>,
-) -> Result<Meaning, AllocError>
-    ensures { IfOk result (λ meaning. meaning ≡ meaning_of (file_in domains.now) cell (variable_view variable.now)) }
+fn meaning_of(cell: usize, told: &Told<'_>) -> Meaning
+    ensures { result ≡ told_meaning cell (told_view told.now) }
 {
-    let place = place_at(alloc, domains, cell, variable)?;
-    let domain = domain_of(alloc, domains, variable)?;
-    let judged = judge_variable(alloc, domains, variable)?;
-    Ok(Meaning {
-        place,
-        kind: domain.kind,
-        range: domain.range,
-        whole: judged.whole,
-        assignable: may_be_assigned(variable.role),
-        control: may_control(variable.role),
-    })
+    Meaning {
+        place: place_at(cell, told),
+        kind: told.domain.kind,
+        range: told.domain.range,
+        whole: told.judged.whole,
+        assignable: may_be_assigned(told.role),
+        control: may_control(told.role),
+    }
 }
 
 // A variable whose first cell is at a place. A place past 32 bits is want of memory.
-fn member_of(
-    alloc: Global,
-    domains: &Domains<'_>,
-    cell: usize,
-    variable: &Declared<'_>,
-) -> Result<Member, AllocError>
-    ensures { IfOk result (λ member. member ≡ member_of (file_in domains.now) cell (variable_view variable.now)) }
+fn member_of(cell: usize, told: &Told<'_>) -> Result<Member, AllocError>
+    ensures { IfOk result (λ member. member ≡ told_member cell (told_view told.now)) }
 {
     let Ok(place) = u32::try_from(cell) else {
         return Err(AllocError);
     };
-    let meaning = meaning_of(alloc, domains, cell, variable)?;
     Ok(Member {
         cell: place,
-        meaning,
-        role: variable.role,
-        block: block_of(domains.types.names, variable),
+        meaning: meaning_of(cell, told),
+        role: told.role,
+        block: told.block,
     })
 }
 
-/// The variables of a POU in declared order.
+/// The variables of a POU in declared order, where blocks have these sizes.
 pub fn members_in(
     alloc: Global,
-    domains: &Domains<'_>,
     sizes: &[usize],
-    pou: &Pou,
+    kind: &PouKind,
+    tolds: &[Told<'_>],
 ) -> Result<Vec<Member>, AllocError>
-    ensures { IfOk result (λ list. list.items ≡ members_in (file_in domains.now) sizes.now (pou_view pou.now)) }
+    ensures { IfOk result (λ list. list.items ≡ told_members sizes.now (pou_kind_view kind.now) (map told_view tolds.now)) }
 {
-    let variables = declared_variables(alloc, pou)?;
     let mut list = Vec::new(alloc);
-    let mut next = first_places(domains.types.names, sizes, &pou.kind, &variables)?;
-    for variable in variables.iter() {
-        list.push(member_of(alloc, domains, first_place(next, variable), variable)?)?;
-        next = places_behind(domains.types.names, sizes, next, variable)?;
+    let mut next = first_places(sizes, kind, tolds)?;
+    for told in tolds {
+        list.push(member_of(first_place(next, told), told)?)?;
+        next = places_behind(sizes, next, told)?;
     }
     Ok(list)
 }
@@ -99,7 +76,7 @@ pub fn seen_from(cell: u32, member: Member) -> Meaning
 {
     Meaning {
         place: Place::Cell(cell as usize + member.cell as usize),
-        assignable: is_input(member.role),
+        assignable: member.role.is_input(),
         control: false,
         ..member.meaning
     }
@@ -109,7 +86,7 @@ pub fn seen_from(cell: u32, member: Member) -> Meaning
 pub fn place_of_input(member: Member) -> Option<usize>
     ensures { result ≡ place_of_input member }
 {
-    if is_input(member.role) {
+    if member.role.is_input() {
         Some((member.cell as usize).saturating_sub(2))
     } else {
         None
@@ -132,7 +109,7 @@ pub fn ports_of(alloc: Global, members: &[Member]) -> Result<Vec<Port>, AllocErr
 {
     let mut list = Vec::new(alloc);
     for member in members {
-        if is_input(member.role) {
+        if member.role.is_input() {
             list.push(port_of(*member))?;
         }
     }

@@ -2,20 +2,18 @@
 #![tactic(auto)]
 
 mod block_members;
-mod order;
 mod places;
-mod placing;
 mod pous;
 mod reached;
 mod roles;
 mod scope_of_pou;
 mod sizes;
+mod tables;
 
-pub use order::in_order;
 pub use places::{cells_taken, first_place, first_places, places_behind, size_among, sum};
 pub use pous::Pous;
 pub use roles::{
-    active_first, has_cell, is_constant, is_step, is_stored_action, is_temporary, part_in,
+    active_first, has_cell, is_constant, is_front, is_stored_action, is_temporary, part_in,
 };
 pub use scope_of_pou::PouScope;
 pub use sizes::{capped_sizes, has_room, placed};

@@ -1,14 +1,13 @@
 // Where the cells of a POU's names stand.
-ghost use Rattle.std.specs.Prelude.{◌≡◌, ◌+◌, IfOk};
-ghost use Rattle.source_tree.specs.SyntaxView.{pou_kind_view, file_view};
-ghost use Rattle.naming.specs.ScopeView.{variable_view, variables_view};
-ghost use Rattle.typing.specs.Places.{size_among, cells_taken, count_of_cells, in_front, places_from, first_places, first_place, places_behind};
+ghost use Rattle.std.specs.Prelude.{◌≡◌, ◌+◌, map, IfOk};
+ghost use Rattle.source_tree.specs.SyntaxView.{pou_kind_view};
+ghost use Rattle.typing.specs.Places.{size_among};
+ghost use Rattle.decl_types.specs.ToldView.{told_view};
+ghost use Rattle.pou_cells.specs.ToldPlaces.{told_cells, told_count, told_front, told_places_from, told_first_places, told_first_place, told_places_behind};
 
-use crate::roles::{has_cell, is_front, is_step};
-use decl_types::block_of;
-use naming::Declared;
+use crate::roles::{has_cell, is_front};
+use decl_types::Told;
 use source_tree::PouKind;
-use st_names::Resolved;
 use std::alloc::AllocError;
 use typing::Next;
 
@@ -33,31 +32,30 @@ pub fn size_among(sizes: &[usize], block: Option<usize>) -> usize
 }
 
 /// How many cells a variable takes.
-pub fn cells_taken(names: &Resolved, sizes: &[usize], variable: &Declared<'_>) -> usize
-    ensures { result ≡ cells_taken (file_view names.now.file) sizes.now (variable_view variable.now) }
+pub fn cells_taken(sizes: &[usize], told: &Told<'_>) -> usize
+    ensures { result ≡ told_cells sizes.now (told_view told.now) }
 {
-    if !has_cell(variable.role) {
+    if !has_cell(told.role) {
         0
-    } else if is_step(variable.role) {
+    } else if told.role.is_step() {
         2
     } else {
-        size_among(sizes, block_of(names, variable))
+        size_among(sizes, told.block)
     }
 }
 
 // How many cells the variables take that stand before all others.
 fn count_of_front(
-    names: &Resolved,
     sizes: &[usize],
     of_function: bool,
-    variables: &[Declared<'_>],
+    tolds: &[Told<'_>],
 ) -> Result<usize, AllocError>
-    ensures { IfOk result (λ n. n ≡ count_of_cells (file_view names.now.file) sizes.now (in_front of_function (variables_view variables.now))) }
+    ensures { IfOk result (λ n. n ≡ told_count sizes.now (told_front of_function (map told_view tolds.now))) }
 {
     let mut front = 0;
-    for variable in variables.iter() {
-        if is_front(of_function, variable.role) {
-            front = sum(front, cells_taken(names, sizes, variable))?;
+    for told in tolds {
+        if is_front(of_function, told.role) {
+            front = sum(front, cells_taken(sizes, told))?;
         }
     }
     Ok(front)
@@ -65,15 +63,14 @@ fn count_of_front(
 
 // Where the cells of a POU's variables begin behind those that each such POU has.
 fn places_from(
-    names: &Resolved,
     sizes: &[usize],
     of_function: bool,
     first: usize,
-    variables: &[Declared<'_>],
+    tolds: &[Told<'_>],
 ) -> Result<Next, AllocError>
-    ensures { IfOk result (λ next. next ≡ places_from (file_view names.now.file) sizes.now of_function first (variables_view variables.now)) }
+    ensures { IfOk result (λ next. next ≡ told_places_from sizes.now of_function first (map told_view tolds.now)) }
 {
-    let count = count_of_front(names, sizes, of_function, variables)?;
+    let count = count_of_front(sizes, of_function, tolds)?;
     Ok(Next {
         of_function,
         front: first,
@@ -82,26 +79,21 @@ fn places_from(
 }
 
 /// Where the cells of a POU's variables begin.
-pub fn first_places(
-    names: &Resolved,
-    sizes: &[usize],
-    kind: &PouKind,
-    variables: &[Declared<'_>],
-) -> Result<Next, AllocError>
-    ensures { IfOk result (λ next. next ≡ first_places (file_view names.now.file) sizes.now (pou_kind_view kind.now) (variables_view variables.now)) }
+pub fn first_places(sizes: &[usize], kind: &PouKind, tolds: &[Told<'_>]) -> Result<Next, AllocError>
+    ensures { IfOk result (λ next. next ≡ told_first_places sizes.now (pou_kind_view kind.now) (map told_view tolds.now)) }
 {
     match kind {
-        PouKind::Function(_) => places_from(names, sizes, true, 1, variables),
-        PouKind::FunctionBlock => places_from(names, sizes, false, 0, variables),
-        PouKind::Program => places_from(names, sizes, false, 1, variables),
+        PouKind::Function(_) => places_from(sizes, true, 1, tolds),
+        PouKind::FunctionBlock => places_from(sizes, false, 0, tolds),
+        PouKind::Program => places_from(sizes, false, 1, tolds),
     }
 }
 
 /// Where a variable's cells begin.
-pub fn first_place(next: Next, variable: &Declared<'_>) -> usize
-    ensures { result ≡ first_place next (variable_view variable.now) }
+pub fn first_place(next: Next, told: &Told<'_>) -> usize
+    ensures { result ≡ told_first_place next (told_view told.now) }
 {
-    if is_front(next.of_function, variable.role) {
+    if is_front(next.of_function, told.role) {
         next.front
     } else {
         next.rest
@@ -109,16 +101,11 @@ pub fn first_place(next: Next, variable: &Declared<'_>) -> usize
 }
 
 /// The next places behind a variable.
-pub fn places_behind(
-    names: &Resolved,
-    sizes: &[usize],
-    next: Next,
-    variable: &Declared<'_>,
-) -> Result<Next, AllocError>
-    ensures { IfOk result (λ behind. behind ≡ places_behind (file_view names.now.file) sizes.now next (variable_view variable.now)) }
+pub fn places_behind(sizes: &[usize], next: Next, told: &Told<'_>) -> Result<Next, AllocError>
+    ensures { IfOk result (λ behind. behind ≡ told_places_behind sizes.now next (told_view told.now)) }
 {
-    let taken = cells_taken(names, sizes, variable);
-    if is_front(next.of_function, variable.role) {
+    let taken = cells_taken(sizes, told);
+    if is_front(next.of_function, told.role) {
         let front = sum(next.front, taken)?;
         Ok(Next { front, ..next })
     } else {

@@ -4,22 +4,23 @@ ghost use Rattle.source_tree.specs.SyntaxView.{pou_view, file_view};
 ghost use Rattle.decl_types.specs.Bodies.{file_in};
 ghost use Rattle.typing.specs.Members.{no_port, ports_of, result_of, may_be_called, called_order, numbers_of};
 ghost use Rattle.typing.specs.Reached.{reached_order};
+ghost use Rattle.decl_types.specs.ToldView.{told_view};
 ghost use Rattle.pou_cells.specs.PouTables.{all_members, all_ports};
+ghost use Rattle.pou_cells.specs.ToldMembers.{all_told};
 
-use crate::block_members::{members_in, port_of, ports_of, seen_from};
-use crate::placing::moved_in;
+use crate::block_members::{port_of, ports_of, seen_from};
 use crate::reached::reached_order;
-use crate::roles::is_step;
-use decl_types::{Domains, function_number, pou_at};
+use crate::tables::{all_members, all_told, told_of_pou};
+use decl_types::{Domains, Told, function_number, pou_at};
 use plc_types::DataType;
 use source_tree::{Name, Pou, PouKind};
-use st_names::Resolved;
+use st_names::{Bound, Resolved};
 use std::alloc::{AllocError, Global};
 use typing::{Instance, Meaning, Member, Port, Signature};
 
-/// The POUs of a file, by their numbers: the variables of each, at their places where blocks have these sizes, and its inputs; which
-/// are reached, in an order in which each stands behind those that it uses, which of these may be called, and the number of each
-/// among them.
+/// The POUs of a file, by their numbers: what is told of the variables of each, these at their places where blocks have these sizes, and
+/// its inputs; which are reached, in an order in which each stands behind those that it uses, which of these may be called, and the
+/// number of each among them.
 #[derive(Drop)]
 pub struct Pous<'p> {
     pub domains: Domains<'p>,
@@ -27,11 +28,13 @@ pub struct Pous<'p> {
     pub reached: Vec<usize>,
     pub called: Vec<usize>,
     numbers: Vec<usize>,
+    told: Vec<Vec<Told<'p>>>,
     members: Vec<Vec<Member>>,
     ports: Vec<Vec<Port>>,
     ghost within: { reached.items ≡ reached_order (file_in domains) },
     ghost ordered: { called.items ≡ called_order (file_in domains) },
     ghost numbered: { numbers.items ≡ numbers_of (file_in domains) },
+    ghost judged: { map (λ v. map told_view v.items) told.items ≡ all_told (file_in domains) },
     ghost known: { map (λ v. v.items) members.items ≡ all_members (file_in domains) sizes.items },
     ghost given: { map (λ v. v.items) ports.items ≡ all_ports (file_in domains) sizes.items },
 }
@@ -53,11 +56,11 @@ fn may_be_called(pou: Option<&Pou>) -> bool
 #[tactic(auto, unfolding(typing::specs::Members::called_order))]
 fn called_order(
     alloc: Global,
-    names: &Resolved,
+    names: &Resolved<'_>,
     reached: &[usize],
 ) -> Result<Vec<usize>, AllocError>
-    requires { reached.now ≡ reached_order (file_view names.now.file) }
-    ensures { IfOk result (λ list. list.items ≡ called_order (file_view names.now.file)) }
+    requires { reached.now ≡ reached_order (file_view names.now.file.now) }
+    ensures { IfOk result (λ list. list.items ≡ called_order (file_view names.now.file.now)) }
 {
     let mut list = Vec::new(alloc);
     for number in reached {
@@ -79,27 +82,19 @@ fn keep(numbers: &mut [usize], pou: usize, number: usize)
 
 // The numbers of POUs among those that may be called.
 #[tactic(auto, unfolding(typing::specs::Members::numbers_of))]
-fn numbers_of(alloc: Global, names: &Resolved, called: &[usize]) -> Result<Vec<usize>, AllocError>
-    requires { called.now ≡ called_order (file_view names.now.file) }
-    ensures { IfOk result (λ numbers. numbers.items ≡ numbers_of (file_view names.now.file)) }
+fn numbers_of(
+    alloc: Global,
+    names: &Resolved<'_>,
+    called: &[usize],
+) -> Result<Vec<usize>, AllocError>
+    requires { called.now ≡ called_order (file_view names.now.file.now) }
+    ensures { IfOk result (λ numbers. numbers.items ≡ numbers_of (file_view names.now.file.now)) }
 {
     let mut numbers = vec![in alloc; 0; names.pou_count()]?;
     for (number, pou) in called.iter().enumerate() {
         keep(&mut numbers, *pou, number);
     }
     Ok(numbers)
-}
-
-// The variables of all POUs, where each block counts as one without cells.
-fn all_members(alloc: Global, domains: &Domains<'_>) -> Result<Vec<Vec<Member>>, AllocError>
-    ensures { IfOk result (λ list. map (λ v. v.items) list.items ≡ all_members (file_in domains.now) []) }
-{
-    let names = domains.types.names;
-    let mut list = Vec::new(alloc);
-    for number in 0..names.pou_count() {
-        list.push(members_in(alloc, domains, &[], names.pou(number))?)?;
-    }
-    Ok(list)
 }
 
 // The inputs of all POUs.
@@ -134,22 +129,26 @@ fn result_of(members: &[Member]) -> Port
 }
 
 impl<'p> Pous<'p> {
-    ghost use Rattle.std.specs.Prelude.{◌-◌, ◌<◌, length};
+    ghost use Rattle.std.specs.Prelude.{◌-◌, ℕ, List, option_and_then};
     ghost use Rattle.std.specs.List.{slice_get};
     ghost use Rattle.source_tree.specs.SyntaxView.{name_view, names_view};
-    ghost use Rattle.naming.specs.FileScope.{pous_of};
+    ghost use Rattle.naming.specs.FileScope.{pou_at};
+    ghost use Rattle.naming.specs.Scopes.{variables_in_pou};
+    ghost use Rattle.st_names.specs.Bound.{bound_named};
+    ghost use Rattle.pou_cells.specs.ToldPlaces.{told_at};
     ghost use Rattle.typing.specs.Members.{member_at, members_at, called_number, signature_of, signature_at, instance_of, in_instance, meant_by};
 
     /// The POUs of a file whose names are bound. Each block counts as one without cells.
-    pub fn new(alloc: Global, names: &'p Resolved) -> Result<Pous<'p>, AllocError>
-        ensures file { IfOk result (λ s. file_in s.domains ≡ file_view names.now.file) }
+    pub fn new(alloc: Global, names: &'p Resolved<'p>) -> Result<Pous<'p>, AllocError>
+        ensures file { IfOk result (λ s. file_in s.domains ≡ file_view names.now.file.now) }
         ensures sizes { IfOk result (λ s. s.sizes.items ≡ []) }
     {
         let domains = Domains::new(alloc, names)?;
         let reached = reached_order(alloc, domains.types.names)?;
         let called = called_order(alloc, domains.types.names, &reached)?;
         let numbers = numbers_of(alloc, domains.types.names, &called)?;
-        let members = all_members(alloc, &domains)?;
+        let told = all_told(alloc, &domains)?;
+        let members = all_members(alloc, &domains, &[], &told)?;
         let ports = all_ports(alloc, &members)?;
         let sizes = Vec::new(alloc);
         Ok(Pous {
@@ -158,34 +157,10 @@ impl<'p> Pous<'p> {
             reached,
             called,
             numbers,
+            told,
             members,
             ports,
         })
-    }
-
-    // The variables of a POU, at their places where blocks have these sizes.
-    fn moved_at(
-        &self,
-        alloc: Global,
-        sizes: &[usize],
-        number: usize,
-    ) -> Result<Vec<Member>, AllocError>
-        requires { number < length (pous_of (file_in self.now.domains)) }
-        ensures { IfOk result (λ list. list.items ≡ members_at (file_in self.now.domains) sizes.now number) }
-    {
-        let pou = self.domains.types.names.pou(number);
-        moved_in(alloc, sizes, &pou.kind, self.members_at(number))
-    }
-
-    // The variables of all POUs, at their places where blocks have these sizes.
-    fn all_moved(&self, alloc: Global, sizes: &[usize]) -> Result<Vec<Vec<Member>>, AllocError>
-        ensures { IfOk result (λ list. map (λ v. v.items) list.items ≡ all_members (file_in self.now.domains) sizes.now) }
-    {
-        let mut list = Vec::new(alloc);
-        for number in 0..self.domains.types.names.pou_count() {
-            list.push(self.moved_at(alloc, sizes, number)?)?;
-        }
-        Ok(list)
     }
 
     /// The same POUs, where blocks have these sizes.
@@ -193,7 +168,7 @@ impl<'p> Pous<'p> {
         ensures file { IfOk result (λ s. file_in s.domains ≡ file_in self.entry.domains) }
         ensures sizes { IfOk result (λ s. s.sizes.items ≡ sizes.items) }
     {
-        let members = self.all_moved(alloc, &sizes)?;
+        let members = all_members(alloc, &self.domains, &sizes, &self.told)?;
         let ports = all_ports(alloc, &members)?;
         let Pous {
             domains,
@@ -201,6 +176,7 @@ impl<'p> Pous<'p> {
             reached,
             called,
             numbers,
+            told,
             members: _,
             ports: _,
         } = self;
@@ -210,9 +186,17 @@ impl<'p> Pous<'p> {
             reached,
             called,
             numbers,
+            told,
             members,
             ports,
         })
+    }
+
+    /// What is told of the variables of a POU by its number, in declared order.
+    pub fn told_at(&self, number: usize) -> &[Told<'p>]
+        ensures { map told_view result.now ≡ told_at (file_in self.now.domains) number }
+    {
+        told_of_pou(&self.told, number)
     }
 
     /// The variables of a POU by its number.
@@ -245,14 +229,28 @@ impl<'p> Pous<'p> {
         }
     }
 
+    // The variable of the POU of a number that a name is bound to.
+    fn member_bound(&self, number: usize, bound: Option<Bound>) -> Option<Member>
+        ensures { (text : List ℕ) → bound ≡ option_and_then (λ p. bound_named (variables_in_pou p) text) (pou_at (file_in self.now.domains) number) → result ≡ member_at (file_in self.now.domains) self.now.sizes.items number text }
+    {
+        match bound {
+            None => None,
+            Some(bound) => self.numbered(number, bound.number),
+        }
+    }
+
     /// The variable of a name of the POU of a number, in constant time.
     pub fn member(&self, number: usize, name: &str) -> Option<Member>
         ensures { result ≡ member_at (file_in self.now.domains) self.now.sizes.items number name.now }
     {
-        match self.domains.types.names.variable(number, name) {
-            None => None,
-            Some(bound) => self.numbered(number, bound.number),
-        }
+        self.member_bound(number, self.domains.types.names.variable(number, name))
+    }
+
+    /// The variable that a name means in the POU of a number, in constant time.
+    pub fn member_of(&self, number: usize, name: &Name) -> Option<Member>
+        ensures { result ≡ member_at (file_in self.now.domains) self.now.sizes.items number (name_view name.now).text }
+    {
+        self.member_bound(number, self.domains.types.names.bound(number, name))
     }
 
     // The number of a POU among those that may be called.
@@ -301,7 +299,7 @@ impl<'p> Pous<'p> {
     fn in_instance(&self, cell: u32, name: &Name, block: Option<usize>) -> Option<Meaning>
         ensures { result ≡ in_instance (file_in self.now.domains) self.now.sizes.items cell (name_view name.now) block }
     {
-        match self.member(block?, name.text.as_str()) {
+        match self.member_of(block?, name) {
             None => None,
             Some(member) => Some(seen_from(cell, member)),
         }
@@ -313,7 +311,7 @@ impl<'p> Pous<'p> {
     {
         match members.first() {
             None => Some(member.meaning),
-            Some(_) if is_step(member.role) => Some(member.meaning),
+            Some(_) if member.role.is_step() => Some(member.meaning),
             Some(name) => self.in_instance(member.cell, name, member.block),
         }
     }

@@ -17,8 +17,8 @@ fn is_program(pou: &Pou) -> bool
 }
 
 // Which POUs are PROGRAMs.
-fn programs(alloc: Global, names: &Resolved) -> Result<Vec<bool>, AllocError>
-    ensures { IfOk result (λ marks. marks.items ≡ map is_program_pou (pous_of (file_view names.now.file))) }
+fn programs(alloc: Global, names: &Resolved<'_>) -> Result<Vec<bool>, AllocError>
+    ensures { IfOk result (λ marks. marks.items ≡ map is_program_pou (pous_of (file_view names.now.file.now))) }
 {
     let mut marks = Vec::new(alloc);
     for number in 0..names.pou_count() {
@@ -46,8 +46,8 @@ fn mark_all(marks: &mut [bool], numbers: &[usize])
 }
 
 // Marks what a number uses that has a mark.
-fn mark_uses(names: &Resolved, marks: &mut [bool], number: usize)
-    ensures { marks.new ≡ mark_uses (uses_of (file_view names.now.file)) number marks.old }
+fn mark_uses(names: &Resolved<'_>, marks: &mut [bool], number: usize)
+    ensures { marks.new ≡ mark_uses (uses_of (file_view names.now.file.now)) number marks.old }
 {
     if marks.get(number).copied().unwrap_or(false) {
         mark_all(marks, names.uses(number));
@@ -56,8 +56,8 @@ fn mark_uses(names: &Resolved, marks: &mut [bool], number: usize)
 
 // Which POUs are reached.
 #[tactic(auto, unfolding(typing::specs::Reached::reached))]
-fn reached(alloc: Global, names: &Resolved) -> Result<Vec<bool>, AllocError>
-    ensures { IfOk result (λ marks. marks.items ≡ reached (file_view names.now.file)) }
+fn reached(alloc: Global, names: &Resolved<'_>) -> Result<Vec<bool>, AllocError>
+    ensures { IfOk result (λ marks. marks.items ≡ reached (file_view names.now.file.now)) }
 {
     let mut marks = programs(alloc, names)?;
     let order = names.order();
@@ -71,8 +71,8 @@ fn reached(alloc: Global, names: &Resolved) -> Result<Vec<bool>, AllocError>
 
 /// The POUs that are reached, in the order in which each stands behind those that it uses.
 #[tactic(auto, unfolding(typing::specs::Reached::reached_order))]
-pub(crate) fn reached_order(alloc: Global, names: &Resolved) -> Result<Vec<usize>, AllocError>
-    ensures { IfOk result (λ list. list.items ≡ reached_order (file_view names.now.file)) }
+pub(crate) fn reached_order(alloc: Global, names: &Resolved<'_>) -> Result<Vec<usize>, AllocError>
+    ensures { IfOk result (λ list. list.items ≡ reached_order (file_view names.now.file.now)) }
 {
     let marks = reached(alloc, names)?;
     let mut list = Vec::new(alloc);

@@ -1,7 +1,6 @@
 // What the names of POUs are for.
 ghost use Rattle.std.specs.Prelude.{◌≡◌};
 ghost use Rattle.typing.specs.Members.{may_be_assigned, may_control};
-ghost use Rattle.naming.specs.Scopes.{is_input, is_step};
 ghost use Rattle.typing.specs.Places.{has_cell, is_stored_action, is_front};
 ghost use Rattle.typing.specs.TypedPrograms.{part_of, part_in, active_first, is_constant, is_temporary};
 
@@ -43,20 +42,6 @@ pub fn has_cell(role: Role) -> bool
     }
 }
 
-/// Whether a variable is an input.
-pub fn is_input(role: Role) -> bool
-    ensures { result ≡ is_input role }
-{
-    matches!(role, Role::Input)
-}
-
-/// Whether a name is that of a step.
-pub fn is_step(role: Role) -> bool
-    ensures { result ≡ is_step role }
-{
-    matches!(role, Role::Step | Role::InitialStep)
-}
-
 /// Whether a name is that of an action that some step sets or resets.
 pub fn is_stored_action(role: Role) -> bool
     ensures { result ≡ is_stored_action role }
@@ -86,7 +71,7 @@ pub fn is_front(of_function: bool, role: Role) -> bool
     ensures { result ≡ is_front of_function role }
 {
     if of_function {
-        is_input(role) || matches!(role, Role::Result)
+        role.is_input() || role.is_result()
     } else {
         !is_stored_action(role)
     }

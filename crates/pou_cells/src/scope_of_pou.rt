@@ -17,9 +17,8 @@ impl Scope for PouScope<'_> {
     ghost means = { means_in };
 
     fn meaning(&self, path: &Path) -> Option<Meaning> {
-        let name = path.first.text.as_str();
-        match self.pous.member(self.number, name) {
-            None => self.pous.domains.types.value_of(name),
+        match self.pous.member_of(self.number, &path.first) {
+            None => self.value(&path.first),
             Some(member) => self.pous.meant_by(&path.members, member),
         }
     }

@@ -2,26 +2,27 @@
 ghost use Rattle.std.specs.Prelude.{◌≡◌, ◌-◌, ◌^◌, [], map, slice_set, nat_lt, IfOk};
 ghost use Rattle.std.specs.List.{list_all};
 ghost use Rattle.decl_types.specs.Bodies.{file_in};
+ghost use Rattle.decl_types.specs.ToldView.{told_view};
 ghost use Rattle.typing.specs.Places.{sizes_of};
 ghost use Rattle.typing.specs.Pous.{has_room};
 ghost use Rattle.pou_cells.specs.Placing.{capped, capped_cells, capped_along};
 ghost use Rattle.pou_cells.specs.Placed.{HasSizes};
 
-use crate::placing::taken_by;
+use crate::places::cells_taken;
 use crate::pous::Pous;
+use decl_types::Told;
 use std::alloc::{AllocError, Global};
-use typing::Member;
 
 /// How many cells a program has at most.
 const MOST_CELLS: usize = 4096;
 
 // How many cells variables take; the greatest number of 64 bits stands for any greater one.
-fn capped_cells(sizes: &[usize], members: &[Member]) -> usize
-    ensures { result ≡ capped_cells sizes.now members.now }
+fn capped_cells(sizes: &[usize], tolds: &[Told<'_>]) -> usize
+    ensures { result ≡ capped_cells sizes.now (map told_view tolds.now) }
 {
     let mut count: usize = 0;
-    for member in members {
-        count = count.saturating_add(taken_by(sizes, member));
+    for told in tolds {
+        count = count.saturating_add(cells_taken(sizes, told));
     }
     count
 }
@@ -43,7 +44,7 @@ pub fn capped_sizes(alloc: Global, pous: &Pous<'_>) -> Result<Vec<usize>, AllocE
 {
     let mut sizes = vec![in alloc; 0; pous.domains.types.names.pou_count()]?;
     for number in &pous.reached {
-        let size = capped_cells(&sizes, pous.members_at(*number));
+        let size = capped_cells(&sizes, pous.told_at(*number));
         keep(&mut sizes, *number, size);
     }
     Ok(sizes)
@@ -55,7 +56,7 @@ pub fn has_room(pous: &Pous<'_>, sizes: &[usize], number: usize) -> bool
     requires sizes { sizes.now ≡ map capped (sizes_of (file_in pous.now.domains)) }
     ensures { result ≡ has_room (file_in pous.now.domains) number }
 {
-    capped_cells(sizes, pous.members_at(number)) < MOST_CELLS
+    capped_cells(sizes, pous.told_at(number)) < MOST_CELLS
 }
 
 // Whether each of some sizes stands for itself alone.

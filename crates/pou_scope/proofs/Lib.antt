@@ -1,2 +1,3 @@
+pub mod NoUsesLemmas
 pub mod JudgedLemmas
 pub mod SeenLemmas

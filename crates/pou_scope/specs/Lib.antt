@@ -2,3 +2,4 @@ pub mod NamesView
 pub mod SlottedView
 pub mod InFileView
 pub mod AllSeen
+pub mod NoUses

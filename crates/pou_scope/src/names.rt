@@ -1,14 +1,16 @@
 // The names of a POU, in the file around it.
-ghost use Rattle.std.specs.Prelude.{◌≡◌};
+ghost use Rattle.std.specs.Prelude.{◌≡◌, IfOk};
 ghost use Rattle.source_tree.specs.SyntaxView.{name_view, file_view};
 ghost use Rattle.naming.specs.Scopes.{scope_with, seen_named};
 ghost use Rattle.naming.specs.ScopeView.{variables_view};
 ghost use Rattle.pou_scope.specs.AllSeen.{all_seen};
 
+use crate::numbers::Numbers;
 use crate::pou_names::NamesOfPou;
 use file_scope::FileScope;
 use naming::Seen;
 use source_tree::Name;
+use std::alloc::AllocError;
 
 /// A POU's names, and those of the file around it.
 #[derive(Clone, Copy)]
@@ -26,5 +28,12 @@ impl Names<'_, '_> {
         ensures { result ≡ seen_named (file_in self.now) (pou_in self.now) (name_view name.now).text }
     {
         self.own.seen(name)
+    }
+
+    /// What is known of the variable that a name uses. Keeps the number of the use.
+    pub fn used(&self, numbers: &mut Numbers, name: &Name) -> Result<Option<Seen>, AllocError>
+        ensures { IfOk result (λ seen. seen ≡ seen_named (file_in self.now) (pou_in self.now) (name_view name.now).text) }
+    {
+        self.own.used(numbers, name)
     }
 }

@@ -1,5 +1,6 @@
 // The names of a POU, and what is known of each of its variables.
-ghost use Rattle.std.specs.Prelude.{◌≡◌, [], IfOk};
+ghost use Rattle.std.specs.Prelude.{◌≡◌, ◌-◌, [], IfOk, option_and_then};
+ghost use Rattle.std.specs.List.{slice_get};
 ghost use Rattle.source_tree.specs.SyntaxView.{name_view, pou_kind_view, pou_view, file_view};
 ghost use Rattle.naming.specs.FileScope.{is_program};
 ghost use Rattle.rules.specs.Outcomes.{outcome_of};
@@ -14,12 +15,13 @@ ghost use Rattle.pou_scope.specs.AllSeen.{seen_in};
 
 use crate::declared::declared_variables;
 use crate::in_file::all_seen;
-use crate::slots::{Slots, is_fault, slot_at, slots};
+use crate::numbers::Numbers;
+use crate::slots::{Slots, is_fault, numbered, slot_at, slots};
 use crate::slotted::Slotted;
 use crate::variable_uses::variable_circles;
 use call_order::uses_in_circle;
 use file_scope::FileScope;
-use naming::{Declared, Seen, number_by};
+use naming::{Declared, Seen, Slot, number_by};
 use rules::Outcome;
 use source_tree::{Name, Pou, PouKind};
 use std::alloc::{AllocError, Global};
@@ -103,14 +105,30 @@ impl NamesOfPou<'_> {
         is_fault(self.has_fault, name.text.as_str())
     }
 
+    // What is known of the variable of a name that has this slot.
+    fn seen_at(&self, slot: Option<Slot>) -> Option<Seen>
+        ensures { result ≡ option_and_then (λ s. slice_get self.now.seen.items (s.number - 1)) slot }
+    {
+        match slot {
+            Some(slot) => self.seen.get(slot.number.saturating_sub(1)).copied(),
+            None => None,
+        }
+    }
+
     /// What is known of the variable of a name.
     pub fn seen(&self, name: &Name) -> Option<Seen>
         ensures { result ≡ seen_by self.now (name_view name.now).text }
     {
-        match slot_at(&self.slots, name.text.as_str()) {
-            Some(slot) => self.seen.get(slot.number.saturating_sub(1)).copied(),
-            None => None,
-        }
+        self.seen_at(slot_at(&self.slots, name.text.as_str()))
+    }
+
+    /// What is known of the variable that a name uses. Keeps the number of the use.
+    pub fn used(&self, numbers: &mut Numbers, name: &Name) -> Result<Option<Seen>, AllocError>
+        ensures { IfOk result (λ seen. seen ≡ seen_by self.now (name_view name.now).text) }
+    {
+        let (slot, number) = numbered(&self.slots, name.text.as_str());
+        numbers.keep(name.at, number)?;
+        Ok(self.seen_at(slot))
     }
 
     /// Whether the declaration of a number uses the variable of a name in a circle.

@@ -1,5 +1,5 @@
 // The names of a POU, each with the first variable of that name.
-ghost use Rattle.std.specs.Prelude.{◌≡◌, ◌||◌, [], IfOk, is_some, if◌then◌else◌};
+ghost use Rattle.std.specs.Prelude.{◌≡◌, ◌||◌, [], IfOk, IfSome, Some, is_some, if◌then◌else◌};
 ghost use Rattle.std.specs.HashMap.{get_by_text};
 ghost use Rattle.source_tree.specs.SyntaxView.{name_view};
 ghost use Rattle.naming.specs.Broken.{twice, variables_twice};
@@ -59,6 +59,38 @@ pub fn slot_at(slots: &Slots, text: &str) -> Option<Slot>
     ensures { result ≡ get_by_text slots.now text.now }
 {
     slots.get(text).copied()
+}
+
+/// The slot of a name, and the number of its entry, or one that is none.
+pub fn numbered(slots: &Slots, text: &str) -> (Option<Slot>, usize)
+    ensures { result.0 ≡ get_by_text slots.now text.now }
+{
+    match slots.get_full(text) {
+        Some((number, _, slot)) => (Some(*slot), number),
+        None => (None, usize::MAX),
+    }
+}
+
+// The slot of the entry of a number, where it is that of a name.
+fn slot_numbered(slots: &Slots, number: usize, text: &str) -> Option<Slot>
+    ensures { IfSome result (λ slot. Some slot ≡ get_by_text slots.now text.now) }
+{
+    let (own, slot) = slots.get_index(number)?;
+    if own.as_str() == text {
+        Some(*slot)
+    } else {
+        None
+    }
+}
+
+/// The slot of a name, of whose entry this is the number; where it is not, the name is looked up.
+pub fn slot_by(slots: &Slots, number: usize, text: &str) -> Option<Slot>
+    ensures { result ≡ get_by_text slots.now text.now }
+{
+    match slot_numbered(slots, number, text) {
+        Some(slot) => Some(slot),
+        None => slot_at(slots, text),
+    }
 }
 
 /// The slots of a POU's variables, and whether each name is declared once.

@@ -7,6 +7,7 @@ ghost use Rattle.naming.specs.Scopes.{scope_with};
 ghost use Rattle.naming.specs.ScopeView.{variable_view, variables_view};
 ghost use Rattle.naming.specs.Slots.{slot_among};
 ghost use Rattle.naming.specs.Table.{Holds};
+ghost use Rattle.pou_scope.specs.NoUses.{uses_nothing};
 ghost use Rattle.pou_scope.specs.SlottedView.{scope_slotted};
 
 use crate::slots::Slots;
@@ -77,6 +78,18 @@ impl Slotted<'_> {
     }
 }
 
+// Whether nothing uses anything.
+fn uses_nothing(uses: &[Vec<usize>]) -> bool
+    ensures { result ≡ uses_nothing (graph_of uses.now) }
+{
+    for used in uses {
+        if !used.is_empty() {
+            return false;
+        }
+    }
+    true
+}
+
 /// For each variable of a POU those that it uses in a circle.
 pub fn variable_circles(
     alloc: Global,
@@ -93,5 +106,8 @@ pub fn variable_circles(
         variables,
     };
     let uses = slotted.uses(alloc)?;
+    if uses_nothing(&uses) {
+        return Ok(Vec::new(alloc));
+    }
     circular_uses(alloc, &uses)
 }

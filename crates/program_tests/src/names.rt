@@ -34,8 +34,7 @@ fn tree_of(alloc: Global, text: &str) -> Result<SourceFile, Fail> {
     Ok(parse_file(alloc, &tokens, text.len())?)
 }
 
-fn resolved(alloc: Global, text: &str) -> Result<Resolved, Fail> {
-    let file = tree_of(alloc, text)?;
+fn resolved(alloc: Global, file: &SourceFile) -> Result<Resolved<'_>, Fail> {
     Ok(resolve(alloc, file)?)
 }
 
@@ -45,7 +44,8 @@ fn have_roles(
     text: &str,
     rows: &[(usize, &str, usize, Role)],
 ) -> Result<(), Fail> {
-    let resolved = resolved(rt.alloc(), text)?;
+    let file = tree_of(rt.alloc(), text)?;
+    let resolved = resolved(rt.alloc(), &file)?;
     for (pou, name, number, role) in rows {
         let want = Some(Bound {
             number: *number,
@@ -95,7 +95,8 @@ fn names_of_a_chart(rt: HostRuntime) -> Result<(), Fail> {
 
 #[test]
 fn pous_come_behind_those_that_they_use(rt: HostRuntime) -> Result<(), Fail> {
-    let resolved = resolve(rt.alloc(), tree_of(rt.alloc(), PLANT)?)?;
+    let file = tree_of(rt.alloc(), PLANT)?;
+    let resolved = resolved(rt.alloc(), &file)?;
     assert_eq!(rt; resolved.pou_count(), 4);
     assert_eq!(rt; resolved.program(), 0);
     for (number, name) in [(0, "M"), (1, "OUTER"), (2, "INNER"), (3, "TWICE")] {
@@ -107,7 +108,8 @@ fn pous_come_behind_those_that_they_use(rt: HostRuntime) -> Result<(), Fail> {
 
 #[test]
 fn names_of_a_file(rt: HostRuntime) -> Result<(), Fail> {
-    let resolved = resolved(rt.alloc(), LIGHTS)?;
+    let file = tree_of(rt.alloc(), LIGHTS)?;
+    let resolved = resolved(rt.alloc(), &file)?;
     let rows = [
         ("STOP", Some(Standing::Type(0))),
         ("LIGHT", Some(Standing::Type(1))),

@@ -2,7 +2,7 @@
 use Rattle.std.proofs.Common.{◌≡◌, ◌<◌, ◌+◌, ℕ, zero, suc, List, [], ◌∷◌, length, map, Bool, true, false, Option, Some, None, option_map, count_by, get_or, if◌then◌else◌, refl, sym, ap, ◌∙◌, arith, Vec, Global}
 use Rattle.std.specs.HashMap.{get_by_text}
 use Rattle.std.specs.List.{slice_get, position_from}
-use Rattle.std.specs.Option.{option_and_then}
+use Rattle.std.specs.Option.{option_and_then, unwrap_or}
 use Rattle.std.proofs.lemmas.List.{length-map}
 use Rattle.std.proofs.lemmas.Option.{slice_get-map, slice_get_read, slice_get_within, slice_get-get_or}
 use Rattle.call_order.specs.Uses.{graph_of, uses_at}
@@ -10,12 +10,13 @@ use Rattle.source_tree.specs.declared.syntax.Item.{Item}
 use Rattle.source_tree.specs.SyntaxView.{item_view, items_view}
 use Rattle.source_tree.specs.Syntax.{PouData, ItemData, types, pou, FileData}
 use Rattle.pou_scope.specs.declared.pou_names.NamesOfPou.{NamesOfPou}
-use Rattle.naming.specs.declared.slot.Slot.{Slot}
-use Rattle.st_names.specs.Bound.{bound_of, bound_named, places_from}
+use Rattle.st_names.specs.Bindings.{variables_kept}
+use Rattle.st_names.specs.Bound.{bound_of, bound_named, places_from, variables_at}
 use Rattle.st_names.specs.BoundBy.{bound_by}
 use Rattle.naming.specs.FileScope.{pous_of, pou_at, is_program}
 use Rattle.pou_scope.specs.NamesView.{scope_named, scopes_named}
 use Rattle.naming.specs.Scopes.{Variable, PouScope, scope_of, variables_in_pou, is_doubled_among}
+use Rattle.naming.specs.ScopeView.{variables_view}
 use Rattle.naming.specs.Slots.{found, slot_of, slot_named}
 use Rattle.naming.proofs.CountLemmas.{count-cons}
 
@@ -36,7 +37,7 @@ none_passes test from (x ∷ xs) h = by (test x) refl h (none_passes test (from 
     by true e k rest = absurd (let n : ⊥ = cc in n)
     by false e k rest = count-cons test x xs ∙ ap (λ b. (if b then 1 else 0) + count_by test xs) e ∙ ap (λ n. 0 + n) (rest k)
 
-held_at : (o : Option NamesOfPou) (text : List ℕ) → option_and_then (λ s. get_by_text s text) (option_map (λ (n : NamesOfPou). n.slots) o) ≡ option_and_then (λ p. slot_named p text) (option_map scope_named o)
+held_at : (o : Option NamesOfPou) (text : List ℕ) → option_and_then (λ (n : NamesOfPou). get_by_text n.slots text) o ≡ option_and_then (λ p. slot_named p text) (option_map scope_named o)
 held_at None text = refl
 held_at (Some n) text = n.held text
 
@@ -44,16 +45,25 @@ through : {A B C : Type 0} (g : A → B) (h : B → Option C) (o : Option A) →
 through g h None = refl
 through g h (Some a) = refl
 
-pub slots_of : (f : FileData) (ns : List NamesOfPou) (ps : List PouData) (ss : List _) → ss ≡ map (λ (n : NamesOfPou). n.slots) ns → scopes_named ns ≡ map scope_of ps → ps ≡ pous_of f
-    → (number : ℕ) → (text : List ℕ) → option_and_then (λ s. get_by_text s text) (slice_get ss number) ≡ option_and_then (λ p. slot_named (scope_of p) text) (pou_at f number)
-slots_of f ns ps ss is scopes all number text =
-    ap (λ xs. option_and_then (λ s. get_by_text s text) (slice_get xs number)) is
-    ∙ ap (option_and_then (λ s. get_by_text s text)) (slice_get-map (λ (n : NamesOfPou). n.slots) ns number)
-    ∙ held_at (slice_get ns number) text
+pub slots_of : (f : FileData) (ns : List NamesOfPou) → scopes_named ns ≡ map scope_of (pous_of f)
+    → (number : ℕ) → (text : List ℕ) → option_and_then (λ (n : NamesOfPou). get_by_text n.slots text) (slice_get ns number) ≡ option_and_then (λ p. slot_named (scope_of p) text) (pou_at f number)
+slots_of f ns scopes number text =
+    held_at (slice_get ns number) text
     ∙ ap (option_and_then (λ p. slot_named p text)) (sym (slice_get-map scope_named ns number))
-    ∙ ap (λ xs. option_and_then (λ p. slot_named p text) (slice_get xs number)) (scopes ∙ ap (map scope_of) all)
+    ∙ ap (λ xs. option_and_then (λ p. slot_named p text) (slice_get xs number)) scopes
     ∙ ap (option_and_then (λ p. slot_named p text)) (slice_get-map scope_of (pous_of f) number)
     ∙ through scope_of (λ p. slot_named p text) (pou_at f number)
+
+-- the variables of the names of a number are those of the POU
+pub variables_of : (f : FileData) (ns : List NamesOfPou) → scopes_named ns ≡ map scope_of (pous_of f) → (number : ℕ) → variables_kept ns number ≡ variables_at f number
+variables_of f ns scopes number = by (slice_get ns number) (pou_at f number) (sym (slice_get-map scope_named ns number) ∙ ap (λ ss. slice_get ss number) scopes ∙ slice_get-map scope_of (pous_of f) number)
+  where
+    by : (o : Option NamesOfPou) (q : Option PouData) → option_map scope_named o ≡ option_map scope_of q
+        → unwrap_or (option_map (λ (n : NamesOfPou). variables_view n.variables.items) o) [] ≡ unwrap_or (option_map variables_in_pou q) []
+    by None None h = refl
+    by None (Some p) h = absurd (let e : ⊥ = cc in e)
+    by (Some n) None h = absurd (let e : ⊥ = cc in e)
+    by (Some n) (Some p) h = let same : scope_named n ≡ scope_of p = cc in ap (λ (s : PouScope). s.variables) same
 
 -- a place leads to the POU of its number
 pub record IsPlace (f : FileData) (from number place : ℕ) : Type 0 where

@@ -1,31 +1,23 @@
 -- What a file keeps that breaks no rule on names.
-use Rattle.std.proofs.Common.{◌≡◌, ◌≢◌, inl, inr, ℕ, zero, suc, ◌+◌, ◌<◌, ◌≤◌, List, [], ◌∷◌, ◌++◌, length, map, Bool, true, false, true≢false, ◌==◌, ◌&&◌, ◌||◌, not, nat_lt, nat_le, Option, Some, None, option_map, is_some, refl, sym, ap, ◌∙◌, subst, if◌then◌else◌, count_by, arith, add-zero, zero-add, append_assoc}
-use Rattle.std.specs.List.{list_any, list_all, slice_get}
-use Rattle.std.specs.Option.{option_and_then, unwrap_or}
-use Rattle.std.specs.Str.{bytes_eq}
-use Rattle.std.proofs.lemmas.Bool.Decides.{nat_tests}
-use Rattle.std.proofs.lemmas.List.{append-nil}
-use Rattle.std.proofs.lemmas.Bool.{or_parts, and_parts, not-false}
+use Rattle.std.proofs.Common.{◌≡◌, ℕ, zero, suc, ◌+◌, List, [], ◌∷◌, ◌++◌, length, map, Bool, true, false, ◌||◌, not, Option, Some, None, option_map, is_some, refl, ap, ◌∙◌, subst, if◌then◌else◌}
+use Rattle.std.specs.List.{list_all, slice_get}
+use Rattle.std.specs.Option.{unwrap_or}
+use Rattle.std.proofs.lemmas.Bool.{and_parts, not-false}
 use Rattle.std.proofs.Math.Bool.{or-true}
-use Rattle.rules.specs.declared.rule.Refusal.{Refusal}
 use Rattle.source_tree.specs.declared.syntax.Section.{Section}
 use Rattle.source_tree.specs.declared.syntax.Section.TheVariants as sections
-use Rattle.source_tree.specs.Syntax.{Named, Tree, literal, path, enumerator, paren, unary, chain, call, TypeData, of_elementary, of_subrange, of_name, SpecificationData, of_type, of_values, TypeDeclarationData, DeclarationData, VariablesData, PartData, step_part, transition_part, action_part, BodyData, statements, chart, PouKindData, function, function_block, program, PouData, FileData}
+use Rattle.source_tree.specs.Syntax.{Named, TypeData, of_elementary, of_subrange, of_name, DeclarationData, VariablesData, PartData, step_part, transition_part, action_part, BodyData, statements, chart, PouKindData, function, function_block, program, PouData, FileData}
 use Rattle.naming.specs.declared.standing.Standing.{Standing}
 use Rattle.naming.specs.declared.standing.Standing.TheVariants as standings
 use Rattle.st_names.specs.Bound.{are_typed, are_pous_typed}
 use Rattle.naming.specs.ChartWords.{is_stored}
-use Rattle.naming.specs.Broken.{twice, unknown, circular, misused, in_file, is_broken_name, in_type_name, is_whole_result, is_broken_function, in_enumeration, in_enumerator, in_bound, in_specification, in_types, in_result, in_results, in_named_type, in_type, in_kind, in_initial, in_declarations, in_body, in_pou_scope, in_pou, in_pous, variables_twice, names_twice, is_program_pou, not_one, broken_names}
-use Rattle.naming.specs.FileScope.{types_of, pous_of, pou_at, DeclaredName, names_of_values, names_in_specification, names_of_types, names_of, first_standing, is_declared_as, is_known, is_doubled_in_file, standing, is_type, is_value}
+use Rattle.naming.specs.Broken.{misused, in_file, is_broken_name, in_type_name, is_whole_result, is_broken_function, in_types, in_results, in_named_type, in_type, in_kind, in_initial, in_declarations, in_body, in_pou_scope, in_pou, in_pous, variables_twice, broken_names}
+use Rattle.naming.specs.FileScope.{types_of, pous_of, pou_at, is_doubled_in_file, standing, is_type}
 use Rattle.rules.specs.Judgements.{ok, suppressed, whole_if}
-use Rattle.naming.specs.Library.{is_library}
 use Rattle.naming.specs.Scopes.{Variable, PouScope, scope_of, role_of, declared_by, declared_in, variables_of, result_of, of_chart, step_role, action_role, transition_named, declared_by_part, declared_by_parts, names_in_body, variables_in_pou, is_local, is_result, block_of_type, block_of, is_whole_type, is_typed}
-use Rattle.naming.specs.Types.{type_number, named_type, specification_at, next_of, step_from, steps, doublings, end_of, ends_from, is_circular, end_specification, are_first, has_value, is_constant_in_file, is_whole_end, is_whole_type_name, are_whole_types}
-use Rattle.naming.proofs.CountLemmas.{count-push, any-count}
-use Rattle.naming.proofs.TableLemmas.{same_declared}
-use Rattle.naming.proofs.ValueLemmas.{type_in, given_in, standing_first, stands_for, standing_type}
-use Rattle.naming.proofs.NameLemmas.{IsIn, counted, in_file_names}
-use Rattle.st_names.proofs.Clean.{nil_left, nil_right, parts, no_doubles, some_name, specification_some, specified}
+use Rattle.naming.specs.Types.{is_whole_type_name, are_whole_types}
+use Rattle.naming.proofs.ValueLemmas.{type_in, stands_for}
+use Rattle.st_names.proofs.Clean.{nil_left, nil_right, parts, no_doubles, some_name}
 use Rattle.st_names.proofs.WholeDeclarations.{whole_type_named, no_broken_function}
 
 module _ (f : FileData) (once : (q : List ℕ) → is_doubled_in_file f q ≡ false) (clean : in_types f 0 (types_of f) ≡ []) (results : in_results f (length (types_of f)) (pous_of f) ≡ []) where

@@ -1,29 +1,28 @@
 -- Where the declarations of a file break no rule, none of them stands in a circle, and each type and each result is whole.
-use Rattle.std.proofs.Common.{◌≡◌, ◌≢◌, ◌⊎◌, inl, inr, ⊎_elim, ℕ, zero, suc, ◌+◌, ◌*◌, ◌<◌, ◌≤◌, List, [], ◌∷◌, ◌++◌, length, map, get_or, Bool, true, false, true≢false, ◌==◌, ◌&&◌, ◌||◌, not, Option, Some, None, option_map, is_some, refl, sym, ap, ◌∙◌, subst, if◌then◌else◌, arith, length-append, append_assoc, zero-add, add-zero}
+use Rattle.std.proofs.Common.{◌≡◌, ◌⊎◌, inl, inr, ⊎_elim, ℕ, zero, suc, ◌+◌, ◌*◌, ◌<◌, ◌≤◌, List, [], ◌∷◌, ◌++◌, length, map, get_or, Bool, true, false, true≢false, ◌&&◌, not, Option, Some, None, option_map, refl, sym, ap, ◌∙◌, subst, if◌then◌else◌, arith, length-append, append_assoc, zero-add, add-zero}
 use Rattle.std.specs.List.{list_any, slice_get}
 use Rattle.std.proofs.lemmas.Option.{slice_get_within}
 use Rattle.std.specs.Option.{option_and_then, unwrap_or}
 use Rattle.std.specs.Str.{bytes_eq}
-use Rattle.std.proofs.lemmas.Bool.{and_from, cases_lt, cases_eq}
+use Rattle.std.proofs.lemmas.Bool.{and_from, cases_lt}
 use Rattle.std.proofs.lemmas.List.{length-map, get_or_append_left, get_or-append-add, append-nil}
 use Rattle.std.proofs.lemmas.Map.Steps.{length-le_from_distinct_below}
-use Rattle.call_order.specs.Uses.{Graph, uses_at, is_among, Reaches, directly, through, leads_to, is_in_circle, order_of}
+use Rattle.call_order.specs.Uses.{Graph, uses_at, is_among, Reaches, directly, through, is_in_circle, order_of}
 use Rattle.call_order.proofs.Circles.{some_reaches, reaches-step}
 use Rattle.call_order.proofs.Members.{below-from_use, is_among-head, is_among-cases, is_among-either, is_among-left, is_among-right}
 use Rattle.call_order.proofs.Orders.{below_length, order_of-distinct, behind_uses, each_in}
 use Rattle.call_order.proofs.Ways.{leads_reaches, more_by}
-use Rattle.rules.specs.declared.rule.Refusal.{Refusal}
-use Rattle.source_tree.specs.Syntax.{Named, Tree, literal, path, enumerator, paren, unary, chain, call, TypeData, of_elementary, of_subrange, of_name, SpecificationData, of_type, of_values, TypeDeclarationData, PouKindData, function, function_block, program, PouData, FileData}
+use Rattle.source_tree.specs.Syntax.{Named, Tree, literal, path, enumerator, paren, unary, chain, call, of_elementary, of_subrange, of_name, SpecificationData, of_type, of_values, TypeDeclarationData, PouKindData, function, function_block, program, PouData, FileData}
 use Rattle.naming.specs.declared.standing.Standing.{Standing}
 use Rattle.naming.specs.declared.standing.Standing.TheVariants as standings
-use Rattle.naming.specs.Broken.{misused, unknown, in_file, is_broken_name, is_broken_function, is_whole_result, in_scope, unless_circular, in_bound, in_value_name, in_enumeration, in_enumerator, in_declared_type, in_specification, in_result, in_types, in_results}
+use Rattle.naming.specs.Broken.{unknown, in_file, is_broken_name, is_broken_function, is_whole_result, unless_circular, in_bound, in_value_name, in_enumeration, in_enumerator, in_declared_type, in_specification, in_result, in_types, in_results}
 use Rattle.naming.specs.DeclarationUses.{numbers_in, declaration_number, used_by_name, used_by_bound, used_by_specification, used_by_result, declaration_uses, is_circular_number, is_circular_use}
-use Rattle.naming.specs.FileScope.{types_of, pous_of, pou_at, kind_at, standing, is_type, is_value, is_doubled_in_file}
+use Rattle.naming.specs.FileScope.{types_of, pous_of, pou_at, standing, is_type, is_value, is_doubled_in_file}
 use Rattle.naming.specs.Types.{type_number, named_type, specification_at, next_of, step_from, steps, doublings, end_of, end_specification, are_first, has_value, has_enumerator, is_constant_in_file, is_whole_end, is_whole_type_name}
 use Rattle.naming.proofs.DeclarationLemmas.{standing_pou}
 use Rattle.naming.proofs.ValueLemmas.{standing_type}
-use Rattle.st_names.proofs.Clean.{some_name, values_first, specification_some, specified, step_below, end_below, clean_type, stays, nil_left, nil_right}
-use Rattle.rules.specs.Judgements.{Judgement, ok, suppressed, whole_if, also}
+use Rattle.st_names.proofs.Clean.{some_name, values_first, specification_some, specified, step_below, clean_type, stays, nil_left, nil_right}
+use Rattle.rules.specs.Judgements.{Judgement, ok, suppressed, whole_if}
 
 -- ---- an order of numbers that use one another, without circles
 

@@ -1,25 +1,24 @@
 -- Where nothing in a POU breaks a rule on names, and all declarations around it are whole, the POU is whole.
-use Rattle.std.proofs.Common.{◌≡◌, ◌⊎◌, inl, inr, ℕ, ◌+◌, List, [], ◌∷◌, ◌++◌, codes, Bool, true, false, true≢false, ◌&&◌, ◌||◌, not, ◌==◌, Option, Some, None, option_map, is_some, refl, sym, ap, ◌∙◌, subst, if◌then◌else◌, count_by}
-use Rattle.std.specs.List.{list_any, slice_get}
+use Rattle.std.proofs.Common.{◌≡◌, ℕ, ◌+◌, List, [], ◌∷◌, ◌++◌, codes, Bool, true, false, true≢false, ◌&&◌, ◌||◌, not, ◌==◌, Option, Some, None, option_map, is_some, refl, sym, ap, ◌∙◌, subst, if◌then◌else◌, count_by}
+use Rattle.std.specs.List.{list_any}
 use Rattle.std.specs.Option.{option_and_then, unwrap_or}
 use Rattle.std.specs.Str.{bytes_eq}
 use Rattle.std.proofs.lemmas.Bool.{and_from, and_parts}
-use Rattle.rules.specs.declared.rule.Refusal.{Refusal}
 use Rattle.rules.specs.declared.rule.Rule.{Rule}
 use Rattle.rules.specs.declared.rule.Rule.TheVariants.{UnknownStep, UnknownAction, StepTwice, UnknownQualifier, NotOneInitialStep}
-use Rattle.source_tree.specs.Syntax.{Named, PathData, Tree, literal, path, enumerator, paren, unary, chain, call, Links, no_links, link, Arguments, no_arguments, argument, ConnectionData, input, output, Stmt, empty, assign, invoke, branch, cases, iterate, Stmts, no_stmts, stmt, Arms, no_arms, arm, Entries, no_entries, entry, Otherwise, no_else, else_stmts, LabelData, IterationData, TypeData, of_elementary, of_subrange, of_name, SpecificationData, of_type, of_values, StepActionData, ChartStepData, StepsData, ChartTransitionData, ChartActionData, PartData, step_part, transition_part, action_part, BodyData, statements, chart as chart_body, PouKindData, function, function_block, program, PouData, FileData}
+use Rattle.source_tree.specs.Syntax.{Named, PathData, Tree, literal, path, enumerator, paren, unary, chain, call, Links, no_links, link, Arguments, no_arguments, argument, ConnectionData, input, output, Stmt, empty, assign, invoke, branch, cases, iterate, Stmts, no_stmts, stmt, Arms, no_arms, arm, Entries, no_entries, entry, Otherwise, no_else, else_stmts, LabelData, IterationData, TypeData, of_elementary, of_subrange, of_name, SpecificationData, of_type, of_values, StepActionData, PartData, step_part, transition_part, action_part, BodyData, statements, chart as chart_body, PouKindData, PouData, FileData}
 use Rattle.naming.specs.declared.callee.Callee.{Callee}
 use Rattle.naming.specs.declared.callee.Callee.TheVariants as callees
 use Rattle.naming.specs.declared.seen.Seen.{Seen}
 use Rattle.naming.specs.declared.standing.Standing.{Standing}
 use Rattle.naming.specs.declared.standing.Standing.TheVariants as standings
-use Rattle.naming.specs.Broken.{twice, unknown, misused, in_file, is_broken_name, in_scope, in_type_name, in_value_name, in_enumeration, in_enumerator, unless_circular, too_deep, member_by, in_member, in_members, in_parts, in_flag, in_named, in_variable, in_outer, in_target, in_path, is_callable, function_or_unknown, callee_of, in_called, argument_by, in_argument_named, in_argument_name, in_tree, in_links, in_arguments, in_value, in_constant, in_constant_if, in_declared_constant, in_initial, in_named_type, in_type, in_kind, in_label, in_labels, alone, in_step, in_iteration, in_instance, instance_of, in_connected, in_connection, in_connections, in_stmt, in_stmts, in_arms, in_entries, in_else, in_declaration, in_declarations, in_own_name, in_own_name_if, action_by, in_word, in_association, in_associations, step_by, listed_by, in_listed, in_listed_from, steps_in, in_steps, in_chart_step, in_transition, in_action, in_part, in_chart_parts, is_initial_part, place_of_chart, in_chart, in_body, in_pou_scope, variables_twice}
+use Rattle.naming.specs.Broken.{twice, unknown, misused, is_broken_name, in_scope, in_type_name, in_value_name, in_enumeration, in_enumerator, too_deep, member_by, in_member, in_members, in_parts, in_flag, in_named, in_variable, in_outer, in_target, in_path, is_callable, function_or_unknown, callee_of, in_called, argument_by, in_argument_name, in_tree, in_links, in_arguments, in_value, in_constant, in_constant_if, in_declared_constant, in_initial, in_kind, in_label, in_labels, alone, in_step, in_iteration, in_instance, instance_of, in_connected, in_connection, in_connections, in_stmt, in_stmts, in_arms, in_entries, in_else, in_declaration, in_declarations, in_own_name, in_own_name_if, action_by, in_word, in_association, in_associations, step_by, in_listed, in_listed_from, steps_in, in_steps, in_part, in_chart_parts, is_initial_part, place_of_chart, in_body, in_pou_scope, variables_twice}
 use Rattle.naming.specs.ChartWords.{qualifier_named, word_of}
 use Rattle.naming.specs.DeclarationUses.{is_circular_variable}
-use Rattle.naming.specs.FileScope.{pou_at, kind_at, number_if, pou_number, block_number, is_block, standing, is_type, is_value, is_doubled_in_file}
+use Rattle.naming.specs.FileScope.{pou_at, number_if, pou_number, is_block, standing, is_type, is_value, is_doubled_in_file}
 use Rattle.naming.specs.Library.{is_library}
 use Rattle.naming.specs.Scopes.{Variable, PouScope, scope_of, is_local, is_input, is_seen, is_result, is_step, is_action, is_transition, is_of_name, variable_named, is_fault, is_doubled, block_of_type, block_of, is_typed, is_whole, seen, seen_named}
-use Rattle.naming.specs.Types.{specification_at, end_of, end_specification, are_first, is_whole_end, is_whole_type_name}
+use Rattle.naming.specs.Types.{end_of, end_specification, are_first, is_whole_end, is_whole_type_name}
 use Rattle.rules.specs.Judgements.{Judgement, ok, suppressed, whole_if, also, breaks}
 use Rattle.st_names.specs.Bound.{are_typed}
 use Rattle.st_names.proofs.Clean.{some_name, nil_left, nil_right}

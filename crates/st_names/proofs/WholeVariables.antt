@@ -1,26 +1,23 @@
 -- Where the declarations of a POU break no rule, each of them is whole.
-use Rattle.std.proofs.Common.{◌≡◌, ◌⊎◌, inl, inr, ⊎_elim, ℕ, zero, suc, ◌+◌, ◌-◌, ◌<◌, ◌≤◌, List, [], ◌∷◌, ◌++◌, length, map, get_or, Bool, true, false, true≢false, ◌&&◌, ◌||◌, not, nat_lt, Option, Some, None, option_map, is_some, refl, sym, ap, ◌∙◌, subst, if◌then◌else◌, arith, add-zero, count_by}
-use Rattle.std.specs.List.{list_any, list_all, slice_get}
+use Rattle.std.proofs.Common.{◌≡◌, ⊎_elim, ℕ, zero, suc, ◌+◌, ◌-◌, ◌<◌, List, [], ◌∷◌, ◌++◌, length, Bool, true, false, ◌&&◌, not, Option, Some, None, option_map, is_some, refl, sym, ap, ◌∙◌, subst, if◌then◌else◌, arith, add-zero}
+use Rattle.std.specs.List.{slice_get}
 use Rattle.std.specs.Option.{unwrap_or}
-use Rattle.std.proofs.lemmas.Bool.{and_from, and_parts, or_parts}
+use Rattle.std.proofs.lemmas.Bool.{and_from, and_parts}
 use Rattle.std.proofs.lemmas.List.{length-map}
 use Rattle.std.proofs.lemmas.Option.{slice_get_within}
-use Rattle.call_order.specs.Uses.{Graph, uses_at, is_among, Reaches, directly, through, is_in_circle}
+use Rattle.call_order.specs.Uses.{uses_at, is_among, Reaches, directly, through, is_in_circle}
 use Rattle.call_order.proofs.Members.{below-from_use, is_among-head, is_among-cases, is_among-either, is_among-left, is_among-right}
 use Rattle.call_order.proofs.Ways.{leads_reaches}
-use Rattle.rules.specs.declared.rule.Refusal.{Refusal}
 use Rattle.source_tree.specs.Syntax.{Named, Tree, literal, path, enumerator, paren, unary, chain, call, TypeData, of_elementary, of_subrange, of_name, FileData}
 use Rattle.naming.specs.declared.slot.Slot.{Slot}
-use Rattle.naming.specs.declared.seen.Seen.{Seen}
-use Rattle.naming.specs.declared.standing.Standing.{Standing}
-use Rattle.naming.specs.Broken.{misused, twice, in_file, is_broken_name, in_scope, in_value_name, in_value, unless_circular, in_enumerator, in_declared_constant, in_initial, in_type, in_kind, in_declaration, in_declarations, variables_twice}
-use Rattle.naming.specs.DeclarationUses.{numbers_in, variable_number, used_by_constant, used_by_type, used_by_initial, variable_uses, is_circular_number, is_circular_variable}
+use Rattle.naming.specs.Broken.{misused, is_broken_name, in_scope, in_value_name, in_value, unless_circular, in_enumerator, in_declared_constant, in_initial, in_kind, in_declaration, in_declarations}
+use Rattle.naming.specs.DeclarationUses.{numbers_in, variable_number, used_by_constant, used_by_type, used_by_initial, variable_uses, is_circular_variable}
 use Rattle.naming.specs.FileScope.{standing, is_value, is_doubled_in_file}
-use Rattle.naming.specs.Scopes.{Variable, PouScope, is_of_name, variable_named, is_fault, is_doubled_among, is_doubled, is_typed, is_value_name, is_constant, are_bounds_constant, is_initial_constant, has_constants, is_whole, seen, seen_named}
-use Rattle.naming.specs.Slots.{found, slot_of, slot_among, slot_named, number_by}
+use Rattle.naming.specs.Scopes.{Variable, PouScope, variable_named, is_fault, is_doubled, is_typed, is_value_name, is_constant, are_bounds_constant, is_initial_constant, has_constants, is_whole, seen, seen_named}
+use Rattle.naming.specs.Slots.{found, slot_of, slot_named, number_by}
 use Rattle.naming.specs.Types.{has_enumerator}
-use Rattle.naming.proofs.UseLemmas.{variable_named-found, found_name, slot_says, IsSlotOf}
-use Rattle.rules.specs.Judgements.{Judgement, ok, suppressed, also}
+use Rattle.naming.proofs.UseLemmas.{variable_named-found, found_name, slot_says}
+use Rattle.rules.specs.Judgements.{Judgement, ok}
 use Rattle.st_names.specs.Bound.{are_typed}
 use Rattle.st_names.proofs.Clean.{some_name, nil_left, nil_right}
 use Rattle.st_names.proofs.WholeDeclarations.{AllBefore, by_order, complete, read_map}

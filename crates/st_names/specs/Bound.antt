@@ -1,14 +1,14 @@
 -- What the names of a POU are bound to, and what a file's answer is.
-use Rattle.std.specs.Prelude.{◌≡◌, ℕ, ◌+◌, List, [], ◌∷◌, Bool, Option, Some, option_map}
+use Rattle.std.specs.Prelude.{ℕ, ◌+◌, List, [], ◌∷◌, Bool, Option, option_map, unwrap_or}
 use Rattle.std.specs.List.{list_all, position_from}
 use Rattle.rules.specs.Rules.{IsFirst}
-use Rattle.source_tree.specs.Syntax.{PouData, types, pou, FileData}
+use Rattle.source_tree.specs.Syntax.{types, pou, FileData}
 use Rattle.st_names.specs.declared.bound.Bound.{Bound}
 use Rattle.rules.specs.declared.fault.Fault.{Fault}
 use Rattle.rules.specs.declared.fault.Fault.TheVariants.{Refused, Memory}
 use Rattle.naming.specs.Broken.{is_program_pou}
 use Rattle.naming.specs.Circles.{IsBroken}
-use Rattle.naming.specs.FileScope.{pous_of}
+use Rattle.naming.specs.FileScope.{pous_of, pou_at}
 use Rattle.naming.specs.Scopes.{Variable, variables_in_pou, is_typed}
 use Rattle.naming.specs.Slots.{found}
 
@@ -18,6 +18,10 @@ bound_of f = record { number = f.0; role = f.1.role }
 -- a name is bound to the first variable of that name
 abbrev pub bound_named : List Variable → List ℕ → Option Bound
 bound_named vs text = option_map bound_of (found text 1 vs)
+
+-- the variables of the POU of a number, in declared order; none where there is no such POU
+abbrev pub variables_at : FileData → ℕ → List Variable
+variables_at f number = unwrap_or (option_map variables_in_pou (pou_at f number)) []
 
 -- each variable is an instance of a block, or its type, where it is one by name, breaks no rule
 abbrev pub are_typed : FileData → List Variable → Bool

@@ -1,5 +1,5 @@
 // A file whose names are bound.
-ghost use Rattle.std.specs.Prelude.{◌≡◌, ◌<◌, Some, length, count_by, option_map};
+ghost use Rattle.std.specs.Prelude.{◌≡◌, ◌<◌, [], Some, length, count_by, option_map};
 ghost use Rattle.source_tree.specs.SyntaxView.{file_view};
 ghost use Rattle.st_names.specs.Bindings.{AreBindings};
 ghost use Rattle.st_names.specs.BoundBy.{bound_by};
@@ -7,9 +7,9 @@ ghost use Rattle.naming.specs.Broken.{is_program_pou};
 ghost use Rattle.naming.specs.FileScope.{pous_of};
 
 use file_scope::{Table, end_at, standing_at};
-use naming::{Role, Slot, Standing};
-use pou_scope::{Slots, slot_at};
-use source_tree::{Item, Pou, SourceFile};
+use naming::{Declared, Role, Slot, Standing};
+use pou_scope::{NamesOfPou, Numbers, slot_at, slot_by};
+use source_tree::{Item, Name, Pou, SourceFile, TypeDeclaration};
 
 /// A variable that a name is bound to: its number in declared order, from 1, and what it is for.
 #[derive(Clone, Copy, Debug, PartialEq, Eq)]
@@ -18,11 +18,13 @@ pub struct Bound {
     pub role: Role,
 }
 
-/// The slots of each POU, the places of POUs among the items of a file, which POUs each uses, their order, the number of the
-/// PROGRAM, the table of all names, and where types lead to.
+/// The names of each POU, the types, the numbers of all uses of variables, the places of POUs among the items of a file, which POUs
+/// each uses, their order, the number of the PROGRAM, the table of all names, and where types lead to.
 #[derive(Drop)]
-pub struct Bindings {
-    pub slots: Vec<Slots>,
+pub struct Bindings<'f> {
+    pub names: Vec<NamesOfPou<'f>>,
+    pub types: Vec<&'f TypeDeclaration>,
+    pub numbers: Numbers,
     pub places: Vec<usize>,
     pub uses: Vec<Vec<usize>>,
     pub order: Vec<usize>,
@@ -33,11 +35,11 @@ pub struct Bindings {
 
 /// A file that breaks no rule on names, and all its names by what they stand for.
 #[derive(Drop)]
-pub struct Resolved {
-    pub file: SourceFile,
-    bindings: Bindings,
-    ghost one: { count_by is_program_pou (pous_of (file_view file)) ≡ 1 },
-    ghost bound: { AreBindings (file_view file) bindings },
+pub struct Resolved<'f> {
+    pub file: &'f SourceFile,
+    bindings: Bindings<'f>,
+    ghost one: { count_by is_program_pou (pous_of (file_view file.now)) ≡ 1 },
+    ghost bound: { AreBindings (file_view file.now) bindings },
 }
 
 // What a slot binds its name to.
@@ -53,36 +55,44 @@ fn bound_by(slot: Option<Slot>) -> Option<Bound>
     }
 }
 
-impl Resolved {
+// No variables.
+fn no_variables<'a, 'f>() -> &'a [Declared<'f>]
+    ensures { result.now ≡ [] }
+{
+    &[]
+}
+
+impl<'f> Resolved<'f> {
     ghost use Rattle.std.specs.Prelude.{option_and_then};
     ghost use Rattle.call_order.specs.Uses.{uses_at, order_of};
-    ghost use Rattle.source_tree.specs.SyntaxView.{pou_view};
-    ghost use Rattle.st_names.specs.Bound.{bound_named, program_number};
+    ghost use Rattle.source_tree.specs.SyntaxView.{name_view, pou_view};
+    ghost use Rattle.st_names.specs.Bound.{bound_named, program_number, variables_at};
     ghost use Rattle.naming.specs.Circles.{uses_of};
-    ghost use Rattle.naming.specs.FileScope.{pou_at, standing};
+    ghost use Rattle.naming.specs.FileScope.{types_of, pou_at, standing};
     ghost use Rattle.naming.specs.Scopes.{scope_of, variables_in_pou};
+    ghost use Rattle.naming.specs.ScopeView.{types_view, variables_view};
     ghost use Rattle.naming.specs.Slots.{slot_named};
     ghost use Rattle.naming.specs.Types.{end_of};
 
     /// A file that has one PROGRAM, with its bindings.
-    pub fn new(file: SourceFile, bindings: Bindings) -> Resolved
-        requires one { count_by is_program_pou (pous_of (file_view file)) ≡ 1 }
-        requires bound { AreBindings (file_view file) bindings }
-        ensures { file_view result.file ≡ file_view file }
+    pub fn new(file: &'f SourceFile, bindings: Bindings<'f>) -> Resolved<'f>
+        requires one { count_by is_program_pou (pous_of (file_view file.now)) ≡ 1 }
+        requires bound { AreBindings (file_view file.now) bindings }
+        ensures { file_view result.file.now ≡ file_view file.now }
     {
         Resolved { file, bindings }
     }
 
     /// How many POUs the file has.
     pub fn pou_count(&self) -> usize
-        ensures { result ≡ length (pous_of (file_view self.now.file)) }
+        ensures { result ≡ length (pous_of (file_view self.now.file.now)) }
     {
         self.bindings.places.as_slice().len()
     }
 
     /// The number of the one PROGRAM.
     pub fn program(&self) -> usize
-        ensures { program_number (file_view self.now.file) ≡ Some result }
+        ensures { program_number (file_view self.now.file.now) ≡ Some result }
     {
         match self.bindings.program {
             Some(number) => number,
@@ -92,8 +102,8 @@ impl Resolved {
 
     /// The POU of a number, in constant time.
     pub fn pou(&self, number: usize) -> &Pou
-        requires { number < length (pous_of (file_view self.now.file)) }
-        ensures { pou_at (file_view self.now.file) number ≡ Some (pou_view result.now) }
+        requires { number < length (pous_of (file_view self.now.file.now)) }
+        ensures { pou_at (file_view self.now.file.now) number ≡ Some (pou_view result.now) }
     {
         let places = self.bindings.places.as_slice();
         let items = self.file.items.as_slice();
@@ -105,14 +115,14 @@ impl Resolved {
 
     /// The POUs in an order in which each stands behind those that it uses.
     pub fn order(&self) -> &[usize]
-        ensures { result.now ≡ order_of (uses_of (file_view self.now.file)) }
+        ensures { result.now ≡ order_of (uses_of (file_view self.now.file.now)) }
     {
         &self.bindings.order
     }
 
     /// The POUs that the POU of a number uses, in constant time.
     pub fn uses(&self, number: usize) -> &[usize]
-        ensures { result.now ≡ uses_at (uses_of (file_view self.now.file)) number }
+        ensures { result.now ≡ uses_at (uses_of (file_view self.now.file.now)) number }
     {
         match self.bindings.uses.as_slice().get(number) {
             None => &[],
@@ -122,31 +132,66 @@ impl Resolved {
 
     // The slot of a name in the POU of a number.
     fn slot(&self, pou: usize, name: &str) -> Option<Slot>
-        ensures { result ≡ option_and_then (λ p. slot_named (scope_of p) name.now) (pou_at (file_view self.now.file) pou) }
+        ensures { result ≡ option_and_then (λ p. slot_named (scope_of p) name.now) (pou_at (file_view self.now.file.now) pou) }
     {
-        match self.bindings.slots.as_slice().get(pou) {
-            Some(slots) => slot_at(slots, name),
+        match self.bindings.names.as_slice().get(pou) {
+            Some(names) => slot_at(&names.slots, name),
             None => None,
         }
     }
 
+    // The slot of a name that is used, in the POU of a number.
+    fn slot_of_use(&self, pou: usize, name: &Name) -> Option<Slot>
+        ensures { result ≡ option_and_then (λ p. slot_named (scope_of p) (name_view name.now).text) (pou_at (file_view self.now.file.now) pou) }
+    {
+        let number = self.bindings.numbers.get(name.at);
+        match self.bindings.names.as_slice().get(pou) {
+            Some(names) => slot_by(&names.slots, number, name.text.as_str()),
+            None => None,
+        }
+    }
+
+    /// The variable that a name is bound to in the POU of a number, as `variable` finds it, by the number that is kept of its use.
+    pub fn bound(&self, pou: usize, name: &Name) -> Option<Bound>
+        ensures { result ≡ option_and_then (λ p. bound_named (variables_in_pou p) (name_view name.now).text) (pou_at (file_view self.now.file.now) pou) }
+    {
+        bound_by(self.slot_of_use(pou, name))
+    }
+
+    /// The variables of the POU of a number in declared order, in constant time.
+    pub fn variables(&self, number: usize) -> &[Declared<'f>]
+        ensures { ∥ variables_view result.now ≡ variables_at (file_view self.now.file.now) number ∥₁ }
+    {
+        let Some(names) = self.bindings.names.as_slice().get(number) else {
+            return no_variables();
+        };
+        &names.variables
+    }
+
+    /// The types that the file declares, in its order, in constant time.
+    pub fn types(&self) -> &[&'f TypeDeclaration]
+        ensures { ∥ types_view result.now ≡ types_of (file_view self.now.file.now) ∥₁ }
+    {
+        &self.bindings.types
+    }
+
     /// The variable that a name in upper case is bound to in the POU of a number, in constant time.
     pub fn variable(&self, pou: usize, name: &str) -> Option<Bound>
-        ensures { result ≡ option_and_then (λ p. bound_named (variables_in_pou p) name.now) (pou_at (file_view self.now.file) pou) }
+        ensures { result ≡ option_and_then (λ p. bound_named (variables_in_pou p) name.now) (pou_at (file_view self.now.file.now) pou) }
     {
         bound_by(self.slot(pou, name))
     }
 
     /// What a name in upper case stands for in the file's scope, where it is declared there once, in constant time.
     pub fn standing(&self, name: &str) -> Option<Standing>
-        ensures { result ≡ standing (file_view self.now.file) name.now }
+        ensures { result ≡ standing (file_view self.now.file.now) name.now }
     {
         standing_at(&self.bindings.table, name)
     }
 
     /// The type at the end of the way of a type, by their numbers, in constant time.
     pub fn end_of(&self, number: usize) -> usize
-        ensures { result ≡ end_of (file_view self.now.file) number }
+        ensures { result ≡ end_of (file_view self.now.file.now) number }
     {
         end_at(&self.bindings.ends, number)
     }

@@ -14,16 +14,17 @@ ghost use Rattle.naming.specs.ScopeView.{pous_view};
 
 use file_scope::FileScope;
 use name_uses::{Scope, walk_body};
-use pou_scope::{Names, NamesOfPou, append_blocks, names_of_pou, walk_declarations};
+use pou_scope::{Names, NamesOfPou, Numbers, append_blocks, names_of_pou, walk_declarations};
 use rules::{Outcome, Refusal};
 use source_tree::Pou;
 use std::alloc::{AllocError, Global};
 
-/// Which POUs of a file are whole, and which POUs each uses.
+/// Which POUs of a file are whole, which POUs each uses, and the numbers of their uses of variables.
 #[derive(Drop)]
 pub struct Judged {
     pub wholes: Vec<bool>,
     pub uses: Vec<Vec<usize>>,
+    pub numbers: Numbers,
 }
 
 /// The names of each POU of a file.
@@ -43,8 +44,12 @@ pub fn all_names<'a>(
     Ok(all)
 }
 
-// What a POU breaks, and which POUs it uses.
-fn judge_pou(alloc: Global, scope: &Scope<'_, '_>) -> Result<(Outcome, Vec<usize>), AllocError>
+// What a POU breaks, and which POUs it uses. Keeps the numbers of its uses of variables.
+fn judge_pou(
+    alloc: Global,
+    scope: &Scope<'_, '_>,
+    numbers: &mut Numbers,
+) -> Result<(Outcome, Vec<usize>), AllocError>
     ensures judged { let f = file_in scope.now.names in let p = pou_in scope.now.names in IfOk result (λ r. r.0 ≡ outcome_of (in_pou_scope f p (body_view scope.now.names.own.now.pou.now.body))) }
     ensures uses { let f = file_in scope.now.names in let p = pou_in scope.now.names in IfOk result (λ r. r.1.items ≡ blocks_used f p p.variables ++ calls_in_body f (body_view scope.now.names.own.now.pou.now.body)) }
 {
@@ -53,7 +58,14 @@ fn judge_pou(alloc: Global, scope: &Scope<'_, '_>) -> Result<(Outcome, Vec<usize
     walk_declarations(names, &mut outcome);
     let mut uses = Vec::new(alloc);
     append_blocks(names, &mut uses)?;
-    walk_body(alloc, scope, &names.own.pou.body, &mut outcome, &mut uses)?;
+    walk_body(
+        alloc,
+        scope,
+        &names.own.pou.body,
+        &mut outcome,
+        numbers,
+        &mut uses,
+    )?;
     Ok((outcome, uses))
 }
 
@@ -73,9 +85,10 @@ pub fn judge_pous<'a, 'f>(
 {
     let mut wholes = Vec::new(alloc);
     let mut all_uses = Vec::new(alloc);
+    let mut numbers = Numbers::new(alloc);
     for own in all {
         let names = Names { file, own };
-        let (outcome, uses) = judge_pou(alloc, &Scope { names, pous: all })?;
+        let (outcome, uses) = judge_pou(alloc, &Scope { names, pous: all }, &mut numbers)?;
         *first = Refusal::earlier(*first, outcome.first);
         wholes.push(outcome.whole)?;
         all_uses.push(uses)?;
@@ -83,5 +96,6 @@ pub fn judge_pous<'a, 'f>(
     Ok(Judged {
         wholes,
         uses: all_uses,
+        numbers,
     })
 }

@@ -1,7 +1,6 @@
 // From a file to its POUs, with every name bound.
-ghost use Rattle.std.specs.Prelude.{◌≡◌, ◌++◌, [], OnOk, IfOk, IfErr, IsTrue, length, map, count_by, option_and_then, ℕ, List};
-ghost use Rattle.std.specs.HashMap.{get_by_text};
-ghost use Rattle.std.specs.List.{slice_get, position_from};
+ghost use Rattle.std.specs.Prelude.{◌≡◌, ◌++◌, [], OnOk, IfOk, IfErr, IsTrue, length, map, count_by, ℕ};
+ghost use Rattle.std.specs.List.{position_from};
 ghost use Rattle.call_order.specs.Uses.{graph_of, order_of, Reaches};
 ghost use Rattle.rules.specs.Rules.{first_in};
 ghost use Rattle.source_tree.specs.SyntaxView.{items_view, pou_view, file_view};
@@ -9,13 +8,12 @@ ghost use Rattle.st_names.specs.Bindings.{AreBindings};
 ghost use Rattle.st_names.specs.Bound.{are_pous_typed, places_from, program_number, IsFaultOf};
 ghost use Rattle.naming.specs.Broken.{is_program_pou, in_pou, not_one, names_twice, broken_names};
 ghost use Rattle.naming.specs.Circles.{uses_of, IsBroken};
-ghost use Rattle.naming.specs.FileScope.{types_of, pous_of, names_of, pou_at};
+ghost use Rattle.naming.specs.FileScope.{types_of, pous_of, names_of};
 ghost use Rattle.naming.specs.FirstOf.{IsFirstOf};
 ghost use Rattle.pou_scope.specs.NamesView.{pous_named, scopes_named, seens_named};
 ghost use Rattle.pou_scope.specs.AllSeen.{seen_in};
 ghost use Rattle.naming.specs.Scopes.{scope_of};
 ghost use Rattle.naming.specs.ScopeView.{types_view, pous_view};
-ghost use Rattle.naming.specs.Slots.{slot_named};
 ghost use Rattle.naming.specs.Types.{are_whole_types};
 
 use crate::bound::{Bindings, Resolved};
@@ -25,9 +23,9 @@ use call_order::order;
 use file_scope::{
     Declarations, FileScope, file_scope, list_declarations, walk_results, walk_types,
 };
-use pou_scope::{NamesOfPou, Slots};
+use pou_scope::NamesOfPou;
 use rules::{Fault, Refusal, Rule};
-use source_tree::{Item, Pou, PouKind, SourceFile};
+use source_tree::{Item, Pou, PouKind, SourceFile, TypeDeclaration};
 use std::alloc::{AllocError, Global};
 
 // Whether a POU is a PROGRAM.
@@ -88,17 +86,6 @@ fn places(alloc: Global, items: &[Item]) -> Result<Vec<usize>, AllocError>
     Ok(places)
 }
 
-// The slots of each POU.
-fn all_slots(alloc: Global, all: Vec<NamesOfPou<'_>>) -> Result<Vec<Slots>, AllocError>
-    ensures { IfOk result (λ slots. slots.items ≡ map (λ n. n.slots) all.entry.items) }
-{
-    let mut slots = Vec::new(alloc);
-    for names in all {
-        slots.push(names.slots)?;
-    }
-    Ok(slots)
-}
-
 // The order of POUs that use one another. Keeps N3 at one that uses itself, where it comes first.
 fn order_of(
     alloc: Global,
@@ -146,36 +133,43 @@ fn judge_file<'a, 'f>(
 }
 
 // What is kept of a file's scope.
-fn bindings_of(
-    scope: FileScope<'_>,
-    slots: Vec<Slots>,
+fn bindings_of<'f>(
+    scope: FileScope<'f>,
+    names: Vec<NamesOfPou<'f>>,
+    types: Vec<&'f TypeDeclaration>,
+    judged: Judged,
     places: Vec<usize>,
-    uses: Vec<Vec<usize>>,
     order: Vec<usize>,
     program: Option<usize>,
-) -> Bindings
-    requires slots { (number : ℕ) → (text : List ℕ) → option_and_then (λ s. get_by_text s text) (slice_get slots.items number) ≡ option_and_then (λ p. slot_named (scope_of p) text) (pou_at (file_view scope.types.names.file.now) number) }
+) -> Bindings<'f>
+    requires scopes { scopes_named names.items ≡ map scope_of (pous_of (file_view scope.types.names.file.now)) }
+    requires types { types_view types.items ≡ types_of (file_view scope.types.names.file.now) }
     requires places { places.items ≡ places_from 0 (file_view scope.types.names.file.now) }
-    requires uses { graph_of uses.items ≡ uses_of (file_view scope.types.names.file.now) }
+    requires uses { graph_of judged.uses.items ≡ uses_of (file_view scope.types.names.file.now) }
     requires order { order.items ≡ order_of (uses_of (file_view scope.types.names.file.now)) }
     requires program { program ≡ program_number (file_view scope.types.names.file.now) }
     ensures { AreBindings (file_view scope.entry.types.names.file.now) result }
 {
-    let types = scope.types;
-    let names = types.names;
+    let declared = scope.types;
+    let file = declared.names;
     Bindings {
-        slots,
+        names,
+        types,
+        numbers: judged.numbers,
         places,
-        uses,
+        uses: judged.uses,
         order,
         program,
-        table: names.table,
-        ends: types.ends,
+        table: file.table,
+        ends: declared.ends,
     }
 }
 
 // The first of all that a file breaks, and its bindings.
-fn walk_file(alloc: Global, file: &SourceFile) -> Result<(Option<Refusal>, Bindings), AllocError>
+fn walk_file(
+    alloc: Global,
+    file: &SourceFile,
+) -> Result<(Option<Refusal>, Bindings<'_>), AllocError>
     ensures bound { IfOk result (λ r. AreBindings (file_view file.now) r.1) }
     ensures broken { IfOk result (λ r. IsFirstOf (IsBroken (file_view file.now)) r.0) }
 {
@@ -186,23 +180,22 @@ fn walk_file(alloc: Global, file: &SourceFile) -> Result<(Option<Refusal>, Bindi
     let judged = judge_file(alloc, &scope, &list, &all, &mut first)?;
     let numbers = order_of(alloc, file, &list.pous, &judged, &mut first)?;
     let program = program_number(&list.pous);
-    let slots = all_slots(alloc, all)?;
     let places = places(alloc, &file.items)?;
-    let bindings = bindings_of(scope, slots, places, judged.uses, numbers, program);
+    let bindings = bindings_of(scope, all, list.types, judged, places, numbers, program);
     Ok((first, bindings))
 }
 
 /// The POUs of a file with every name bound, or the first rule on names that the file breaks.
-pub fn resolve(alloc: Global, file: SourceFile) -> Result<Resolved, Fault>
-    ensures refused { IfErr result (IsFaultOf (file_view file)) }
-    ensures kept { OnOk result (broken_names (file_view file) ≡ []) }
-    ensures ordered { OnOk result (length (order_of (uses_of (file_view file))) ≡ length (pous_of (file_view file))) }
-    ensures acyclic { OnOk result ((k : ℕ) → ¬ (Reaches (uses_of (file_view file)) k k)) }
-    ensures file { IfOk result (λ r. file_view r.file ≡ file_view file) }
-    ensures types { OnOk result (IsTrue (are_whole_types (file_view file) (types_of (file_view file)))) }
-    ensures typed { OnOk result (IsTrue (are_pous_typed (file_view file))) }
+pub fn resolve(alloc: Global, file: &SourceFile) -> Result<Resolved<'_>, Fault>
+    ensures refused { IfErr result (IsFaultOf (file_view file.now)) }
+    ensures kept { OnOk result (broken_names (file_view file.now) ≡ []) }
+    ensures ordered { OnOk result (length (order_of (uses_of (file_view file.now))) ≡ length (pous_of (file_view file.now))) }
+    ensures acyclic { OnOk result ((k : ℕ) → ¬ (Reaches (uses_of (file_view file.now)) k k)) }
+    ensures file { IfOk result (λ r. file_view r.file.now ≡ file_view file.now) }
+    ensures types { OnOk result (IsTrue (are_whole_types (file_view file.now) (types_of (file_view file.now)))) }
+    ensures typed { OnOk result (IsTrue (are_pous_typed (file_view file.now))) }
 {
-    let (first, bindings) = walk_file(alloc, &file)?;
+    let (first, bindings) = walk_file(alloc, file)?;
     match first {
         Some(refusal) => Err(Fault::Refused(refusal)),
         None => Ok(Resolved::new(file, bindings)),

@@ -1,1 +1,5 @@
 pub mod Outlines
+pub mod CheckedFiles
+pub mod ToldCells
+pub mod ToldCharts
+pub mod ToldBeginnings

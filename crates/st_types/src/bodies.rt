@@ -1,22 +1,21 @@
 // The bodies of POUs, judged and typed.
-ghost use Rattle.std.specs.Prelude.{◌≡◌, map, IfOk};
+ghost use Rattle.std.specs.Prelude.{◌≡◌, Some, map, IfOk};
 ghost use Rattle.source_tree.specs.SyntaxView.{body_view, pou_view};
 ghost use Rattle.program_tree.specs.View.{stmt_view, stmts_view};
-ghost use Rattle.naming.specs.FileScope.{pous_of};
-ghost use Rattle.naming.specs.ScopeView.{variable_view, variables_view};
+ghost use Rattle.naming.specs.FileScope.{pous_of, pou_at};
 ghost use Rattle.decl_types.specs.Bodies.{file_in};
+ghost use Rattle.decl_types.specs.ToldView.{told_view};
 ghost use Rattle.pou_cells.specs.Placed.{HasNoSizes, HasSizes};
-ghost use Rattle.typing.specs.Beginnings.{beginning, beginnings};
 ghost use Rattle.rules.specs.Outcomes.{outcome_of};
 ghost use Rattle.typing.specs.Outcomes.{pous_outcome};
+ghost use Rattle.typing.specs.Places.{variables_at};
 ghost use Rattle.typing.specs.Pous.{judged_body, judged_pou};
 ghost use Rattle.typing.specs.TypedPrograms.{begun, typed_body, pou_body};
+ghost use Rattle.st_types.specs.ToldBeginnings.{told_beginnings};
 
 use crate::charts::{judge_parts, type_chart};
-use decl_types::{Domains, initial_of, judge_variables};
-use naming::Declared;
+use decl_types::{Told, judge_told};
 use pou_cells::{PouScope, Pous, first_place, first_places, is_temporary, places_behind};
-use pou_scope::declared_variables;
 use program_tree::{TypedExpr, TypedStmt};
 use rules::Outcome;
 use source_tree::{Body, Pou};
@@ -42,11 +41,11 @@ fn judge_pou(
     number: usize,
     pou: &Pou,
 ) -> Result<Outcome, AllocError>
-    requires { HasNoSizes pous.now }
+    requires sizes { HasNoSizes pous.now }
+    requires there { pou_at (file_in pous.now.domains) number ≡ Some (pou_view pou.now) }
     ensures { IfOk result (λ o. o ≡ outcome_of (judged_pou (file_in pous.now.domains) number (pou_view pou.now))) }
 {
-    let variables = declared_variables(alloc, pou)?;
-    let declared = judge_variables(alloc, &pous.domains, Outcome::ok(), &variables)?;
+    let declared = judge_told(Outcome::ok(), pous.told_at(number));
     let scope = PouScope { pous, number };
     let body = judge_body(alloc, &scope, &pou.body)?;
     Ok(declared.also(body))
@@ -69,38 +68,23 @@ pub(crate) fn judge_pous(
     Ok(judged)
 }
 
-// A cell gets the value that its variable begins with.
-fn beginning(
-    alloc: Global,
-    domains: &Domains<'_>,
-    cell: usize,
-    variable: &Declared<'_>,
-) -> Result<TypedStmt, AllocError>
-    ensures { IfOk result (λ stmt. stmt_view stmt ≡ beginning (file_in domains.now) cell (variable_view variable.now)) }
-{
-    let value = initial_of(alloc, domains, variable)?;
-    Ok(TypedStmt::Assign(cell, TypedExpr::Number(value)))
-}
-
-// The assignments that a body begins with: to each VAR_TEMP variable, of those from a place on.
+// The assignments that a body begins with: to each VAR_TEMP variable, of those from a place on, where blocks have these sizes.
 fn beginnings(
     alloc: Global,
-    pous: &Pous<'_>,
+    sizes: &[usize],
     first: Next,
-    variables: &[Declared<'_>],
+    variables: &[Told<'_>],
 ) -> Result<Vec<TypedStmt>, AllocError>
-    requires { HasSizes pous.now }
-    ensures { IfOk result (λ list. map stmt_view list.items ≡ beginnings (file_in pous.now.domains) first (variables_view variables.now)) }
+    ensures { IfOk result (λ list. map stmt_view list.items ≡ told_beginnings sizes.now first (map told_view variables.now)) }
 {
-    let names = pous.domains.types.names;
     let mut list = Vec::new(alloc);
     let mut next = first;
-    for variable in variables.iter() {
-        if is_temporary(variable.role) {
-            let cell = first_place(next, variable);
-            list.push(beginning(alloc, &pous.domains, cell, variable)?)?;
+    for told in variables {
+        if is_temporary(told.role) {
+            let value = TypedExpr::Number(told.initial);
+            list.push(TypedStmt::Assign(first_place(next, told), value))?;
         }
-        next = places_behind(names, &pous.sizes, next, variable)?;
+        next = places_behind(sizes, next, told)?;
     }
     Ok(list)
 }
@@ -122,36 +106,37 @@ pub(crate) fn type_body<S: Scope>(
     }
 }
 
-// The typed statements of a body, behind the assignments to its VAR_TEMP variables, of those from a place on.
+// The typed statements of a body, behind the assignments to the VAR_TEMP variables of the POU of a number, whose cells begin at
+// places.
 fn begin_body<S: Scope>(
     alloc: Global,
     pous: &Pous<'_>,
-    scope: &S,
+    number: usize,
     first: Next,
-    variables: &[Declared<'_>],
+    scope: &S,
     body: &Body,
 ) -> Result<Vec<TypedStmt>, AllocError>
     requires { HasSizes pous.now }
-    ensures { IfOk result (λ list. stmts_view list.items ≡ begun (file_in pous.now.domains) first (variables_view variables.now) (typed_body (S.means scope.now) (body_view body.now))) }
+    ensures { IfOk result (λ list. stmts_view list.items ≡ begun (file_in pous.now.domains) first (variables_at (file_in pous.now.domains) number) (typed_body (S.means scope.now) (body_view body.now))) }
 {
-    let mut list = beginnings(alloc, pous, first, variables)?;
+    let mut list = beginnings(alloc, &pous.sizes, first, pous.told_at(number))?;
     let mut behind = type_body(alloc, scope, body)?;
     list.append(&mut behind)?;
     Ok(list)
 }
 
 /// The typed statements of the body of the POU of a number, behind those that it begins with.
-pub fn pou_body(
+pub(crate) fn pou_body(
     alloc: Global,
     pous: &Pous<'_>,
     number: usize,
     pou: &Pou,
 ) -> Result<Vec<TypedStmt>, AllocError>
-    requires { HasSizes pous.now }
+    requires sizes { HasSizes pous.now }
+    requires there { pou_at (file_in pous.now.domains) number ≡ Some (pou_view pou.now) }
     ensures { IfOk result (λ list. stmts_view list.items ≡ pou_body (file_in pous.now.domains) number (pou_view pou.now)) }
 {
-    let variables = declared_variables(alloc, pou)?;
-    let first = first_places(pous.domains.types.names, &pous.sizes, &pou.kind, &variables)?;
+    let first = first_places(&pous.sizes, &pou.kind, pous.told_at(number))?;
     let scope = PouScope { pous, number };
-    begin_body(alloc, pous, &scope, first, &variables, &pou.body)
+    begin_body(alloc, pous, number, first, &scope, &pou.body)
 }

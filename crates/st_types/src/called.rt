@@ -1,23 +1,22 @@
 // The POUs that are reached and may be called, typed. A FUNCTION that never runs keeps only the cells that its callers name.
-ghost use Rattle.std.specs.Prelude.{◌≡◌, ℕ, ◌≤◌, Some, map, IfOk, OnOk};
+ghost use Rattle.std.specs.Prelude.{◌≡◌, ◌∷◌, ◌≤◌, true, Some, None, map, IfOk, OnOk};
 ghost use Rattle.call_order.specs.Marks.{is_marked};
 ghost use Rattle.source_tree.specs.SyntaxView.{pou_view};
 ghost use Rattle.program_tree.specs.View.{cells_view, stmts_view, called_view, all_called_view};
 ghost use Rattle.naming.specs.FileScope.{pou_at};
 ghost use Rattle.decl_types.specs.Bodies.{file_in};
 ghost use Rattle.pou_cells.specs.Placed.{HasSizes};
-ghost use Rattle.typing.specs.Places.{size_among};
-ghost use Rattle.typing.specs.TypedPrograms.{frame_cells, type_of_cell, pou_body, called_of, called_if, called_by};
+ghost use Rattle.typing.specs.Places.{size_among, variables_at};
+ghost use Rattle.typing.specs.TypedPrograms.{fault_cell, cells_in, type_of_cell, pou_body, called_of, called_by};
 ghost use Rattle.running_pous.specs.Bodies.{bodies_view, body_if, bodies_of};
 ghost use Rattle.running_pous.specs.Running.{may_run};
-ghost use Rattle.running_pous.specs.Stated.{unused_of, unused_if, stated_if, stated_from, stated_by};
+ghost use Rattle.running_pous.specs.Stated.{unused_of, stated_if, stated_from, stated_by};
 
 use crate::bodies::pou_body;
 use crate::cells::{cells_behind_fault, front_cells};
 use decl_types::pou_at;
 use plc_types::Range;
 use pou_cells::{Pous, size_among};
-use pou_scope::declared_variables;
 use program_tree::{Called, Cell, CellType, Frame, TypedStmt};
 use running_pous::{is_marked, mark_running};
 use source_tree::{Pou, PouKind};
@@ -27,21 +26,15 @@ use std::alloc::{AllocError, Global};
 const MOST_CELLS: usize = 16_777_216;
 
 // The cells of a FUNCTION's call. More than 2^24 of them are want of memory, before the first is made: they would take some gigabytes.
-fn frame_cells(
-    alloc: Global,
-    pous: &Pous<'_>,
-    number: usize,
-    pou: &Pou,
-) -> Result<Vec<Cell>, AllocError>
+fn frame_cells(alloc: Global, pous: &Pous<'_>, number: usize) -> Result<Vec<Cell>, AllocError>
     requires { HasSizes pous.now }
-    ensures cells { IfOk result (λ list. cells_view list.items ≡ frame_cells (file_in pous.now.domains) (pou_view pou.now)) }
+    ensures cells { IfOk result (λ list. cells_view list.items ≡ fault_cell ∷ cells_in (file_in pous.now.domains) None true (variables_at (file_in pous.now.domains) number)) }
     ensures few { OnOk result (size_among pous.now.sizes.items (Some number) ≤ 16777216) }
 {
     if size_among(&pous.sizes, Some(number)) > MOST_CELLS {
         return Err(AllocError);
     }
-    let variables = declared_variables(alloc, pou)?;
-    let cells = cells_behind_fault(alloc, pous, None, true, &variables)?;
+    let cells = cells_behind_fault(alloc, pous, None, true, number)?;
     Ok(cells)
 }
 
@@ -91,7 +84,7 @@ fn frame_of(alloc: Global, cells: &[Cell]) -> Result<Frame, AllocError>
     })
 }
 
-// The POU of a number, of which the body is typed.
+// A POU that runs, by its number and with this body.
 fn called_of(
     alloc: Global,
     pous: &Pous<'_>,
@@ -100,12 +93,13 @@ fn called_of(
     body: Vec<TypedStmt>,
 ) -> Result<Called, AllocError>
     requires sizes { HasSizes pous.now }
+    requires there { pou_at (file_in pous.now.domains) number ≡ Some (pou_view pou.now) }
     requires body { stmts_view body.items ≡ pou_body (file_in pous.now.domains) number (pou_view pou.now) }
     ensures { IfOk result (λ called. called_view called ≡ called_of (file_in pous.now.domains) number (pou_view pou.now).kind (pou_view pou.now)) }
 {
     match pou.kind {
         PouKind::Function(_) => {
-            let cells = frame_cells(alloc, pous, number, pou)?;
+            let cells = frame_cells(alloc, pous, number)?;
             let frame = frame_of(alloc, &cells)?;
             Ok(Called::Function(frame, body))
         }
@@ -113,61 +107,26 @@ fn called_of(
     }
 }
 
-// The POU with this body, which never runs.
+// A POU that never runs, by its number and with this body.
 fn unused_of(
     alloc: Global,
     pous: &Pous<'_>,
+    number: usize,
     pou: &Pou,
     body: Vec<TypedStmt>,
 ) -> Result<Called, AllocError>
-    requires { HasSizes pous.now }
-    ensures { IfOk result (λ called. (number : ℕ) → stmts_view body.items ≡ pou_body (file_in pous.now.domains) number (pou_view pou.now) → called_view called ≡ unused_of (file_in pous.now.domains) number (pou_view pou.now).kind (pou_view pou.now)) }
+    requires sizes { HasSizes pous.now }
+    requires there { pou_at (file_in pous.now.domains) number ≡ Some (pou_view pou.now) }
+    requires body { stmts_view body.items ≡ pou_body (file_in pous.now.domains) number (pou_view pou.now) }
+    ensures { IfOk result (λ called. called_view called ≡ unused_of (file_in pous.now.domains) number (pou_view pou.now).kind (pou_view pou.now)) }
 {
     match pou.kind {
         PouKind::Function(_) => {
-            let variables = declared_variables(alloc, pou)?;
-            let cells = front_cells(alloc, pous, &variables)?;
+            let cells = front_cells(alloc, pous, number)?;
             let frame = frame_of(alloc, &cells)?;
             Ok(Called::Function(frame, Vec::new(alloc)))
         }
         PouKind::FunctionBlock | PouKind::Program => Ok(Called::Block(body)),
-    }
-}
-
-// The POU of a number, of which the body is typed.
-fn called_if(
-    alloc: Global,
-    pous: &Pous<'_>,
-    number: usize,
-    body: Vec<TypedStmt>,
-) -> Result<Called, AllocError>
-    requires sizes { HasSizes pous.now }
-    requires body { stmts_view body.items ≡ body_if (file_in pous.now.domains) number (pou_at (file_in pous.now.domains) number) }
-    ensures { IfOk result (λ called. called_view called ≡ called_if (file_in pous.now.domains) number (pou_at (file_in pous.now.domains) number)) }
-{
-    match pou_at(pous.domains.types.names, number) {
-        None => Ok(Called::Block(Vec::new(alloc))),
-        Some(pou) => called_of(alloc, pous, number, pou, body),
-    }
-}
-
-// The same, where it never runs.
-fn unused_if(
-    alloc: Global,
-    pous: &Pous<'_>,
-    number: usize,
-    body: Vec<TypedStmt>,
-) -> Result<Called, AllocError>
-    requires sizes { HasSizes pous.now }
-    requires body { stmts_view body.items ≡ body_if (file_in pous.now.domains) number (pou_at (file_in pous.now.domains) number) }
-    ensures { IfOk result (λ called. called_view called ≡ unused_if (file_in pous.now.domains) number (pou_at (file_in pous.now.domains) number)) }
-{
-    match pou_at(pous.domains.types.names, number) {
-        None => Ok(Called::Block(Vec::new(alloc))),
-        Some(pou) => {
-            let unused = unused_of(alloc, pous, pou, body)?;
-            Ok(unused)
-        }
     }
 }
 
@@ -183,10 +142,10 @@ fn stated_if(
     requires body { stmts_view body.items ≡ body_if (file_in pous.now.domains) number (pou_at (file_in pous.now.domains) number) }
     ensures { IfOk result (λ called. called_view called ≡ stated_if (file_in pous.now.domains) number runs) }
 {
-    if runs {
-        called_if(alloc, pous, number, body)
-    } else {
-        unused_if(alloc, pous, number, body)
+    match pou_at(pous.domains.types.names, number) {
+        None => Ok(Called::Block(Vec::new(alloc))),
+        Some(pou) if runs => called_of(alloc, pous, number, pou, body),
+        Some(pou) => unused_of(alloc, pous, number, pou, body),
     }
 }
 

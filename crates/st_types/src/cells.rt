@@ -1,29 +1,45 @@
 // The cells of POUs, those of instances in their places.
-ghost use Rattle.std.specs.Prelude.{◌≡◌, ◌∷◌, ◌++◌, length, true, false, None, option_map, IfOk, OnOk};
+ghost use Rattle.std.specs.Prelude.{◌≡◌, ◌∷◌, ◌++◌, map, length, true, false, None, option_map, IfOk, OnOk};
 ghost use Rattle.std.specs.String.{string_bytes};
-ghost use Rattle.source_tree.specs.SyntaxView.{name_view, file_view};
+ghost use Rattle.source_tree.specs.SyntaxView.{name_view};
 ghost use Rattle.program_tree.specs.View.{cell_view, cells_view, texts_view};
 ghost use Rattle.naming.specs.FileScope.{pous_of};
-ghost use Rattle.naming.specs.Scopes.{block_of};
-ghost use Rattle.naming.specs.ScopeView.{variable_view, variables_view};
 ghost use Rattle.decl_types.specs.Bodies.{file_in};
+ghost use Rattle.decl_types.specs.ToldView.{told_view};
 ghost use Rattle.pou_cells.specs.Placed.{HasSizes};
-ghost use Rattle.typing.specs.Places.{is_front, in_front};
-ghost use Rattle.typing.specs.TypedPrograms.{path_of, path_behind, cell_for, flag_cell, cells_for, fault_cell, cells_of_variable, cells_of, block_cells, cells_in, is_without_cell, names_without_cell};
+ghost use Rattle.pou_cells.specs.ToldPlaces.{told_at};
+ghost use Rattle.typing.specs.Places.{in_front, in_order, sizes_of, variables_at};
+ghost use Rattle.typing.specs.TypedPrograms.{path_of, path_behind, flag_cell, fault_cell, cells_of, block_cells, cells_in, names_without_cell};
+ghost use Rattle.st_types.specs.ToldCells.{told_cell_for, told_cells_for, told_cells_of_variable, is_written, told_cells_of, is_told_without_cell, told_without_cell};
 
-use decl_types::{Domains, block_of, domain_of, initial_of, pou_at};
+use decl_types::Told;
 use expr_types::{bool_type, range};
-use naming::{Declared, Role};
+use naming::Role;
 use plc_types::Elementary;
 use pou_cells::{
-    Pous, active_first, has_cell, in_order, is_constant, is_step, is_stored_action, part_in,
-    size_among,
+    Pous, active_first, has_cell, is_constant, is_front, is_stored_action, part_in, size_among,
 };
-use pou_scope::declared_variables;
 use program_tree::{Cell, Part};
 use source_tree::Name;
-use st_names::Resolved;
 use std::alloc::{AllocError, Global};
+
+// Which cells of a POU's names are written: of a FUNCTION or another POU, of those names that stand in front or of the others, and
+// inside an instance or not.
+#[derive(Clone, Copy)]
+struct Walk {
+    of_function: bool,
+    in_front: bool,
+    inside: bool,
+}
+
+// Whether a walk writes the cells of a name.
+fn is_written(walk: Walk, role: Role) -> bool
+    ensures { result ≡ is_written walk role }
+{
+    let front = is_front(walk.of_function, role);
+    let chosen = if walk.in_front { front } else { !front };
+    chosen && has_cell(role)
+}
 
 // The path of a cell behind what stands before it, where paths are wanted.
 fn path_of(alloc: Global, before: Option<&str>, name: &str) -> Result<String, AllocError>
@@ -61,22 +77,19 @@ fn path_behind(
 // The cell of a variable.
 fn cell_for(
     alloc: Global,
-    domains: &Domains<'_>,
     inside: bool,
     before: Option<&str>,
-    variable: &Declared<'_>,
+    told: &Told<'_>,
 ) -> Result<Cell, AllocError>
-    ensures { IfOk result (λ cell. cell_view cell ≡ cell_for (file_in domains.now) inside (option_map (λ b. b.now) before.entry) (variable_view variable.now)) }
+    ensures { IfOk result (λ cell. cell_view cell ≡ told_cell_for inside (option_map (λ b. b.now) before.entry) (told_view told.now)) }
 {
-    let domain = domain_of(alloc, domains, variable)?;
-    let initial = initial_of(alloc, domains, variable)?;
     Ok(Cell {
-        path: path_of(alloc, before, variable.name.text.as_str())?,
-        part: part_in(inside, variable.role),
-        kind: domain.kind,
-        range: domain.range,
-        limited: domain.limited,
-        initial,
+        path: path_of(alloc, before, told.name.text.as_str())?,
+        part: part_in(inside, told.role),
+        kind: told.domain.kind,
+        range: told.domain.range,
+        limited: told.domain.limited,
+        initial: told.initial,
     })
 }
 
@@ -108,29 +121,28 @@ fn flag_cell(
 // Appends the cells of a name that is no instance.
 fn write_cells_for(
     alloc: Global,
-    domains: &Domains<'_>,
     inside: bool,
     before: Option<&str>,
-    variable: &Declared<'_>,
+    told: &Told<'_>,
     list: &mut Vec<Cell>,
 ) -> Result<(), AllocError>
-    ensures { OnOk result (cells_view list.new.items ≡ cells_view list.old.items ++ cells_for (file_in domains.now) inside (option_map (λ b. b.now) before.entry) (variable_view variable.now)) }
+    ensures { OnOk result (cells_view list.new.items ≡ cells_view list.old.items ++ told_cells_for inside (option_map (λ b. b.now) before.entry) (told_view told.now)) }
 {
-    let name = variable.name;
-    if is_step(variable.role) {
-        let first = active_first(variable.role);
+    let name = told.name;
+    if told.role.is_step() {
+        let first = active_first(told.role);
         list.push(flag_cell(alloc, before, name, "X", first)?)?;
         list.push(flag_cell(alloc, before, name, "L", 0)?)?;
-    } else if is_stored_action(variable.role) {
+    } else if is_stored_action(told.role) {
         list.push(flag_cell(alloc, before, name, "S", 0)?)?;
     } else {
-        list.push(cell_for(alloc, domains, inside, before, variable)?)?;
+        list.push(cell_for(alloc, inside, before, told)?)?;
     }
     Ok(())
 }
 
-/// The cell of FAULT.
-pub fn fault_cell(alloc: Global) -> Result<Cell, AllocError>
+// The cell of FAULT.
+fn fault_cell(alloc: Global) -> Result<Cell, AllocError>
     ensures { IfOk result (λ cell. cell_view cell ≡ fault_cell) }
 {
     Ok(Cell {
@@ -159,33 +171,37 @@ fn write_block(
     if depth == 0 {
         return Ok(());
     }
-    match pou_at(pous.domains.types.names, block) {
-        None => Ok(()),
-        Some(pou) => {
-            let variables = declared_variables(alloc, pou)?;
-            let ordered = in_order(alloc, false, &variables)?;
-            write_variables(alloc, pous, depth - 1, true, before, &ordered, list)
-        }
-    }
+    let variables = pous.told_at(block);
+    let front = Walk {
+        of_function: false,
+        in_front: true,
+        inside: true,
+    };
+    write_variables(alloc, pous, depth - 1, front, before, variables, list)?;
+    let rest = Walk {
+        in_front: false,
+        ..front
+    };
+    write_variables(alloc, pous, depth - 1, rest, before, variables, list)
 }
 
-// Appends the cells of variables, inside an instance or not.
+// Appends the cells of the names of a POU that a walk writes, where instances stand in one another so many times at most.
 #[cycle(write_cells)]
 fn write_variables(
     alloc: Global,
     pous: &Pous<'_>,
     depth: usize,
-    inside: bool,
+    walk: Walk,
     before: Option<&str>,
-    variables: &[Declared<'_>],
+    variables: &[Told<'_>],
     list: &mut Vec<Cell>,
 ) -> Result<(), AllocError>
     requires { HasSizes pous.now }
-    ensures { OnOk result (cells_view list.new.items ≡ cells_view list.old.items ++ cells_of (file_in pous.now.domains) (block_cells (file_in pous.now.domains) depth) inside (option_map (λ b. b.now) before.entry) (variables_view variables.now)) }
+    ensures { OnOk result (cells_view list.new.items ≡ cells_view list.old.items ++ told_cells_of (sizes_of (file_in pous.now.domains)) (block_cells (file_in pous.now.domains) depth) walk (option_map (λ b. b.now) before.entry) (map told_view variables.now)) }
 {
-    for variable in variables.iter() {
-        if has_cell(variable.role) {
-            write_variable(alloc, pous, depth, inside, before, variable, list)?;
+    for told in variables {
+        if is_written(walk, told.role) {
+            write_variable(alloc, pous, depth, walk.inside, before, told, list)?;
         }
     }
     Ok(())
@@ -199,101 +215,115 @@ fn write_variable(
     depth: usize,
     inside: bool,
     before: Option<&str>,
-    variable: &Declared<'_>,
+    told: &Told<'_>,
     list: &mut Vec<Cell>,
 ) -> Result<(), AllocError>
     requires { HasSizes pous.now }
-    ensures { OnOk result (cells_view list.new.items ≡ cells_view list.old.items ++ cells_of_variable (file_in pous.now.domains) (block_cells (file_in pous.now.domains) depth) inside (option_map (λ b. b.now) before.entry) (variable_view variable.now) (block_of (file_in pous.now.domains) (variable_view variable.now))) }
+    ensures { OnOk result (cells_view list.new.items ≡ cells_view list.old.items ++ told_cells_of_variable (sizes_of (file_in pous.now.domains)) (block_cells (file_in pous.now.domains) depth) inside (option_map (λ b. b.now) before.entry) (told_view told.now) told.now.block) }
 {
-    let Some(block) = block_of(pous.domains.types.names, variable) else {
-        return write_cells_for(alloc, &pous.domains, inside, before, variable, list);
+    let Some(block) = told.block else {
+        return write_cells_for(alloc, inside, before, told, list);
     };
     if size_among(&pous.sizes, Some(block)) == 0 {
         return Ok(());
     }
-    let inner = path_behind(alloc, before, variable.name)?;
+    let inner = path_behind(alloc, before, told.name)?;
     match &inner {
         None => write_block(alloc, pous, depth, None, block, list),
         Some(path) => write_block(alloc, pous, depth, Some(path.as_str()), block, list),
     }
 }
 
-/// FAULT's cell and those of the names of a FUNCTION or another POU, with their paths or without.
+// Appends the cells of those names of the POU of a number that stand in front, or of the others.
+fn write_part(
+    alloc: Global,
+    pous: &Pous<'_>,
+    walk: Walk,
+    before: Option<&str>,
+    number: usize,
+    list: &mut Vec<Cell>,
+) -> Result<(), AllocError>
+    requires { HasSizes pous.now }
+    ensures { OnOk result (cells_view list.new.items ≡ cells_view list.old.items ++ told_cells_of (sizes_of (file_in pous.now.domains)) (block_cells (file_in pous.now.domains) (length (pous_of (file_in pous.now.domains)))) walk (option_map (λ b. b.now) before.entry) (told_at (file_in pous.now.domains) number)) }
+{
+    let depth = pous.domains.types.names.pou_count();
+    write_variables(alloc, pous, depth, walk, before, pous.told_at(number), list)
+}
+
+/// FAULT's cell and those of the names of a FUNCTION or another POU, by its number, with their paths or without.
 pub(crate) fn cells_behind_fault(
     alloc: Global,
     pous: &Pous<'_>,
     before: Option<&str>,
     of_function: bool,
-    variables: &[Declared<'_>],
+    number: usize,
 ) -> Result<Vec<Cell>, AllocError>
     requires { HasSizes pous.now }
-    ensures { IfOk result (λ list. cells_view list.items ≡ fault_cell ∷ cells_in (file_in pous.now.domains) (option_map (λ b. b.now) before.entry) of_function (variables_view variables.now)) }
+    ensures { IfOk result (λ list. cells_view list.items ≡ fault_cell ∷ cells_in (file_in pous.now.domains) (option_map (λ b. b.now) before.entry) of_function (variables_at (file_in pous.now.domains) number)) }
 {
     let mut list = Vec::new(alloc);
     list.push(fault_cell(alloc)?)?;
-    let depth = pous.domains.types.names.pou_count();
-    let ordered = in_order(alloc, of_function, variables)?;
-    write_variables(alloc, pous, depth, false, before, &ordered, &mut list)?;
+    let front = Walk {
+        of_function,
+        in_front: true,
+        inside: false,
+    };
+    write_part(alloc, pous, front, before, number, &mut list)?;
+    let rest = Walk {
+        in_front: false,
+        ..front
+    };
+    write_part(alloc, pous, rest, before, number, &mut list)?;
     Ok(list)
 }
 
-// Whether a variable of a FUNCTION is an input, or what it answers.
-fn is_front(role: Role) -> bool
-    ensures { result ≡ is_front true role }
-{
-    role.is_input() || role.is_result()
-}
-
-// What a FUNCTION answers, and its inputs.
-fn in_front<'a>(alloc: Global, variables: &[Declared<'a>]) -> Result<Vec<Declared<'a>>, AllocError>
-    ensures { IfOk result (λ list. variables_view list.items ≡ in_front true (variables_view variables.now)) }
-{
-    let mut list = Vec::new(alloc);
-    for variable in variables.iter() {
-        if is_front(variable.role) {
-            list.push(*variable)?;
-        }
-    }
-    Ok(list)
-}
-
-/// FAULT's cell, and those of what a FUNCTION answers and of its inputs.
+/// FAULT's cell, and those of what the FUNCTION of a number answers and of its inputs.
 pub(crate) fn front_cells(
     alloc: Global,
     pous: &Pous<'_>,
-    variables: &[Declared<'_>],
+    number: usize,
 ) -> Result<Vec<Cell>, AllocError>
     requires { HasSizes pous.now }
-    ensures { IfOk result (λ list. cells_view list.items ≡ fault_cell ∷ cells_of (file_in pous.now.domains) (block_cells (file_in pous.now.domains) (length (pous_of (file_in pous.now.domains)))) false None (in_front true (variables_view variables.now))) }
+    ensures { IfOk result (λ list. cells_view list.items ≡ fault_cell ∷ cells_of (file_in pous.now.domains) (block_cells (file_in pous.now.domains) (length (pous_of (file_in pous.now.domains)))) false None (in_front true (variables_at (file_in pous.now.domains) number))) }
 {
     let mut list = Vec::new(alloc);
     list.push(fault_cell(alloc)?)?;
-    let depth = pous.domains.types.names.pou_count();
-    let front = in_front(alloc, variables)?;
-    write_variables(alloc, pous, depth, false, None, &front, &mut list)?;
+    let front = Walk {
+        of_function: true,
+        in_front: true,
+        inside: false,
+    };
+    write_part(alloc, pous, front, None, number, &mut list)?;
     Ok(list)
 }
 
 // Whether a variable is a constant or an instance.
-fn is_without_cell(names: &Resolved, variable: &Declared<'_>) -> bool
-    ensures { result ≡ is_without_cell (file_view names.now.file) (variable_view variable.now) }
+fn is_without_cell(told: &Told<'_>) -> bool
+    ensures { result ≡ is_told_without_cell (told_view told.now) }
 {
-    is_constant(variable.role) || block_of(names, variable).is_some()
+    is_constant(told.role) || told.block.is_some()
 }
 
-/// The names of the constants and instances of a program.
-pub fn names_without_cell(
-    alloc: Global,
-    names: &Resolved,
-    variables: &[Declared<'_>],
-) -> Result<Vec<String>, AllocError>
-    ensures { IfOk result (λ list. texts_view list.items ≡ names_without_cell (file_view names.now.file) (variables_view variables.now)) }
+// The names of constants and instances.
+fn told_without_cell(alloc: Global, variables: &[Told<'_>]) -> Result<Vec<String>, AllocError>
+    ensures { IfOk result (λ list. texts_view list.items ≡ told_without_cell (map told_view variables.now)) }
 {
     let mut list = Vec::new(alloc);
-    for variable in variables.iter() {
-        if is_without_cell(names, variable) {
-            list.push(String::from_str(alloc, variable.name.text.as_str())?)?;
+    for told in variables {
+        if is_without_cell(told) {
+            list.push(String::from_str(alloc, told.name.text.as_str())?)?;
         }
     }
     Ok(list)
+}
+
+/// The names of the constants and instances of the POU of a number.
+pub(crate) fn names_without_cell(
+    alloc: Global,
+    pous: &Pous<'_>,
+    number: usize,
+) -> Result<Vec<String>, AllocError>
+    ensures { IfOk result (λ list. texts_view list.items ≡ names_without_cell (file_in pous.now.domains) (variables_at (file_in pous.now.domains) number)) }
+{
+    told_without_cell(alloc, pous.told_at(number))
 }

@@ -1,25 +1,24 @@
 // Where the charts of a POU and of its instances stand among its cells.
-ghost use Rattle.std.specs.Prelude.{◌≡◌, ◌++◌, IfOk, OnOk};
-ghost use Rattle.naming.specs.Scopes.{block_of};
-ghost use Rattle.naming.specs.ScopeView.{variable_view, variables_view};
+ghost use Rattle.std.specs.Prelude.{◌≡◌, ◌++◌, map, IfOk, OnOk};
 ghost use Rattle.decl_types.specs.Bodies.{file_in};
+ghost use Rattle.decl_types.specs.ToldView.{told_view};
 ghost use Rattle.pou_cells.specs.Placed.{HasSizes};
-ghost use Rattle.typing.specs.ChartPlaces.{steps_among, charts_of_variable, charts_of, block_charts, charts_in};
+ghost use Rattle.typing.specs.Places.{sizes_of, variables_at};
+ghost use Rattle.typing.specs.ChartPlaces.{block_charts, charts_in};
+ghost use Rattle.st_types.specs.ToldCharts.{told_steps, told_charts_of_variable, told_charts_of};
 
-use decl_types::{block_of, pou_at};
-use naming::Declared;
-use pou_cells::{Pous, cells_taken, in_order, is_step, size_among, sum};
-use pou_scope::declared_variables;
+use decl_types::Told;
+use pou_cells::{Pous, cells_taken, is_stored_action, size_among, sum};
 use program_tree::ChartCells;
 use std::alloc::{AllocError, Global};
 
 // How many of some names are steps.
-fn steps_among(variables: &[Declared<'_>]) -> usize
-    ensures { result ≡ steps_among (variables_view variables.now) }
+fn steps_among(variables: &[Told<'_>]) -> usize
+    ensures { result ≡ told_steps (map told_view variables.now) }
 {
     let mut steps = 0;
-    for variable in variables.iter() {
-        if is_step(variable.role) {
+    for told in variables {
+        if told.role.is_step() {
             steps += 1;
         }
     }
@@ -29,7 +28,6 @@ fn steps_among(variables: &[Declared<'_>]) -> usize
 // Appends the charts of an instance of a block, whose cells begin at a place.
 #[cycle(write_charts)]
 fn write_block(
-    alloc: Global,
     pous: &Pous<'_>,
     depth: usize,
     place: usize,
@@ -42,32 +40,27 @@ fn write_block(
     if depth == 0 {
         return Ok(());
     }
-    match pou_at(pous.domains.types.names, block) {
-        None => Ok(()),
-        Some(pou) => {
-            let variables = declared_variables(alloc, pou)?;
-            let ordered = in_order(alloc, false, &variables)?;
-            write_charts(alloc, pous, depth - 1, place, &ordered, list)
-        }
-    }
+    write_charts(pous, depth - 1, place, pous.told_at(block), list)
 }
 
-// Appends the charts of names in the order of their cells, which begin at a place.
+// Appends the charts of names, whose cells begin at a place. The cells of stored actions stand behind all others.
 #[cycle(write_charts)]
 fn write_charts(
-    alloc: Global,
     pous: &Pous<'_>,
     depth: usize,
     first: usize,
-    variables: &[Declared<'_>],
+    variables: &[Told<'_>],
     list: &mut Vec<ChartCells>,
 ) -> Result<(), AllocError>
     requires { HasSizes pous.now }
-    ensures { OnOk result (list.new.items ≡ list.old.items ++ charts_of (file_in pous.now.domains) (block_charts (file_in pous.now.domains) depth) first (variables_view variables.now)) }
+    ensures { OnOk result (list.new.items ≡ list.old.items ++ told_charts_of (sizes_of (file_in pous.now.domains)) (block_charts (file_in pous.now.domains) depth) first (map told_view variables.now)) }
 {
     let mut place = first;
-    for (index, variable) in variables.iter().enumerate() {
-        if is_step(variable.role) {
+    for (index, told) in variables.iter().enumerate() {
+        if is_stored_action(told.role) {
+            continue;
+        }
+        if told.role.is_step() {
             let steps = steps_among(&variables[index..]);
             list.push(ChartCells {
                 first: place,
@@ -75,9 +68,8 @@ fn write_charts(
             })?;
             return Ok(());
         }
-        write_variable(alloc, pous, depth, place, variable, list)?;
-        let taken = cells_taken(pous.domains.types.names, &pous.sizes, variable);
-        place = sum(place, taken)?;
+        write_variable(pous, depth, place, told, list)?;
+        place = sum(place, cells_taken(&pous.sizes, told))?;
     }
     Ok(())
 }
@@ -85,37 +77,35 @@ fn write_charts(
 // Appends the charts of a variable, where it is an instance.
 #[cycle(write_charts)]
 fn write_variable(
-    alloc: Global,
     pous: &Pous<'_>,
     depth: usize,
     place: usize,
-    variable: &Declared<'_>,
+    told: &Told<'_>,
     list: &mut Vec<ChartCells>,
 ) -> Result<(), AllocError>
     requires { HasSizes pous.now }
-    ensures { OnOk result (list.new.items ≡ list.old.items ++ charts_of_variable (file_in pous.now.domains) (block_charts (file_in pous.now.domains) depth) place (block_of (file_in pous.now.domains) (variable_view variable.now))) }
+    ensures { OnOk result (list.new.items ≡ list.old.items ++ told_charts_of_variable (sizes_of (file_in pous.now.domains)) (block_charts (file_in pous.now.domains) depth) place told.now.block) }
 {
-    let Some(block) = block_of(pous.domains.types.names, variable) else {
+    let Some(block) = told.block else {
         return Ok(());
     };
     if size_among(&pous.sizes, Some(block)) == 0 {
         return Ok(());
     }
-    write_block(alloc, pous, depth, place, block, list)
+    write_block(pous, depth, place, block, list)
 }
 
-/// The charts of a PROGRAM and of its instances, in the order of their cells.
-pub fn charts_in(
+/// The charts of the PROGRAM of a number and of its instances, in the order of their cells.
+pub(crate) fn charts_in(
     alloc: Global,
     pous: &Pous<'_>,
-    variables: &[Declared<'_>],
+    number: usize,
 ) -> Result<Vec<ChartCells>, AllocError>
     requires { HasSizes pous.now }
-    ensures { IfOk result (λ list. list.items ≡ charts_in (file_in pous.now.domains) (variables_view variables.now)) }
+    ensures { IfOk result (λ list. list.items ≡ charts_in (file_in pous.now.domains) (variables_at (file_in pous.now.domains) number)) }
 {
     let mut list = Vec::new(alloc);
     let depth = pous.domains.types.names.pou_count();
-    let ordered = in_order(alloc, false, variables)?;
-    write_charts(alloc, pous, depth, 1, &ordered, &mut list)?;
+    write_charts(pous, depth, 1, pous.told_at(number), &mut list)?;
     Ok(list)
 }

@@ -6,8 +6,10 @@ mod called;
 mod cells;
 mod chart_places;
 mod charts;
+mod checked;
+mod judged_file;
 mod outlines;
 mod program;
 
-pub use outlines::outline;
-pub use program::check;
+pub use checked::Checked;
+pub use judged_file::check;

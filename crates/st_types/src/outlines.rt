@@ -1,21 +1,17 @@
 // The outline of a typed program, which tells which frames are long and spreads none.
-ghost use Rattle.std.specs.Prelude.{◌≡◌, [], true, map, if◌then◌else◌, IfOk, IfSome};
-ghost use Rattle.source_tree.specs.SyntaxView.{pou_view, file_view};
+ghost use Rattle.std.specs.Prelude.{◌≡◌, if◌then◌else◌, IfOk};
+ghost use Rattle.source_tree.specs.SyntaxView.{pou_view};
 ghost use Rattle.program_tree.specs.View.{stmts_view, called_view, all_called_view, program_view};
 ghost use Rattle.naming.specs.FileScope.{pou_at};
 ghost use Rattle.decl_types.specs.Bodies.{file_in};
 ghost use Rattle.pou_cells.specs.Placed.{HasNoSizes};
-ghost use Rattle.pou_cells.specs.Placing.{capped};
-ghost use Rattle.typing.specs.Places.{sizes_of};
-ghost use Rattle.typing.specs.Pous.{broken_types, has_room};
-ghost use Rattle.st_types.specs.Outlines.{long_body, outlined_body, is_long, outlined_of, outlined_if, outlined_by, outlined_program, IsOutline};
+ghost use Rattle.st_types.specs.Outlines.{long_body, outlined_body, is_long, outlined_of, outlined_if, outlined_by, outlined_program};
 
 use crate::bodies::type_body;
-use crate::program::test_pous;
+use crate::checked::Checked;
 use decl_types::pou_at;
-use pou_cells::{PouScope, Pous, capped_sizes, size_among};
+use pou_cells::{PouScope, Pous, size_among};
 use program_tree::{Called, Frame, Program, Turns, TypedStmt};
-use rules::Fault;
 use source_tree::{Pou, PouKind};
 use st_names::Resolved;
 use std::alloc::{AllocError, Global};
@@ -163,32 +159,8 @@ fn has_long(pous: &Pous<'_>, sizes: &[usize]) -> bool {
     false
 }
 
-// The outline of the PROGRAM of a number, where a POU is long and the file breaks no rule on types and not M2.
-fn outline_of(
-    alloc: Global,
-    pous: &Pous<'_>,
-    number: usize,
-    program: &Pou,
-) -> Result<Option<Program>, AllocError>
-    requires { HasNoSizes pous.now }
-    ensures { let f = file_in pous.now.domains in IfOk result (λ o. IfSome o (λ p. (broken_types f ≡ []) × (has_room f number ≡ true) × (program_view p ≡ outlined_program f (map capped (sizes_of f)) number (pou_view program.now)))) }
-{
-    let sizes = capped_sizes(alloc, pous)?;
-    if !has_long(pous, &sizes) {
-        return Ok(None);
-    }
-    match test_pous(alloc, pous, number) {
-        Ok(told) => {
-            let outline = outlined_program(alloc, pous, &told, number, program)?;
-            Ok(Some(outline))
-        }
-        Err(Fault::Refused(_)) => Ok(None),
-        Err(Fault::Memory) => Err(AllocError),
-    }
-}
-
 // Whether a file has a FUNCTION: without one there is no frame.
-fn has_functions(names: &Resolved) -> bool {
+fn has_functions(names: &Resolved<'_>) -> bool {
     for number in 0..names.pou_count() {
         if matches!(&names.pou(number).kind, PouKind::Function(_)) {
             return true;
@@ -197,15 +169,22 @@ fn has_functions(names: &Resolved) -> bool {
     false
 }
 
-/// The outline of a file's one PROGRAM, whose names are bound; none where no frame is long or the file breaks a rule on types or M2. It is
-/// made in the time of the text, whatever number of cells frames have.
-pub fn outline(alloc: Global, names: &Resolved) -> Result<Option<Program>, AllocError>
-    ensures { IfOk result (λ o. IfSome o (λ p. IsOutline (file_view names.now.file) (program_view p))) }
-{
-    if !has_functions(names) {
-        return Ok(None);
+impl Checked<'_> {
+    ghost use Rattle.std.specs.Prelude.{IfSome};
+    ghost use Rattle.st_types.specs.CheckedFiles.{file_checked};
+    ghost use Rattle.st_types.specs.Outlines.{IsOutline};
+
+    /// The outline of the PROGRAM; none where no frame is long. It is made in the time of the text, whatever number of cells frames
+    /// have.
+    pub fn outline(&self, alloc: Global) -> Result<Option<Program>, AllocError>
+        ensures { IfOk result (λ o. IfSome o (λ p. IsOutline (file_checked self.now) (program_view p))) }
+    {
+        let names = self.pous.domains.types.names;
+        if !has_functions(names) || !has_long(&self.pous, &self.sizes) {
+            return Ok(None);
+        }
+        let program = names.pou(self.number);
+        let outline = outlined_program(alloc, &self.pous, &self.sizes, self.number, program)?;
+        Ok(Some(outline))
     }
-    let number = names.program();
-    let pous = Pous::new(alloc, names)?;
-    outline_of(alloc, &pous, number, names.pou(number))
 }

@@ -66,9 +66,9 @@ fn judge_input<S: Scope>(
 ) -> Result<Outcome, AllocError>
     ensures { IfOk result (λ o. o ≡ outcome_of (judged_input (S.means scope.now) meaning (name_view name.now) (tree_view value.now))) }
 {
-    let wanted = kind_at(meaning);
-    let fits = type_of(scope, wanted, value).is_same(or_dint(wanted));
-    let judged = judge_expr(alloc, scope, wanted, value)?;
+    let expected = kind_at(meaning);
+    let fits = type_of(scope, expected, value).is_same(or_dint(expected));
+    let judged = judge_expr(alloc, scope, expected, value)?;
     let parts = judge_meaning(meaning).also(judged);
     Ok(parts.require(fits, Rule::ValueType, name.at))
 }

@@ -56,19 +56,19 @@ fn are_constant<S: Scope>(scope: &S, links: &[Link]) -> bool
     true
 }
 
-/// The value of a constant expression where a type is wanted: there is one where its evaluation meets no fault.
+/// The value of a constant expression where a type is expected: there is one where its evaluation meets no fault.
 pub fn constant_value<S: Scope>(
     alloc: Global,
     scope: &S,
-    wanted: Option<DataType>,
+    expected: Option<DataType>,
     expr: &Expr,
 ) -> Result<Option<i64>, AllocError>
-    ensures { IfOk result (λ value. value ≡ constant_value (S.means scope.now) wanted (tree_view expr.now)) }
+    ensures { IfOk result (λ value. value ≡ constant_value (S.means scope.now) expected (tree_view expr.now)) }
 {
     if !is_constant(scope, expr) {
         return Ok(None);
     }
-    let typed = type_expr(alloc, scope, wanted, expr)?;
+    let typed = type_expr(alloc, scope, expected, expr)?;
     let given = evaluate(&typed, &[], &[]);
     if given.fault {
         Ok(None)

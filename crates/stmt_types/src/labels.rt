@@ -20,7 +20,7 @@ use source_tree::{Entry, Expr, Label};
 use std::alloc::{AllocError, Global};
 use typing::{Meaning, Place, Scope};
 
-// What judging a constant finds: its value, what it breaks, and whether it is of the type that is wanted.
+// What judging a constant finds: its value, what it breaks, and whether it is of the type that is expected.
 #[derive(Clone, Copy, Debug, PartialEq, Eq)]
 struct Constant {
     value: i64,

@@ -7,7 +7,7 @@ ghost use Rattle.rules.specs.Outcomes.{outcome_of};
 ghost use Rattle.typing.specs.Outcomes.{judged_selection};
 
 use crate::labels::judge_labels;
-use expr_types::{judge_with_own, place_of};
+use expr_types::{judge_and_synthesize, place_of};
 use plc_types::DataType;
 use rules::{Outcome, Rule};
 use source_tree::{Entry, Expr};
@@ -41,7 +41,7 @@ fn judge_selector<S: Scope>(
     ensures outcome { IfOk result (λ s. s.outcome ≡ outcome_of (judged_selector (S.means scope.now) (tree_view selector.now))) }
     ensures kind { IfOk result (λ s. s.kind ≡ type_of (S.means scope.now) None (tree_view selector.now)) }
 {
-    let judged = judge_with_own(alloc, scope, None, selector)?;
+    let judged = judge_and_synthesize(alloc, scope, None, selector)?;
     let kind = judged.kind(None);
     let fits = may_select(kind);
     let at = place_of(selector);

@@ -8,7 +8,9 @@ ghost use Rattle.typing.specs.Outcomes.{stmt_outcome, stmts_outcome, arms_outcom
 use crate::connections::judge_invoke;
 use crate::iteration::{is_assignable, judge_turns, with_control};
 use crate::selection::judge_selection;
-use expr_types::{judge_condition, judge_meaning, judge_with_own, kind_at, meaning_alone, or_dint};
+use expr_types::{
+    judge_and_synthesize, judge_condition, judge_meaning, kind_at, meaning_alone, or_dint,
+};
 use rules::{Outcome, Rule};
 use source_tree::{Arm, Entry, Expr, Path, Stmt};
 use std::alloc::{AllocError, Global};
@@ -34,10 +36,10 @@ fn judge_assign<S: Scope>(
     ensures { IfOk result (λ o. o ≡ outcome_of (judged_assign (S.means scope.now) controls.now (path_view path.now) (tree_view value.now))) }
 {
     let meaning = scope.meaning(path);
-    let wanted = kind_at(meaning);
+    let expected = kind_at(meaning);
     let target = judge_target(controls, meaning, path.first.at);
-    let judged = judge_with_own(alloc, scope, wanted, value)?;
-    let fits = judged.kind(wanted).is_same(or_dint(wanted));
+    let judged = judge_and_synthesize(alloc, scope, expected, value)?;
+    let fits = judged.kind(expected).is_same(or_dint(expected));
     let parts = target.also(judged.outcome);
     Ok(parts.require(fits, Rule::ValueType, path.first.at))
 }

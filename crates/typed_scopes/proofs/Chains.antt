@@ -12,7 +12,7 @@ use Rattle.program_tree.specs.Tree.{chain as typed_chain, Operands, no_operands,
 use Rattle.meaning.specs.Values.{result_type}
 use Rattle.node_core.specs.NodeTypes.{is_for}
 use Rattle.node_core.specs.TypedFlats.{covers, last_stays}
-use Rattle.typing.specs.Typing.{Scope, own, own_of_links, own_of_first, bool_type, type_of, or_else, or_dint, is_comparison, operand_type, next_type, takes}
+use Rattle.typing.specs.Typing.{Scope, synthesized, synthesized_of_links, synthesized_of_first, bool_type, type_of, or_else, or_dint, is_comparison, operand_type, next_type, takes}
 use Rattle.typing.specs.Typed.{typed, typed_links}
 use Rattle.typed_programs.specs.Scopes.{Pous, BodyScope}
 use Rattle.typed_programs.specs.Expressions.{Join}
@@ -109,17 +109,17 @@ settled o t (link p at e ls) levels =
 
 -- ---- the types of a chain and of its first operand
 
-chain_type : (c : Bool) (mine first links wanted : Option DataType)
-    → or_dint (or_else (if c then Some bool_type else or_else mine links) wanted) ≡ (if c then bool_type else (if c then or_dint (or_else mine first) else or_dint (or_else (or_else mine links) wanted)))
-chain_type true mine first links wanted = refl
-chain_type false mine first links wanted = refl
+chain_type : (c : Bool) (mine first links expected : Option DataType)
+    → or_dint (or_else (if c then Some bool_type else or_else mine links) expected) ≡ (if c then bool_type else (if c then or_dint (or_else mine first) else or_dint (or_else (or_else mine links) expected)))
+chain_type true mine first links expected = refl
+chain_type false mine first links expected = refl
 
-first_type : (c : Bool) (mine first links wanted : Option DataType)
-    → or_dint (or_else mine (Some (if c then or_dint (or_else mine first) else or_dint (or_else (or_else mine links) wanted)))) ≡ (if c then or_dint (or_else mine first) else or_dint (or_else (or_else mine links) wanted))
-first_type true (Some t) first links wanted = refl
-first_type true None first links wanted = refl
-first_type false (Some t) first links wanted = refl
-first_type false None first links wanted = refl
+first_type : (c : Bool) (mine first links expected : Option DataType)
+    → or_dint (or_else mine (Some (if c then or_dint (or_else mine first) else or_dint (or_else (or_else mine links) expected)))) ≡ (if c then or_dint (or_else mine first) else or_dint (or_else (or_else mine links) expected))
+first_type true (Some t) first links expected = refl
+first_type true None first links expected = refl
+first_type false (Some t) first links expected = refl
+first_type false None first links expected = refl
 
 module _ (pous : Pous) (b : BodyScope) where
   -- the last operator tells the range
@@ -142,18 +142,18 @@ module _ (pous : Pous) (b : BodyScope) (last : ℕ → ℤ) (scope : Scope) wher
     subst (λ (k : Elementary). Join pous b k (carrier (last_type (next_type o t) ls)) (typed_links scope (next_type o t) ls)) (carrier_next o t) (joined (next_type o t) ls values.2),
   )
 
-  pub chain_is : (wanted : Option DataType) (e : Tree) (o : Operator) (at : ℕ) (f : Tree) (ls : Links) → AreOfLevel (level_of o) ls
-      → IsValueIf pous b last (type_of scope (Some (operand_type scope wanted e (link o at f ls))) e) (typed scope (Some (operand_type scope wanted e (link o at f ls))) e)
-      → AreLinkValues (operand_type scope wanted e (link o at f ls)) (link o at f ls)
-      → IsValueOf pous b last (type_of scope wanted (chain e (link o at f ls))) (typed scope wanted (chain e (link o at f ls)))
-  chain_is wanted e o at f ls levels value values =
-      let t = operand_type scope wanted e (link o at f ls) in
+  pub chain_is : (expected : Option DataType) (e : Tree) (o : Operator) (at : ℕ) (f : Tree) (ls : Links) → AreOfLevel (level_of o) ls
+      → IsValueIf pous b last (type_of scope (Some (operand_type scope expected e (link o at f ls))) e) (typed scope (Some (operand_type scope expected e (link o at f ls))) e)
+      → AreLinkValues (operand_type scope expected e (link o at f ls)) (link o at f ls)
+      → IsValueOf pous b last (type_of scope expected (chain e (link o at f ls))) (typed scope expected (chain e (link o at f ls)))
+  chain_is expected e o at f ls levels value values =
+      let t = operand_type scope expected e (link o at f ls) in
       let c = is_comparison o in
-      let first = own_of_first scope (link o at f ls) in
-      let links = own_of_links scope (link o at f ls) in
-      let left = subst (λ (x : DataType). IsValueIf pous b last x (typed scope (Some t) e)) (first_type c (own scope e) first links wanted) value (known_type last t values.1.known) in
+      let first = synthesized_of_first scope (link o at f ls) in
+      let links = synthesized_of_links scope (link o at f ls) in
+      let left = subst (λ (x : DataType). IsValueIf pous b last x (typed scope (Some t) e)) (first_type c (synthesized scope e) first links expected) value (known_type last t values.1.known) in
       let os = typed_links scope t (link o at f ls) in
       let join = subst (λ (x : DataType). Join pous b (carrier t) (carrier x) os) (settled o t ls levels) (joined t (link o at f ls) values) in
-      subst (λ (x : DataType). IsValueOf pous b last x (typed_chain (typed scope (Some t) e) os)) (sym (chain_type c (own scope e) first links wanted))
+      subst (λ (x : DataType). IsValueOf pous b last x (typed_chain (typed scope (Some t) e) os)) (sym (chain_type c (synthesized scope e) first links expected))
       (elementary_value pous b last (next_type o t) (typed_chain (typed scope (Some t) e) os) (elementary_next o t values.0) (left.typed, join)
       (join_stays pous b (carrier t) (carrier (next_type o t)) os join))

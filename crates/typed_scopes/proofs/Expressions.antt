@@ -11,7 +11,7 @@ use Rattle.rules.specs.declared.rule.Rule.TheVariants.{OperandType, OutsideType}
 use Rattle.rules.specs.Judgements.{Judgement, also, require}
 use Rattle.typing.specs.declared.scope.Signature.{Signature}
 use Rattle.typing.specs.Typing.{Scope, by_path, by_value, place_of_literal, place_of, type_of, operand_type, next_type, takes, Parameter, fixed, common, amount, parameter_of, is_amount}
-use Rattle.typing.specs.Judged.{wanted_at, wanted_by, place_for, judged_amount, judged_port, judged_named, fits_port, judged, judged_links, judged_arguments, judged_given}
+use Rattle.typing.specs.Judged.{expected_at, expected_by, place_for, judged_amount, judged_port, judged_named, fits_port, judged, judged_links, judged_arguments, judged_given}
 use Rattle.typing.specs.Typed.{typed}
 use Rattle.typed_programs.specs.Scopes.{Pous, BodyScope}
 use Rattle.typed_scopes.specs.Uses.{Usable, IsWithin, AreLinksWithin, AreArgumentsWithin}
@@ -42,20 +42,20 @@ amount_whole scope amount e j whole = (whole_require j (is_amount scope e) Outsi
 
 module _ (pous : Pous) (b : BodyScope) (last : ℕ → ℤ) (scope : Scope) (uses : Usable) (fits : ScopeFits pous b last scope uses) where
   mutual
-    pub value_is : (wanted : Option DataType) (e : Tree) → IsWithin uses e → IsLevelled e → (judged scope wanted e).whole ≡ true → IsValueIf pous b last (type_of scope wanted e) (typed scope wanted e)
-    value_is wanted (literal l) within levels whole = λ known. literal_is pous b last scope wanted (place_of_literal l) l whole
-    value_is wanted (path p) within levels whole = name_is pous b last wanted (scope.means (by_path p)) (fits.names (by_path p) within) whole
-    value_is wanted (enumerator t v) within levels whole = name_is pous b last wanted (scope.means (by_value v)) (fits.names (by_value v) within) whole
-    value_is wanted (paren at e) within levels whole = value_is wanted e within levels whole
-    value_is wanted (unary o at e) within levels whole = unary_is pous b last scope wanted o at e (λ w. value_is (Some (type_of scope wanted e)) e within levels.1 w) whole
-    value_is wanted (chain e no_links) within levels whole = absurd levels
-    value_is wanted (chain e (link o at f ls)) within levels whole =
-        let t = operand_type scope wanted e (link o at f ls) in
-        λ known. chain_is pous b last scope wanted e o at f ls levels.4
+    pub value_is : (expected : Option DataType) (e : Tree) → IsWithin uses e → IsLevelled e → (judged scope expected e).whole ≡ true → IsValueIf pous b last (type_of scope expected e) (typed scope expected e)
+    value_is expected (literal l) within levels whole = λ known. literal_is pous b last scope expected (place_of_literal l) l whole
+    value_is expected (path p) within levels whole = name_is pous b last expected (scope.means (by_path p)) (fits.names (by_path p) within) whole
+    value_is expected (enumerator t v) within levels whole = name_is pous b last expected (scope.means (by_value v)) (fits.names (by_value v) within) whole
+    value_is expected (paren at e) within levels whole = value_is expected e within levels whole
+    value_is expected (unary o at e) within levels whole = unary_is pous b last scope expected o at e (λ w. value_is (Some (type_of scope expected e)) e within levels.1 w) whole
+    value_is expected (chain e no_links) within levels whole = absurd levels
+    value_is expected (chain e (link o at f ls)) within levels whole =
+        let t = operand_type scope expected e (link o at f ls) in
+        λ known. chain_is pous b last scope expected e o at f ls levels.4
         (value_is (Some t) e within.0 levels.1 (left_whole scope t (judged scope (Some t) e) (link o at f ls) whole))
         (links_are (level_of o) t (judged scope (Some t) e) (link o at f ls) within.1 (refl, levels.2, levels.3, levels.4) whole)
-    value_is wanted (call n at args) within levels whole =
-        call_is pous b last scope wanted n.at (standard_function n.text) (scope.signature n.text) args (λ none. fits.functions n.text (within.0 none)) (λ f t w. operands_are f t 0 (are_named args) args within.1 levels w)
+    value_is expected (call n at args) within levels whole =
+        call_is pous b last scope expected n.at (standard_function n.text) (scope.signature n.text) args (λ none. fits.functions n.text (within.0 none)) (λ f t w. operands_are f t 0 (are_named args) args within.1 levels w)
         (λ s w. given_are s 0 (are_named args) args within.1 levels w) whole
 
     links_are : (n : ℕ) (t : DataType) (left : Judgement) (ls : Links) → AreLinksWithin uses ls → AreOfLevel n ls → (judged_links scope t left ls).whole ≡ true → AreLinkValues pous b last scope t ls
@@ -72,15 +72,15 @@ module _ (pous : Pous) (b : BodyScope) (last : ℕ → ℤ) (scope : Scope) (use
     operands_are f t place named no_arguments within levels whole = tt
     operands_are f t place named (argument n e args) within levels whole =
         let p = parameter_of f place in
-        let j = judged scope (wanted_at p t) e in
+        let j = judged scope (expected_at p t) e in
         let parts = whole_also (judged_amount scope p e j) (judged_arguments scope f t (place + 1) args) whole in
-        (value_is (wanted_at p t) e within.0 levels.1 (amount_whole scope p e j parts.0), operands_are f t (place + 1) named args within.1 levels.2 parts.1)
+        (value_is (expected_at p t) e within.0 levels.1 (amount_whole scope p e j parts.0), operands_are f t (place + 1) named args within.1 levels.2 parts.1)
 
     given_are : (s : Signature) (place : ℕ) (named : Bool) (args : Arguments) → AreArgumentsWithin uses args → AreOfForm named args → (judged_given scope s place args).whole ≡ true → AreGivenValues pous b last scope s place args
     given_are s place named no_arguments within levels whole = tt
     given_are s place named (argument n e args) within levels whole =
         let found = scope.port s.function (place_for scope s place n) in
-        let inner = also (judged scope (wanted_by found) e) (judged_port found) in
+        let inner = also (judged scope (expected_by found) e) (judged_port found) in
         let parts = whole_also (judged_named n (fits_port scope found e) inner) (judged_given scope s (place + 1) args) whole in
-        let own = whole_also (judged scope (wanted_by found) e) (judged_port found) (judged_parts_of pous b last scope s place n e inner (fits_port scope found e) parts.0) in
-        (value_is (wanted_by found) e within.0 levels.1 own.0, given_are s (place + 1) named args within.1 levels.2 parts.1)
+        let own = whole_also (judged scope (expected_by found) e) (judged_port found) (judged_parts_of pous b last scope s place n e inner (fits_port scope found e) parts.0) in
+        (value_is (expected_by found) e within.0 levels.1 own.0, given_are s (place + 1) named args within.1 levels.2 parts.1)

@@ -12,7 +12,7 @@ use Rattle.rules.specs.Judgements.{Judgement, also}
 use Rattle.typing.specs.declared.scope.Port.{Port}
 use Rattle.typing.specs.declared.scope.Signature.{Signature}
 use Rattle.typing.specs.Typing.{Scope, port_type, type_of}
-use Rattle.typing.specs.Judged.{judged, place_for, places_for, wanted_by, judged_port, fits_port, judged_named, fits_placed, fit_placed, judged_given}
+use Rattle.typing.specs.Judged.{judged, place_for, places_for, expected_by, judged_port, fits_port, judged_named, fits_placed, fit_placed, judged_given}
 use Rattle.typing.specs.Typed.{PlacedData, typed, typed_given}
 use Rattle.typed_programs.specs.Scopes.{Pous, BodyScope}
 use Rattle.typed_scopes.proofs.Wholes.{whole_require, whole_also, whole_said}
@@ -23,11 +23,11 @@ pub whole_port : (p : Port) → p.whole ≡ true → port_type p ≡ p.kind
 whole_port p whole = ap (λ (w : Bool). if w then p.kind else kinds.Unknown) whole
 
 module _ (pous : Pous) (b : BodyScope) (last : ℕ → ℤ) (scope : Scope) (s : Signature) where
-  -- arguments from a place on, each where the type of its input is wanted
+  -- arguments from a place on, each where the type of its input is expected
   abbrev pub AreGivenValues : ℕ → Arguments → Type 0
   AreGivenValues place no_arguments = Unit {0}
   AreGivenValues place (argument n e args) =
-      IsValueIf pous b last (type_of scope (wanted_by (scope.port s.function (place_for scope s place n))) e) (typed scope (wanted_by (scope.port s.function (place_for scope s place n))) e)
+      IsValueIf pous b last (type_of scope (expected_by (scope.port s.function (place_for scope s place n))) e) (typed scope (expected_by (scope.port s.function (place_for scope s place n))) e)
       × AreGivenValues (place + 1) args
 
   -- an input of which there is one is whole, and the expression is a value of its type
@@ -40,8 +40,8 @@ module _ (pous : Pous) (b : BodyScope) (last : ℕ → ℤ) (scope : Scope) (s :
   same_port : (p q : Port) → Some p ≡ Some q → p ≡ q
   same_port p q e = cc
 
-  fits_input : (found : Option Port) (e : Tree) → IsValueIf pous b last (type_of scope (wanted_by found) e) (typed scope (wanted_by found) e) → fits_port scope found e ≡ true
-      → (judged_port found).whole ≡ true → FitsInput found (typed scope (wanted_by found) e)
+  fits_input : (found : Option Port) (e : Tree) → IsValueIf pous b last (type_of scope (expected_by found) e) (typed scope (expected_by found) e) → fits_port scope found e ≡ true
+      → (judged_port found).whole ≡ true → FitsInput found (typed scope (expected_by found) e)
   fits_input None e value fits whole q is = absurd (let z : ⊥ = cc in z)
   fits_input (Some p) e value fits whole q is =
       let w = whole_said p.whole whole in
@@ -66,11 +66,11 @@ module _ (pous : Pous) (b : BodyScope) (last : ℕ → ℤ) (scope : Scope) (s :
   all_fit place no_arguments values whole fits = All-nil FitsItsInput
   all_fit place (argument n e args) values whole fits =
       let found = scope.port s.function (place_for scope s place n) in
-      let inner = also (judged scope (wanted_by found) e) (judged_port found) in
+      let inner = also (judged scope (expected_by found) e) (judged_port found) in
       let parts = whole_also (judged_named n (fits_port scope found e) inner) (judged_given scope s (place + 1) args) whole in
       let tests = and_parts (fits_placed scope s place n e) (fit_placed scope s (place + 1) args) fits in
       let one = argument_fits place n e inner tests.0 parts.0 in
-      let port = (whole_also (judged scope (wanted_by found) e) (judged_port found) one.0).1 in
+      let port = (whole_also (judged scope (expected_by found) e) (judged_port found) one.0).1 in
       All-cons FitsItsInput _ _ (fits_input found e values.0 one.1 port) (all_fit (place + 1) args values.1 parts.1 tests.1)
 
   -- the places of arguments

@@ -37,10 +37,10 @@ module _ (pous : Pous) (b : BodyScope) (last : ℕ → ℤ) where
   truth true = kept types.Bool (pos 1) refl
   truth false = kept types.Bool (pos 0) refl
 
-  pub literal_is : (scope : Scope) (wanted : Option DataType) (at : ℕ) (l : Literal) → (judged_literal (type_of scope wanted (literal l)) false at l).whole ≡ true
-      → IsValueOf pous b last (type_of scope wanted (literal l)) (number_of (type_of scope wanted (literal l)) false l)
-  literal_is scope wanted at (literals.Number value here) whole = in_number (or_dint wanted) (pos value) at whole
-  literal_is scope wanted at (literals.Truth value here) whole = truth value
-  literal_is scope wanted at (literals.TypedNumber kind here minus value value_at) whole = in_number (kinds.Elementary kind) (negated (is_minus minus) (pos value)) at whole
-  literal_is scope wanted at (literals.TypedTruth kind here value value_at) whole =
+  pub literal_is : (scope : Scope) (expected : Option DataType) (at : ℕ) (l : Literal) → (judged_literal (type_of scope expected (literal l)) false at l).whole ≡ true
+      → IsValueOf pous b last (type_of scope expected (literal l)) (number_of (type_of scope expected (literal l)) false l)
+  literal_is scope expected at (literals.Number value here) whole = in_number (or_dint expected) (pos value) at whole
+  literal_is scope expected at (literals.Truth value here) whole = truth value
+  literal_is scope expected at (literals.TypedNumber kind here minus value value_at) whole = in_number (kinds.Elementary kind) (negated (is_minus minus) (pos value)) at whole
+  literal_is scope expected at (literals.TypedTruth kind here value value_at) whole =
       subst (λ (t : DataType). IsValueOf pous b last t (number (wrap_to (carrier t) (truth_value value)))) (sym (same_type (kinds.Elementary kind) bool_type (whole_test (is_bool (kinds.Elementary kind)) OutsideType at whole))) (truth value)

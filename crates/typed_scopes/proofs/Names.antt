@@ -36,10 +36,10 @@ module _ (pous : Pous) (b : BodyScope) (last : ℕ → ℤ) where
   pub meaning_is : (m : Meaning) → MeaningFits b last m → m.whole ≡ true → IsValueIf pous b last m.kind (meaning_read (Some m))
   meaning_is m fits whole known = read_is m m.place (fits whole known)
 
-  -- where any type is wanted
-  pub name_is : (wanted : Option DataType) (m : Option Meaning) → ((n : Meaning) → m ≡ Some n → MeaningFits b last n) → (judged_meaning m).whole ≡ true
-      → IsValueIf pous b last (or_dint (or_else (kind_at m) wanted)) (meaning_read m)
-  name_is wanted None fits whole = absurd (false≢true whole)
-  name_is wanted (Some m) fits whole =
+  -- where any type is expected
+  pub name_is : (expected : Option DataType) (m : Option Meaning) → ((n : Meaning) → m ≡ Some n → MeaningFits b last n) → (judged_meaning m).whole ≡ true
+      → IsValueIf pous b last (or_dint (or_else (kind_at m) expected)) (meaning_read m)
+  name_is expected None fits whole = absurd (false≢true whole)
+  name_is expected (Some m) fits whole =
       let w = whole_said m.whole whole in
-      subst (λ (k : Option DataType). IsValueIf pous b last (or_dint (or_else k wanted)) (meaning_read (Some m))) (sym (kind_of_whole m w)) (meaning_is m (fits m refl) w)
+      subst (λ (k : Option DataType). IsValueIf pous b last (or_dint (or_else k expected)) (meaning_read (Some m))) (sym (kind_of_whole m w)) (meaning_is m (fits m refl) w)

@@ -11,7 +11,7 @@ use Rattle.source_tree.specs.Syntax.{Tree, literal, unary}
 use Rattle.program_tree.specs.Tree.{unary as typed_unary}
 use Rattle.rules.specs.declared.rule.Rule.TheVariants.{OperandType}
 use Rattle.rules.specs.Judgements.{require}
-use Rattle.typing.specs.Typing.{Scope, own, type_of, or_else, or_dint, negated, is_minus}
+use Rattle.typing.specs.Typing.{Scope, synthesized, type_of, or_else, or_dint, negated, is_minus}
 use Rattle.typing.specs.Judged.{takes_sign, judged}
 use Rattle.typing.specs.Typed.{typed}
 use Rattle.typed_programs.specs.Scopes.{Pous, BodyScope}
@@ -25,27 +25,27 @@ signed_type : (o : UnaryOperator) (t : DataType) → takes_sign o t ≡ true →
 signed_type signs.Minus t h = of_integers t h
 signed_type signs.Not t h = of_bits t h
 
--- an expression's type is its type again where that is wanted
-type_again : (mine wanted : Option DataType) → or_dint (or_else mine (Some (or_dint (or_else mine wanted)))) ≡ or_dint (or_else mine wanted)
-type_again (Some t) wanted = refl
-type_again None wanted = refl
+-- an expression's type is its type again where that is expected
+type_again : (mine expected : Option DataType) → or_dint (or_else mine (Some (or_dint (or_else mine expected)))) ≡ or_dint (or_else mine expected)
+type_again (Some t) expected = refl
+type_again None expected = refl
 
 module _ (pous : Pous) (b : BodyScope) (last : ℕ → ℤ) (scope : Scope) where
   abbrev pub IsJudgedValue : Option DataType → Tree → Type 0
-  IsJudgedValue wanted e = (judged scope wanted e).whole ≡ true → IsValueIf pous b last (type_of scope wanted e) (typed scope wanted e)
+  IsJudgedValue expected e = (judged scope expected e).whole ≡ true → IsValueIf pous b last (type_of scope expected e) (typed scope expected e)
 
   -- before what is no number
-  plain : (wanted : Option DataType) (o : UnaryOperator) (at : ℕ) (e : Tree) → IsJudgedValue (Some (type_of scope wanted e)) e
-      → (require (judged scope (Some (type_of scope wanted e)) e) (takes_sign o (type_of scope wanted e)) OperandType at).whole ≡ true
-      → IsValueOf pous b last (type_of scope wanted e) (typed_unary o (carrier (type_of scope wanted e)) (typed scope (Some (type_of scope wanted e)) e))
-  plain wanted o at e given whole =
-      let t = type_of scope wanted e in
+  plain : (expected : Option DataType) (o : UnaryOperator) (at : ℕ) (e : Tree) → IsJudgedValue (Some (type_of scope expected e)) e
+      → (require (judged scope (Some (type_of scope expected e)) e) (takes_sign o (type_of scope expected e)) OperandType at).whole ≡ true
+      → IsValueOf pous b last (type_of scope expected e) (typed_unary o (carrier (type_of scope expected e)) (typed scope (Some (type_of scope expected e)) e))
+  plain expected o at e given whole =
+      let t = type_of scope expected e in
       let w = whole_require (judged scope (Some t) e) (takes_sign o t) OperandType at whole in
-      let v = subst (λ (x : DataType). IsValueIf pous b last x (typed scope (Some t) e)) (type_again (own scope e) wanted) (given w.0) (elementary_known t (signed_type o t w.1)) in
+      let v = subst (λ (x : DataType). IsValueIf pous b last x (typed scope (Some t) e)) (type_again (synthesized scope e) expected) (given w.0) (elementary_known t (signed_type o t w.1)) in
       elementary_value pous b last t (typed_unary o (carrier t) (typed scope (Some t) e)) (signed_type o t w.1) (refl, v.typed) (covers-self (range_of (carrier t)))
 
-  pub unary_is : (wanted : Option DataType) (o : UnaryOperator) (at : ℕ) (e : Tree) → IsJudgedValue (Some (type_of scope wanted e)) e → IsJudgedValue wanted (unary o at e)
-  unary_is wanted signs.Minus at (literal (literals.Number value here)) given whole known = in_number pous b last (or_dint wanted) (negated true (pos value)) at whole
-  unary_is wanted signs.Minus at (literal (literals.TypedNumber kind here minus value value_at)) given whole known =
+  pub unary_is : (expected : Option DataType) (o : UnaryOperator) (at : ℕ) (e : Tree) → IsJudgedValue (Some (type_of scope expected e)) e → IsJudgedValue expected (unary o at e)
+  unary_is expected signs.Minus at (literal (literals.Number value here)) given whole known = in_number pous b last (or_dint expected) (negated true (pos value)) at whole
+  unary_is expected signs.Minus at (literal (literals.TypedNumber kind here minus value value_at)) given whole known =
       in_number pous b last (kinds.Elementary kind) (negated true (negated (is_minus minus) (pos value))) at whole
-  unary_is wanted o at e given whole known = plain wanted o at e given whole
+  unary_is expected o at e given whole known = plain expected o at e given whole

@@ -18,7 +18,7 @@ use Rattle.program_tree.specs.Tree.{call as typed_call, Expressions}
 use Rattle.node_core.specs.TypedFlats.{is_function_for}
 use Rattle.node_core.specs.Words.{first_operand_kind}
 use Rattle.typing.specs.Typing.{Scope, type_of, or_else, or_dint, Parameter, fixed, common, amount, parameter_of, result_of, takes_operands, takes_count, count_of}
-use Rattle.typing.specs.Judged.{wanted_at, fits_at, fit_from}
+use Rattle.typing.specs.Judged.{expected_at, fits_at, fit_from}
 use Rattle.typing.specs.Typed.{typed, with_operand, typed_operands, function_of}
 use Rattle.typed_programs.specs.Scopes.{Pous, BodyScope}
 use Rattle.typed_programs.specs.Expressions.{AreOf}
@@ -45,11 +45,11 @@ module _ (pous : Pous) (b : BodyScope) (last : ℕ → ℤ) (scope : Scope) wher
   abbrev pub AreOperandValues : StandardFunction → DataType → ℕ → Arguments → Type 0
   AreOperandValues f t place no_arguments = Unit {0}
   AreOperandValues f t place (argument n e args) =
-      IsValueIf pous b last (type_of scope (wanted_at (parameter_of f place) t) e) (typed scope (wanted_at (parameter_of f place) t) e) × AreOperandValues f t (place + 1) args
+      IsValueIf pous b last (type_of scope (expected_at (parameter_of f place) t) e) (typed scope (expected_at (parameter_of f place) t) e) × AreOperandValues f t (place + 1) args
 
   common_operand : (p : Parameter) (t : DataType) (e : Tree) (es : Expressions) → IsCommon p
-      → IsValueIf pous b last (type_of scope (wanted_at p t) e) (typed scope (wanted_at p t) e) → fits_at scope p t e ≡ true
-      → AreOf pous b (carrier t) (carrier t) es → AreOf pous b (carrier t) (carrier t) (with_operand p (typed scope (wanted_at p t) e) es)
+      → IsValueIf pous b last (type_of scope (expected_at p t) e) (typed scope (expected_at p t) e) → fits_at scope p t e ≡ true
+      → AreOf pous b (carrier t) (carrier t) es → AreOf pous b (carrier t) (carrier t) (with_operand p (typed scope (expected_at p t) e) es)
   common_operand (fixed k) t e es h value fits rest = absurd h
   common_operand common t e es h value fits rest = ((fitted pous b last (type_of scope (Some t) e) t (typed scope (Some t) e) fits value).typed, rest)
   common_operand amount t e es h value fits rest = absurd h

@@ -21,7 +21,7 @@ ghost use Rattle.typed_scopes.specs.Charts.{ChartFits};
 /// alone has none.
 pub fn law_expressions()
     ensures { (pous : Pous) (b : BodyScope) (last : ℕ → ℤ) (scope : Scope) (uses : Usable) → ScopeFits pous b last scope uses
-        → (wanted : Option DataType) (e : Tree) → IsWithin uses e → IsLevelled e → (judged scope wanted e).whole ≡ true → is_unknown (type_of scope wanted e) ≡ false → IsOfType pous b last (type_of scope wanted e) (typed scope wanted e) }
+        → (expected : Option DataType) (e : Tree) → IsWithin uses e → IsLevelled e → (judged scope expected e).whole ≡ true → is_unknown (type_of scope expected e) ≡ false → IsOfType pous b last (type_of scope expected e) (typed scope expected e) }
 {}
 
 /// So are statements.

@@ -36,10 +36,10 @@ abbrev mutual
   are_constant scope no_links = true
   are_constant scope (link o at e ls) = is_constant scope e && are_constant scope ls
 
--- The value of a constant expression where a type is wanted: there is one where its evaluation meets no fault.
+-- The value of a constant expression where a type is expected: there is one where its evaluation meets no fault.
 abbrev pub constant_value : Scope → Option DataType → Tree → Option ℤ
-constant_value scope wanted e =
-    if is_constant scope e && not (faults no_callees 0 (typed scope wanted e) []) then Some (value_of no_callees 0 (typed scope wanted e) []) else None
+constant_value scope expected e =
+    if is_constant scope e && not (faults no_callees 0 (typed scope expected e) []) then Some (value_of no_callees 0 (typed scope expected e) []) else None
 
 -- a turn begins with a value that does not pass the last one, in the direction of the step
 abbrev pub goes_on : ℤ → ℤ → ℤ → Bool

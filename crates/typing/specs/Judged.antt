@@ -42,19 +42,19 @@ abbrev pub judged_unary : DataType → UnaryOperator → ℕ → Option Literal 
 judged_unary t o at None operand = require operand (takes_sign o t) OperandType at
 judged_unary t o at (Some l) operand = judged_literal t true at l
 
--- the type that is wanted of an argument where the operands are of a type
-abbrev pub wanted_at : Parameter → DataType → Option DataType
-wanted_at (fixed k) t = Some (Elementary k)
-wanted_at common t = Some t
-wanted_at amount t = None
+-- the type that is expected of an argument where the operands are of a type
+abbrev pub expected_at : Parameter → DataType → Option DataType
+expected_at (fixed k) t = Some (Elementary k)
+expected_at common t = Some t
+expected_at amount t = None
 
--- an argument is of the type that is wanted
+-- an argument is of the type that is expected
 abbrev pub fits_at : Scope → Parameter → DataType → Tree → Bool
 fits_at scope (fixed k) t e = is_same_type (type_of scope (Some (Elementary k)) e) (Elementary k)
 fits_at scope common t e = is_same_type (type_of scope (Some t) e) t
 fits_at scope amount t e = true
 
--- the arguments from a place on are of the types that are wanted
+-- the arguments from a place on are of the types that are expected
 abbrev pub fit_from : Scope → StandardFunction → DataType → ℕ → Arguments → Bool
 fit_from scope f t place no_arguments = true
 fit_from scope f t place (argument n e args) = fits_at scope (parameter_of f place) t e && fit_from scope f t (place + 1) args
@@ -84,10 +84,10 @@ has_all_below (suc k) numbers = has_all_below k numbers && list_any (λ n. n == 
 abbrev pub gives_all : Scope → Signature → Arguments → Bool
 gives_all scope s args = count_of args == s.count && has_all_below s.count (places_for scope s 0 args)
 
--- the type that is wanted of an argument for an input; where there is no such input, none is
-abbrev pub wanted_by : Option Port → Option DataType
-wanted_by None = None
-wanted_by (Some p) = Some (port_type p)
+-- the type that is expected of an argument for an input; where there is no such input, none is
+abbrev pub expected_by : Option Port → Option DataType
+expected_by None = None
+expected_by (Some p) = Some (port_type p)
 
 -- an argument for an input whose declaration breaks a rule says nothing
 abbrev pub judged_port : Option Port → Judgement
@@ -122,12 +122,12 @@ abbrev pub judged_user_call : Scope → ℕ → Option Signature → Arguments �
 judged_user_call scope at None args of_inputs = suppressed
 judged_user_call scope at (Some s) args of_inputs = judged_answer scope at s args (of_inputs s)
 
--- A call of a standard function has as many arguments as it takes, each of the type that is wanted at its place. Where there are more or
+-- A call of a standard function has as many arguments as it takes, each of the type that is expected at its place. Where there are more or
 -- fewer, each is judged alone.
 abbrev pub judged_call : Scope → Option DataType → ℕ → Option StandardFunction → Option Signature → Arguments → Judgement → (StandardFunction → DataType → Judgement) → (Signature → Judgement) → Judgement
-judged_call scope wanted at None s args alone of_operands of_inputs = judged_user_call scope at s args of_inputs
-judged_call scope wanted at (Some f) s args alone of_operands of_inputs =
-    let t = common_type scope wanted f args in
+judged_call scope expected at None s args alone of_operands of_inputs = judged_user_call scope at s args of_inputs
+judged_call scope expected at (Some f) s args alone of_operands of_inputs =
+    let t = common_type scope expected f args in
     if takes_count f (count_of args) then require (of_operands f t) (takes_operands f t && fit_from scope f t 0 args) OperandType at
     else require alone false ArgumentCount at
 
@@ -135,16 +135,16 @@ judged_call scope wanted at (Some f) s args alone of_operands of_inputs =
 -- the left of one is its left operand.
 abbrev mutual
   pub judged : Scope → Option DataType → Tree → Judgement
-  judged scope wanted (literal l) = judged_literal (type_of scope wanted (literal l)) false (place_of_literal l) l
-  judged scope wanted (path p) = judged_meaning (scope.means (by_path p))
-  judged scope wanted (enumerator t v) = judged_meaning (scope.means (by_value v))
-  judged scope wanted (paren at e) = judged scope wanted e
-  judged scope wanted (unary o at e) = judged_unary (type_of scope wanted e) o at (negative_literal o e) (judged scope (Some (type_of scope wanted e)) e)
-  judged scope wanted (chain e ls) =
-      let t = operand_type scope wanted e ls in
+  judged scope expected (literal l) = judged_literal (type_of scope expected (literal l)) false (place_of_literal l) l
+  judged scope expected (path p) = judged_meaning (scope.means (by_path p))
+  judged scope expected (enumerator t v) = judged_meaning (scope.means (by_value v))
+  judged scope expected (paren at e) = judged scope expected e
+  judged scope expected (unary o at e) = judged_unary (type_of scope expected e) o at (negative_literal o e) (judged scope (Some (type_of scope expected e)) e)
+  judged scope expected (chain e ls) =
+      let t = operand_type scope expected e ls in
       judged_links scope t (judged scope (Some t) e) ls
-  judged scope wanted (call n at args) =
-      judged_call scope wanted n.at (standard_function n.text) (scope.signature n.text) args (judged_alone scope args) (λ f t. judged_arguments scope f t 0 args) (λ s. judged_given scope s 0 args)
+  judged scope expected (call n at args) =
+      judged_call scope expected n.at (standard_function n.text) (scope.signature n.text) args (judged_alone scope args) (λ f t. judged_arguments scope f t 0 args) (λ s. judged_given scope s 0 args)
 
   -- operators behind a left operand that was judged
   pub judged_links : Scope → DataType → Judgement → Links → Judgement
@@ -156,14 +156,14 @@ abbrev mutual
   pub judged_arguments : Scope → StandardFunction → DataType → ℕ → Arguments → Judgement
   judged_arguments scope f t place no_arguments = ok
   judged_arguments scope f t place (argument n e args) =
-      also (judged_amount scope (parameter_of f place) e (judged scope (wanted_at (parameter_of f place) t) e)) (judged_arguments scope f t (place + 1) args)
+      also (judged_amount scope (parameter_of f place) e (judged scope (expected_at (parameter_of f place) t) e)) (judged_arguments scope f t (place + 1) args)
 
-  -- arguments of a FUNCTION from a place on, each where the type of its input is wanted
+  -- arguments of a FUNCTION from a place on, each where the type of its input is expected
   pub judged_given : Scope → Signature → ℕ → Arguments → Judgement
   judged_given scope s place no_arguments = ok
   judged_given scope s place (argument n e args) =
       let p = scope.port s.function (place_for scope s place n) in
-      also (judged_named n (fits_port scope p e) (also (judged scope (wanted_by p) e) (judged_port p))) (judged_given scope s (place + 1) args)
+      also (judged_named n (fits_port scope p e) (also (judged scope (expected_by p) e) (judged_port p))) (judged_given scope s (place + 1) args)
 
   -- arguments each alone
   pub judged_alone : Scope → Arguments → Judgement

@@ -37,8 +37,8 @@ judged_target controls m at = require (judged_meaning m) (is_assignable controls
 -- an assignment's value is of its target's type
 abbrev pub judged_assign : Scope → List ℕ → PathData → Tree → Judgement
 judged_assign scope controls p e =
-    let wanted = kind_at (scope.means (by_path p)) in
-    require (also (judged_target controls (scope.means (by_path p)) p.first.at) (judged scope wanted e)) (is_same_type (type_of scope wanted e) (or_dint wanted)) ValueType p.first.at
+    let expected = kind_at (scope.means (by_path p)) in
+    require (also (judged_target controls (scope.means (by_path p)) p.first.at) (judged scope expected e)) (is_same_type (type_of scope expected e) (or_dint expected)) ValueType p.first.at
 
 -- what a FUNCTION answers may not control a FOR
 abbrev pub is_control : Option Meaning → Bool

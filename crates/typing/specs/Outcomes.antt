@@ -14,7 +14,7 @@ use Rattle.typing.specs.declared.scope.Meaning.{Meaning}
 use Rattle.typing.specs.declared.scope.Signature.{Signature}
 use Rattle.typing.specs.Typing.{Scope, by_path, kind_at, or_dint, type_of, takes, next_type, Parameter, fixed, common, amount, parameter_of, is_amount, place_of}
 use Rattle.rules.specs.Judgements.{Judgement, also, require}
-use Rattle.typing.specs.Judged.{wanted_at, place_for, gives_all, wanted_by, judged_port, fits_port, fit_placed, judged, judged_condition}
+use Rattle.typing.specs.Judged.{expected_at, place_for, gives_all, expected_by, judged_port, fits_port, fit_placed, judged, judged_condition}
 use Rattle.typing.specs.Labels.{judged_label, seen_with}
 use Rattle.typing.specs.JudgedStatements.{judged_assign, judged_connection, judged_invoke, judged_control, judged_bound, judged_step, is_typed, step_is_typed, turns_rule, with_control, judged_selector, judged_labels_if}
 use Rattle.typing.specs.Domains.{judged_specification}
@@ -37,7 +37,7 @@ amount_outcome scope amount e o = tried o (is_amount scope e) OutsideType (place
 abbrev pub arguments_outcome : Scope → StandardFunction → DataType → ℕ → Outcome → Arguments → Outcome
 arguments_outcome scope f t place o no_arguments = o
 arguments_outcome scope f t place o (argument n e args) =
-    arguments_outcome scope f t (place + 1) (both o (amount_outcome scope (parameter_of f place) e (outcome_of (judged scope (wanted_at (parameter_of f place) t) e)))) args
+    arguments_outcome scope f t (place + 1) (both o (amount_outcome scope (parameter_of f place) e (outcome_of (judged scope (expected_at (parameter_of f place) t) e)))) args
 
 -- of arguments of a FUNCTION from a place on, behind what was judged so far
 abbrev pub named_outcome : Option Named → Bool → Outcome → Outcome
@@ -48,7 +48,7 @@ abbrev pub given_outcome : Scope → Signature → ℕ → Outcome → Arguments
 given_outcome scope s place o no_arguments = o
 given_outcome scope s place o (argument n e args) =
     let p = scope.port s.function (place_for scope s place n) in
-    given_outcome scope s (place + 1) (both o (named_outcome n (fits_port scope p e) (both (outcome_of (judged scope (wanted_by p) e)) (outcome_of (judged_port p))))) args
+    given_outcome scope s (place + 1) (both o (named_outcome n (fits_port scope p e) (both (outcome_of (judged scope (expected_by p) e)) (outcome_of (judged_port p))))) args
 
 -- of a call of a FUNCTION whose arguments were judged
 abbrev pub answer_outcome : Scope → ℕ → Signature → Arguments → Outcome → Outcome

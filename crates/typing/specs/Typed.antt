@@ -16,7 +16,7 @@ use Rattle.program_tree.specs.View.{expressions_of}
 use Rattle.typing.specs.declared.scope.Meaning.{Meaning}
 use Rattle.typing.specs.declared.scope.Signature.{Signature}
 use Rattle.typing.specs.Typing.{Scope, by_path, by_value, type_of, operand_type, next_type, literal_value, negated, or_else, or_dint, Parameter, fixed, common, amount, parameter_of, result_of, common_type, number_in, amount_value}
-use Rattle.typing.specs.Judged.{negative_literal, wanted_at, place_for, wanted_by}
+use Rattle.typing.specs.Judged.{negative_literal, expected_at, place_for, expected_by}
 use Rattle.typing.specs.declared.scope.Place.{Place}
 use Rattle.typing.specs.declared.scope.Place.TheVariants as places
 
@@ -75,23 +75,23 @@ typed_answer (Some s) given = answer s.number (expressions_of (placed (replicate
 
 -- a call, where its operands are known by its function and their type
 abbrev pub typed_result : Scope → Option DataType → Option StandardFunction → Option Signature → Arguments → (StandardFunction → DataType → Expressions) → (Signature → List PlacedData) → Expression
-typed_result scope wanted None s args operands given = typed_answer s given
-typed_result scope wanted (Some f) s args operands given =
-    let t = common_type scope wanted f args in
+typed_result scope expected None s args operands given = typed_answer s given
+typed_result scope expected (Some f) s args operands given =
+    let t = common_type scope expected f args in
     typed_call (function_of f args) (carrier (or_dint (or_else (result_of f) (Some t)))) (operands f t)
 
 abbrev mutual
   pub typed : Scope → Option DataType → Tree → Expression
-  typed scope wanted (literal l) = number_of (type_of scope wanted (literal l)) false l
-  typed scope wanted (path p) = meaning_read (scope.means (by_path p))
-  typed scope wanted (enumerator t v) = meaning_read (scope.means (by_value v))
-  typed scope wanted (paren at e) = typed scope wanted e
-  typed scope wanted (unary o at e) = typed_signed (type_of scope wanted e) o (negative_literal o e) (typed scope (Some (type_of scope wanted e)) e)
-  typed scope wanted (chain e ls) =
-      let t = operand_type scope wanted e ls in
+  typed scope expected (literal l) = number_of (type_of scope expected (literal l)) false l
+  typed scope expected (path p) = meaning_read (scope.means (by_path p))
+  typed scope expected (enumerator t v) = meaning_read (scope.means (by_value v))
+  typed scope expected (paren at e) = typed scope expected e
+  typed scope expected (unary o at e) = typed_signed (type_of scope expected e) o (negative_literal o e) (typed scope (Some (type_of scope expected e)) e)
+  typed scope expected (chain e ls) =
+      let t = operand_type scope expected e ls in
       typed_chain (typed scope (Some t) e) (typed_links scope t ls)
-  typed scope wanted (call n at args) =
-      typed_result scope wanted (standard_function n.text) (scope.signature n.text) args (λ f t. typed_operands scope f t 0 args) (λ s. typed_given scope s 0 args)
+  typed scope expected (call n at args) =
+      typed_result scope expected (standard_function n.text) (scope.signature n.text) args (λ f t. typed_operands scope f t 0 args) (λ s. typed_given scope s 0 args)
 
   pub typed_links : Scope → DataType → Links → Operands
   typed_links scope t no_links = no_operands
@@ -101,13 +101,13 @@ abbrev mutual
   pub typed_operands : Scope → StandardFunction → DataType → ℕ → Arguments → Expressions
   typed_operands scope f t place no_arguments = no_expressions
   typed_operands scope f t place (argument n e args) =
-      with_operand (parameter_of f place) (typed scope (wanted_at (parameter_of f place) t) e) (typed_operands scope f t (place + 1) args)
+      with_operand (parameter_of f place) (typed scope (expected_at (parameter_of f place) t) e) (typed_operands scope f t (place + 1) args)
 
   -- arguments of a FUNCTION from a place on
   pub typed_given : Scope → Signature → ℕ → Arguments → List PlacedData
   typed_given scope s place no_arguments = []
   typed_given scope s place (argument n e args) =
-      let to = place_for scope s place n in (to, typed scope (wanted_by (scope.port s.function to)) e) ∷ typed_given scope s (place + 1) args
+      let to = place_for scope s place n in (to, typed scope (expected_by (scope.port s.function to)) e) ∷ typed_given scope s (place + 1) args
 
 abbrev pub value_of_number : Expression → ℤ
 value_of_number (number v) = v
@@ -117,6 +117,6 @@ value_of_number (typed_chain e os) = pos 0
 value_of_number (typed_call f t es) = pos 0
 value_of_number (answer f es) = pos 0
 
--- the value of a constant where a type is wanted
+-- the value of a constant where a type is expected
 abbrev pub constant_of : Scope → DataType → Tree → ℤ
 constant_of scope t e = value_of_number (typed scope (Some t) e)

@@ -7,7 +7,7 @@ use Rattle.source_tree.specs.Syntax.{Links, no_links, link, Arguments, no_argume
 use Rattle.program_tree.specs.Tree.{Expression, Statement, assign as typed_assign, choice, cases as typed_cases, repeat}
 use Rattle.program_tree.specs.View.{OperandData, ChoiceData, EntryData}
 use Rattle.typing.specs.Typing.{Scope, by_path, kind_at, next_type, type_of, Parameter, fixed, common, amount, parameter_of}
-use Rattle.typing.specs.Judged.{wanted_at}
+use Rattle.typing.specs.Judged.{expected_at}
 use Rattle.typing.specs.Typed.{typed}
 use Rattle.typing.specs.Labels.{typed_label}
 use Rattle.typing.specs.TypedStatements.{cell_of, typed_invoke, turns_of, typed_stmts, typed_arms, typed_entries, typed_else}
@@ -26,7 +26,7 @@ before_operands amount e es = es
 abbrev pub expression_list : Scope → StandardFunction → DataType → ℕ → Arguments → List Expression
 expression_list scope f t place no_arguments = []
 expression_list scope f t place (argument n e args) =
-    before_operands (parameter_of f place) (typed scope (wanted_at (parameter_of f place) t) e) (expression_list scope f t (place + 1) args)
+    before_operands (parameter_of f place) (typed scope (expected_at (parameter_of f place) t) e) (expression_list scope f t (place + 1) args)
 
 -- an empty statement leaves nothing, and a call of an instance several
 abbrev pub statements_for : Scope → Stmt → List Statement

@@ -37,7 +37,7 @@ part_of roles.Transition = parts.Local
 abbrev pub part_in : Bool → Role → Part
 part_in inside role = if inside then parts.Local else part_of role
 
--- The path of a cell behind what stands before it, where paths are wanted, and what stands before those of an instance or a step.
+-- The path of a cell behind what stands before it, where paths are expected, and what stands before those of an instance or a step.
 abbrev pub path_of : Option (List ℕ) → List ℕ → List ℕ
 path_of None text = []
 path_of (Some before) text = before ++ text

@@ -57,12 +57,12 @@ abbrev pub or_else : Option DataType → Option DataType → Option DataType
 or_else (Some t) other = Some t
 or_else None other = other
 
--- the own type of a literal; a number without a type before it has none
-abbrev pub own_of_literal : Literal → Option DataType
-own_of_literal (literals.Number value at) = None
-own_of_literal (literals.Truth value at) = Some bool_type
-own_of_literal (literals.TypedNumber kind at minus value value_at) = Some (Elementary kind)
-own_of_literal (literals.TypedTruth kind at value value_at) = Some (Elementary kind)
+-- the synthesized type of a literal; a number without a type before it has none
+abbrev pub synthesized_of_literal : Literal → Option DataType
+synthesized_of_literal (literals.Number value at) = None
+synthesized_of_literal (literals.Truth value at) = Some bool_type
+synthesized_of_literal (literals.TypedNumber kind at minus value value_at) = Some (Elementary kind)
+synthesized_of_literal (literals.TypedTruth kind at value value_at) = Some (Elementary kind)
 
 abbrev pub is_comparison : Operator → Bool
 is_comparison ops.Equal = true
@@ -104,68 +104,68 @@ result_of functions.Limit = None
 result_of functions.Select = None
 result_of (functions.Shift s) = None
 
--- the own type of an argument, where it is an operand of the one type
-abbrev pub own_if_common : Parameter → Option DataType → Option DataType
-own_if_common (fixed t) own_type = None
-own_if_common common own_type = own_type
-own_if_common amount own_type = None
+-- the synthesized type of an argument, where it is an operand of the one type
+abbrev pub synthesized_if_common : Parameter → Option DataType → Option DataType
+synthesized_if_common (fixed t) synthesized = None
+synthesized_if_common common synthesized = synthesized
+synthesized_if_common amount synthesized = None
 
--- the own type of a FUNCTION's answer
-abbrev pub own_of_answer : Option Signature → Option DataType
-own_of_answer None = None
-own_of_answer (Some s) = Some (port_type s.result)
+-- the synthesized type of a FUNCTION's answer
+abbrev pub synthesized_of_answer : Option Signature → Option DataType
+synthesized_of_answer None = None
+synthesized_of_answer (Some s) = Some (port_type s.result)
 
--- the own type of a call, where that of its operands is known by its function
-abbrev pub own_of_call : Option StandardFunction → Option Signature → (StandardFunction → Option DataType) → Option DataType
-own_of_call None s of_operands = own_of_answer s
-own_of_call (Some f) s of_operands = or_else (result_of f) (of_operands f)
+-- the synthesized type of a call, where that of its operands is known by its function
+abbrev pub synthesized_of_call : Option StandardFunction → Option Signature → (StandardFunction → Option DataType) → Option DataType
+synthesized_of_call None s of_operands = synthesized_of_answer s
+synthesized_of_call (Some f) s of_operands = or_else (result_of f) (of_operands f)
 
--- The own type of a comparison is BOOL, that of any other operator expression is that of its leftmost operand that has one, and
+-- The synthesized type of a comparison is BOOL, that of any other operator expression is that of its leftmost operand that has one, and
 -- that of a call is the type of its result, or that of its leftmost operand of the one type that has one.
 abbrev mutual
-  pub own : Scope → Tree → Option DataType
-  own scope (literal l) = own_of_literal l
-  own scope (path p) = kind_at (scope.means (by_path p))
-  own scope (enumerator t v) = kind_at (scope.means (by_value v))
-  own scope (paren at e) = own scope e
-  own scope (unary o at e) = own scope e
-  own scope (chain e ls) = if compares ls then Some bool_type else or_else (own scope e) (own_of_links scope ls)
-  own scope (call n at args) = own_of_call (standard_function n.text) (scope.signature n.text) (λ f. own_of_arguments scope f 0 args)
+  pub synthesized : Scope → Tree → Option DataType
+  synthesized scope (literal l) = synthesized_of_literal l
+  synthesized scope (path p) = kind_at (scope.means (by_path p))
+  synthesized scope (enumerator t v) = kind_at (scope.means (by_value v))
+  synthesized scope (paren at e) = synthesized scope e
+  synthesized scope (unary o at e) = synthesized scope e
+  synthesized scope (chain e ls) = if compares ls then Some bool_type else or_else (synthesized scope e) (synthesized_of_links scope ls)
+  synthesized scope (call n at args) = synthesized_of_call (standard_function n.text) (scope.signature n.text) (λ f. synthesized_of_arguments scope f 0 args)
 
   -- of the leftmost operand that has one
-  pub own_of_links : Scope → Links → Option DataType
-  own_of_links scope no_links = None
-  own_of_links scope (link o at e ls) = or_else (own scope e) (own_of_links scope ls)
+  pub synthesized_of_links : Scope → Links → Option DataType
+  synthesized_of_links scope no_links = None
+  synthesized_of_links scope (link o at e ls) = or_else (synthesized scope e) (synthesized_of_links scope ls)
 
   -- of the leftmost operand of the one type that has one, among arguments from a place on
-  pub own_of_arguments : Scope → StandardFunction → ℕ → Arguments → Option DataType
-  own_of_arguments scope f place no_arguments = None
-  own_of_arguments scope f place (argument n e args) =
-      or_else (own_if_common (parameter_of f place) (own scope e)) (own_of_arguments scope f (place + 1) args)
+  pub synthesized_of_arguments : Scope → StandardFunction → ℕ → Arguments → Option DataType
+  synthesized_of_arguments scope f place no_arguments = None
+  synthesized_of_arguments scope f place (argument n e args) =
+      or_else (synthesized_if_common (parameter_of f place) (synthesized scope e)) (synthesized_of_arguments scope f (place + 1) args)
 
--- an untyped literal takes the type that is wanted, else DINT
+-- an untyped literal takes the type that is expected, else DINT
 abbrev pub or_dint : Option DataType → DataType
 or_dint None = Elementary types.Dint
 or_dint (Some t) = t
 
--- the type of an expression where a type is wanted, or none
+-- the type of an expression where a type is expected, or none
 abbrev pub type_of : Scope → Option DataType → Tree → DataType
-type_of scope wanted e = or_dint (or_else (own scope e) wanted)
+type_of scope expected e = or_dint (or_else (synthesized scope e) expected)
 
--- the one type of a call's operands: that of the leftmost that has one, else the wanted one
+-- the one type of a call's operands: that of the leftmost that has one, else the expected one
 abbrev pub common_type : Scope → Option DataType → StandardFunction → Arguments → DataType
-common_type scope wanted f args = or_dint (or_else (own_of_arguments scope f 0 args) wanted)
+common_type scope expected f args = or_dint (or_else (synthesized_of_arguments scope f 0 args) expected)
 
-abbrev pub own_of_first : Scope → Links → Option DataType
-own_of_first scope no_links = None
-own_of_first scope (link o at e ls) = own scope e
+abbrev pub synthesized_of_first : Scope → Links → Option DataType
+synthesized_of_first scope no_links = None
+synthesized_of_first scope (link o at e ls) = synthesized scope e
 
--- The type of the operands of a chain: that of its leftmost operand that has one, else the wanted one; of a
+-- The type of the operands of a chain: that of its leftmost operand that has one, else the expected one; of a
 -- comparison that of either of its first two operands.
 abbrev pub operand_type : Scope → Option DataType → Tree → Links → DataType
-operand_type scope wanted e ls =
-    if compares ls then or_dint (or_else (own scope e) (own_of_first scope ls))
-    else or_dint (or_else (or_else (own scope e) (own_of_links scope ls)) wanted)
+operand_type scope expected e ls =
+    if compares ls then or_dint (or_else (synthesized scope e) (synthesized_of_first scope ls))
+    else or_dint (or_else (or_else (synthesized scope e) (synthesized_of_links scope ls)) expected)
 
 -- a further comparison compares what the one before it says
 abbrev pub next_type : Operator → DataType → DataType

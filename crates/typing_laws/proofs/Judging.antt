@@ -23,7 +23,7 @@ use Rattle.typing.specs.declared.scope.Port.{Port}
 use Rattle.typing.specs.declared.scope.Signature.{Signature}
 use Rattle.typing.specs.Typing.{Scope, by_path, kind_at, or_dint, type_of, operand_type, takes, next_type, Parameter, fixed, common, amount, parameter_of, common_type, takes_operands, takes_count, count_of, is_amount, place_of}
 use Rattle.rules.specs.Judgements.{Judgement, ok, also, breaks, require}
-use Rattle.typing.specs.Judged.{judged_meaning, takes_sign, negative_literal, judged_unary, wanted_at, fit_from, judged_amount, judged_call, place_for, gives_all, wanted_by, judged_port, fits_port, judged_named, fit_placed, judged_answer, judged_user_call, judged, judged_links, judged_arguments, judged_given, judged_alone, judged_condition}
+use Rattle.typing.specs.Judged.{judged_meaning, takes_sign, negative_literal, judged_unary, expected_at, fit_from, judged_amount, judged_call, place_for, gives_all, expected_by, judged_port, fits_port, judged_named, fit_placed, judged_answer, judged_user_call, judged, judged_links, judged_arguments, judged_given, judged_alone, judged_condition}
 use Rattle.typing.specs.Labels.{judged_label, judged_labels, seen_with, seen_behind}
 use Rattle.typing.specs.JudgedStatements.{judged_input, judged_target, judged_assign, judged_connection, judged_connections, judged_control, judged_bound, judged_step, is_typed, step_is_typed, judged_iteration, turns_rule, broken_by, with_control, judged_selector, judged_labels_if, judged_stmt, judged_stmts, judged_arms, judged_entries, judged_else}
 use Rattle.rules.specs.Outcomes.{outcome_of, both, tried, ruled}
@@ -63,7 +63,7 @@ pub arguments_outcome-is : (scope : Scope) (f : StandardFunction) (t : DataType)
 arguments_outcome-is scope f t place o no_arguments = sym (both_ok o)
 arguments_outcome-is scope f t place o (argument n e args) =
     let p = parameter_of f place in
-    let value = judged scope (wanted_at p t) e in
+    let value = judged scope (expected_at p t) e in
     let own = judged_amount scope p e value in
     let rest = judged_arguments scope f t (place + 1) args in
     arguments_outcome-is scope f t (place + 1) (both o (amount_outcome scope p e (outcome_of value))) args
@@ -79,7 +79,7 @@ pub given_outcome-is : (scope : Scope) (s : Signature) (place : ℕ) (o : Outcom
 given_outcome-is scope s place o no_arguments = sym (both_ok o)
 given_outcome-is scope s place o (argument n e args) =
     let p : Option Port = scope.port s.function (place_for scope s place n) in
-    let value = judged scope (wanted_by p) e in
+    let value = judged scope (expected_by p) e in
     let fits = fits_port scope p e in
     let inner = also value (judged_port p) in
     let own = judged_named n fits inner in
@@ -305,10 +305,10 @@ mutual
 pub ruleset judging = (outcome_also, outcome_of-require, ok_both, stmts_outcome-is, connections_outcome-all)
 
 -- a unary operator without a literal behind it
-pub outcome_of-unary : (scope : Scope) (wanted : Option DataType) (o : UnaryOperator) (at : ℕ) (e : Tree) (t : DataType) (l r : Outcome) → t ≡ type_of scope wanted e → negative_literal o e ≡ None → l ≡ outcome_of (judged scope (Some t) e) → r ≡ tried l (takes_sign o t) OperandType at → r ≡ outcome_of (judged scope wanted (unary o at e))
-outcome_of-unary scope wanted o at e t l r is none operand tried_is =
+pub outcome_of-unary : (scope : Scope) (expected : Option DataType) (o : UnaryOperator) (at : ℕ) (e : Tree) (t : DataType) (l r : Outcome) → t ≡ type_of scope expected e → negative_literal o e ≡ None → l ≡ outcome_of (judged scope (Some t) e) → r ≡ tried l (takes_sign o t) OperandType at → r ≡ outcome_of (judged scope expected (unary o at e))
+outcome_of-unary scope expected o at e t l r is none operand tried_is =
     let f = outcome_of-require (judged scope (Some t) e) (takes_sign o t) OperandType at in
-    tried_is ∙ ap (λ (x : Outcome). tried x (takes_sign o t) OperandType at) operand ∙ sym f ∙ ap (λ (x : DataType). outcome_of (require (judged scope (Some x) e) (takes_sign o x) OperandType at)) is ∙ ap (λ (x : Option Literal). outcome_of (judged_unary (type_of scope wanted e) o at x (judged scope (Some (type_of scope wanted e)) e))) (sym none)
+    tried_is ∙ ap (λ (x : Outcome). tried x (takes_sign o t) OperandType at) operand ∙ sym f ∙ ap (λ (x : DataType). outcome_of (require (judged scope (Some x) e) (takes_sign o x) OperandType at)) is ∙ ap (λ (x : Option Literal). outcome_of (judged_unary (type_of scope expected e) o at x (judged scope (Some (type_of scope expected e)) e))) (sym none)
 
 -- how many arguments there are
 count_of-list : (args : List ArgumentData) → count_of (arguments_of args) ≡ length args
@@ -322,9 +322,9 @@ pub count_of_arguments : (args : List Argument) → count_of (arguments_view arg
 count_of_arguments args = count_of-list (map argument_view args) ∙ length-map args argument_view
 
 -- a call of a function with as many arguments as it takes, and with more or fewer
-module _ (scope : Scope) (wanted : Option DataType) (at : ℕ) (f : StandardFunction) (signature : Option Signature) (args : Arguments) where
+module _ (scope : Scope) (expected : Option DataType) (at : ℕ) (f : StandardFunction) (signature : Option Signature) (args : Arguments) where
   abbrev a_call : Judgement
-  a_call = judged_call scope wanted at (Some f) signature args (judged_alone scope args) (λ g t. judged_arguments scope g t 0 args) (λ s. judged_given scope s 0 args)
+  a_call = judged_call scope expected at (Some f) signature args (judged_alone scope args) (λ g t. judged_arguments scope g t 0 args) (λ s. judged_given scope s 0 args)
 
   abbrev right_call : DataType → Judgement
   right_call t = require (judged_arguments scope f t 0 args) (takes_operands f t && fit_from scope f t 0 args) OperandType at
@@ -332,34 +332,34 @@ module _ (scope : Scope) (wanted : Option DataType) (at : ℕ) (f : StandardFunc
   abbrev wrong_call : Judgement
   wrong_call = require (judged_alone scope args) false ArgumentCount at
 
-  pub outcome_of-call : (t : DataType) (l r : Outcome) (fits : Bool) → takes_count f (count_of args) ≡ true → t ≡ common_type scope wanted f args → fits ≡ takes_operands f t && fit_from scope f t 0 args → l ≡ arguments_outcome scope f t 0 (outcome_of ok) args → r ≡ tried l fits OperandType at → r ≡ outcome_of a_call
+  pub outcome_of-call : (t : DataType) (l r : Outcome) (fits : Bool) → takes_count f (count_of args) ≡ true → t ≡ common_type scope expected f args → fits ≡ takes_operands f t && fit_from scope f t 0 args → l ≡ arguments_outcome scope f t 0 (outcome_of ok) args → r ≡ tried l fits OperandType at → r ≡ outcome_of a_call
   outcome_of-call t l r fits counted kind fit operands is =
       let left : l ≡ outcome_of (judged_arguments scope f t 0 args) = operands ∙ arguments_outcome-is scope f t 0 (outcome_of ok) args ∙ ok_both (outcome_of (judged_arguments scope f t 0 args)) in
       is ∙ ap (λ (x : Outcome). tried x fits OperandType at) left
       ∙ ap (λ (b : Bool). tried (outcome_of (judged_arguments scope f t 0 args)) b OperandType at) fit
       ∙ sym (outcome_of-require (judged_arguments scope f t 0 args) (takes_operands f t && fit_from scope f t 0 args) OperandType at)
       ∙ ap (λ (x : DataType). outcome_of (right_call x)) kind
-      ∙ ap (λ (b : Bool). outcome_of (if b then right_call (common_type scope wanted f args) else wrong_call)) (sym counted)
+      ∙ ap (λ (b : Bool). outcome_of (if b then right_call (common_type scope expected f args) else wrong_call)) (sym counted)
 
   pub outcome_of-wrong_call : (l r : Outcome) → takes_count f (count_of args) ≡ false → l ≡ alone_outcome scope (outcome_of ok) args → r ≡ tried l false ArgumentCount at → r ≡ outcome_of a_call
   outcome_of-wrong_call l r counted alone is =
       let left : l ≡ outcome_of (judged_alone scope args) = alone ∙ alone_outcome-is scope (outcome_of ok) args ∙ ok_both (outcome_of (judged_alone scope args)) in
       is ∙ ap (λ (x : Outcome). tried x false ArgumentCount at) left
       ∙ sym (outcome_of-require (judged_alone scope args) false ArgumentCount at)
-      ∙ ap (λ (b : Bool). outcome_of (if b then right_call (common_type scope wanted f args) else wrong_call)) (sym counted)
+      ∙ ap (λ (b : Bool). outcome_of (if b then right_call (common_type scope expected f args) else wrong_call)) (sym counted)
 
 -- operators of one level
-pub outcome_of-chain : (scope : Scope) (wanted : Option DataType) (e : Tree) (ls : Links) (t : DataType) (l r : Outcome) → t ≡ operand_type scope wanted e ls → l ≡ outcome_of (judged scope (Some t) e) → r ≡ links_outcome scope t l ls → r ≡ outcome_of (judged scope wanted (chain e ls))
-outcome_of-chain scope wanted e ls t l r is left links =
+pub outcome_of-chain : (scope : Scope) (expected : Option DataType) (e : Tree) (ls : Links) (t : DataType) (l r : Outcome) → t ≡ operand_type scope expected e ls → l ≡ outcome_of (judged scope (Some t) e) → r ≡ links_outcome scope t l ls → r ≡ outcome_of (judged scope expected (chain e ls))
+outcome_of-chain scope expected e ls t l r is left links =
     links ∙ ap (λ (x : Outcome). links_outcome scope t x ls) left ∙ sym (outcome_of-links scope t (judged scope (Some t) e) ls) ∙ ap (λ (x : DataType). outcome_of (judged_links scope x (judged scope (Some x) e) ls)) is
 
 -- an assignment
 pub outcome_of-assign : (scope : Scope) (controls : List ℕ) (p : PathData) (e : Tree) (m : Option Meaning) (w : Option DataType) (l k b r : Outcome) (fits : Bool) → m ≡ scope.means (by_path p) → w ≡ kind_at m → l ≡ outcome_of (judged_target controls m p.first.at) → k ≡ outcome_of (judged scope w e) → b ≡ both l k → fits ≡ is_same_type (type_of scope w e) (or_dint w) → r ≡ tried b fits ValueType p.first.at → r ≡ outcome_of (judged_assign scope controls p e)
-outcome_of-assign scope controls p e m w l k b r fits means wanted target value parts same is =
+outcome_of-assign scope controls p e m w l k b r fits means expected target value parts same is =
     let whole : (n : Option Meaning) → scope.means (by_path p) ≡ n → r ≡ outcome_of (require (also (judged_target controls n p.first.at) (judged scope (kind_at n) e)) (is_same_type (type_of scope (kind_at n) e) (or_dint (kind_at n))) ValueType p.first.at) = λ n f.
     let h : m ≡ n = means ∙ f in
     is
-    ∙ rw (same, parts, target, value, wanted, h) (sym (outcome_of-require (also (judged_target controls n p.first.at) (judged scope (kind_at n) e)) (is_same_type (type_of scope (kind_at n) e) (or_dint (kind_at n))) ValueType p.first.at ∙ ap (λ (x : Outcome). tried x (is_same_type (type_of scope (kind_at n) e) (or_dint (kind_at n))) ValueType p.first.at) (sym (outcome_also (judged_target controls n p.first.at) (judged scope (kind_at n) e))))) in
+    ∙ rw (same, parts, target, value, expected, h) (sym (outcome_of-require (also (judged_target controls n p.first.at) (judged scope (kind_at n) e)) (is_same_type (type_of scope (kind_at n) e) (or_dint (kind_at n))) ValueType p.first.at ∙ ap (λ (x : Outcome). tried x (is_same_type (type_of scope (kind_at n) e) (or_dint (kind_at n))) ValueType p.first.at) (sym (outcome_also (judged_target controls n p.first.at) (judged scope (kind_at n) e))))) in
     whole (scope.means (by_path p)) refl
 
 -- two parts and a test
@@ -372,9 +372,9 @@ outcome_of-parts j k o p q r b fits rule at of_j of_k parts same is =
 -- the value of an input
 pub outcome_of-input : (scope : Scope) (m : Option Meaning) (x : Named) (e : Tree) (w : Option DataType) (o p q r : Outcome) (fits : Bool) → w ≡ kind_at m → o ≡ outcome_of (judged_meaning m) → p ≡ outcome_of (judged scope w e)
     → q ≡ both o p → fits ≡ is_same_type (type_of scope w e) (or_dint w) → r ≡ tried q fits ValueType x.at → r ≡ outcome_of (judged_input scope m x e)
-outcome_of-input scope m x e w o p q r fits wanted mean value parts same is =
+outcome_of-input scope m x e w o p q r fits expected mean value parts same is =
     outcome_of-parts (judged_meaning m) (judged scope (kind_at m) e) o p q r (is_same_type (type_of scope (kind_at m) e) (or_dint (kind_at m))) fits ValueType x.at mean
-    (value ∙ ap (λ (v : Option DataType). outcome_of (judged scope v e)) wanted) parts (same ∙ ap (λ (v : Option DataType). is_same_type (type_of scope v e) (or_dint v)) wanted) is
+    (value ∙ ap (λ (v : Option DataType). outcome_of (judged scope v e)) expected) parts (same ∙ ap (λ (v : Option DataType). is_same_type (type_of scope v e) (or_dint v)) expected) is
 
 -- what is said of a result, from what else is said of it
 pub on_ok : {A E : Type 0} → (r : Result A E) (P Q : A → Type 0) → ((a : A) → P a → Q a) → IfOk r P → IfOk r Q

@@ -8,7 +8,7 @@ use Rattle.source_tree.specs.Syntax.{Links, no_links, link, Arguments, no_argume
 use Rattle.program_tree.specs.Tree.{Expression, Statement, operand, assign as typed_assign, choice, cases as typed_cases, repeat, statement, choose, entry as typed_entry}
 use Rattle.program_tree.specs.View.{operands_of, expressions_of, statements_of, choices_of, entries_of}
 use Rattle.typing.specs.Typing.{Scope, by_path, kind_at, next_type, type_of, Parameter, fixed, common, amount, parameter_of}
-use Rattle.typing.specs.Judged.{wanted_at}
+use Rattle.typing.specs.Judged.{expected_at}
 use Rattle.typing.specs.Typed.{with_operand, typed, typed_links, typed_operands}
 use Rattle.typing.specs.Labels.{typed_label}
 use Rattle.typing.specs.TypedStatements.{cell_of, typed_invoke, and_then, turns_of, typed_stmts, typed_arms, typed_entries, typed_else}
@@ -27,7 +27,7 @@ pub expressions_of-list : (scope : Scope) (f : StandardFunction) (t : DataType) 
 expressions_of-list scope f t place no_arguments = refl
 expressions_of-list scope f t place (argument n e args) =
     let p = parameter_of f place in
-    let value = typed scope (wanted_at p t) e in
+    let value = typed scope (expected_at p t) e in
     expressions_of-before p value (expression_list scope f t (place + 1) args) ∙ ap (with_operand p value) (expressions_of-list scope f t (place + 1) args)
 
 statements_of-and_then : (ss ts : List Statement) → statements_of (ss ++ ts) ≡ and_then ss (statements_of ts)

@@ -12,5 +12,5 @@ use Rattle.decl_types.proofs.judged_types.judge_types.Goals as goal
 pub loop-declaration-init : goal.loop-declaration-init
 loop-declaration-init c =
     let f = file_in c.args.domains.now in
-    ap (λ (o : Outcome). types_outcome f o (types_view c.args.domains.now.types.types.items)) c.ok-judged.ensures
+    ap (λ (o : Outcome). types_outcome f o (types_view c.args.domains.now.types.types.now)) c.ok-judged.ensures
     ∙ ∥∥₁_elim c.args.domains.now.types.declared (hlevel props) (λ declared. ap (types_outcome f (outcome_of ok)) declared)

@@ -9,4 +9,4 @@ use Rattle.decl_types.proofs.judged_types.judge_types.Given as goal
 
 abbrev pub invariant-loop-declaration : goal.invariant-loop-declaration
 invariant-loop-declaration l =
-    types_outcome (file_in l.domains) l.judged (types_view (drop l.declaration-index l.domains.types.types.items)) ≡ types_outcome (file_in l.domains) (outcome_of ok) (types_of (file_in l.domains))
+    types_outcome (file_in l.domains) l.judged (types_view (drop l.declaration-index l.domains.types.types.now)) ≡ types_outcome (file_in l.domains) (outcome_of ok) (types_of (file_in l.domains))

@@ -9,4 +9,4 @@ use Rattle.decl_types.proofs.names_of_types.type_texts.Goals as goal
 pub loop-declaration-init : goal.loop-declaration-init
 loop-declaration-init c =
     let none : lists_of_texts c.new-list.result.items ≡ [] = search rules in
-    ap (λ (ns : List (List (List ℕ))). ns ++ type_texts (types_view c.args.file.now.types.items)) none ∙ ∥∥₁_elim c.args.file.now.declared (hlevel props) (λ declared. ap type_texts declared)
+    ap (λ (ns : List (List (List ℕ))). ns ++ type_texts (types_view c.args.file.now.types.now)) none ∙ ∥∥₁_elim c.args.file.now.declared (hlevel props) (λ declared. ap type_texts declared)

@@ -7,4 +7,4 @@ use Rattle.typing.specs.TypedPrograms.{type_texts}
 use Rattle.decl_types.proofs.names_of_types.type_texts.Given as goal
 
 abbrev pub invariant-loop-declaration : goal.invariant-loop-declaration
-invariant-loop-declaration l = lists_of_texts l.list.items ++ type_texts (types_view (drop l.declaration-index l.file.types.items)) ≡ type_texts (types_of (file_of l.file))
+invariant-loop-declaration l = lists_of_texts l.list.items ++ type_texts (types_view (drop l.declaration-index l.file.types.now)) ≡ type_texts (types_of (file_of l.file))

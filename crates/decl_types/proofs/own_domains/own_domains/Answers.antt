@@ -10,5 +10,5 @@ use Rattle.decl_types.proofs.own_domains.own_domains.Goals as goal
 pub loop-number-init : goal.loop-number-init
 loop-number-init c =
     let f = file_of c.args.file.now in
-    ap (λ (l : List Domain). l ++ own_domains f 0 (types_view c.args.file.now.types.items)) c.new-list.ensures.items
+    ap (λ (l : List Domain). l ++ own_domains f 0 (types_view c.args.file.now.types.now)) c.new-list.ensures.items
     ∙ ∥∥₁_elim c.args.file.now.declared (hlevel props) (λ declared. ap (own_domains f 0) declared)

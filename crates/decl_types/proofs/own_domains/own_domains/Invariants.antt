@@ -6,4 +6,4 @@ use Rattle.typing.specs.OwnDomains.{own_domains}
 use Rattle.decl_types.proofs.own_domains.own_domains.Given as goal
 
 abbrev pub invariant-loop-number : goal.invariant-loop-number
-invariant-loop-number l = l.list.items ++ own_domains (file_of l.file) l.number (types_view (drop l.number l.file.types.items)) ≡ own_domains (file_of l.file) 0 (types_of (file_of l.file))
+invariant-loop-number l = l.list.items ++ own_domains (file_of l.file) l.number (types_view (drop l.number l.file.types.now)) ≡ own_domains (file_of l.file) 0 (types_of (file_of l.file))

@@ -20,4 +20,4 @@ returns c =
     outcome_of-limits (judged_bound_of f k (tree_view c.args.bounds.now.low)) (judged_bound_of f k (tree_view c.args.bounds.now.high)) c.in_ok-low.low c.in_ok-high.high c.also-parts.result limits c.require.result
     (is_integer k) (int_le (bounds_of f k b).low (bounds_of f k b).high) OperandType OutsideType c.args.at (place_of b.low) c.in_ok-low.ensures c.in_ok-high.ensures c.also-parts.ensures
     (c.require-limits.ensures ∙ ap (λ (x : Bool). tried c.also-parts.result x OperandType c.args.at) c.is_integer.ensures)
-    (c.require.ensures ∙ ap (λ (x : Bool). tried limits x OutsideType c.place_of.result) (c.are_in_order-in_order.ensures ∙ ap (λ (r : Range). int_le r.low r.high) c.in_ok-range.ensures) ∙ ap (λ (at : ℕ). tried limits (int_le (bounds_of f k b).low (bounds_of f k b).high) OutsideType at) c.place_of.ensures)
+    (c.require.ensures ∙ ap (λ (x : Bool). tried limits x OutsideType c.place_of.result) (c.are_in_order-in_order.ensures ∙ ap (λ (r : Range). int_le r.low r.high) c.requires) ∙ ap (λ (at : ℕ). tried limits (int_le (bounds_of f k b).low (bounds_of f k b).high) OutsideType at) c.place_of.ensures)

@@ -1,4 +1,4 @@
-use Rattle.source_tree.specs.SyntaxView.{file_view}
+use Rattle.st_types.specs.CheckedFiles.{file_checked}
 use Rattle.program_tree.specs.View.{program_view}
 use Rattle.flat_form.specs.FlatPrograms.{is_short}
 use Rattle.flat_end.proofs.LongOutlines.{outline_long, not_short}
@@ -8,4 +8,4 @@ pub returns-in_ok-short-in-Some : goal.returns-in_ok-short-in-Some
 returns-in_ok-short-in-Some c =
     let o = program_view c.in-Some.program in
     let outline = rw c.in-Some.is at c.in_ok-outline.ensures in
-    λ long. outline_long (file_view c.args.names.now.file) o c.requires outline (not_short c.in_ok-short-in-Some.short (is_short o) c.in_ok-short-in-Some.ensures long)
+    λ long. outline_long (file_checked c.args.checked.now) o c.requires outline (not_short c.in_ok-short-in-Some.short (is_short o) c.in_ok-short-in-Some.ensures long)

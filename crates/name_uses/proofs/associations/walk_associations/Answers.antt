@@ -1,4 +1,4 @@
-use Rattle.std.proofs.Common.{◌≡◌, List, [], ◌+◌, ◌∷◌, drop, ap, sym, ◌∙◌, arith}
+use Rattle.std.proofs.Common.{◌≡◌, [], ◌+◌, drop, ap, sym, ◌∙◌, arith}
 use Rattle.std.proofs.lemmas.List.{drop_all}
 use Rattle.source_tree.specs.SyntaxView.{step_action_view, step_actions_view}
 use Rattle.naming.specs.Broken.{in_association, in_associations}

@@ -1,4 +1,4 @@
-use Rattle.std.proofs.Common.{◌≡◌, ap, sym, ◌∙◌}
+use Rattle.std.proofs.Common.{ap, sym, ◌∙◌}
 use Rattle.rules.specs.declared.rule.Rule.TheVariants.{NotOneInitialStep}
 use Rattle.source_tree.specs.SyntaxView.{parts_view}
 use Rattle.rules.specs.Judgements.{breaks}

@@ -4,7 +4,7 @@ use Rattle.source_tree.specs.declared.syntax.Stmt.TheViews.{If, Case}
 use Rattle.source_tree.specs.declared.syntax.Stmt.TheVariants.{rolls-Empty, rolls-Assign, rolls-Call, rolls-For}
 use Rattle.source_tree.specs.declared.syntax.Stmt.TheFolds.{fold-roll-Stmt}
 use Rattle.std.specs.declared.alloc.Global.{Global}
-use Rattle.std.proofs.lemmas.List.{drop_all}
+use Rattle.std.proofs.lemmas.List.{drop_all, append-nil}
 use Rattle.source_tree.specs.declared.syntax.Connection.{Connection}
 use Rattle.naming.specs.declared.seen.Seen.{Seen}
 use Rattle.source_tree.specs.declared.syntax.Arm.{Arm}
@@ -28,13 +28,13 @@ use Rattle.naming.proofs.Steps.{view-drop}
 use Rattle.name_uses.proofs.Parts.{behind}
 use Rattle.name_uses.proofs.walk.+walk_stmts.Goals as goal
 
-pub walk_stmt-returns-in-Assign-clause-judged : goal.walk_stmt-returns-in-Assign-clause-judged
-walk_stmt-returns-in-Assign-clause-judged t c =
+pub walk_stmt-returns-in_ok-target-in-Assign-clause-judged : goal.walk_stmt-returns-in_ok-target-in-Assign-clause-judged
+walk_stmt-returns-in_ok-target-in-Assign-clause-judged t c =
     let f = file_in c.args.scope.now.names in
     let p = pou_in c.args.scope.now.names in
     let q = path_view c.in-Assign.target in
     let shape : stmt_view c.args.stmt.now ≡ assign q (tree_view c.in-Assign.value) = ap stmt_view (c.in-Assign.is ∙ sym (rolls-Assign c.in-Assign.target c.in-Assign.value)) ∙ fold-roll-Stmt Stmt ArmData EntryData stmt_step arm_step entry_step _ in
-    let target = c.also.ensures ∙ ap (both c.args.outcome.now) c.target.ensures in
+    let target = c.also.ensures ∙ ap (both c.args.outcome.now) c.in_ok-target-in-Assign.ensures in
     let all = behind c.args.outcome.now c.also.result (in_target f p (seen_named f p q.first.text) q) (in_tree f p (tree_view c.in-Assign.value)) target in
     rw shape (subst (λ (o : Outcome). OnOk c.walk_expr.result (c.walk_expr.new.outcome ≡ o)) all c.walk_expr.ensures.judged)
 
@@ -162,16 +162,16 @@ walk_stmt-returns-in-Empty-clause-judged t c =
     let shape : stmt_view c.args.stmt.now ≡ empty = ap stmt_view (c.in-Empty.is ∙ sym rolls-Empty) ∙ fold-roll-Stmt Stmt ArmData EntryData stmt_step arm_step entry_step _ in
     sym (both_ok c.args.outcome.now) ∙ ap (λ s. both c.args.outcome.now (outcome_of (in_stmt f p s))) (sym shape)
 
-pub walk_stmt-returns-in-Call-clause-judged : goal.walk_stmt-returns-in-Call-clause-judged
-walk_stmt-returns-in-Call-clause-judged t c =
+pub walk_stmt-returns-in_ok-seen-in-Call-clause-judged : goal.walk_stmt-returns-in_ok-seen-in-Call-clause-judged
+walk_stmt-returns-in_ok-seen-in-Call-clause-judged t c =
     let f = file_in c.args.scope.now.names in
     let p = pou_in c.args.scope.now.names in
     let n = name_view c.in-Call.name in
     let cs = c.in-Call.connections.items in
     let s = seen_named f p n.text in
     let shape : stmt_view c.args.stmt.now ≡ invoke n c.in-Call.field-1 (connections_view cs) = ap stmt_view (c.in-Call.is ∙ sym (rolls-Call c.in-Call.name c.in-Call.field-1 c.in-Call.connections)) ∙ fold-roll-Stmt Stmt ArmData EntryData stmt_step arm_step entry_step _ in
-    let name = c.also-in-Call.ensures ∙ ap (both c.args.outcome.now) (c.instance.ensures ∙ ap (λ (o : Option Seen). outcome_of (in_instance f p o n)) c.seen-seen.ensures) in
-    let all = ap (λ block. both c.also-in-Call.result (outcome_of (in_connections f p block (connections_view c.deref.result.now)))) (c.instance_of.ensures ∙ ap instance_of c.seen-seen.ensures)
+    let name = c.also-in-Call.ensures ∙ ap (both c.args.outcome.now) (c.instance.ensures ∙ ap (λ (o : Option Seen). outcome_of (in_instance f p o n)) c.in_ok-seen-in-Call.ensures) in
+    let all = ap (λ block. both c.also-in-Call.result (outcome_of (in_connections f p block (connections_view c.deref.result.now)))) (c.instance_of.ensures ∙ ap instance_of c.in_ok-seen-in-Call.ensures)
     ∙ ap (λ (list : List Connection). both c.also-in-Call.result (outcome_of (in_connections f p (instance_of s) (connections_view list)))) c.deref.ensures.value
     ∙ behind c.args.outcome.now c.also-in-Call.result (in_instance f p s n) (in_connections f p (instance_of s) (connections_view cs)) name in
     rw shape (subst (λ (o : Outcome). OnOk c.walk_connections.result (c.walk_connections.new.outcome ≡ o)) all c.walk_connections.ensures.judged)
@@ -202,3 +202,52 @@ walk_entries-returns-clause-judged t c =
     let i = c.loop-entry.entry-index in
     let none : drop i xs ≡ [] = drop_all i xs (omega arith) in
     loop_done c.loop-entry.outcome c.args.outcome.now (in_entries f p (entries_view (drop i xs))) (in_entries f p (entries_view xs)) c.loop-entry.invariant.judged (ap (λ ys. in_entries f p (entries_view ys)) none)
+
+pub walk_stmt-returns-in-Some-clause-calls : goal.walk_stmt-returns-in-Some-clause-calls
+walk_stmt-returns-in-Some-clause-calls t c =
+    let f = file_in c.args.scope.now.names in
+    let old = c.args.calls.now.items in
+    let arms = calls_in_arms f (arms_view c.in-If.arms.items) in
+    let ss = calls_in_stmts f (stmts_view c.in-Some.stmts.items) in
+    let is = c.in-If.is ∙ ap (λ (o : Option (Vec StmtTree Global)). If c.in-If.arms o) c.in-Some.is in
+    let shape : stmt_view c.args.stmt.now ≡ branch (arms_view c.in-If.arms.items) (else_stmts (stmts_view c.in-Some.stmts.items)) = ap stmt_view is ∙ stmt_view-If c.in-If.arms (Some c.in-Some.stmts) in
+    let front = c.in_ok-walk_arms-in-If.ensures.calls ∙ ap (λ (list : List Arm). old ++ calls_in_arms f (arms_view list)) c.deref-in-If.ensures.value in
+    let all = ap (λ (list : List StmtTree). c.walk_arms.new.calls.items ++ calls_in_stmts f (stmts_view list)) c.deref-in-Some.ensures.value
+    ∙ ap (λ (xs : List ℕ). xs ++ ss) front
+    ∙ append_assoc old arms ss
+    ∙ ap (λ s. old ++ calls_in_stmt f s) (sym shape) in
+    subst (λ (xs : List ℕ). OnOk c.walk_stmts.result (c.walk_stmts.new.calls.items ≡ xs)) all c.walk_stmts.ensures.calls
+
+pub walk_stmt-returns-in-Some-other-clause-calls : goal.walk_stmt-returns-in-Some-other-clause-calls
+walk_stmt-returns-in-Some-other-clause-calls t c =
+    let f = file_in c.args.scope.now.names in
+    let old = c.args.calls.now.items in
+    let e = tree_view c.in-Case.selector in
+    let es = entries_view c.in-Case.entries.items in
+    let ss = stmts_view c.in-Some-other.stmts.items in
+    let is = c.in-Case.is ∙ ap (λ (o : Option (Vec StmtTree Global)). Case c.in-Case.selector c.in-Case.entries o) c.in-Some-other.is in
+    let shape : stmt_view c.args.stmt.now ≡ cases e es (else_stmts ss) = ap stmt_view is ∙ stmt_view-Case c.in-Case.selector c.in-Case.entries (Some c.in-Some-other.stmts) in
+    let front = c.in_ok-walk_entries-in-Case.ensures.calls
+    ∙ ap (λ (list : List Entry). c.walk_expr-in-Case.new.calls.items ++ calls_in_entries f (entries_view list)) c.deref-in-Case.ensures.value
+    ∙ ap (λ (xs : List ℕ). xs ++ calls_in_entries f es) c.in_ok-walk_expr-in-Case.ensures.calls
+    ∙ append_assoc old (calls_in f e) (calls_in_entries f es) in
+    let all = ap (λ (list : List StmtTree). c.walk_entries.new.calls.items ++ calls_in_stmts f (stmts_view list)) c.deref-in-Some-other.ensures.value
+    ∙ ap (λ (xs : List ℕ). xs ++ calls_in_stmts f ss) front
+    ∙ append_assoc old (calls_in f e ++ calls_in_entries f es) (calls_in_stmts f ss)
+    ∙ ap (λ s. old ++ calls_in_stmt f s) (sym shape) in
+    subst (λ (xs : List ℕ). OnOk c.walk_stmts-in-Some-other.result (c.walk_stmts-in-Some-other.new.calls.items ≡ xs)) all c.walk_stmts-in-Some-other.ensures.calls
+
+pub walk_stmt-returns-in-None-other-clause-calls : goal.walk_stmt-returns-in-None-other-clause-calls
+walk_stmt-returns-in-None-other-clause-calls t c =
+    let f = file_in c.args.scope.now.names in
+    let old = c.args.calls.now.items in
+    let e = tree_view c.in-Case.selector in
+    let es = entries_view c.in-Case.entries.items in
+    let is = c.in-Case.is ∙ ap (λ (o : Option (Vec StmtTree Global)). Case c.in-Case.selector c.in-Case.entries o) c.in-None-other.is in
+    let shape : stmt_view c.args.stmt.now ≡ cases e es no_else = ap stmt_view is ∙ stmt_view-Case c.in-Case.selector c.in-Case.entries None in
+    c.in_ok-walk_entries-in-Case.ensures.calls
+    ∙ ap (λ (list : List Entry). c.walk_expr-in-Case.new.calls.items ++ calls_in_entries f (entries_view list)) c.deref-in-Case.ensures.value
+    ∙ ap (λ (xs : List ℕ). xs ++ calls_in_entries f es) c.in_ok-walk_expr-in-Case.ensures.calls
+    ∙ append_assoc old (calls_in f e) (calls_in_entries f es)
+    ∙ ap (λ (xs : List ℕ). old ++ xs) (sym (append-nil (calls_in f e ++ calls_in_entries f es)))
+    ∙ ap (λ s. old ++ calls_in_stmt f s) (sym shape)

@@ -1,9 +1,8 @@
-use Rattle.std.proofs.Common.{◌≡◌, ◌+◌, drop}
-use Rattle.naming.specs.ScopeView.{variables_view}
-use Rattle.source_tree.specs.SyntaxView.{file_view}
-use Rattle.typing.specs.Places.{count_of_cells, in_front}
+use Rattle.std.proofs.Common.{◌≡◌, ◌+◌, map, drop}
+use Rattle.decl_types.specs.ToldView.{told_view}
+use Rattle.pou_cells.specs.ToldPlaces.{told_count, told_front}
 use Rattle.pou_cells.proofs.places.count_of_front.Given as goal
 
-abbrev pub invariant-loop-variable : goal.invariant-loop-variable
-invariant-loop-variable l =
-    l.front + count_of_cells (file_view l.names.file) l.sizes (in_front l.of_function (variables_view (drop l.variable-index l.variables))) ≡ count_of_cells (file_view l.names.file) l.sizes (in_front l.of_function (variables_view l.variables))
+abbrev pub invariant-loop-told : goal.invariant-loop-told
+invariant-loop-told l =
+    l.front + told_count l.sizes (told_front l.of_function (map told_view (drop l.told-index l.tolds))) ≡ told_count l.sizes (told_front l.of_function (map told_view l.tolds))

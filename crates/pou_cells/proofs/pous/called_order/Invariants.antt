@@ -7,4 +7,4 @@ use Rattle.pou_cells.proofs.pous.called_order.Given as goal
 
 abbrev pub invariant-loop-number : goal.invariant-loop-number
 invariant-loop-number l =
-    l.list.items ++ filter (λ k. may_be_called (kind_at (file_view l.names.file) k)) (drop l.number-index l.reached) ≡ called_order (file_view l.names.file)
+    l.list.items ++ filter (λ k. may_be_called (kind_at (file_view l.names.file.now) k)) (drop l.number-index l.reached) ≡ called_order (file_view l.names.file.now)

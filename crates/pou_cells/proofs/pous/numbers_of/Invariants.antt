@@ -5,4 +5,4 @@ use Rattle.pou_cells.proofs.pous.numbers_of.Given as goal
 
 abbrev pub invariant-loop-number : goal.invariant-loop-number
 invariant-loop-number l =
-    numbered l.numbers.items l.number (drop l.number l.called) ≡ numbers_of (file_view l.names.file)
+    numbered l.numbers.items l.number (drop l.number l.called) ≡ numbers_of (file_view l.names.file.now)

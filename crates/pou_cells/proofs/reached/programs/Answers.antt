@@ -7,7 +7,7 @@ use Rattle.pou_cells.proofs.reached.programs.Goals as goal
 
 pub loop-number-preserved : goal.loop-number-preserved
 loop-number-preserved c =
-    let ps = pous_of (file_view c.args.names.now.file) in
+    let ps = pous_of (file_view c.args.names.now.file.now) in
     let k = c.loop-number.number in
     let marks = c.loop-number.marks.items in
     let items : c.push.new.self.items ≡ marks ++ c.is_program.result ∷ [] = c.in_ok-push.ensures.items in

@@ -6,4 +6,4 @@ use Rattle.pou_cells.proofs.reached.programs.Given as goal
 
 abbrev pub invariant-loop-number : goal.invariant-loop-number
 invariant-loop-number l =
-    l.marks.items ++ map is_program_pou (drop l.number (pous_of (file_view l.names.file))) ≡ map is_program_pou (pous_of (file_view l.names.file))
+    l.marks.items ++ map is_program_pou (drop l.number (pous_of (file_view l.names.file.now))) ≡ map is_program_pou (pous_of (file_view l.names.file.now))

@@ -9,7 +9,7 @@ use Rattle.pou_cells.proofs.reached.reached.Given as goal
 
 abbrev pub invariant-loop-left : goal.invariant-loop-left
 invariant-loop-left l =
-    let f = file_view l.names.file in
+    let f = file_view l.names.file.now in
     (l.left ≤ length l.order) × (l.marks.items ≡ marks_along (uses_of f) (map is_program_pou (pous_of f)) (drop l.left (order_of (uses_of f))))
 
 abbrev pub decreases-loop-left : goal.decreases-loop-left

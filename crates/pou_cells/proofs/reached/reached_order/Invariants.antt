@@ -7,4 +7,4 @@ use Rattle.pou_cells.proofs.reached.reached_order.Given as goal
 
 abbrev pub invariant-loop-number : goal.invariant-loop-number
 invariant-loop-number l =
-    l.list.items ++ filter (is_marked (reached (file_view l.names.file))) (drop l.number-index l.number-items) ≡ reached_order (file_view l.names.file)
+    l.list.items ++ filter (is_marked (reached (file_view l.names.file.now))) (drop l.number-index l.number-items) ≡ reached_order (file_view l.names.file.now)

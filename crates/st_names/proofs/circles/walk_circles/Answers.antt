@@ -1,14 +1,12 @@
-use Rattle.std.proofs.Common.{◌≡◌, ◌<◌, ◌+◌, Bool, true, false, Option, Some, None, option_map, List, length, map, IsTrue, true≢false, refl, ap, sym, ◌∙◌, subst, arith, ℕ, Vec, Global}
+use Rattle.std.proofs.Common.{◌≡◌, ◌+◌, false, Some, option_map, List, length, IsTrue, refl, ap, sym, ◌∙◌, subst, arith, ℕ, Vec, Global}
 use Rattle.std.specs.List.{slice_get}
 use Rattle.std.proofs.lemmas.List.{length-map}
 use Rattle.std.proofs.lemmas.Option.{slice_get_read, slice_get-map}
 use Rattle.call_order.specs.Uses.{graph_of, HasCircles, Reaches}
-use Rattle.rules.specs.declared.rule.Refusal.{Refusal}
 use Rattle.rules.specs.Rules.{earlier}
 use Rattle.source_tree.specs.SyntaxView.{pou_view, file_view}
 use Rattle.naming.specs.Broken.{circular}
 use Rattle.naming.specs.FileScope.{pous_of, pou_at}
-use Rattle.naming.specs.ScopeView.{pous_view}
 use Rattle.naming.proofs.CircleLemmas.{AreCircles, no_circles, more_circles, same_circles, all_circles, mark_of}
 use Rattle.rules.proofs.Outcomes.{outcome_first}
 use Rattle.st_names.proofs.circles.walk_circles.Goals.{then-is_in_circle, else-is_in_circle}

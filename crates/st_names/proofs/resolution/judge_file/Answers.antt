@@ -1,4 +1,4 @@
-use Rattle.std.proofs.Common.{◌≡◌, List, [], ◌++◌, length, None, ap, sym, ◌∙◌}
+use Rattle.std.proofs.Common.{[], ◌++◌, length, ap, sym, ◌∙◌}
 use Rattle.rules.specs.Rules.{earlier, first_in}
 use Rattle.source_tree.specs.SyntaxView.{file_view}
 use Rattle.rules.proofs.Refusals.{first_in-append}

@@ -1,4 +1,4 @@
-use Rattle.std.proofs.Common.{◌≡◌, ℕ, List, [], length, None, Some, map, inl, inr, count_by, ap, sym, ◌∙◌, subst}
+use Rattle.std.proofs.Common.{◌≡◌, [], length, inl, inr, sym, ◌∙◌, subst}
 use Rattle.std.proofs.lemmas.List.{length-map}
 use Rattle.call_order.specs.Uses.{order_of}
 use Rattle.call_order.proofs.Orders.{none_reaches}
@@ -27,30 +27,30 @@ all_ordered f none = ordered f (nothing f none) (λ r c. none r (inr c))
 
 pub new-requires-clause-one : goal.new-requires-clause-one
 new-requires-clause-one c =
-    let f = file_view c.args.file in
+    let f = file_view c.args.file.now in
     one_program f (nothing f (subst (IsFirstOf (IsBroken f)) c.in-None.is c.in_ok-first.ensures.broken))
 
-pub returns-in-None-clause-kept : goal.returns-in-None-clause-kept
-returns-in-None-clause-kept c =
-    let f = file_view c.args.file in
+pub returns-clause-kept : goal.returns-clause-kept
+returns-clause-kept c =
+    let f = file_view c.args.file.now in
     nothing f (subst (IsFirstOf (IsBroken f)) c.in-None.is c.in_ok-first.ensures.broken)
 
-pub returns-in-None-clause-ordered : goal.returns-in-None-clause-ordered
-returns-in-None-clause-ordered c =
-    let f = file_view c.args.file in
+pub returns-clause-ordered : goal.returns-clause-ordered
+returns-clause-ordered c =
+    let f = file_view c.args.file.now in
     all_ordered f (subst (IsFirstOf (IsBroken f)) c.in-None.is c.in_ok-first.ensures.broken)
 
-pub returns-in-None-clause-acyclic : goal.returns-in-None-clause-acyclic
-returns-in-None-clause-acyclic c =
-    let f = file_view c.args.file in
+pub returns-clause-acyclic : goal.returns-clause-acyclic
+returns-clause-acyclic c =
+    let f = file_view c.args.file.now in
     none_reaches (uses_of f) (all_ordered f (subst (IsFirstOf (IsBroken f)) c.in-None.is c.in_ok-first.ensures.broken) ∙ sym (length-map (pous_of f) (uses_in f)))
 
-pub returns-in-None-clause-types : goal.returns-in-None-clause-types
-returns-in-None-clause-types c =
-    let f = file_view c.args.file in
+pub returns-clause-types : goal.returns-clause-types
+returns-clause-types c =
+    let f = file_view c.args.file.now in
     whole_types f (nothing f (subst (IsFirstOf (IsBroken f)) c.in-None.is c.in_ok-first.ensures.broken))
 
-pub returns-in-None-clause-typed : goal.returns-in-None-clause-typed
-returns-in-None-clause-typed c =
-    let f = file_view c.args.file in
+pub returns-clause-typed : goal.returns-clause-typed
+returns-clause-typed c =
+    let f = file_view c.args.file.now in
     typed_pous f (nothing f (subst (IsFirstOf (IsBroken f)) c.in-None.is c.in_ok-first.ensures.broken))

@@ -4,11 +4,12 @@ use Rattle.source_tree.specs.SyntaxView.{pou_view}
 use Rattle.program_tree.specs.Tree.{Statements}
 use Rattle.program_tree.specs.View.{stmts_view}
 use Rattle.naming.specs.Scopes.{Variable, variables_in_pou}
-use Rattle.naming.specs.ScopeView.{variables_view}
 use Rattle.decl_types.specs.Bodies.{file_in}
 use Rattle.typing.specs.declared.next.Next.{Next}
 use Rattle.typing.specs.Members.{scope_of}
-use Rattle.typing.specs.Places.{sizes_of, first_places}
+use Rattle.typing.specs.Places.{sizes_of, first_places, variables_in, variables_at}
+use Rattle.pou_cells.specs.ToldPlaces.{told_first_places}
+use Rattle.pou_cells.proofs.ToldLemmas.{told_first_places-is}
 use Rattle.typing.specs.TypedPrograms.{begun, typed_body, pou_body}
 use Rattle.st_types.proofs.bodies.pou_body.Goals as goal
 
@@ -26,9 +27,11 @@ pub returns : goal.returns
 returns c =
     let f = file_in c.args.pous.now.domains in
     let p = pou_view c.args.pou.now in
-    let read : variables_view c.deref-2.result.now ≡ variables_in_pou p = ap variables_view c.deref-2.ensures.value ∙ c.in_ok-variables.ensures in
-    let also_read : variables_view c.deref-3.result.now ≡ variables_in_pou p = ap variables_view c.deref-3.ensures.value ∙ c.in_ok-variables.ensures in
+    let vs = variables_at f c.args.number in
+    let taken = c.deref.result.now in
+    let read : vs ≡ variables_in_pou p = ap variables_in c.requires.there in
+    let first : c.in_ok-first.first ≡ first_places f taken p.kind vs =
+    c.in_ok-first.ensures ∙ ap (told_first_places taken p.kind) c.told_at.ensures ∙ told_first_places-is f taken p.kind vs in
     subst (λ (ss : Statements). IfOk c.begin_body.result (λ list. stmts_view list.items ≡ ss))
-    (begun_body f c.args.number p c.args.pous.now.sizes.items c.deref.result.now (variables_view c.deref-2.result.now) (variables_view c.deref-3.result.now) c.in_ok-first.first c.requires (c.deref.ensures.value ∙ c.requires)
-    read also_read c.in_ok-first.ensures)
+    (begun_body f c.args.number p c.args.pous.now.sizes.items taken vs vs c.in_ok-first.first c.requires.sizes (c.deref.ensures.value ∙ c.requires.sizes) read read first)
     c.begin_body.ensures

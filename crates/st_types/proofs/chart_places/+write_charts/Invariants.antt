@@ -1,13 +1,15 @@
-use Rattle.std.proofs.Common.{◌≡◌, ◌+◌, ◌*◌, ◌++◌, drop}
-use Rattle.naming.specs.ScopeView.{variables_view}
+use Rattle.std.proofs.Common.{◌≡◌, ◌+◌, ◌*◌, ◌++◌, map, drop}
 use Rattle.decl_types.specs.Bodies.{file_in}
-use Rattle.typing.specs.ChartPlaces.{block_charts, charts_of}
+use Rattle.decl_types.specs.ToldView.{told_view}
+use Rattle.typing.specs.ChartPlaces.{block_charts}
+use Rattle.typing.specs.Places.{sizes_of}
+use Rattle.st_types.specs.ToldCharts.{told_charts_of}
 use Rattle.st_types.proofs.chart_places.+write_charts.Given as goal
 
 abbrev pub invariant-write_charts-loop-index : goal.invariant-write_charts-loop-index
 invariant-write_charts-loop-index l =
-    l.list.items ++ charts_of (file_in l.pous.domains) (block_charts (file_in l.pous.domains) l.depth) l.place (variables_view (drop l.index l.variables))
-    ≡ l.initial.list.items ++ charts_of (file_in l.pous.domains) (block_charts (file_in l.pous.domains) l.depth) l.initial.place (variables_view l.variables)
+    l.list.items ++ told_charts_of (sizes_of (file_in l.pous.domains)) (block_charts (file_in l.pous.domains) l.depth) l.place (map told_view (drop l.index l.variables))
+    ≡ l.initial.list.items ++ told_charts_of (sizes_of (file_in l.pous.domains)) (block_charts (file_in l.pous.domains) l.depth) l.initial.place (map told_view l.variables)
 
 abbrev pub decreases-write_block : goal.decreases-write_block
 decreases-write_block l = 3 * l.depth

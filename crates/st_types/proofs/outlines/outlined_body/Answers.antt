@@ -1,4 +1,4 @@
-use Rattle.std.proofs.Common.{◌≡◌, ℕ, List, IfOk, ap, subst, ◌∙◌}
+use Rattle.std.proofs.Common.{◌≡◌, ℕ, List, IfOk, subst}
 use Rattle.source_tree.specs.SyntaxView.{pou_view}
 use Rattle.program_tree.specs.View.{stmts_view}
 use Rattle.decl_types.specs.Bodies.{file_in}

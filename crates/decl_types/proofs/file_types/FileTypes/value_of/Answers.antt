@@ -15,31 +15,31 @@ pub returns-in_err-declaration-in-Some-Value : goal.returns-in_err-declaration-i
 returns-in_err-declaration-in-Some-Value c =
     let f = file_of c.args.self.now in
     let text = c.args.name.now in
-    let ts = c.deref.result.now in
+    let ts = c.args.self.now.types.now in
     let v = c.in-Some-Value in
     let got : slice_get ts v.kind ≡ None = slice_get_past ts v.kind c.in_err-declaration-in-Some-Value.ensures.lookup.3 in
     let stands : standing f text ≡ Some (standings.Value v.kind v.number) = sym v.ensures ∙ ap Some v.field-0-is in
-    absurd (∥∥₁_elim c.args.self.now.declared (hlevel props) (λ declared. value_listed f text ts v.kind v.number (ap types_view c.deref.ensures.value ∙ declared) got stands))
+    absurd (∥∥₁_elim c.args.self.now.declared (hlevel props) (λ declared. value_listed f text ts v.kind v.number declared got stands))
 
 pub value_of_type-requires : goal.value_of_type-requires
 value_of_type-requires c =
     let f = file_of c.args.self.now in
     let text = c.args.name.now in
-    let ts = c.deref.result.now in
+    let ts = c.args.self.now.types.now in
     let v = c.in-Some-Value in
     let d = c.in_ok-declaration-in-Some-Value in
     let got : slice_get ts v.kind ≡ Some d.declaration.now = slice_get_read ts (length ts) v.kind d.declaration.now refl d.ensures.lookup.3.0 d.ensures.lookup.1 in
     let stands : standing f text ≡ Some (standings.Value v.kind v.number) = sym v.ensures ∙ ap Some v.field-0-is in
-    ∥∥₁_elim c.args.self.now.declared (hlevel props) (λ declared. value_counted f text ts v.kind v.number d.declaration.now (ap types_view c.deref.ensures.value ∙ declared) got stands)
+    ∥∥₁_elim c.args.self.now.declared (hlevel props) (λ declared. value_counted f text ts v.kind v.number d.declaration.now declared got stands)
 
 pub returns-in_ok-declaration-in-Some-Value : goal.returns-in_ok-declaration-in-Some-Value
 returns-in_ok-declaration-in-Some-Value c =
     let f = file_of c.args.self.now in
     let text = c.args.name.now in
-    let ts = c.deref.result.now in
+    let ts = c.args.self.now.types.now in
     let v = c.in-Some-Value in
     let d = c.in_ok-declaration-in-Some-Value in
     let got : slice_get ts v.kind ≡ Some d.declaration.now = slice_get_read ts (length ts) v.kind d.declaration.now refl d.ensures.lookup.3.0 d.ensures.lookup.1 in
     let stands : standing f text ≡ Some (standings.Value v.kind v.number) = sym v.ensures ∙ ap Some v.field-0-is in
     ∥∥₁_elim c.args.self.now.declared (hlevel props) (λ declared.
-    ap Some c.value_of_type.ensures ∙ sym (value_is f ts v.kind v.number d.declaration.now (ap types_view c.deref.ensures.value ∙ declared) got) ∙ ap (value_at f) (sym stands))
+    ap Some c.value_of_type.ensures ∙ sym (value_is f ts v.kind v.number d.declaration.now declared got) ∙ ap (value_at f) (sym stands))

@@ -13,6 +13,7 @@ invariant_of-result c =
       within = c.args.self.within;
       ordered = c.args.self.ordered;
       numbered = c.args.self.numbered;
+      judged = c.args.self.judged;
       known = known;
-      given = c.in_ok-ports.ensures ∙ ap (map (λ v. ports_of v.items)) c.deref-2.ensures.value ∙ ports_of_all c.in_ok-members.members.items (all_members f c.args.sizes.items) known;
+      given = c.in_ok-ports.ensures ∙ ap (map (λ v. ports_of v.items)) c.deref-3.ensures.value ∙ ports_of_all c.in_ok-members.members.items (all_members f c.args.sizes.items) known;
     }

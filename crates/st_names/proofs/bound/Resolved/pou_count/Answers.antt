@@ -6,4 +6,4 @@ use Rattle.st_names.proofs.bound.Resolved.pou_count.Goals as goal
 pub returns : goal.returns
 returns c =
     let r = c.args.self.now in
-    ap length c.as_slice.ensures.value ∙ ap length r.bound.places ∙ count_places 0 (file_view r.file)
+    ap length c.as_slice.ensures.value ∙ ap length r.bound.places ∙ count_places 0 (file_view r.file.now)

@@ -8,4 +8,4 @@ use Rattle.st_names.proofs.bound.Resolved.standing.Goals as goal
 pub returns : goal.returns
 returns c =
     let q = c.args.name.now in
-    c.standing_at.ensures ∙ ap (standing_by (is_library q)) (c.args.self.now.bound.table q) ∙ standing-named (file_view c.args.self.now.file) q
+    c.standing_at.ensures ∙ ap (standing_by (is_library q)) (c.args.self.now.bound.table q) ∙ standing-named (file_view c.args.self.now.file.now) q

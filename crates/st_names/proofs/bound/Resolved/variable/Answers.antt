@@ -6,4 +6,4 @@ use Rattle.st_names.proofs.BindingLemmas.{bound_slot}
 use Rattle.st_names.proofs.bound.Resolved.variable.Goals as goal
 
 pub returns : goal.returns
-returns c = c.bound_by.ensures ∙ ap (option_map bound_by) c.slot.ensures ∙ bound_slot c.args.name.now (pou_at (file_view c.args.self.now.file) c.args.pou)
+returns c = c.bound_by.ensures ∙ ap (option_map bound_by) c.slot.ensures ∙ bound_slot c.args.name.now (pou_at (file_view c.args.self.now.file.now) c.args.pou)

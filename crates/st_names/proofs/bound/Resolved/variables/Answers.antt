@@ -1,0 +1,33 @@
+use Rattle.std.proofs.Common.{◌≡◌, List, [], Some, None, option_map, length, refl, ap, sym, ◌∙◌}
+use Rattle.std.specs.List.{slice_get}
+use Rattle.std.specs.Option.{unwrap_or}
+use Rattle.std.proofs.lemmas.Option.{slice_get_read, slice_get_past}
+use Rattle.std.proofs.Math.Logic.{∥∥₁_elim}
+use Rattle.std.proofs.Props.{props}
+use Rattle.naming.specs.ScopeView.{variables_view}
+use Rattle.pou_scope.specs.declared.pou_names.NamesOfPou.{NamesOfPou}
+use Rattle.st_names.specs.Bindings.{variables_kept}
+use Rattle.st_names.proofs.bound.Resolved.variables.Goals as goal
+
+pub returns : goal.returns
+returns c =
+    let all = c.as_slice.result.now in
+    let k = c.args.number in
+    let lookup = c.in-Some.ensures.lookup in
+    let there : slice_get all k ≡ Some c.in-Some.names.now = slice_get_read all (length all) k c.in-Some.names.now refl lookup.3.0 lookup.1 in
+    ∥∥₁_elim (c.args.self.now.bound.variables k) (hlevel props) (λ kept.
+    ∣ ap variables_view c.deref.ensures.value
+    ∙ ap (λ o. unwrap_or (option_map (λ (n : NamesOfPou). variables_view n.variables.items) o) []) (sym there)
+    ∙ ap (λ (ns : List NamesOfPou). variables_kept ns k) c.as_slice.ensures.value
+    ∙ kept ∣₁)
+
+pub returns-in_default : goal.returns-in_default
+returns-in_default c =
+    let all = c.as_slice.result.now in
+    let k = c.args.number in
+    let there : slice_get all k ≡ None = slice_get_past all k c.in_default.ensures.lookup.3 in
+    ∥∥₁_elim (c.args.self.now.bound.variables k) (hlevel props) (λ kept.
+    ∣ ap variables_view c.no_variables.ensures
+    ∙ ap (λ o. unwrap_or (option_map (λ (n : NamesOfPou). variables_view n.variables.items) o) []) (sym there)
+    ∙ ap (λ (ns : List NamesOfPou). variables_kept ns k) c.as_slice.ensures.value
+    ∙ kept ∣₁)
