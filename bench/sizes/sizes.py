@@ -1,4 +1,4 @@
-"""Runs legal texts at their limits, and prints for each how it is answered, in how much processor time and memory.
+"""Runs texts at their limits, and prints for each how it is answered, in how much processor time and memory.
 
 sizes.py PROGRAM [NAME..]: PROGRAM is the program to run; with names only the texts of these names.
 """
@@ -43,6 +43,16 @@ def ring_of_steps():
     return f"PROGRAM M VAR_OUTPUT q : BOOL; END_VAR\nINITIAL_STEP S0: END_STEP\n{parts}TRANSITION FROM S2000 TO S0 := TRUE; END_TRANSITION\nEND_PROGRAM\n"
 
 
+def blocks_in_a_circle(count):
+    """Blocks of which each has an instance of the next, and the last one of the first: N3 at the first."""
+    return "".join(f"FUNCTION_BLOCK B{k} VAR a : B{(k + 1) % count}; END_VAR END_FUNCTION_BLOCK\n" for k in range(count)) + "PROGRAM M END_PROGRAM\n"
+
+
+def circle_behind_blocks(count):
+    """Blocks of which each has an instance of the next, and the last one of itself: N3 at the last."""
+    return "".join(f"FUNCTION_BLOCK B{k} VAR a : B{min(k + 1, count - 1)}; END_VAR END_FUNCTION_BLOCK\n" for k in range(count)) + "PROGRAM M END_PROGRAM\n"
+
+
 PROGRAMS = {
     "an operator chain": lambda: in_program(lambda k: " + n", before="n := n", after=";"),
     "statements": lambda: in_program(lambda k: "n := n + 1;\n"),
@@ -55,6 +65,8 @@ PROGRAMS = {
         lambda k: f"FUNCTION_BLOCK B{k + 1} VAR a : B{k}; END_VAR a(); END_FUNCTION_BLOCK\n",
         "PROGRAM M VAR_OUTPUT q : BOOL; END_VAR VAR b : B9; END_VAR b(); END_PROGRAM\n",
     ),
+    "blocks in a circle": lambda: blocks_in_a_circle(15_500),
+    "blocks that lead to a circle": lambda: circle_behind_blocks(15_500),
     "steps of a chart": ring_of_steps,
     "TYPE blocks": lambda: filled("", lambda k: f"TYPE T{k} : (v{k}, w{k}); END_TYPE\n", "PROGRAM M VAR_OUTPUT q : T0; END_VAR END_PROGRAM\n"),
     "cells": lambda: f"PROGRAM M VAR_OUTPUT {', '.join(f'v{k}' for k in range(4095))} : BOOL; END_VAR v0 := NOT v4094; END_PROGRAM\n",
