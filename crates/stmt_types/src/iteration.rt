@@ -12,7 +12,7 @@ ghost use Rattle.typing.specs.Outcomes.{judged_turns};
 use crate::constants::constant_value;
 use crate::turns::{broken_by_turns, turn_count};
 use expr_types::{
-    cell_of, judge_expr, judge_meaning, kind_at, meaning_alone, or_dint, place_of, range, type_of,
+    cell_of, judge_and_synthesize, judge_meaning, kind_at, meaning_alone, or_dint, place_of, range,
 };
 use plc_types::{DataType, Elementary, Range};
 use program_tree::Turns;
@@ -21,11 +21,13 @@ use source_tree::{Expr, Iteration};
 use std::alloc::{AllocError, Global};
 use typing::{Meaning, Place, Scope};
 
-// What judging a bound finds: what it breaks, and its value, or 0 where it has none.
+// What judging a bound finds: what it breaks, its value, or 0 where it has none, and whether it is of the control
+// variable's type.
 #[derive(Clone, Copy, Debug, PartialEq, Eq)]
 struct JudgedBound {
     judged: Outcome,
     value: i64,
+    fits: bool,
 }
 
 /// What judging the turns of a FOR finds: what stands between FOR and DO breaks, and the rule that its turns break.
@@ -113,12 +115,18 @@ fn judge_bound<S: Scope>(
 ) -> Result<JudgedBound, AllocError>
     ensures judged { IfOk result (λ b. b.judged ≡ outcome_of (judged_bound (S.means scope.now) kind (tree_view bound.now))) }
     ensures value { IfOk result (λ b. b.value ≡ bound_value (S.means scope.now) kind (tree_view bound.now)) }
+    ensures fits { IfOk result (λ b. b.fits ≡ is_typed (S.means scope.now) kind (tree_view bound.now)) }
 {
     let value = constant_value(alloc, scope, Some(kind), bound)?;
-    let judged = judge_expr(alloc, scope, Some(kind), bound)?;
+    let judged = judge_and_synthesize(alloc, scope, Some(kind), bound)?;
+    let fits = judged.kind(Some(kind)).is_same(kind);
+    let at = place_of(bound);
     Ok(JudgedBound {
-        judged: judged.require(value.is_some(), Rule::NotConstant, place_of(bound)),
+        judged: judged
+            .outcome
+            .require(value.is_some(), Rule::NotConstant, at),
         value: value_or_zero(value),
+        fits,
     })
 }
 
@@ -131,28 +139,15 @@ fn judge_step<S: Scope>(
 ) -> Result<JudgedBound, AllocError>
     ensures judged { IfOk result (λ b. b.judged ≡ outcome_of (judged_step (S.means scope.now) kind (initial_view step.now))) }
     ensures value { IfOk result (λ b. b.value ≡ step_value (S.means scope.now) kind (initial_view step.now)) }
+    ensures fits { IfOk result (λ b. b.fits ≡ step_is_typed (S.means scope.now) kind (initial_view step.now)) }
 {
     match step {
         None => Ok(JudgedBound {
             judged: Outcome::ok(),
             value: 1,
+            fits: true,
         }),
         Some(step) => judge_bound(alloc, scope, kind, step),
-    }
-}
-
-fn is_typed<S: Scope>(scope: &S, kind: DataType, bound: &Expr) -> bool
-    ensures { result ≡ is_typed (S.means scope.now) kind (tree_view bound.now) }
-{
-    type_of(scope, Some(kind), bound).is_same(kind)
-}
-
-fn step_is_typed<S: Scope>(scope: &S, kind: DataType, step: &Option<Expr>) -> bool
-    ensures { result ≡ step_is_typed (S.means scope.now) kind (initial_view step.now) }
-{
-    match step {
-        None => true,
-        Some(step) => is_typed(scope, kind, step),
     }
 }
 
@@ -186,9 +181,7 @@ pub(crate) fn judge_turns<S: Scope>(
     let last = judge_bound(alloc, scope, kind, &iteration.last)?;
     let step = judge_step(alloc, scope, kind, &iteration.step)?;
     let rule = broken_by_turns(range_at(meaning), first.value, last.value, step.value);
-    let fits = is_typed(scope, kind, &iteration.first)
-        && is_typed(scope, kind, &iteration.last)
-        && step_is_typed(scope, kind, &iteration.step);
+    let fits = first.fits && last.fits && step.fits;
     let bounds = first.judged.also(last.judged.also(step.judged));
     let parts = judge_control(controls, meaning, at).also(bounds);
     let judged = parts.require(fits, Rule::ValueType, at);
