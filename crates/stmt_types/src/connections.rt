@@ -14,7 +14,7 @@ ghost use Rattle.typing.specs.TypedStatements.{typed_inputs, typed_outputs, type
 
 use crate::statements::judge_target;
 use expr_types::{
-    cell_of, judge_expr, judge_meaning, kind_at, meaning_read, or_dint, type_expr, type_of,
+    cell_of, judge_and_synthesize, judge_meaning, kind_at, meaning_read, or_dint, type_expr,
 };
 use indexmap::IndexMap;
 use program_tree::TypedStmt;
@@ -67,9 +67,9 @@ fn judge_input<S: Scope>(
     ensures { IfOk result (λ o. o ≡ outcome_of (judged_input (S.means scope.now) meaning (name_view name.now) (tree_view value.now))) }
 {
     let expected = kind_at(meaning);
-    let fits = type_of(scope, expected, value).is_same(or_dint(expected));
-    let judged = judge_expr(alloc, scope, expected, value)?;
-    let parts = judge_meaning(meaning).also(judged);
+    let judged = judge_and_synthesize(alloc, scope, expected, value)?;
+    let fits = judged.kind(expected).is_same(or_dint(expected));
+    let parts = judge_meaning(meaning).also(judged.outcome);
     Ok(parts.require(fits, Rule::ValueType, name.at))
 }
 

@@ -12,7 +12,7 @@ ghost use Rattle.plc_types.specs.DataTypes.{is_same_type};
 ghost use Rattle.stmt_types.specs.SeenLabels.{Sees};
 
 use crate::seen_labels::Seen;
-use expr_types::{constant_of, judge_expr, judge_meaning, kind_at, or_dint, place_of, type_of};
+use expr_types::{constant_of, judge_and_synthesize, judge_meaning, kind_at, or_dint, place_of};
 use plc_types::{DataType, Range};
 use program_tree::TypedLabel;
 use rules::{Outcome, Rule};
@@ -138,11 +138,15 @@ fn judge_constant<S: Scope>(
     match constant {
         Expr::Path(path) => Ok(named_constant(kind, scope.meaning(path))),
         Expr::Enumerator(_, value) => Ok(named_constant(kind, scope.value(value))),
-        _ => Ok(Constant {
-            value: constant_of(alloc, scope, kind, constant)?,
-            judged: judge_expr(alloc, scope, Some(kind), constant)?,
-            fits: type_of(scope, Some(kind), constant).is_same(kind),
-        }),
+        _ => {
+            let value = constant_of(alloc, scope, kind, constant)?;
+            let judged = judge_and_synthesize(alloc, scope, Some(kind), constant)?;
+            Ok(Constant {
+                value,
+                judged: judged.outcome,
+                fits: judged.kind(Some(kind)).is_same(kind),
+            })
+        }
     }
 }
 
