@@ -21,35 +21,35 @@ module _ (s t : Scope) (alike : AreAlike s t) where
   -- ---- types
 
   mutual
-    pub own_alike : (e : Tree) → synthesized s e ≡ synthesized t e
-    own_alike (literal l) = refl
-    own_alike (path p) = kind_alike (s.means (by_path p)) (t.means (by_path p)) (alike.means (by_path p))
-    own_alike (enumerator n v) = kind_alike (s.means (by_value v)) (t.means (by_value v)) (alike.means (by_value v))
-    own_alike (paren at e) = own_alike e
-    own_alike (unary o at e) = own_alike e
-    own_alike (chain e ls) = λ i. if compares ls then Some bool_type else or_else (own_alike e i) (synthesized_of_links_alike ls i)
-    own_alike (call n at args) = λ i. synthesized_of_call (standard_function n.text) (alike.signature n.text i) (λ f. synthesized_of_arguments_alike f 0 args i)
+    pub synthesized_alike : (e : Tree) → synthesized s e ≡ synthesized t e
+    synthesized_alike (literal l) = refl
+    synthesized_alike (path p) = kind_alike (s.means (by_path p)) (t.means (by_path p)) (alike.means (by_path p))
+    synthesized_alike (enumerator n v) = kind_alike (s.means (by_value v)) (t.means (by_value v)) (alike.means (by_value v))
+    synthesized_alike (paren at e) = synthesized_alike e
+    synthesized_alike (unary o at e) = synthesized_alike e
+    synthesized_alike (chain e ls) = λ i. if compares ls then Some bool_type else or_else (synthesized_alike e i) (synthesized_of_links_alike ls i)
+    synthesized_alike (call n at args) = λ i. synthesized_of_call (standard_function n.text) (alike.signature n.text i) (λ f. synthesized_of_arguments_alike f 0 args i)
 
     pub synthesized_of_links_alike : (ls : Links) → synthesized_of_links s ls ≡ synthesized_of_links t ls
     synthesized_of_links_alike no_links = refl
-    synthesized_of_links_alike (link o at e ls) = λ i. or_else (own_alike e i) (synthesized_of_links_alike ls i)
+    synthesized_of_links_alike (link o at e ls) = λ i. or_else (synthesized_alike e i) (synthesized_of_links_alike ls i)
 
     pub synthesized_of_arguments_alike : (f : StandardFunction) (place : ℕ) (args : Arguments) → synthesized_of_arguments s f place args ≡ synthesized_of_arguments t f place args
     synthesized_of_arguments_alike f place no_arguments = refl
-    synthesized_of_arguments_alike f place (argument n e args) = λ i. or_else (synthesized_if_common (parameter_of f place) (own_alike e i)) (synthesized_of_arguments_alike f (place + 1) args i)
+    synthesized_of_arguments_alike f place (argument n e args) = λ i. or_else (synthesized_if_common (parameter_of f place) (synthesized_alike e i)) (synthesized_of_arguments_alike f (place + 1) args i)
 
   pub type_alike : (expected : Option DataType) (e : Tree) → type_of s expected e ≡ type_of t expected e
-  type_alike expected e = λ i. or_dint (or_else (own_alike e i) expected)
+  type_alike expected e = λ i. or_dint (or_else (synthesized_alike e i) expected)
 
   pub common_alike : (expected : Option DataType) (f : StandardFunction) (args : Arguments) → common_type s expected f args ≡ common_type t expected f args
   common_alike expected f args = λ i. or_dint (or_else (synthesized_of_arguments_alike f 0 args i) expected)
 
   first_alike : (ls : Links) → synthesized_of_first s ls ≡ synthesized_of_first t ls
   first_alike no_links = refl
-  first_alike (link o at e ls) = own_alike e
+  first_alike (link o at e ls) = synthesized_alike e
 
   pub operand_alike : (expected : Option DataType) (e : Tree) (ls : Links) → operand_type s expected e ls ≡ operand_type t expected e ls
-  operand_alike expected e ls = λ i. if compares ls then or_dint (or_else (own_alike e i) (first_alike ls i)) else or_dint (or_else (or_else (own_alike e i) (synthesized_of_links_alike ls i)) expected)
+  operand_alike expected e ls = λ i. if compares ls then or_dint (or_else (synthesized_alike e i) (first_alike ls i)) else or_dint (or_else (or_else (synthesized_alike e i) (synthesized_of_links_alike ls i)) expected)
 
   -- an expression of a type
   pub same_alike : (k : DataType) (e : Tree) → is_same_type (type_of s (Some k) e) k ≡ is_same_type (type_of t (Some k) e) k

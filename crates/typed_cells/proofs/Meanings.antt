@@ -79,8 +79,8 @@ module _ (f : FileData) (used : UsesItsBlocks f) (ordered : IsOrdered f) (k : �
       (λ assigned. let before = before_chart f text p m among v at.named (assigned_plain v.role assigned) in omega (arith, before, size, some)) known)
   own_by text m found at false has whole known = subst (λ (q : Place). IsAt scope (last f) (meaning_of f m.cell at.variable) q) (sym (name_of_value f m.cell at.variable has)) (value_at_name f scope at.variable m.cell has known)
 
-  synthesized_fits : (text : List ℕ) (m : Member) → member_at f (sizes_of f) k text ≡ Some m → MeaningFits scope (last f) m.meaning
-  synthesized_fits text m found =
+  name_fits : (text : List ℕ) (m : Member) → member_at f (sizes_of f) k text ≡ Some m → MeaningFits scope (last f) m.meaning
+  name_fits text m found =
       let at = at_name f used ordered k p there text m found in
       subst (λ (x : Member). MeaningFits scope (last f) x.meaning) (sym at.is) (own_by text m found at (has_cell at.variable.role) refl)
 
@@ -142,7 +142,7 @@ module _ (f : FileData) (used : UsesItsBlocks f) (ordered : IsOrdered f) (k : �
   -- a step stands for its first cell
   by_step : (text : List ℕ) (m : Member) → member_at f (sizes_of f) k text ≡ Some m → (n : Named) (ns : List Named) → are_seen_behind f (n ∷ ns) (variable_named text (variables_at f k)) ≡ true → (step : Bool) (x : Meaning)
       → (if step then Some m.meaning else in_instance f (sizes_of f) m.cell n m.block) ≡ Some x → MeaningFits scope (last f) x
-  by_step text m found n ns seen true x same = let e : m.meaning ≡ x = cc in subst (λ (y : Meaning). MeaningFits scope (last f) y) e (synthesized_fits text m found)
+  by_step text m found n ns seen true x same = let e : m.meaning ≡ x = cc in subst (λ (y : Meaning). MeaningFits scope (last f) y) e (name_fits text m found)
   by_step text m found n ns seen false x same =
       let at = at_name f used ordered k p there text m found in
       let named : variable_named text (variables_at f k) ≡ Some at.variable = ap (variable_named text) (same_variables f used ordered k p there) ∙ at.named in
@@ -151,7 +151,7 @@ module _ (f : FileData) (used : UsesItsBlocks f) (ordered : IsOrdered f) (k : �
   path_fits : (text : List ℕ) (ns : List Named) (o : Option Member) → member_at f (sizes_of f) k text ≡ o → are_seen_behind f ns (variable_named text (variables_at f k)) ≡ true → (x : Meaning) → variable_or_value f (sizes_of f) text ns o ≡ Some x
       → MeaningFits scope (last f) x
   path_fits text ns None found seen x same = value_fits f text scope x same
-  path_fits text [] (Some m) found seen x same = let e : m.meaning ≡ x = cc in subst (λ (y : Meaning). MeaningFits scope (last f) y) e (synthesized_fits text m found)
+  path_fits text [] (Some m) found seen x same = let e : m.meaning ≡ x = cc in subst (λ (y : Meaning). MeaningFits scope (last f) y) e (name_fits text m found)
   path_fits text (n ∷ ns) (Some m) found seen x same = by_step text m found n ns seen (is_step m.role) x same
 
   -- what a reference stands for that may be used
