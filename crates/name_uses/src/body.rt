@@ -9,7 +9,7 @@ ghost use Rattle.rules.specs.Outcomes.{outcome_of, both};
 use crate::chart::judged_chart;
 use crate::scope::Scope;
 use crate::walk::walk_stmts;
-use pou_scope::Numbers;
+use pou_scope::UseNumbers;
 use rules::Outcome;
 use source_tree::Body;
 use std::alloc::{AllocError, Global};
@@ -20,7 +20,7 @@ pub fn walk_body(
     scope: &Scope<'_, '_>,
     body: &Body,
     outcome: &mut Outcome,
-    numbers: &mut Numbers,
+    numbers: &mut UseNumbers,
     calls: &mut Vec<usize>,
 ) -> Result<(), AllocError>
     ensures judged { OnOk result (outcome.new ≡ both outcome.old (outcome_of (in_body (file_in scope.now.names) (pou_in scope.now.names) (body_view body.now)))) }

@@ -10,7 +10,7 @@ use crate::associations::walk_associations;
 use crate::scope::Scope;
 use crate::step_lists::walk_steps;
 use crate::walk::{walk_expr, walk_stmts};
-use pou_scope::Numbers;
+use pou_scope::UseNumbers;
 use rules::{Outcome, Rule};
 use source_tree::{ChartAction, ChartPart, ChartStep, ChartTransition, Name};
 use std::alloc::{AllocError, Global};
@@ -48,7 +48,7 @@ fn walk_transition(
     scope: &Scope<'_, '_>,
     transition: &ChartTransition,
     outcome: &mut Outcome,
-    numbers: &mut Numbers,
+    numbers: &mut UseNumbers,
     calls: &mut Vec<usize>,
 ) -> Result<(), AllocError>
     ensures judged { OnOk result (outcome.new ≡ both outcome.old (outcome_of (in_transition (file_in scope.now.names) (pou_in scope.now.names) (chart_transition_view transition.now)))) }
@@ -66,7 +66,7 @@ fn walk_action(
     scope: &Scope<'_, '_>,
     action: &ChartAction,
     outcome: &mut Outcome,
-    numbers: &mut Numbers,
+    numbers: &mut UseNumbers,
     calls: &mut Vec<usize>,
 ) -> Result<(), AllocError>
     ensures judged { OnOk result (outcome.new ≡ both outcome.old (outcome_of (in_action (file_in scope.now.names) (pou_in scope.now.names) (chart_action_view action.now)))) }
@@ -82,7 +82,7 @@ fn walk_part(
     scope: &Scope<'_, '_>,
     part: &ChartPart,
     outcome: &mut Outcome,
-    numbers: &mut Numbers,
+    numbers: &mut UseNumbers,
     calls: &mut Vec<usize>,
 ) -> Result<(), AllocError>
     ensures judged { OnOk result (outcome.new ≡ both outcome.old (outcome_of (in_part (file_in scope.now.names) (pou_in scope.now.names) (part_view part.now)))) }
@@ -107,7 +107,7 @@ fn walk_parts(
     scope: &Scope<'_, '_>,
     parts: &[ChartPart],
     outcome: &mut Outcome,
-    numbers: &mut Numbers,
+    numbers: &mut UseNumbers,
     calls: &mut Vec<usize>,
 ) -> Result<(), AllocError>
     ensures judged { OnOk result (outcome.new ≡ both outcome.old (outcome_of (in_chart_parts (file_in scope.now.names) (pou_in scope.now.names) (parts_view parts.now)))) }
@@ -125,7 +125,7 @@ fn judged_parts(
     alloc: Global,
     scope: &Scope<'_, '_>,
     parts: &[ChartPart],
-    numbers: &mut Numbers,
+    numbers: &mut UseNumbers,
     calls: &mut Vec<usize>,
 ) -> Result<Outcome, AllocError>
     ensures judged { IfOk result (λ o. o ≡ outcome_of (in_chart_parts (file_in scope.now.names) (pou_in scope.now.names) (parts_view parts.now))) }
@@ -185,7 +185,7 @@ pub fn judged_chart(
     alloc: Global,
     scope: &Scope<'_, '_>,
     parts: &[ChartPart],
-    numbers: &mut Numbers,
+    numbers: &mut UseNumbers,
     calls: &mut Vec<usize>,
 ) -> Result<Outcome, AllocError>
     ensures judged { IfOk result (λ o. o ≡ outcome_of (in_chart (file_in scope.now.names) (pou_in scope.now.names) (parts_view parts.now))) }

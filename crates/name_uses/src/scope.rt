@@ -9,7 +9,7 @@ ghost use Rattle.naming.specs.Scopes.{scope_of, seen_named};
 
 use file_scope::{misused, too_deep, unknown};
 use naming::{Callee, Seen, is_value};
-use pou_scope::{Names, NamesOfPou, Numbers};
+use pou_scope::{Names, NamesOfPou, UseNumbers};
 use rules::Outcome;
 use source_tree::{Name, Path};
 use std::alloc::AllocError;
@@ -78,7 +78,7 @@ impl Scope<'_, '_> {
     // What is known of a name in the POU of a number. Keeps the number of its use.
     fn seen_in(
         &self,
-        numbers: &mut Numbers,
+        numbers: &mut UseNumbers,
         number: usize,
         name: &Name,
     ) -> Result<Option<Option<Seen>>, AllocError>
@@ -96,7 +96,7 @@ impl Scope<'_, '_> {
     // A member of the block of a number.
     fn member(
         &self,
-        numbers: &mut Numbers,
+        numbers: &mut UseNumbers,
         block: usize,
         name: &Name,
     ) -> Result<Outcome, AllocError>
@@ -111,7 +111,7 @@ impl Scope<'_, '_> {
     // The names behind an instance of the block of a number.
     fn members(
         &self,
-        numbers: &mut Numbers,
+        numbers: &mut UseNumbers,
         block: usize,
         first: &Name,
         members: &[Name],
@@ -132,7 +132,7 @@ impl Scope<'_, '_> {
     // A path that begins with a name of the POU whose declaration breaks no rule.
     fn named(
         &self,
-        numbers: &mut Numbers,
+        numbers: &mut UseNumbers,
         seen: Seen,
         first: &Name,
         members: &[Name],
@@ -155,7 +155,7 @@ impl Scope<'_, '_> {
     // A path that begins with a name of the POU.
     fn variable(
         &self,
-        numbers: &mut Numbers,
+        numbers: &mut UseNumbers,
         seen: Seen,
         first: &Name,
         members: &[Name],
@@ -182,7 +182,7 @@ impl Scope<'_, '_> {
     // A target, by its names.
     fn target_of(
         &self,
-        numbers: &mut Numbers,
+        numbers: &mut UseNumbers,
         first: &Name,
         members: &[Name],
     ) -> Result<Outcome, AllocError>
@@ -195,14 +195,14 @@ impl Scope<'_, '_> {
     }
 
     /// The path of a target. Keeps the numbers of its names.
-    pub fn target(&self, numbers: &mut Numbers, path: &Path) -> Result<Outcome, AllocError>
+    pub fn target(&self, numbers: &mut UseNumbers, path: &Path) -> Result<Outcome, AllocError>
         ensures { let f = file_in self.now.names in let p = pou_in self.now.names in let q = path_view path.now in IfOk result (λ o. o ≡ outcome_of (in_target f p (seen_named f p q.first.text) q)) }
     {
         self.target_of(numbers, &path.first, &path.members)
     }
 
     /// The control variable of a FOR. Keeps its number.
-    pub fn control(&self, numbers: &mut Numbers, name: &Name) -> Result<Outcome, AllocError>
+    pub fn control(&self, numbers: &mut UseNumbers, name: &Name) -> Result<Outcome, AllocError>
         ensures { let f = file_in self.now.names in let p = pou_in self.now.names in let n = name_view name.now in IfOk result (λ o. o ≡ outcome_of (in_target f p (seen_named f p n.text) (alone n))) }
     {
         self.target_of(numbers, name, &[])
@@ -222,7 +222,7 @@ impl Scope<'_, '_> {
     }
 
     /// A path that is read. Keeps the numbers of its names.
-    pub fn path(&self, numbers: &mut Numbers, path: &Path) -> Result<Outcome, AllocError>
+    pub fn path(&self, numbers: &mut UseNumbers, path: &Path) -> Result<Outcome, AllocError>
         ensures { let f = file_in self.now.names in let p = pou_in self.now.names in let q = path_view path.now in IfOk result (λ o. o ≡ outcome_of (in_path f p (seen_named f p q.first.text) q)) }
     {
         match self.names.used(numbers, &path.first)? {
@@ -251,7 +251,7 @@ impl Scope<'_, '_> {
     // The name of an argument.
     fn argument_named(
         &self,
-        numbers: &mut Numbers,
+        numbers: &mut UseNumbers,
         callee: Callee,
         name: &Name,
     ) -> Result<Outcome, AllocError>
@@ -270,7 +270,7 @@ impl Scope<'_, '_> {
     /// The name of an argument, where it has one. Keeps its number.
     pub fn argument_name(
         &self,
-        numbers: &mut Numbers,
+        numbers: &mut UseNumbers,
         callee: Callee,
         name: &Option<Name>,
     ) -> Result<Outcome, AllocError>
@@ -304,7 +304,7 @@ impl Scope<'_, '_> {
     /// The name of a connection of a block's call. Keeps its number.
     pub fn connected(
         &self,
-        numbers: &mut Numbers,
+        numbers: &mut UseNumbers,
         block: Option<usize>,
         name: &Name,
     ) -> Result<Outcome, AllocError>

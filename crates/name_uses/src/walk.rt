@@ -8,7 +8,7 @@ ghost use Rattle.rules.specs.Outcomes.{outcome_of, both};
 
 use crate::scope::Scope;
 use naming::{Callee, append_called};
-use pou_scope::{Numbers, instance_of};
+use pou_scope::{UseNumbers, instance_of};
 use rules::Outcome;
 use source_tree::{Argument, Arm, Connection, Entry, Expr, Iteration, Label, Link, Stmt};
 use std::alloc::AllocError;
@@ -20,7 +20,7 @@ pub fn walk_expr(
     scope: &Scope<'_, '_>,
     expr: &Expr,
     outcome: &mut Outcome,
-    numbers: &mut Numbers,
+    numbers: &mut UseNumbers,
     calls: &mut Vec<usize>,
 ) -> Result<(), AllocError>
     ensures judged { OnOk result (outcome.new ≡ both outcome.old (outcome_of (in_tree (file_in scope.now.names) (pou_in scope.now.names) (tree_view expr.now)))) }
@@ -58,7 +58,7 @@ fn walk_links(
     scope: &Scope<'_, '_>,
     links: &[Link],
     outcome: &mut Outcome,
-    numbers: &mut Numbers,
+    numbers: &mut UseNumbers,
     calls: &mut Vec<usize>,
 ) -> Result<(), AllocError>
     ensures judged { OnOk result (outcome.new ≡ both outcome.old (outcome_of (in_links (file_in scope.now.names) (pou_in scope.now.names) (links_view links.now)))) }
@@ -78,7 +78,7 @@ fn walk_arguments(
     callee: Callee,
     arguments: &[Argument],
     outcome: &mut Outcome,
-    numbers: &mut Numbers,
+    numbers: &mut UseNumbers,
     calls: &mut Vec<usize>,
 ) -> Result<(), AllocError>
     ensures judged { OnOk result (outcome.new ≡ both outcome.old (outcome_of (in_arguments (file_in scope.now.names) (pou_in scope.now.names) callee (arguments_view arguments.now)))) }
@@ -116,7 +116,7 @@ fn walk_step(
     scope: &Scope<'_, '_>,
     step: &Option<Expr>,
     outcome: &mut Outcome,
-    numbers: &mut Numbers,
+    numbers: &mut UseNumbers,
     calls: &mut Vec<usize>,
 ) -> Result<(), AllocError>
     ensures judged { OnOk result (outcome.new ≡ both outcome.old (outcome_of (in_step (file_in scope.now.names) (pou_in scope.now.names) (initial_view step.now)))) }
@@ -134,7 +134,7 @@ fn walk_iteration(
     scope: &Scope<'_, '_>,
     iteration: &Iteration,
     outcome: &mut Outcome,
-    numbers: &mut Numbers,
+    numbers: &mut UseNumbers,
     calls: &mut Vec<usize>,
 ) -> Result<(), AllocError>
     ensures judged { OnOk result (outcome.new ≡ both outcome.old (outcome_of (in_iteration (file_in scope.now.names) (pou_in scope.now.names) (iteration_view iteration.now)))) }
@@ -153,7 +153,7 @@ fn walk_connection(
     block: Option<usize>,
     connection: &Connection,
     outcome: &mut Outcome,
-    numbers: &mut Numbers,
+    numbers: &mut UseNumbers,
     calls: &mut Vec<usize>,
 ) -> Result<(), AllocError>
     ensures judged { OnOk result (outcome.new ≡ both outcome.old (outcome_of (in_connection (file_in scope.now.names) (pou_in scope.now.names) block (connection_view connection.now)))) }
@@ -179,7 +179,7 @@ fn walk_connections(
     block: Option<usize>,
     connections: &[Connection],
     outcome: &mut Outcome,
-    numbers: &mut Numbers,
+    numbers: &mut UseNumbers,
     calls: &mut Vec<usize>,
 ) -> Result<(), AllocError>
     ensures judged { OnOk result (outcome.new ≡ both outcome.old (outcome_of (in_connections (file_in scope.now.names) (pou_in scope.now.names) block (connections_view connections.now)))) }
@@ -198,7 +198,7 @@ pub fn walk_stmts(
     scope: &Scope<'_, '_>,
     stmts: &[Stmt],
     outcome: &mut Outcome,
-    numbers: &mut Numbers,
+    numbers: &mut UseNumbers,
     calls: &mut Vec<usize>,
 ) -> Result<(), AllocError>
     ensures judged { OnOk result (outcome.new ≡ both outcome.old (outcome_of (in_stmts (file_in scope.now.names) (pou_in scope.now.names) (stmts_view stmts.now)))) }
@@ -217,7 +217,7 @@ fn walk_stmt(
     scope: &Scope<'_, '_>,
     stmt: &Stmt,
     outcome: &mut Outcome,
-    numbers: &mut Numbers,
+    numbers: &mut UseNumbers,
     calls: &mut Vec<usize>,
 ) -> Result<(), AllocError>
     ensures judged { OnOk result (outcome.new ≡ both outcome.old (outcome_of (in_stmt (file_in scope.now.names) (pou_in scope.now.names) (stmt_view stmt.now)))) }
@@ -270,7 +270,7 @@ fn walk_arms(
     scope: &Scope<'_, '_>,
     arms: &[Arm],
     outcome: &mut Outcome,
-    numbers: &mut Numbers,
+    numbers: &mut UseNumbers,
     calls: &mut Vec<usize>,
 ) -> Result<(), AllocError>
     ensures judged { OnOk result (outcome.new ≡ both outcome.old (outcome_of (in_arms (file_in scope.now.names) (pou_in scope.now.names) (arms_view arms.now)))) }
@@ -290,7 +290,7 @@ fn walk_entries(
     scope: &Scope<'_, '_>,
     entries: &[Entry],
     outcome: &mut Outcome,
-    numbers: &mut Numbers,
+    numbers: &mut UseNumbers,
     calls: &mut Vec<usize>,
 ) -> Result<(), AllocError>
     ensures judged { OnOk result (outcome.new ≡ both outcome.old (outcome_of (in_entries (file_in scope.now.names) (pou_in scope.now.names) (entries_view entries.now)))) }

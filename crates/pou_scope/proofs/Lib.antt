@@ -1,3 +1,4 @@
 pub mod NoUsesLemmas
 pub mod JudgedLemmas
 pub mod SeenLemmas
+pub mod UseNumbersLemmas

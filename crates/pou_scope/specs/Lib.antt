@@ -1,5 +1,6 @@
 pub mod NamesView
 pub mod SlottedView
+pub mod UseNumbers
 pub mod InFileView
 pub mod AllSeen
 pub mod NoUses

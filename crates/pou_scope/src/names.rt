@@ -5,8 +5,8 @@ ghost use Rattle.naming.specs.Scopes.{scope_with, seen_named};
 ghost use Rattle.naming.specs.ScopeView.{variables_view};
 ghost use Rattle.pou_scope.specs.AllSeen.{all_seen};
 
-use crate::numbers::Numbers;
 use crate::pou_names::NamesOfPou;
+use crate::use_numbers::UseNumbers;
 use file_scope::FileScope;
 use naming::Seen;
 use source_tree::Name;
@@ -31,7 +31,7 @@ impl Names<'_, '_> {
     }
 
     /// What is known of the variable that a name uses. Keeps the number of the use.
-    pub fn used(&self, numbers: &mut Numbers, name: &Name) -> Result<Option<Seen>, AllocError>
+    pub fn used(&self, numbers: &mut UseNumbers, name: &Name) -> Result<Option<Seen>, AllocError>
         ensures { IfOk result (λ seen. seen ≡ seen_named (file_in self.now) (pou_in self.now) (name_view name.now).text) }
     {
         self.own.used(numbers, name)

@@ -15,9 +15,9 @@ ghost use Rattle.pou_scope.specs.AllSeen.{seen_in};
 
 use crate::declared::declared_variables;
 use crate::in_file::all_seen;
-use crate::numbers::Numbers;
 use crate::slots::{Slots, is_fault, numbered, slot_at, slots};
 use crate::slotted::Slotted;
+use crate::use_numbers::UseNumbers;
 use crate::variable_uses::variable_circles;
 use call_order::uses_in_circle;
 use file_scope::FileScope;
@@ -123,12 +123,16 @@ impl NamesOfPou<'_> {
     }
 
     /// What is known of the variable that a name uses. Keeps the number of the use.
-    pub fn used(&self, numbers: &mut Numbers, name: &Name) -> Result<Option<Seen>, AllocError>
+    pub fn used(&self, numbers: &mut UseNumbers, name: &Name) -> Result<Option<Seen>, AllocError>
         ensures { IfOk result (λ seen. seen ≡ seen_by self.now (name_view name.now).text) }
     {
-        let (slot, number) = numbered(&self.slots, name.text.as_str());
-        numbers.keep(name.at, number)?;
-        Ok(self.seen_at(slot))
+        match numbered(&self.slots, name.text.as_str()) {
+            Some((number, slot)) => {
+                numbers.keep(name.at, number);
+                Ok(self.seen_at(Some(slot)))
+            }
+            None => Ok(None),
+        }
     }
 
     /// Whether the declaration of a number uses the variable of a name in a circle.

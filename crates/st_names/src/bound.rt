@@ -8,7 +8,7 @@ ghost use Rattle.naming.specs.FileScope.{pous_of};
 
 use file_scope::{Table, end_at, standing_at};
 use naming::{Declared, Role, Slot, Standing};
-use pou_scope::{NamesOfPou, Numbers, slot_at, slot_by};
+use pou_scope::{NamesOfPou, UseNumbers, slot_at, slot_by};
 use source_tree::{Item, Name, Pou, SourceFile, TypeDeclaration};
 
 /// A variable that a name is bound to: its number in declared order, from 1, and what it is for.
@@ -24,7 +24,7 @@ pub struct Bound {
 pub struct Bindings<'f> {
     pub names: Vec<NamesOfPou<'f>>,
     pub types: Vec<&'f TypeDeclaration>,
-    pub numbers: Numbers,
+    pub numbers: UseNumbers,
     pub places: Vec<usize>,
     pub uses: Vec<Vec<usize>>,
     pub order: Vec<usize>,

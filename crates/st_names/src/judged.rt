@@ -14,7 +14,7 @@ ghost use Rattle.naming.specs.ScopeView.{pous_view};
 
 use file_scope::FileScope;
 use name_uses::{Scope, walk_body};
-use pou_scope::{Names, NamesOfPou, Numbers, append_blocks, names_of_pou, walk_declarations};
+use pou_scope::{Names, NamesOfPou, UseNumbers, append_blocks, names_of_pou, walk_declarations};
 use rules::{Outcome, Refusal};
 use source_tree::Pou;
 use std::alloc::{AllocError, Global};
@@ -24,7 +24,7 @@ use std::alloc::{AllocError, Global};
 pub struct Judged {
     pub wholes: Vec<bool>,
     pub uses: Vec<Vec<usize>>,
-    pub numbers: Numbers,
+    pub numbers: UseNumbers,
 }
 
 /// The names of each POU of a file.
@@ -48,7 +48,7 @@ pub fn all_names<'a>(
 fn judge_pou(
     alloc: Global,
     scope: &Scope<'_, '_>,
-    numbers: &mut Numbers,
+    numbers: &mut UseNumbers,
 ) -> Result<(Outcome, Vec<usize>), AllocError>
     ensures judged { let f = file_in scope.now.names in let p = pou_in scope.now.names in IfOk result (λ r. r.0 ≡ outcome_of (in_pou_scope f p (body_view scope.now.names.own.now.pou.now.body))) }
     ensures uses { let f = file_in scope.now.names in let p = pou_in scope.now.names in IfOk result (λ r. r.1.items ≡ blocks_used f p p.variables ++ calls_in_body f (body_view scope.now.names.own.now.pou.now.body)) }
@@ -85,7 +85,7 @@ pub fn judge_pous<'a, 'f>(
 {
     let mut wholes = Vec::new(alloc);
     let mut all_uses = Vec::new(alloc);
-    let mut numbers = Numbers::new(alloc);
+    let mut numbers = UseNumbers::new(alloc);
     for own in all {
         let names = Names { file, own };
         let (outcome, uses) = judge_pou(alloc, &Scope { names, pous: all }, &mut numbers)?;
