@@ -1,16 +1,12 @@
 // The names of a POU in declared order.
-ghost use Rattle.std.specs.Prelude.{◌≡◌, ◌++◌, map, OnOk, IfOk};
-ghost use Rattle.source_tree.specs.SyntaxView.{name_view, pou_kind_view, pou_view, file_view, declaration_view, declarations_view, all_variables_view};
+ghost use Rattle.std.specs.Prelude.{◌≡◌, ◌++◌, OnOk, IfOk};
+ghost use Rattle.source_tree.specs.SyntaxView.{name_view, pou_kind_view, pou_view, declaration_view, declarations_view, all_variables_view};
 ghost use Rattle.naming.specs.Scopes.{declared_by, declared_in, variables_of, result_of, variables_in_pou};
-ghost use Rattle.naming.specs.FileScope.{types_of};
-ghost use Rattle.naming.specs.ScopeView.{variables_view, types_view};
+ghost use Rattle.naming.specs.ScopeView.{variables_view};
 
 use crate::chart_names::append_names_in_body;
-use file_scope::list_declarations;
 use naming::{Declared, Role};
-use source_tree::{
-    Declaration, Expr, Name, Pou, PouKind, SourceFile, TypeDeclaration, TypeName, Variables,
-};
+use source_tree::{Declaration, Name, Pou, PouKind, Variables};
 use std::alloc::{AllocError, Global};
 
 // Appends a FUNCTION's own name.
@@ -96,12 +92,4 @@ pub fn declared_variables(alloc: Global, pou: &Pou) -> Result<Vec<Declared<'_>>,
     append_sections(&mut list, &pou.variables)?;
     append_names_in_body(alloc, &mut list, &pou.body)?;
     Ok(list)
-}
-
-/// The types that a file declares, in its order.
-pub fn declared_types(alloc: Global, file: &SourceFile) -> Result<Vec<&TypeDeclaration>, AllocError>
-    ensures { IfOk result (λ list. types_view list.items ≡ types_of (file_view file.now)) }
-{
-    let list = list_declarations(alloc, file)?;
-    Ok(list.types)
 }

@@ -16,7 +16,6 @@ mod use_numbers;
 mod variable_uses;
 
 pub use declarations::{append_blocks, instance_of, walk_declarations};
-pub use declared::{declared_types, declared_variables};
 pub use names::Names;
 pub use pou_names::{NamesOfPou, names_of_pou};
 pub use slots::{Slots, slot_at, slot_by};
