@@ -1,5 +1,5 @@
 // The names that the body of a POU may use, and what their uses break.
-ghost use Rattle.std.specs.Prelude.{◌≡◌, option_map, IfOk, IfSome, None};
+ghost use Rattle.std.specs.Prelude.{◌≡◌, option_map, None};
 ghost use Rattle.source_tree.specs.SyntaxView.{name_view, names_view, path_view, file_view, pou_view};
 ghost use Rattle.naming.specs.Broken.{member_by, in_member, in_members, in_flag, in_named, in_variable, in_outer, in_target, in_path, argument_by, in_argument_named, in_argument_name, in_called, in_enumerator, in_instance, in_connected, alone};
 ghost use Rattle.naming.specs.FileScope.{pou_at, standing};
@@ -12,7 +12,6 @@ use naming::{Callee, Seen, is_value};
 use pou_scope::{Names, NamesOfPou, UseNumbers};
 use rules::Outcome;
 use source_tree::{Name, Path};
-use std::alloc::AllocError;
 
 /// The names of a POU, and those of all POUs of its file.
 #[derive(Clone, Copy)]
@@ -76,35 +75,22 @@ fn flag(first: &Name, members: &[Name]) -> Outcome
 
 impl Scope<'_, '_> {
     // What is known of a name in the POU of a number. Keeps the number of its use.
-    fn seen_in(
-        &self,
-        numbers: &mut UseNumbers,
-        number: usize,
-        name: &Name,
-    ) -> Result<Option<Option<Seen>>, AllocError>
-        ensures { let f = file_in self.now.names in IfOk result (λ seen. seen ≡ option_map (λ p. seen_named f (scope_of p) (name_view name.now).text) (pou_at f number)) }
+    fn seen_in(&self, numbers: &mut UseNumbers, number: usize, name: &Name) -> Option<Option<Seen>>
+        ensures { let f = file_in self.now.names in result ≡ option_map (λ p. seen_named f (scope_of p) (name_view name.now).text) (pou_at f number) }
     {
         match self.pous.get(number) {
-            Some(own) => {
-                let seen = own.used(numbers, name)?;
-                Ok(Some(seen))
-            }
-            None => Ok(None),
+            Some(own) => Some(own.used(numbers, name)),
+            None => None,
         }
     }
 
     // A member of the block of a number.
-    fn member(
-        &self,
-        numbers: &mut UseNumbers,
-        block: usize,
-        name: &Name,
-    ) -> Result<Outcome, AllocError>
-        ensures { IfOk result (λ o. o ≡ outcome_of (in_member (file_in self.now.names) block (name_view name.now))) }
+    fn member(&self, numbers: &mut UseNumbers, block: usize, name: &Name) -> Outcome
+        ensures { result ≡ outcome_of (in_member (file_in self.now.names) block (name_view name.now)) }
     {
-        match self.seen_in(numbers, block, name)? {
-            Some(seen) => Ok(member_by(seen, name)),
-            None => Ok(Outcome::suppressed()),
+        match self.seen_in(numbers, block, name) {
+            Some(seen) => member_by(seen, name),
+            None => Outcome::suppressed(),
         }
     }
 
@@ -115,39 +101,29 @@ impl Scope<'_, '_> {
         block: usize,
         first: &Name,
         members: &[Name],
-    ) -> Result<Outcome, AllocError>
-        ensures { IfOk result (λ o. o ≡ outcome_of (in_members (file_in self.now.names) block (name_view first.now) (names_view members.now))) }
+    ) -> Outcome
+        ensures { result ≡ outcome_of (in_members (file_in self.now.names) block (name_view first.now) (names_view members.now)) }
     {
         let Some((name, rest)) = members.split_first() else {
-            return Ok(misused(first));
+            return misused(first);
         };
-        let member = self.member(numbers, block, name)?;
-        if member.whole {
-            Ok(too_deep(rest))
-        } else {
-            Ok(member)
-        }
+        let member = self.member(numbers, block, name);
+        if member.whole { too_deep(rest) } else { member }
     }
 
     // A path that begins with a name of the POU whose declaration breaks no rule.
-    fn named(
-        &self,
-        numbers: &mut UseNumbers,
-        seen: Seen,
-        first: &Name,
-        members: &[Name],
-    ) -> Result<Outcome, AllocError>
-        ensures { IfOk result (λ o. o ≡ outcome_of (in_named (file_in self.now.names) seen (record { first = name_view first.now; members = names_view members.now }))) }
+    fn named(&self, numbers: &mut UseNumbers, seen: Seen, first: &Name, members: &[Name]) -> Outcome
+        ensures { result ≡ outcome_of (in_named (file_in self.now.names) seen (record { first = name_view first.now; members = names_view members.now })) }
     {
         let role = seen.role;
         if role.is_step() {
-            Ok(flag(first, members))
+            flag(first, members)
         } else if role.is_action() || role.is_transition() {
-            Ok(misused(first))
+            misused(first)
         } else {
             match seen.block {
                 Some(block) => self.members(numbers, block, first, members),
-                None => Ok(too_deep(members)),
+                None => too_deep(members),
             }
         }
     }
@@ -159,13 +135,13 @@ impl Scope<'_, '_> {
         seen: Seen,
         first: &Name,
         members: &[Name],
-    ) -> Result<Outcome, AllocError>
-        ensures { IfOk result (λ o. o ≡ outcome_of (in_variable (file_in self.now.names) seen (record { first = name_view first.now; members = names_view members.now }))) }
+    ) -> Outcome
+        ensures { result ≡ outcome_of (in_variable (file_in self.now.names) seen (record { first = name_view first.now; members = names_view members.now })) }
     {
         if seen.whole {
             self.named(numbers, seen, first, members)
         } else {
-            Ok(Outcome::suppressed())
+            Outcome::suppressed()
         }
     }
 
@@ -180,30 +156,25 @@ impl Scope<'_, '_> {
     }
 
     // A target, by its names.
-    fn target_of(
-        &self,
-        numbers: &mut UseNumbers,
-        first: &Name,
-        members: &[Name],
-    ) -> Result<Outcome, AllocError>
-        ensures { let f = file_in self.now.names in let p = pou_in self.now.names in let n = name_view first.now in IfOk result (λ o. o ≡ outcome_of (in_target f p (seen_named f p n.text) (record { first = n; members = names_view members.now }))) }
+    fn target_of(&self, numbers: &mut UseNumbers, first: &Name, members: &[Name]) -> Outcome
+        ensures { let f = file_in self.now.names in let p = pou_in self.now.names in let n = name_view first.now in result ≡ outcome_of (in_target f p (seen_named f p n.text) (record { first = n; members = names_view members.now })) }
     {
-        match self.names.used(numbers, first)? {
+        match self.names.used(numbers, first) {
             Some(seen) => self.variable(numbers, seen, first, members),
-            None => Ok(self.outer(first)),
+            None => self.outer(first),
         }
     }
 
     /// The path of a target. Keeps the numbers of its names.
-    pub fn target(&self, numbers: &mut UseNumbers, path: &Path) -> Result<Outcome, AllocError>
-        ensures { let f = file_in self.now.names in let p = pou_in self.now.names in let q = path_view path.now in IfOk result (λ o. o ≡ outcome_of (in_target f p (seen_named f p q.first.text) q)) }
+    pub fn target(&self, numbers: &mut UseNumbers, path: &Path) -> Outcome
+        ensures { let f = file_in self.now.names in let p = pou_in self.now.names in let q = path_view path.now in result ≡ outcome_of (in_target f p (seen_named f p q.first.text) q) }
     {
         self.target_of(numbers, &path.first, &path.members)
     }
 
     /// The control variable of a FOR. Keeps its number.
-    pub fn control(&self, numbers: &mut UseNumbers, name: &Name) -> Result<Outcome, AllocError>
-        ensures { let f = file_in self.now.names in let p = pou_in self.now.names in let n = name_view name.now in IfOk result (λ o. o ≡ outcome_of (in_target f p (seen_named f p n.text) (alone n))) }
+    pub fn control(&self, numbers: &mut UseNumbers, name: &Name) -> Outcome
+        ensures { let f = file_in self.now.names in let p = pou_in self.now.names in let n = name_view name.now in result ≡ outcome_of (in_target f p (seen_named f p n.text) (alone n)) }
     {
         self.target_of(numbers, name, &[])
     }
@@ -222,12 +193,12 @@ impl Scope<'_, '_> {
     }
 
     /// A path that is read. Keeps the numbers of its names.
-    pub fn path(&self, numbers: &mut UseNumbers, path: &Path) -> Result<Outcome, AllocError>
-        ensures { let f = file_in self.now.names in let p = pou_in self.now.names in let q = path_view path.now in IfOk result (λ o. o ≡ outcome_of (in_path f p (seen_named f p q.first.text) q)) }
+    pub fn path(&self, numbers: &mut UseNumbers, path: &Path) -> Outcome
+        ensures { let f = file_in self.now.names in let p = pou_in self.now.names in let q = path_view path.now in result ≡ outcome_of (in_path f p (seen_named f p q.first.text) q) }
     {
-        match self.names.used(numbers, &path.first)? {
+        match self.names.used(numbers, &path.first) {
             Some(seen) => self.variable(numbers, seen, &path.first, &path.members),
-            None => Ok(self.outer_path(path)),
+            None => self.outer_path(path),
         }
     }
 
@@ -249,21 +220,16 @@ impl Scope<'_, '_> {
     }
 
     // The name of an argument.
-    fn argument_named(
-        &self,
-        numbers: &mut UseNumbers,
-        callee: Callee,
-        name: &Name,
-    ) -> Result<Outcome, AllocError>
-        ensures { IfOk result (λ o. o ≡ outcome_of (in_argument_named (file_in self.now.names) callee (name_view name.now))) }
+    fn argument_named(&self, numbers: &mut UseNumbers, callee: Callee, name: &Name) -> Outcome
+        ensures { result ≡ outcome_of (in_argument_named (file_in self.now.names) callee (name_view name.now)) }
     {
         match callee {
-            Callee::Standard => Ok(unknown(name)),
-            Callee::Function(number) => match self.seen_in(numbers, number, name)? {
-                Some(seen) => Ok(argument_by(seen, name)),
-                None => Ok(Outcome::suppressed()),
+            Callee::Standard => unknown(name),
+            Callee::Function(number) => match self.seen_in(numbers, number, name) {
+                Some(seen) => argument_by(seen, name),
+                None => Outcome::suppressed(),
             },
-            Callee::Unknown => Ok(Outcome::ok()),
+            Callee::Unknown => Outcome::ok(),
         }
     }
 
@@ -273,12 +239,12 @@ impl Scope<'_, '_> {
         numbers: &mut UseNumbers,
         callee: Callee,
         name: &Option<Name>,
-    ) -> Result<Outcome, AllocError>
-        ensures { IfOk result (λ o. o ≡ outcome_of (in_argument_name (file_in self.now.names) callee (option_map name_view name.now))) }
+    ) -> Outcome
+        ensures { result ≡ outcome_of (in_argument_name (file_in self.now.names) callee (option_map name_view name.now)) }
     {
         match name {
             Some(name) => self.argument_named(numbers, callee, name),
-            None => Ok(Outcome::ok()),
+            None => Outcome::ok(),
         }
     }
 
@@ -302,17 +268,12 @@ impl Scope<'_, '_> {
     }
 
     /// The name of a connection of a block's call. Keeps its number.
-    pub fn connected(
-        &self,
-        numbers: &mut UseNumbers,
-        block: Option<usize>,
-        name: &Name,
-    ) -> Result<Outcome, AllocError>
-        ensures { IfOk result (λ o. o ≡ outcome_of (in_connected (file_in self.now.names) block (name_view name.now))) }
+    pub fn connected(&self, numbers: &mut UseNumbers, block: Option<usize>, name: &Name) -> Outcome
+        ensures { result ≡ outcome_of (in_connected (file_in self.now.names) block (name_view name.now)) }
     {
         match block {
             Some(block) => self.member(numbers, block, name),
-            None => Ok(Outcome::ok()),
+            None => Outcome::ok(),
         }
     }
 }

@@ -29,7 +29,7 @@ pub fn walk_expr(
     match expr {
         Expr::Literal(_) => Ok(()),
         Expr::Path(path) => {
-            *outcome = outcome.also(scope.path(numbers, path)?);
+            *outcome = outcome.also(scope.path(numbers, path));
             Ok(())
         }
         Expr::Enumerator(kind, value) => {
@@ -85,7 +85,7 @@ fn walk_arguments(
     ensures calls { OnOk result (calls.new.items ≡ calls.old.items ++ calls_in_arguments (file_in scope.now.names) (arguments_view arguments.now)) }
 {
     for argument in arguments {
-        *outcome = outcome.also(scope.argument_name(numbers, callee, &argument.name)?);
+        *outcome = outcome.also(scope.argument_name(numbers, callee, &argument.name));
         walk_expr(scope, &argument.value, outcome, numbers, calls)?;
     }
     Ok(())
@@ -140,7 +140,7 @@ fn walk_iteration(
     ensures judged { OnOk result (outcome.new ≡ both outcome.old (outcome_of (in_iteration (file_in scope.now.names) (pou_in scope.now.names) (iteration_view iteration.now)))) }
     ensures calls { OnOk result (calls.new.items ≡ calls.old.items ++ calls_in_iteration (file_in scope.now.names) (iteration_view iteration.now)) }
 {
-    *outcome = outcome.also(scope.control(numbers, &iteration.control)?);
+    *outcome = outcome.also(scope.control(numbers, &iteration.control));
     walk_expr(scope, &iteration.first, outcome, numbers, calls)?;
     walk_expr(scope, &iteration.last, outcome, numbers, calls)?;
     walk_step(scope, &iteration.step, outcome, numbers, calls)
@@ -161,12 +161,12 @@ fn walk_connection(
 {
     match connection {
         Connection::Input(name, value) => {
-            *outcome = outcome.also(scope.connected(numbers, block, name)?);
+            *outcome = outcome.also(scope.connected(numbers, block, name));
             walk_expr(scope, value, outcome, numbers, calls)
         }
         Connection::Output(name, target) => {
-            *outcome = outcome.also(scope.connected(numbers, block, name)?);
-            *outcome = outcome.also(scope.target(numbers, target)?);
+            *outcome = outcome.also(scope.connected(numbers, block, name));
+            *outcome = outcome.also(scope.target(numbers, target));
             Ok(())
         }
     }
@@ -226,11 +226,11 @@ fn walk_stmt(
     match stmt {
         Stmt::Empty => Ok(()),
         Stmt::Assign(target, value) => {
-            *outcome = outcome.also(scope.target(numbers, target)?);
+            *outcome = outcome.also(scope.target(numbers, target));
             walk_expr(scope, value, outcome, numbers, calls)
         }
         Stmt::Call(name, _, connections) => {
-            let seen = scope.names.used(numbers, name)?;
+            let seen = scope.names.used(numbers, name);
             *outcome = outcome.also(scope.instance(seen, name));
             walk_connections(
                 scope,

@@ -6,7 +6,7 @@ use Rattle.std.proofs.lemmas.Bool.{eqb-true, eqb-false}
 use Rattle.std.proofs.lemmas.Grind.{get_or-set_at}
 use Rattle.pou_scope.specs.UseNumbers.{IsKept}
 
-none_read : (more k : ℕ) → get_or (replicate more None) k None ≡ (let none : Option ℕ = None in none)
+none_read : (more k : ℕ) → get_or {A = Option ℕ} (replicate more None) k None ≡ None
 none_read zero k = refl
 none_read (suc more) zero = refl
 none_read (suc more) (suc k) = none_read more k

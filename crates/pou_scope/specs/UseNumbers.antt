@@ -1,7 +1,8 @@
 -- The numbers of a file's uses of variables, by half of the place of each, and the entries that they lead to.
-use Rattle.std.specs.Prelude.{◌≡◌, ℕ, ◌/◌, nat_eq, List, Option, Some, None, String, option_map, slice_get, slice_index_or, if◌then◌else◌}
+use Rattle.std.specs.Prelude.{◌≡◌, ◌⊎◌, ℕ, ◌/◌, nat_eq, List, Option, Some, None, String, option_map, slice_get, slice_index_or, if◌then◌else◌}
 use Rattle.std.specs.HashMap.{HashMap, keys}
 use Rattle.std.specs.String.{string_bytes}
+use Rattle.source_tree.specs.Syntax.{Named}
 
 -- the number of the use at a place, where one is kept
 abbrev pub number_at : List (Option ℕ) → ℕ → Option ℕ
@@ -14,3 +15,7 @@ IsKept old at number new = (other : ℕ) → number_at new other ≡ (if nat_eq 
 -- the text of the entry of a number
 abbrev pub text_at : {Y X S : Type 0} → HashMap (String Y) X S → ℕ → Option (List ℕ)
 text_at m number = option_map string_bytes (slice_get (keys m) number)
+
+-- of the use of a name the number of its entry is kept, or nothing changes
+abbrev pub NotesUse : {Y X S : Type 0} → HashMap (String Y) X S → Named → List (Option ℕ) → List (Option ℕ) → Type 0
+NotesUse m name old new = (new ≡ old) ⊎ ((number : ℕ) × (text_at m number ≡ Some name.text) × IsKept old name.at number new)

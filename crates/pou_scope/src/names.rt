@@ -1,5 +1,5 @@
 // The names of a POU, in the file around it.
-ghost use Rattle.std.specs.Prelude.{◌≡◌, IfOk};
+ghost use Rattle.std.specs.Prelude.{◌≡◌};
 ghost use Rattle.source_tree.specs.SyntaxView.{name_view, file_view};
 ghost use Rattle.naming.specs.Scopes.{scope_with, seen_named};
 ghost use Rattle.naming.specs.ScopeView.{variables_view};
@@ -10,7 +10,6 @@ use crate::use_numbers::UseNumbers;
 use file_scope::FileScope;
 use naming::Seen;
 use source_tree::Name;
-use std::alloc::AllocError;
 
 /// A POU's names, and those of the file around it.
 #[derive(Clone, Copy)]
@@ -22,6 +21,7 @@ pub struct Names<'a, 'f> {
 
 impl Names<'_, '_> {
     ghost use Rattle.pou_scope.specs.NamesView.{file_in, pou_in};
+    ghost use Rattle.pou_scope.specs.UseNumbers.{NotesUse};
 
     /// What is known of the variable of a name.
     pub fn seen(&self, name: &Name) -> Option<Seen>
@@ -31,8 +31,9 @@ impl Names<'_, '_> {
     }
 
     /// What is known of the variable that a name uses. Keeps the number of the use.
-    pub fn used(&self, numbers: &mut UseNumbers, name: &Name) -> Result<Option<Seen>, AllocError>
-        ensures { IfOk result (λ seen. seen ≡ seen_named (file_in self.now) (pou_in self.now) (name_view name.now).text) }
+    pub fn used(&self, numbers: &mut UseNumbers, name: &Name) -> Option<Seen>
+        ensures seen { result ≡ seen_named (file_in self.now) (pou_in self.now) (name_view name.now).text }
+        ensures numbers { NotesUse self.now.own.now.slots (name_view name.now) numbers.old numbers.new }
     {
         self.own.used(numbers, name)
     }

@@ -1,5 +1,5 @@
 // The names of a POU, and what is known of each of its variables.
-ghost use Rattle.std.specs.Prelude.{◌≡◌, ◌-◌, [], IfOk, option_and_then};
+ghost use Rattle.std.specs.Prelude.{◌≡◌, ◌-◌, [], IfOk};
 ghost use Rattle.std.specs.List.{slice_get};
 ghost use Rattle.source_tree.specs.SyntaxView.{name_view, pou_kind_view, pou_view, file_view};
 ghost use Rattle.naming.specs.FileScope.{is_program};
@@ -78,6 +78,7 @@ pub fn names_of_pou<'a>(
 
 impl NamesOfPou<'_> {
     ghost use Rattle.pou_scope.specs.NamesView.{scope_named, seen_by};
+    ghost use Rattle.pou_scope.specs.UseNumbers.{NotesUse};
 
     // The variables, and their slots.
     fn slotted(&self) -> Slotted<'_>
@@ -106,33 +107,27 @@ impl NamesOfPou<'_> {
     }
 
     // What is known of the variable of a name that has this slot.
-    fn seen_at(&self, slot: Option<Slot>) -> Option<Seen>
-        ensures { result ≡ option_and_then (λ s. slice_get self.now.seen.items (s.number - 1)) slot }
+    fn seen_at(&self, slot: Slot) -> Option<Seen>
+        ensures { result ≡ slice_get self.now.seen.items (slot.number - 1) }
     {
-        match slot {
-            Some(slot) => self.seen.get(slot.number.saturating_sub(1)).copied(),
-            None => None,
-        }
+        self.seen.get(slot.number.saturating_sub(1)).copied()
     }
 
     /// What is known of the variable of a name.
     pub fn seen(&self, name: &Name) -> Option<Seen>
         ensures { result ≡ seen_by self.now (name_view name.now).text }
     {
-        self.seen_at(slot_at(&self.slots, name.text.as_str()))
+        self.seen_at(slot_at(&self.slots, name.text.as_str())?)
     }
 
     /// What is known of the variable that a name uses. Keeps the number of the use.
-    pub fn used(&self, numbers: &mut UseNumbers, name: &Name) -> Result<Option<Seen>, AllocError>
-        ensures { IfOk result (λ seen. seen ≡ seen_by self.now (name_view name.now).text) }
+    pub fn used(&self, numbers: &mut UseNumbers, name: &Name) -> Option<Seen>
+        ensures seen { result ≡ seen_by self.now (name_view name.now).text }
+        ensures numbers { NotesUse self.now.slots (name_view name.now) numbers.old numbers.new }
     {
-        match numbered(&self.slots, name.text.as_str()) {
-            Some((number, slot)) => {
-                numbers.keep(name.at, number);
-                Ok(self.seen_at(Some(slot)))
-            }
-            None => Ok(None),
-        }
+        let (number, slot) = numbered(&self.slots, name.text.as_str())?;
+        numbers.keep(name.at, number);
+        self.seen_at(slot)
     }
 
     /// Whether the declaration of a number uses the variable of a name in a circle.

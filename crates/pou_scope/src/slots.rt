@@ -83,7 +83,7 @@ fn slot_numbered(slots: &Slots, number: Option<usize>, text: &str) -> Option<Slo
     }
 }
 
-/// The slot of a name, of whose entry this is the number; where it is not, the name is looked up.
+/// The slot of a name, of whose entry this is the number; where there is none, or another's, the name is looked up.
 pub fn slot_by(slots: &Slots, number: Option<usize>, text: &str) -> Option<Slot>
     ensures { result ≡ get_by_text slots.now text.now }
 {

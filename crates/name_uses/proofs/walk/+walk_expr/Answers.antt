@@ -100,7 +100,7 @@ walk_arguments-loop-argument-preserved t c =
     let more = map argument_view (drop (c.loop-argument.argument-index + 1) c.args.arguments.now) in
     let left = view-drop argument_view c.args.arguments.now c.loop-argument.argument-index x (omega arith) c.argument-item.is ∙ ap (λ (a : ArgumentData). a ∷ more) (argument_view-out x) in
     let all = ap (λ args. both c.loop-argument.outcome (outcome_of (in_arguments f p c.args.callee (arguments_of args)))) (sym left) ∙ c.loop-argument.invariant.judged in
-    let name = c.also.ensures ∙ ap (both c.loop-argument.outcome) c.in_ok-argument_name.ensures in
+    let name = c.also.ensures ∙ ap (both c.loop-argument.outcome) c.argument_name.ensures in
     let step = then_on c.loop-argument.outcome c.also.result c.walk_expr.new.outcome own (in_tree f p (tree_view x.value)) name c.in_ok-walk_expr.ensures.judged in
     let calls = c.loop-argument.calls.items in
     record {

@@ -28,13 +28,13 @@ use Rattle.naming.proofs.Steps.{view-drop}
 use Rattle.name_uses.proofs.Parts.{behind}
 use Rattle.name_uses.proofs.walk.+walk_stmts.Goals as goal
 
-pub walk_stmt-returns-in_ok-target-in-Assign-clause-judged : goal.walk_stmt-returns-in_ok-target-in-Assign-clause-judged
-walk_stmt-returns-in_ok-target-in-Assign-clause-judged t c =
+pub walk_stmt-returns-in-Assign-clause-judged : goal.walk_stmt-returns-in-Assign-clause-judged
+walk_stmt-returns-in-Assign-clause-judged t c =
     let f = file_in c.args.scope.now.names in
     let p = pou_in c.args.scope.now.names in
     let q = path_view c.in-Assign.target in
     let shape : stmt_view c.args.stmt.now ≡ assign q (tree_view c.in-Assign.value) = ap stmt_view (c.in-Assign.is ∙ sym (rolls-Assign c.in-Assign.target c.in-Assign.value)) ∙ fold-roll-Stmt Stmt ArmData EntryData stmt_step arm_step entry_step _ in
-    let target = c.also.ensures ∙ ap (both c.args.outcome.now) c.in_ok-target-in-Assign.ensures in
+    let target = c.also.ensures ∙ ap (both c.args.outcome.now) c.target.ensures in
     let all = behind c.args.outcome.now c.also.result (in_target f p (seen_named f p q.first.text) q) (in_tree f p (tree_view c.in-Assign.value)) target in
     rw shape (subst (λ (o : Outcome). OnOk c.walk_expr.result (c.walk_expr.new.outcome ≡ o)) all c.walk_expr.ensures.judged)
 
@@ -162,16 +162,16 @@ walk_stmt-returns-in-Empty-clause-judged t c =
     let shape : stmt_view c.args.stmt.now ≡ empty = ap stmt_view (c.in-Empty.is ∙ sym rolls-Empty) ∙ fold-roll-Stmt Stmt ArmData EntryData stmt_step arm_step entry_step _ in
     sym (both_ok c.args.outcome.now) ∙ ap (λ s. both c.args.outcome.now (outcome_of (in_stmt f p s))) (sym shape)
 
-pub walk_stmt-returns-in_ok-seen-in-Call-clause-judged : goal.walk_stmt-returns-in_ok-seen-in-Call-clause-judged
-walk_stmt-returns-in_ok-seen-in-Call-clause-judged t c =
+pub walk_stmt-returns-in-Call-clause-judged : goal.walk_stmt-returns-in-Call-clause-judged
+walk_stmt-returns-in-Call-clause-judged t c =
     let f = file_in c.args.scope.now.names in
     let p = pou_in c.args.scope.now.names in
     let n = name_view c.in-Call.name in
     let cs = c.in-Call.connections.items in
     let s = seen_named f p n.text in
     let shape : stmt_view c.args.stmt.now ≡ invoke n c.in-Call.field-1 (connections_view cs) = ap stmt_view (c.in-Call.is ∙ sym (rolls-Call c.in-Call.name c.in-Call.field-1 c.in-Call.connections)) ∙ fold-roll-Stmt Stmt ArmData EntryData stmt_step arm_step entry_step _ in
-    let name = c.also-in-Call.ensures ∙ ap (both c.args.outcome.now) (c.instance.ensures ∙ ap (λ (o : Option Seen). outcome_of (in_instance f p o n)) c.in_ok-seen-in-Call.ensures) in
-    let all = ap (λ block. both c.also-in-Call.result (outcome_of (in_connections f p block (connections_view c.deref.result.now)))) (c.instance_of.ensures ∙ ap instance_of c.in_ok-seen-in-Call.ensures)
+    let name = c.also-in-Call.ensures ∙ ap (both c.args.outcome.now) (c.instance.ensures ∙ ap (λ (o : Option Seen). outcome_of (in_instance f p o n)) c.used-seen.ensures.seen) in
+    let all = ap (λ block. both c.also-in-Call.result (outcome_of (in_connections f p block (connections_view c.deref.result.now)))) (c.instance_of.ensures ∙ ap instance_of c.used-seen.ensures.seen)
     ∙ ap (λ (list : List Connection). both c.also-in-Call.result (outcome_of (in_connections f p (instance_of s) (connections_view list)))) c.deref.ensures.value
     ∙ behind c.args.outcome.now c.also-in-Call.result (in_instance f p s n) (in_connections f p (instance_of s) (connections_view cs)) name in
     rw shape (subst (λ (o : Outcome). OnOk c.walk_connections.result (c.walk_connections.new.outcome ≡ o)) all c.walk_connections.ensures.judged)

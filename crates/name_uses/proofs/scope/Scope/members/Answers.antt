@@ -14,7 +14,7 @@ returns-then-member c =
     let n = name_view c.in-Some.name.now in
     let ns = names_view c.in-Some.rest.now in
     let parts : names_view c.args.members.now ≡ n ∷ ns = ap names_view c.in-Some.ensures.cases.0 in
-    c.too_deep.ensures ∙ ap outcome_of (member_whole f c.args.block first n ns c.in_ok-member.member c.in_ok-member.ensures c.if-member.true)
+    c.too_deep.ensures ∙ ap outcome_of (member_whole f c.args.block first n ns c.member-member.result c.member-member.ensures c.if-member.true)
     ∙ ap (λ (all : List Named). outcome_of (in_members f c.args.block first all)) (sym parts)
 
 pub returns-else-member : goal.returns-else-member
@@ -24,5 +24,5 @@ returns-else-member c =
     let n = name_view c.in-Some.name.now in
     let ns = names_view c.in-Some.rest.now in
     let parts : names_view c.args.members.now ≡ n ∷ ns = ap names_view c.in-Some.ensures.cases.0 in
-    c.in_ok-member.ensures ∙ ap outcome_of (member_broken f c.args.block first n ns c.in_ok-member.member c.in_ok-member.ensures c.if-member.false)
+    c.member-member.ensures ∙ ap outcome_of (member_broken f c.args.block first n ns c.member-member.result c.member-member.ensures c.if-member.false)
     ∙ ap (λ (all : List Named). outcome_of (in_members f c.args.block first all)) (sym parts)
