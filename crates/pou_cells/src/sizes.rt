@@ -1,5 +1,5 @@
 // The sizes of POUs, and M2: how many cells a PROGRAM has.
-ghost use Rattle.std.specs.Prelude.{◌≡◌, ◌-◌, ◌^◌, [], map, slice_set, nat_lt, IfOk};
+ghost use Rattle.std.specs.Prelude.{◌≡◌, ◌-◌, ◌^◌, map, slice_set, nat_lt, IfOk};
 ghost use Rattle.std.specs.List.{list_all};
 ghost use Rattle.decl_types.specs.Bodies.{file_in};
 ghost use Rattle.decl_types.specs.ToldView.{told_view};
@@ -39,7 +39,6 @@ fn keep(sizes: &mut [usize], number: usize, size: usize)
 /// The sizes of the POUs that are reached; the greatest number of 64 bits stands for any greater one.
 #[tactic(auto, unfolding(typing::specs::Places::sizes_of))]
 pub fn capped_sizes(alloc: Global, pous: &Pous<'_>) -> Result<Vec<usize>, AllocError>
-    requires { pous.now.sizes.items ≡ [] }
     ensures { IfOk result (λ sizes. sizes.items ≡ map capped (sizes_of (file_in pous.now.domains))) }
 {
     let mut sizes = vec![in alloc; 0; pous.domains.types.names.pou_count()]?;
@@ -52,8 +51,7 @@ pub fn capped_sizes(alloc: Global, pous: &Pous<'_>) -> Result<Vec<usize>, AllocE
 
 /// M2: whether the PROGRAM of a number has at most so many cells, FAULT and those of its instances among them.
 pub fn has_room(pous: &Pous<'_>, sizes: &[usize], number: usize) -> bool
-    requires none { pous.now.sizes.items ≡ [] }
-    requires sizes { sizes.now ≡ map capped (sizes_of (file_in pous.now.domains)) }
+    requires { sizes.now ≡ map capped (sizes_of (file_in pous.now.domains)) }
     ensures { result ≡ has_room (file_in pous.now.domains) number }
 {
     capped_cells(sizes, pous.told_at(number)) < MOST_CELLS

@@ -11,4 +11,4 @@ returns c =
     let f = file_in c.args.pous.now.domains in
     let k = c.args.number in
     room_of (count_of_cells f (sizes_of f) (variables_at f k)) c.capped_cells.result
-    (c.capped_cells.ensures ∙ ap (capped_cells c.args.sizes.now) c.told_at.ensures ∙ ap (λ (t : List ℕ). capped_cells t (told_at f k)) c.requires.sizes ∙ capped_count f (sizes_of f) k)
+    (c.capped_cells.ensures ∙ ap (capped_cells c.args.sizes.now) c.told_at.ensures ∙ ap (λ (t : List ℕ). capped_cells t (told_at f k)) c.requires ∙ capped_count f (sizes_of f) k)
