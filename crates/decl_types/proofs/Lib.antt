@@ -1,1 +1,3 @@
+mod SpelledLemmas
 pub mod ToldLemmas
+mod UnknownKinds

@@ -1,3 +1,4 @@
 pub mod Bodies
+pub mod Spelled
 pub mod Told
 pub mod ToldView

@@ -1,6 +1,7 @@
 // The values that variables begin with.
-ghost use Rattle.std.specs.Prelude.{◌≡◌, option_map, Some, Bool, if◌then◌else◌, IfOk};
+ghost use Rattle.std.specs.Prelude.{◌≡◌, option_map, Some, Bool, false, if◌then◌else◌, IfOk};
 ghost use Rattle.source_tree.specs.SyntaxView.{tree_view};
+ghost use Rattle.plc_types.specs.declared.data_type.DataType.TheVariants.{Unknown};
 ghost use Rattle.plc_types.specs.Types.{in_range};
 ghost use Rattle.decl_types.specs.Bodies.{file_of};
 ghost use Rattle.rules.specs.Outcomes.{outcome_of};
@@ -72,8 +73,8 @@ fn start_with(whole: bool, given: i64, domain: Domain) -> i64
     if whole { given } else { domain.start }
 }
 
-/// What an initial value breaks, where that of a type that breaks a rule is not looked at; and the value that a variable of a domain
-/// begins with: the initial value, or that of the type where none is written or where it breaks a rule.
+/// What an initial value breaks, where that of a type that breaks a rule, or of an instance, is not looked at; and the value that a
+/// variable of a domain begins with: the initial value, or that of the type where none is written or where it breaks a rule.
 #[tactic(auto, unfolding(rules::specs::Outcomes::outcome_of))]
 pub(crate) fn judged_initial_value(
     alloc: Global,
@@ -82,14 +83,14 @@ pub(crate) fn judged_initial_value(
     at: usize,
     initial: Option<&Expr>,
 ) -> Result<(Outcome, i64), AllocError>
+    requires { domain.whole ≡ false → domain.kind ≡ Unknown }
     ensures judged { IfOk result (λ r. r.0 ≡ outcome_of (judged_value (file_of file.now) domain at (option_map (λ e. tree_view e.now) initial.entry))) }
     ensures start { IfOk result (λ r. r.1 ≡ start_of (file_of file.now) domain at (option_map (λ e. tree_view e.now) initial.entry)) }
 {
+    if !domain.whole {
+        return Ok((Outcome::suppressed(), domain.start));
+    }
     let (judged, given) = judge_initial(alloc, file, domain, at, initial)?;
     let start = start_with(judged.whole, given, domain);
-    if domain.whole {
-        Ok((judged, start))
-    } else {
-        Ok((Outcome::suppressed(), start))
-    }
+    Ok((judged, start))
 }

@@ -1,18 +1,20 @@
 // What types break where they are spelled, and the values that they allow.
 ghost use Rattle.std.specs.Prelude.{◌≡◌, IfOk, Bool, if◌then◌else◌};
-ghost use Rattle.source_tree.specs.SyntaxView.{name_view, type_view, specification_view};
+ghost use Rattle.source_tree.specs.SyntaxView.{type_view};
 ghost use Rattle.naming.specs.FileScope.{types_of};
 ghost use Rattle.decl_types.specs.Bodies.{file_in};
-ghost use Rattle.typing.specs.Domains.{domain_of, judged_type, judged_specification};
+ghost use Rattle.decl_types.specs.Spelled.{spelled_outcome};
+ghost use Rattle.typing.specs.Domains.{domain_of, judged_type};
 ghost use Rattle.rules.specs.Judgements.{ok, suppressed};
 ghost use Rattle.rules.specs.Outcomes.{outcome_of};
 ghost use Rattle.typing.specs.Outcomes.{types_outcome};
 
 use crate::domains::Domains;
-use crate::elementary_domains::{elementary_domain, has_few};
+use crate::elementary_domains::elementary_domain;
+use crate::own_domains::Spelled;
 use crate::subranges::judged_subrange_domain;
-use rules::{Outcome, Rule};
-use source_tree::{Name, Specification, TypeName};
+use rules::Outcome;
+use source_tree::TypeName;
 use std::alloc::{AllocError, Global};
 use typing::Domain;
 
@@ -48,43 +50,23 @@ pub(crate) fn judged_type(
     }
 }
 
-// M3: an enumeration has few values.
-fn judge_specification(
-    alloc: Global,
-    domains: &Domains<'_>,
-    name: &Name,
-    specification: &Specification,
-) -> Result<Outcome, AllocError>
-    ensures { IfOk result (λ o. o ≡ outcome_of (judged_specification (file_in domains.now) (name_view name.now) (specification_view specification.now))) }
+// What a declaration breaks, which was judged or names another type.
+fn spelled_outcome(domains: &Domains<'_>, spelled: Spelled<'_>) -> Outcome
+    ensures { result ≡ spelled_outcome (file_in domains.now) spelled.entry }
 {
-    match specification {
-        Specification::Type(kind) => {
-            let (judged, _) = judged_type(alloc, domains, kind)?;
-            Ok(judged)
-        }
-        Specification::Enumeration(_, _, others) => {
-            if has_few(others) {
-                Ok(Outcome::ok())
-            } else {
-                Ok(Outcome::breaks(Rule::TooManyValues, name.at))
-            }
-        }
+    match spelled {
+        Spelled::Judged(judged) => judged,
+        Spelled::Named(name) => sound_or_silent(domains.named(name.text.as_str()).whole),
     }
 }
 
 /// What the types of a file break.
-pub fn judge_types(alloc: Global, domains: &Domains<'_>) -> Result<Outcome, AllocError>
-    ensures { IfOk result (λ o. o ≡ types_outcome (file_in domains.now) (outcome_of ok) (types_of (file_in domains.now))) }
+pub fn judge_types(domains: &Domains<'_>) -> Outcome
+    ensures { result ≡ types_outcome (file_in domains.now) (outcome_of ok) (types_of (file_in domains.now)) }
 {
     let mut judged = Outcome::ok();
-    for declaration in domains.types.types.iter() {
-        let own = judge_specification(
-            alloc,
-            domains,
-            &declaration.name,
-            &declaration.specification,
-        )?;
-        judged = judged.also(own);
+    for spelled in &domains.judged {
+        judged = judged.also(spelled_outcome(domains, *spelled));
     }
-    Ok(judged)
+    judged
 }

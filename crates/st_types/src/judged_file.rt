@@ -24,7 +24,7 @@ fn judge_file(alloc: Global, pous: &Pous<'_>) -> Result<Option<Refusal>, AllocEr
     requires { HasNoSizes pous.now }
     ensures { IfOk result (λ first. first ≡ first_in (broken_types (file_in pous.now.domains))) }
 {
-    let types = judge_types(alloc, &pous.domains)?;
+    let types = judge_types(&pous.domains);
     let judged = judge_pous(alloc, pous, types)?;
     Ok(judged.first)
 }
