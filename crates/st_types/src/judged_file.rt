@@ -56,6 +56,8 @@ fn test_pous(alloc: Global, pous: &Pous<'_>, number: usize) -> Result<Vec<usize>
 pub fn check<'p>(alloc: Global, names: &'p Resolved<'p>) -> Result<Checked<'p>, Fault>
     ensures refused { IfErr result (λ e. (number : ℕ) → program_number (file_view names.now.file.now) ≡ Some number → IsFaultOf (file_view names.now.file.now) number e) }
     ensures file { IfOk result (λ c. file_checked c ≡ file_view names.now.file.now) }
+    ensures kept { OnOk result (broken_types (file_view names.now.file.now) ≡ []) }
+    ensures room { OnOk result ((number : ℕ) → program_number (file_view names.now.file.now) ≡ Some number → has_room (file_view names.now.file.now) number ≡ true) }
 {
     let number = names.program();
     let pous = Pous::new(alloc, names)?;
