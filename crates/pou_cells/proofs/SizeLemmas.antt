@@ -43,7 +43,13 @@ capped_twice n =
 pub capped_word : (n : ℕ) → n < 2 ^ 64 → capped n ≡ n
 capped_word n word = min-eq_left (omega (arith, word))
 
-capped_size : (s : List ℕ) (b : Option ℕ) → size_among (map capped s) b ≡ capped (size_among s b)
+-- a bound that a number passes or not
+pub capped_past : (m n : ℕ) → m < 2 ^ 64 - 1 → nat_lt m (capped n) ≡ nat_lt m n
+capped_past m n small =
+    ⊎_elim (λ (x : n < 2 ^ 64 - 1). ap (nat_lt m) (capped_small n x))
+    (λ (x : 2 ^ 64 - 1 ≤ n). ap (nat_lt m) (capped_great n x) ∙ lt-ltb m (2 ^ 64 - 1) small ∙ sym (lt-ltb m n (omega (arith, small, x)))) (cases_lt n (2 ^ 64 - 1))
+
+pub capped_size : (s : List ℕ) (b : Option ℕ) → size_among (map capped s) b ≡ capped (size_among s b)
 capped_size s None = refl
 capped_size s (Some b) = get_or-mapped capped s b 0
 

@@ -1,1 +1,2 @@
+mod LongLemmas
 pub mod ToldLemmas

@@ -1,6 +1,7 @@
 -- The outline of a typed program: its POUs and its body, where each block counts as one without cells. No frame is spread: a FUNCTION of
 -- more than 200,001 cells has a body of as many statements in the place of its own.
 use Rattle.std.specs.Prelude.{◌≡◌, ℕ, nat_lt, List, [], map, Bool, true, Option, Some, None, if◌then◌else◌, pos}
+use Rattle.std.specs.List.{list_any}
 use Rattle.source_tree.specs.Syntax.{PouKindData, function, function_block, program, PouData, FileData}
 use Rattle.program_tree.specs.declared.typed.Turns.{Turns}
 use Rattle.program_tree.specs.Tree.{repeat, Statements, no_statements, statement, CalledData, block as typed_block, function as typed_function, ProgramData}
@@ -25,6 +26,10 @@ outlined_body f k p = typed_body (scope_of f [] k) p.body
 -- Whether a POU has more than 200,001 cells, where POUs have these sizes.
 abbrev pub is_long : List ℕ → ℕ → Bool
 is_long sizes k = nat_lt 200001 (size_among sizes (Some k))
+
+-- Whether some POU that may be called has more than 200,001 cells.
+abbrev pub has_long : FileData → Bool
+has_long f = list_any (is_long (sizes_of f)) (called_order f)
 
 abbrev pub outlined_of : FileData → List ℕ → ℕ → PouKindData → PouData → CalledData
 outlined_of f sizes k (function t) p = typed_function [] [] [] (if is_long sizes k then long_body else outlined_body f k p)

@@ -1,5 +1,6 @@
 // The outline of a typed program, which tells which frames are long and spreads none.
 ghost use Rattle.std.specs.Prelude.{◌≡◌, if◌then◌else◌, IfOk};
+ghost use Rattle.std.specs.List.{list_any};
 ghost use Rattle.source_tree.specs.SyntaxView.{pou_view};
 ghost use Rattle.program_tree.specs.View.{stmts_view, called_view, all_called_view, program_view};
 ghost use Rattle.naming.specs.FileScope.{pou_at};
@@ -13,7 +14,6 @@ use decl_types::pou_at;
 use pou_cells::{PouScope, Pous, size_among};
 use program_tree::{Called, Frame, Program, Turns, TypedStmt};
 use source_tree::{Pou, PouKind};
-use st_names::Resolved;
 use std::alloc::{AllocError, Global};
 
 // A frame of more cells is long: a call of its FUNCTION alone becomes more than 200,000 flat statements.
@@ -150,7 +150,9 @@ fn outlined_program(
 }
 
 // Whether some POU that may be called is long.
-fn has_long(pous: &Pous<'_>, sizes: &[usize]) -> bool {
+fn has_long(pous: &Pous<'_>, sizes: &[usize]) -> bool
+    ensures { result ≡ list_any (is_long sizes.now) pous.now.called.items }
+{
     for number in &pous.called {
         if is_long(sizes, *number) {
             return true;
@@ -159,31 +161,21 @@ fn has_long(pous: &Pous<'_>, sizes: &[usize]) -> bool {
     false
 }
 
-// Whether a file has a FUNCTION: without one there is no frame.
-fn has_functions(names: &Resolved<'_>) -> bool {
-    for number in 0..names.pou_count() {
-        if matches!(&names.pou(number).kind, PouKind::Function(_)) {
-            return true;
-        }
-    }
-    false
-}
-
 impl Checked<'_> {
-    ghost use Rattle.std.specs.Prelude.{IfSome};
+    ghost use Rattle.std.specs.Prelude.{IfSome, is_some};
     ghost use Rattle.st_types.specs.CheckedFiles.{file_checked};
-    ghost use Rattle.st_types.specs.Outlines.{IsOutline};
+    ghost use Rattle.st_types.specs.Outlines.{IsOutline, has_long};
 
-    /// The outline of the PROGRAM; none where no frame is long. It is made in the time of the text, whatever number of cells frames
-    /// have.
+    /// The outline of the PROGRAM, where some POU that may be called has more than 200,001 cells; there is none elsewhere. It is made in
+    /// the time of the text, whatever number of cells frames have.
     pub fn outline(&self, alloc: Global) -> Result<Option<Program>, AllocError>
-        ensures { IfOk result (λ o. IfSome o (λ p. IsOutline (file_checked self.now) (program_view p))) }
+        ensures outline { IfOk result (λ o. IfSome o (λ p. IsOutline (file_checked self.now) (program_view p))) }
+        ensures there { IfOk result (λ o. is_some o ≡ has_long (file_checked self.now)) }
     {
-        let names = self.pous.domains.types.names;
-        if !has_functions(names) || !has_long(&self.pous, &self.sizes) {
+        if !has_long(&self.pous, &self.sizes) {
             return Ok(None);
         }
-        let program = names.pou(self.number);
+        let program = self.pous.domains.types.names.pou(self.number);
         let outline = outlined_program(alloc, &self.pous, &self.sizes, self.number, program)?;
         Ok(Some(outline))
     }
