@@ -8,7 +8,7 @@ use Rattle.program_tree.specs.Tree.{assign as typed_assign, no_statements, state
 use Rattle.naming.specs.Broken.{variables_twice, in_declarations, in_body as names_in_body, in_pou_scope, in_pou, broken_names}
 use Rattle.naming.specs.FileScope.{is_program}
 use Rattle.naming.specs.Scopes.{variables_in_pou, scope_of as names_of}
-use Rattle.rules.specs.Judgements.{also}
+use Rattle.rules.specs.Judgements.{and}
 use Rattle.scan_model.specs.Candidates.{paths_of}
 use Rattle.st_names.proofs.WholeNames.{pou_whole}
 use Rattle.typing.specs.declared.scope.Place.TheVariants as places
@@ -21,7 +21,7 @@ use Rattle.typing.specs.Members.{scope_of}
 use Rattle.typing.specs.Pous.{cell_count}
 use Rattle.typing.specs.TypedPrograms.{typed_program}
 use Rattle.typing_laws.proofs.CellCounts.{length-cells}
-use Rattle.typed_scopes.proofs.Wholes.{whole_also}
+use Rattle.typed_scopes.proofs.Wholes.{whole_and}
 use Rattle.typed_cells.specs.Premises.{UsesItsBlocks, IsOrdered}
 use Rattle.typed_cells.proofs.Owners.{low}
 use Rattle.bound_names.specs.BoundNames.{bound_uses}
@@ -29,7 +29,7 @@ use Rattle.bound_names.proofs.UsedBlocks.{used_blocks, all_ordered}
 use Rattle.typed_files.proofs.whole_files.WholeBodies.{no_names, body_bound}
 use Rattle.typed_files.proofs.whole_files.WholeLaw.{whole_pou}
 use Rattle.typed_files.proofs.ProgramPlaces.{is_program_there}
-use Rattle.front_end.specs.Texts.{IsProgram}
+use Rattle.front_end.specs.Texts.{StatesProgram}
 use Rattle.front_end.proofs.TypedTexts.{file_levelled}
 use Rattle.cell_paths.specs.Paths.{HasPaths}
 use Rattle.cell_paths.proofs.Cells.{paths_stand}
@@ -53,9 +53,9 @@ names_once f d h =
     let p = names_of d in
     let twice = variables_twice p.has_fault [] p.variables in
     let declared = in_declarations f p 0 p.variables in
-    (whole_also twice declared (whole_also (also twice declared) (names_in_body f p d.body) h).0).0
+    (whole_and twice declared (whole_and (and twice declared) (names_in_body f p d.body) h).0).0
 
-module _ (text : List ℕ) (p : ProgramData) (h : IsProgram text p) where
+module _ (text : List ℕ) (p : ProgramData) (h : StatesProgram text p) where
   abbrev own : ProgramData
   own = typed_program h.file h.number h.pou
 

@@ -4,7 +4,7 @@ use Rattle.plc_types.specs.declared.data_type.DataType.{DataType}
 use Rattle.plc_types.specs.declared.range.Range.{Range}
 use Rattle.rules.specs.declared.rule.Rule.{Rule}
 use Rattle.rules.specs.declared.rule.Rule.TheVariants.{OperandType}
-use Rattle.rules.specs.Judgements.{Judgement, also}
+use Rattle.rules.specs.Judgements.{Judgement, and}
 use Rattle.source_tree.specs.Syntax.{PathData, Tree, Stmt, empty, assign, invoke, branch, cases, iterate, Stmts, no_stmts, stmt, Arms, no_arms, arm, Entries, no_entries, entry, Otherwise, no_else, else_stmts, PartData, step_part, transition_part, action_part, BodyData, statements, chart as chart_body}
 use Rattle.naming.specs.Broken.{alone}
 use Rattle.typing.specs.Typing.{Scope, by_path, type_of}
@@ -14,7 +14,7 @@ use Rattle.typing.specs.JudgedStatements.{judged_assign, judged_iteration, turns
 use Rattle.typing.specs.JudgedCharts.{judged_part, judged_parts}
 use Rattle.typing.specs.Pous.{judged_body}
 use Rattle.typed_scopes.specs.Uses.{Usable, IsStmtWithin, AreStmtsWithin, AreArmsWithin, AreEntriesWithin, IsElseWithin, ArePartsWithin}
-use Rattle.typed_scopes.proofs.Wholes.{whole_require, whole_also}
+use Rattle.typed_scopes.proofs.Wholes.{whole_require, whole_and}
 use Rattle.bound_names.specs.BoundNames.{IsBodyWithin}
 use Rattle.accepted_cells.specs.Assignments.{IsAssignedIn, IsAssignedAmong, IsAssignedInArms, IsAssignedInEntries, IsAssignedInElse, IsAssignedInParts, IsAssigned}
 
@@ -43,46 +43,46 @@ module _ (scope : Scope) (uses : Usable) (q : PathData) (e : Tree) where
     in_stmt controls empty within whole is = absurd is
     in_stmt controls (assign p x) within whole is = itself controls p x is.0 is.1 within.0 whole
     in_stmt controls (invoke n at cs) within whole is = absurd is
-    in_stmt controls (branch arms other) within whole (inl is) = in_arms controls arms within.0 (whole_also (judged_arms scope controls arms) (judged_else scope controls other) whole).0 is
-    in_stmt controls (branch arms other) within whole (inr is) = in_else controls other within.1 (whole_also (judged_arms scope controls arms) (judged_else scope controls other) whole).1 is
+    in_stmt controls (branch arms other) within whole (inl is) = in_arms controls arms within.0 (whole_and (judged_arms scope controls arms) (judged_else scope controls other) whole).0 is
+    in_stmt controls (branch arms other) within whole (inr is) = in_else controls other within.1 (whole_and (judged_arms scope controls arms) (judged_else scope controls other) whole).1 is
     in_stmt controls (cases x es other) within whole (inl is) =
         let entries = judged_entries scope controls (judged_selector scope x).whole (type_of scope None x) [] es in
-        let more = whole_also (judged_selector scope x) (also entries (judged_else scope controls other)) whole in
-        in_entries controls (judged_selector scope x).whole (type_of scope None x) [] es within.1 (whole_also entries (judged_else scope controls other) more.1).0 is
+        let more = whole_and (judged_selector scope x) (and entries (judged_else scope controls other)) whole in
+        in_entries controls (judged_selector scope x).whole (type_of scope None x) [] es within.1 (whole_and entries (judged_else scope controls other) more.1).0 is
     in_stmt controls (cases x es other) within whole (inr is) =
         let entries = judged_entries scope controls (judged_selector scope x).whole (type_of scope None x) [] es in
-        let more = whole_also (judged_selector scope x) (also entries (judged_else scope controls other)) whole in
-        in_else controls other within.2 (whole_also entries (judged_else scope controls other) more.1).1 is
+        let more = whole_and (judged_selector scope x) (and entries (judged_else scope controls other)) whole in
+        in_else controls other within.2 (whole_and entries (judged_else scope controls other) more.1).1 is
     in_stmt controls (iterate i body) within whole is =
         let inner = with_control controls (scope.means (by_path (alone i.control))) in
-        let parts = also (judged_iteration scope controls i) (judged_stmts scope inner body) in
-        in_stmts inner body within.1 (whole_also (judged_iteration scope controls i) (judged_stmts scope inner body) (whole_unruled parts (turns_rule scope i) i.at whole)).1 is
+        let parts = and (judged_iteration scope controls i) (judged_stmts scope inner body) in
+        in_stmts inner body within.1 (whole_and (judged_iteration scope controls i) (judged_stmts scope inner body) (whole_unruled parts (turns_rule scope i) i.at whole)).1 is
 
     in_stmts : (controls : List ℕ) (ss : Stmts) → AreStmtsWithin uses ss → (judged_stmts scope controls ss).whole ≡ true → IsAssignedAmong q e ss → IsSoundAssign
     in_stmts controls no_stmts within whole is = absurd is
-    in_stmts controls (stmt s ss) within whole (inl is) = in_stmt controls s within.0 (whole_also (judged_stmt scope controls s) (judged_stmts scope controls ss) whole).0 is
-    in_stmts controls (stmt s ss) within whole (inr is) = in_stmts controls ss within.1 (whole_also (judged_stmt scope controls s) (judged_stmts scope controls ss) whole).1 is
+    in_stmts controls (stmt s ss) within whole (inl is) = in_stmt controls s within.0 (whole_and (judged_stmt scope controls s) (judged_stmts scope controls ss) whole).0 is
+    in_stmts controls (stmt s ss) within whole (inr is) = in_stmts controls ss within.1 (whole_and (judged_stmt scope controls s) (judged_stmts scope controls ss) whole).1 is
 
     in_arms : (controls : List ℕ) (arms : Arms) → AreArmsWithin uses arms → (judged_arms scope controls arms).whole ≡ true → IsAssignedInArms q e arms → IsSoundAssign
     in_arms controls no_arms within whole is = absurd is
     in_arms controls (arm x ss arms) within whole (inl is) =
-        let more = whole_also (judged_condition scope OperandType x) (also (judged_stmts scope controls ss) (judged_arms scope controls arms)) whole in
-        in_stmts controls ss within.1 (whole_also (judged_stmts scope controls ss) (judged_arms scope controls arms) more.1).0 is
+        let more = whole_and (judged_condition scope OperandType x) (and (judged_stmts scope controls ss) (judged_arms scope controls arms)) whole in
+        in_stmts controls ss within.1 (whole_and (judged_stmts scope controls ss) (judged_arms scope controls arms) more.1).0 is
     in_arms controls (arm x ss arms) within whole (inr is) =
-        let more = whole_also (judged_condition scope OperandType x) (also (judged_stmts scope controls ss) (judged_arms scope controls arms)) whole in
-        in_arms controls arms within.2 (whole_also (judged_stmts scope controls ss) (judged_arms scope controls arms) more.1).1 is
+        let more = whole_and (judged_condition scope OperandType x) (and (judged_stmts scope controls ss) (judged_arms scope controls arms)) whole in
+        in_arms controls arms within.2 (whole_and (judged_stmts scope controls ss) (judged_arms scope controls arms) more.1).1 is
 
     in_entries : (controls : List ℕ) (w : Bool) (t : DataType) (seen : List Range) (es : Entries) → AreEntriesWithin uses es → (judged_entries scope controls w t seen es).whole ≡ true → IsAssignedInEntries q e es
         → IsSoundAssign
     in_entries controls w t seen no_entries within whole is = absurd is
     in_entries controls w t seen (entry ls ss es) within whole (inl is) =
         let rest = judged_entries scope controls w t (seen_behind scope t seen ls) es in
-        let more = whole_also (judged_labels_if scope w t seen ls) (also (judged_stmts scope controls ss) rest) whole in
-        in_stmts controls ss within.1 (whole_also (judged_stmts scope controls ss) rest more.1).0 is
+        let more = whole_and (judged_labels_if scope w t seen ls) (and (judged_stmts scope controls ss) rest) whole in
+        in_stmts controls ss within.1 (whole_and (judged_stmts scope controls ss) rest more.1).0 is
     in_entries controls w t seen (entry ls ss es) within whole (inr is) =
         let rest = judged_entries scope controls w t (seen_behind scope t seen ls) es in
-        let more = whole_also (judged_labels_if scope w t seen ls) (also (judged_stmts scope controls ss) rest) whole in
-        in_entries controls w t (seen_behind scope t seen ls) es within.2 (whole_also (judged_stmts scope controls ss) rest more.1).1 is
+        let more = whole_and (judged_labels_if scope w t seen ls) (and (judged_stmts scope controls ss) rest) whole in
+        in_entries controls w t (seen_behind scope t seen ls) es within.2 (whole_and (judged_stmts scope controls ss) rest more.1).1 is
 
     in_else : (controls : List ℕ) (other : Otherwise) → IsElseWithin uses other → (judged_else scope controls other).whole ≡ true → IsAssignedInElse q e other → IsSoundAssign
     in_else controls no_else within whole is = absurd is
@@ -90,10 +90,10 @@ module _ (scope : Scope) (uses : Usable) (q : PathData) (e : Tree) where
 
   in_parts : (ps : List PartData) → ArePartsWithin uses ps → (judged_parts scope ps).whole ≡ true → IsAssignedInParts q e ps → IsSoundAssign
   in_parts [] within whole is = absurd is
-  in_parts (step_part s ∷ ps) within whole is = in_parts ps within (whole_also (judged_part scope (step_part s)) (judged_parts scope ps) whole).1 is
-  in_parts (transition_part t ∷ ps) within whole is = in_parts ps within.1 (whole_also (judged_part scope (transition_part t)) (judged_parts scope ps) whole).1 is
-  in_parts (action_part a ∷ ps) within whole (inl is) = in_stmts [] a.body within.0 (whole_also (judged_part scope (action_part a)) (judged_parts scope ps) whole).0 is
-  in_parts (action_part a ∷ ps) within whole (inr is) = in_parts ps within.1 (whole_also (judged_part scope (action_part a)) (judged_parts scope ps) whole).1 is
+  in_parts (step_part s ∷ ps) within whole is = in_parts ps within (whole_and (judged_part scope (step_part s)) (judged_parts scope ps) whole).1 is
+  in_parts (transition_part t ∷ ps) within whole is = in_parts ps within.1 (whole_and (judged_part scope (transition_part t)) (judged_parts scope ps) whole).1 is
+  in_parts (action_part a ∷ ps) within whole (inl is) = in_stmts [] a.body within.0 (whole_and (judged_part scope (action_part a)) (judged_parts scope ps) whole).0 is
+  in_parts (action_part a ∷ ps) within whole (inr is) = in_parts ps within.1 (whole_and (judged_part scope (action_part a)) (judged_parts scope ps) whole).1 is
 
   pub in_body : (b : BodyData) → IsBodyWithin uses b → (judged_body scope b).whole ≡ true → IsAssigned q e b → IsSoundAssign
   in_body (statements ss) within whole is = in_stmts [] ss within whole is

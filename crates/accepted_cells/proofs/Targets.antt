@@ -4,7 +4,7 @@ use Rattle.std.specs.Prelude.{ℤ}
 use Rattle.std.proofs.lemmas.Bool.{and_parts, false≢true}
 use Rattle.plc_types.specs.DataTypes.{is_same_type}
 use Rattle.rules.specs.declared.rule.Rule.TheVariants.{ValueType, NotAssignable}
-use Rattle.rules.specs.Judgements.{also}
+use Rattle.rules.specs.Judgements.{and}
 use Rattle.source_tree.specs.Syntax.{Named, PathData, Tree, program, PouData, FileData}
 use Rattle.naming.specs.declared.role.Role.{Role}
 use Rattle.naming.specs.declared.role.Role.TheVariants as roles
@@ -26,7 +26,7 @@ use Rattle.typing.specs.Judged.{judged, judged_meaning}
 use Rattle.typing.specs.JudgedStatements.{is_free, is_assignable, judged_target, judged_assign}
 use Rattle.typing.specs.Places.{has_cell, sizes_of}
 use Rattle.typing.specs.Members.{may_be_assigned, member_of, member_at, seen_from, in_instance, meant_by, variable_or_value, scope_of}
-use Rattle.typed_scopes.proofs.Wholes.{whole_require, whole_also}
+use Rattle.typed_scopes.proofs.Wholes.{whole_require, whole_and}
 use Rattle.typed_cells.specs.Premises.{UsesItsBlocks, IsOrdered}
 use Rattle.cell_paths.proofs.Owners.{program_name}
 use Rattle.found_cells.specs.Clauses.{IsWholePath}
@@ -46,8 +46,8 @@ pub target_of : (scope : Scope) (controls : List ℕ) (q : PathData) (e : Tree) 
 target_of scope controls q e whole =
     let m = scope.means (by_path q) in
     let at = q.first.at in
-    let fitting = whole_require (also (judged_target controls m at) (judged scope (kind_at m) e)) (is_same_type (type_of scope (kind_at m) e) (or_dint (kind_at m))) ValueType at whole in
-    let both = whole_also (judged_target controls m at) (judged scope (kind_at m) e) fitting.0 in
+    let fitting = whole_require (and (judged_target controls m at) (judged scope (kind_at m) e)) (is_same_type (type_of scope (kind_at m) e) (or_dint (kind_at m))) ValueType at whole in
+    let both = whole_and (judged_target controls m at) (judged scope (kind_at m) e) fitting.0 in
     let target = whole_require (judged_meaning m) (is_assignable controls m) NotAssignable at both.0 in
     target_by scope q controls m refl target.1
 

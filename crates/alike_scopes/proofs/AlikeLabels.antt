@@ -4,7 +4,7 @@ use Rattle.std.specs.Prelude.{int_le}
 use Rattle.plc_types.specs.declared.data_type.DataType.{DataType}
 use Rattle.plc_types.specs.declared.range.Range.{Range}
 use Rattle.rules.specs.declared.rule.Rule.TheVariants.{OperandType, OutsideType, Overlap, NotConstant}
-use Rattle.rules.specs.Judgements.{Judgement, also, require}
+use Rattle.rules.specs.Judgements.{Judgement, and, require}
 use Rattle.source_tree.specs.Syntax.{Tree, LabelData, IterationData}
 use Rattle.naming.specs.Broken.{alone}
 use Rattle.typing.specs.Typing.{Scope, by_path, kind_at, or_dint, place_of}
@@ -39,7 +39,7 @@ module _ (s t : Scope) (alike : AreAlike s t) where
       let range = range_of_alike k l in
       λ i. require
       (require
-      (require (also (judged_alike s t alike (Some k) l.low i) (judged_high_alike k l.high i)) (same_alike s t alike k l.low i && high_typed_alike k l.high i) OperandType (place_of l.low))
+      (require (and (judged_alike s t alike (Some k) l.low i) (judged_high_alike k l.high i)) (same_alike s t alike k l.low i && high_typed_alike k l.high i) OperandType (place_of l.low))
       (int_le (range i).low (range i).high) OutsideType (place_of l.low))
       (not (overlaps seen (range i))) Overlap (place_of l.low)
 
@@ -53,7 +53,7 @@ module _ (s t : Scope) (alike : AreAlike s t) where
   labels_alike : (k : DataType) (seen : List Range) (ls : List LabelData) → judged_labels s k seen ls ≡ judged_labels t k seen ls
   labels_alike k seen [] = refl
   labels_alike k seen (l ∷ ls) =
-      (λ i. also (label_alike k seen l i) (labels_alike k (seen_with s k seen l) ls i)) ∙ ap (λ (x : List Range). also (judged_label t k seen l) (judged_labels t k x ls)) (seen_with_alike k seen l)
+      (λ i. and (label_alike k seen l i) (labels_alike k (seen_with s k seen l) ls i)) ∙ ap (λ (x : List Range). and (judged_label t k seen l) (judged_labels t k x ls)) (seen_with_alike k seen l)
 
   pub labels_if_alike : (w : Bool) (k : DataType) (seen : List Range) (ls : List LabelData) → judged_labels_if s w k seen ls ≡ judged_labels_if t w k seen ls
   labels_if_alike true k seen ls = labels_alike k seen ls
@@ -76,7 +76,7 @@ module _ (s t : Scope) (alike : AreAlike s t) where
   step_typed_alike k (Some e) = same_alike s t alike k e
 
   bounds_of : Scope → DataType → IterationData → Judgement
-  bounds_of x k i = also (judged_bound x k i.first) (also (judged_bound x k i.last) (judged_step x k i.step))
+  bounds_of x k i = and (judged_bound x k i.first) (and (judged_bound x k i.last) (judged_step x k i.step))
 
   typed_of : Scope → DataType → IterationData → Bool
   typed_of x k i = is_typed x k i.first && is_typed x k i.last && step_is_typed x k i.step
@@ -92,12 +92,12 @@ module _ (s t : Scope) (alike : AreAlike s t) where
     control_kind : or_dint (kind_at (s.means (by_path (alone it.control)))) ≡ or_dint (kind_at (t.means (by_path (alone it.control))))
     control_kind = ap or_dint (kind_alike (s.means (by_path (alone it.control))) (t.means (by_path (alone it.control))) (alike.means (by_path (alone it.control))))
 
-    pub bounds_alike : (let k = or_dint (kind_at (s.means (by_path (alone it.control)))) in also (judged_bound s k it.first) (also (judged_bound s k it.last) (judged_step s k it.step)))
-        ≡ (let k = or_dint (kind_at (t.means (by_path (alone it.control)))) in also (judged_bound t k it.first) (also (judged_bound t k it.last) (judged_step t k it.step)))
+    pub bounds_alike : (let k = or_dint (kind_at (s.means (by_path (alone it.control)))) in and (judged_bound s k it.first) (and (judged_bound s k it.last) (judged_step s k it.step)))
+        ≡ (let k = or_dint (kind_at (t.means (by_path (alone it.control)))) in and (judged_bound t k it.first) (and (judged_bound t k it.last) (judged_step t k it.step)))
     bounds_alike =
         let k = or_dint (kind_at (s.means (by_path (alone it.control)))) in
-        (λ i. also (bound_alike k it.first i) (also (bound_alike k it.last i) (step_alike k it.step i)))
-        ∙ ap (λ (x : DataType). also (judged_bound t x it.first) (also (judged_bound t x it.last) (judged_step t x it.step))) control_kind
+        (λ i. and (bound_alike k it.first i) (and (bound_alike k it.last i) (step_alike k it.step i)))
+        ∙ ap (λ (x : DataType). and (judged_bound t x it.first) (and (judged_bound t x it.last) (judged_step t x it.step))) control_kind
 
     pub typed_bounds_alike : (let k = or_dint (kind_at (s.means (by_path (alone it.control)))) in is_typed s k it.first && is_typed s k it.last && step_is_typed s k it.step)
         ≡ (let k = or_dint (kind_at (t.means (by_path (alone it.control)))) in is_typed t k it.first && is_typed t k it.last && step_is_typed t k it.step)

@@ -6,7 +6,7 @@ use Rattle.plc_types.specs.DataTypes.{is_same_type}
 use Rattle.plc_types.specs.declared.function.StandardFunction.{StandardFunction}
 use Rattle.rules.specs.declared.rule.Rule.{Rule}
 use Rattle.rules.specs.declared.rule.Rule.TheVariants.{OperandType, ArgumentCount, OutsideType}
-use Rattle.rules.specs.Judgements.{Judgement, also, require}
+use Rattle.rules.specs.Judgements.{Judgement, and, require}
 use Rattle.source_tree.specs.Syntax.{Named, Tree, literal, path, enumerator, paren, unary, chain, call, Links, no_links, link, Arguments, no_arguments, argument}
 use Rattle.naming.specs.Library.{standard_function}
 use Rattle.typing.specs.declared.scope.Port.{Port}
@@ -102,7 +102,7 @@ module _ (s t : Scope) (alike : AreAlike s t) where
 
   answer_alike : (at : ℕ) (g : Signature) (inputs : (name : List ℕ) → s.input g.function name ≡ t.input g.function name) (args : Arguments) (j k : Judgement) → j ≡ k → judged_answer s at g args j ≡ judged_answer t at g args k
   answer_alike at g inputs args j k same =
-      λ i. also (require (require (same i) (gives_alike g inputs args i) ArgumentCount at) (fit_placed_alike g 0 args i) OperandType at) (judged_port (Some g.result))
+      λ i. and (require (require (same i) (gives_alike g inputs args i) ArgumentCount at) (fit_placed_alike g 0 args i) OperandType at) (judged_port (Some g.result))
 
   user_call_by : (at : ℕ) (o : Option Signature) (args : Arguments) (f g : Signature → Judgement) → ((x : Signature) → o ≡ Some x → judged_answer s at x args (f x) ≡ judged_answer t at x args (g x)) → judged_user_call s at o args f ≡ judged_user_call t at o args g
   user_call_by at None args f g each = refl
@@ -141,16 +141,16 @@ module _ (s t : Scope) (alike : AreAlike s t) where
     judged_links_alike k left no_links = refl
     judged_links_alike k left (link o at e ls) =
         let fits = λ (b : Bool). takes o k && b in
-        let one = require (also left (judged s (Some k) e)) (takes o k && is_same_type (type_of s (Some k) e) k) OperandType at in
+        let one = require (and left (judged s (Some k) e)) (takes o k && is_same_type (type_of s (Some k) e) k) OperandType at in
         judged_links_alike (next_type o k) one ls
-        ∙ ap (λ (j : Judgement). judged_links t (next_type o k) j ls) (λ i. require (also left (judged_alike (Some k) e i)) (takes o k && same_alike k e i) OperandType at)
+        ∙ ap (λ (j : Judgement). judged_links t (next_type o k) j ls) (λ i. require (and left (judged_alike (Some k) e i)) (takes o k && same_alike k e i) OperandType at)
 
     judged_arguments_alike : (f : StandardFunction) (k : DataType) (place : ℕ) (args : Arguments) → judged_arguments s f k place args ≡ judged_arguments t f k place args
     judged_arguments_alike f k place no_arguments = refl
     judged_arguments_alike f k place (argument n e args) =
         let p = parameter_of f place in
         let w = expected_at p k in
-        λ i. also (amount_alike p e (judged s w e) (judged t w e) (judged_alike w e) i) (judged_arguments_alike f k (place + 1) args i)
+        λ i. and (amount_alike p e (judged s w e) (judged t w e) (judged_alike w e) i) (judged_arguments_alike f k (place + 1) args i)
 
     judged_given_alike : (g : Signature) → ((name : List ℕ) → s.input g.function name ≡ t.input g.function name) → (place : ℕ) (args : Arguments) → judged_given s g place args ≡ judged_given t g place args
     judged_given_alike g inputs place no_arguments = refl
@@ -158,14 +158,14 @@ module _ (s t : Scope) (alike : AreAlike s t) where
         let p = s.port g.function (place_for s g place n) in
         let q = t.port g.function (place_for t g place n) in
         let port : p ≡ q = alike.port g.function (place_for s g place n) ∙ ap (t.port g.function) (place_alike g inputs place n) in
-        let own : judged_named n (fits_port s p e) (also (judged s (expected_by p) e) (judged_port p)) ≡ judged_named n (fits_port t q e) (also (judged t (expected_by q) e) (judged_port q)) =
-        (λ i. judged_named n (fits_port_alike p e i) (also (judged_alike (expected_by p) e i) (judged_port p)))
-        ∙ ap (λ (x : Option Port). judged_named n (fits_port t x e) (also (judged t (expected_by x) e) (judged_port x))) port in
-        λ i. also (own i) (judged_given_alike g inputs (place + 1) args i)
+        let own : judged_named n (fits_port s p e) (and (judged s (expected_by p) e) (judged_port p)) ≡ judged_named n (fits_port t q e) (and (judged t (expected_by q) e) (judged_port q)) =
+        (λ i. judged_named n (fits_port_alike p e i) (and (judged_alike (expected_by p) e i) (judged_port p)))
+        ∙ ap (λ (x : Option Port). judged_named n (fits_port t x e) (and (judged t (expected_by x) e) (judged_port x))) port in
+        λ i. and (own i) (judged_given_alike g inputs (place + 1) args i)
 
     judged_alone_alike : (args : Arguments) → judged_alone s args ≡ judged_alone t args
     judged_alone_alike no_arguments = refl
-    judged_alone_alike (argument n e args) = λ i. also (judged_alike None e i) (judged_alone_alike args i)
+    judged_alone_alike (argument n e args) = λ i. and (judged_alike None e i) (judged_alone_alike args i)
 
   pub condition_alike : (rule : Rule) (e : Tree) → judged_condition s rule e ≡ judged_condition t rule e
   condition_alike rule e = λ i. require (judged_alike None e i) (is_same_type (type_alike None e i) bool_type) rule (place_of e)

@@ -3,7 +3,7 @@ ghost use Rattle.std.specs.Prelude.{IfOk};
 ghost use Rattle.source_tree.specs.Levels.{IsFileLevelled};
 ghost use Rattle.source_tree.specs.SyntaxView.{file_view};
 ghost use Rattle.program_tree.specs.View.{program_view};
-ghost use Rattle.scan_model.specs.InRange.{IsProgram};
+ghost use Rattle.scan_model.specs.InRange.{IsFitToRun};
 ghost use Rattle.typed_programs.specs.Programs.{IsTypedProgram};
 ghost use Rattle.bench_run.specs.SoundFiles.{HasSoundNames};
 
@@ -71,7 +71,7 @@ fn resolved(alloc: Global, file: &SourceFile) -> Result<Resolved<'_>, Fault>
 // The program of a file, which is typed, since the file breaks no rule.
 fn checked(alloc: Global, names: &Resolved<'_>) -> Result<Program, Fault>
     requires { HasSoundNames (file_view names.now.file.now) }
-    ensures fit { IfOk result (λ p. IsProgram (program_view p)) }
+    ensures fit { IfOk result (λ p. IsFitToRun (program_view p)) }
     ensures typed { IfOk result (λ p. IsTypedProgram (program_view p)) }
 {
     let checked = check(alloc, names)?;

@@ -7,7 +7,7 @@ use Rattle.candidates.specs.declared.places.Placed.{Placed}
 
 -- what is known of a cell at a place
 abbrev pub placed : ℕ → CellData → Placed
-placed place c = record { place = place; part = c.part; kind = c.kind; range = c.range; limited = c.limited }
+placed place c = record { place = place; part = c.part; kind = c.kind; range = c.range; is_subrange = c.is_subrange }
 
 -- the first cell of a path, among those that begin at a place
 abbrev pub cell_named : List ℕ → ℕ → List CellData → Option Placed

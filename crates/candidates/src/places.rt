@@ -16,7 +16,7 @@ pub struct Placed {
     pub part: Part,
     pub kind: DataType,
     pub range: Range,
-    pub limited: bool,
+    pub is_subrange: bool,
 }
 
 // Cells by their paths.
@@ -33,7 +33,7 @@ fn known(place: usize, cell: &Cell) -> Placed
         part: cell.part,
         kind: cell.kind,
         range: cell.range,
-        limited: cell.limited,
+        is_subrange: cell.is_subrange,
     }
 }
 

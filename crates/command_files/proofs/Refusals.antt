@@ -5,15 +5,15 @@ use Rattle.program_tree.specs.Tree.{ProgramData}
 use Rattle.rules.specs.declared.fault.Fault.{Fault}
 use Rattle.rules.specs.declared.fault.Fault.TheVariants as faults
 use Rattle.rules.specs.Faults as of_rules
-use Rattle.front_end.specs.Texts.{IsNoProgram, HasTokens}
+use Rattle.front_end.specs.Texts.{StatesNoProgram, HasTokens}
 use Rattle.relation_file.specs.Stated.{IsNoRelation}
 use Rattle.command_answers.specs.declared.source.Source.{Source}
 use Rattle.command_answers.specs.declared.source.Source.TheVariants.{Relation as RelationFile}
 use Rattle.command_files.specs.Stating.{StatesNoRelation, by_lines}
 use Rattle.command_files.specs.Refused.{IfRefusedOf, fault_of}
 
-pub program_refused : (source : Source) (text : List ℕ) (fault : Fault) → of_rules.IfRefused (IsNoProgram text) fault
-    → IfRefusedOf source (IsNoProgram text) (fault_of source fault)
+pub program_refused : (source : Source) (text : List ℕ) (fault : Fault) → of_rules.IfRefused (StatesNoProgram text) fault
+    → IfRefusedOf source (StatesNoProgram text) (fault_of source fault)
 program_refused source text (faults.Refused r) h = (refl, h)
 program_refused source text faults.Memory h = tt
 

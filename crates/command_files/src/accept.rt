@@ -2,9 +2,9 @@
 ghost use Rattle.std.specs.Prelude.{◌≡◌, IfOk, IfErr, List, ℕ};
 ghost use Rattle.program_tree.specs.View.{program_view};
 ghost use Rattle.rules.specs.declared.rule.Rule.TheVariants.{TooLong};
-ghost use Rattle.scan_model.specs.InRange.{IsProgram as IsFitToRun};
+ghost use Rattle.scan_model.specs.InRange.{IsFitToRun};
 ghost use Rattle.scan_model.specs.Pairs.{relation_view, BelongsTo};
-ghost use Rattle.front_end.specs.Texts.{IsProgram, IsNoProgram};
+ghost use Rattle.front_end.specs.Texts.{StatesProgram, StatesNoProgram};
 ghost use Rattle.command_files.specs.Kept.{IsKept};
 ghost use Rattle.command_files.specs.Stating.{StatesRelation, StatesNoRelation};
 ghost use Rattle.command_files.specs.Refused.{IfRefusedOf};
@@ -24,9 +24,9 @@ pub fn program_in(
     source: Source,
     text: &Option<Vec<u8>>,
 ) -> Result<Program, AcceptError>
-    ensures ok { (bytes : List ℕ) → IsKept text.now bytes → IfOk result (λ p. IsProgram bytes (program_view p)) }
+    ensures ok { (bytes : List ℕ) → IsKept text.now bytes → IfOk result (λ p. StatesProgram bytes (program_view p)) }
     ensures fit { IfOk result (λ p. IsFitToRun (program_view p)) }
-    ensures refused { (bytes : List ℕ) → IsKept text.now bytes → IfErr result (IfRefusedOf source (IsNoProgram bytes)) }
+    ensures refused { (bytes : List ℕ) → IsKept text.now bytes → IfErr result (IfRefusedOf source (StatesNoProgram bytes)) }
 {
     let Some(text) = text else {
         return Err(refused(source, Rule::TooLong));

@@ -10,7 +10,7 @@ use Rattle.node_end.specs.FlatTexts.{HasNoFlatForm, by_program, by_size}
 use Rattle.node_core.specs.Scans.{is_small}
 use Rattle.node_end.specs.NodeTexts.{HasManyNodes}
 use Rattle.product_build.specs.Limits.{HasFewGates, HasManyGates, in_product, in_breaks}
-use Rattle.command_files.specs.front_end.Texts.{IsProgram}
+use Rattle.command_files.specs.front_end.Texts.{StatesProgram}
 use Rattle.command_files.proofs.front_end.OneReading.{same_tokens, no_tokens_too, one_no_tokens}
 use Rattle.command_files.proofs.front_end.OneProgram.{one_program, no_program_too, one_refusal}
 use Rattle.relation_file.proofs.OneRelation.{relation_once, no_small_relation_too, small_refused_once}
@@ -28,7 +28,7 @@ program_once text p q h k = one_program text p q h.is k.is
 not_long : (p q : ProgramData) → p ≡ q → is_short p ≡ true → is_short q ≡ false → ⊥
 not_long p q e short long = true≢false (sym short ∙ ap is_short e ∙ long)
 
-no_flat_too : (text : List ℕ) (p : ProgramData) (r : Refusal) → IsProgram text p → is_short p ≡ true → HasNoFlatForm text r → ⊥
+no_flat_too : (text : List ℕ) (p : ProgramData) (r : Refusal) → StatesProgram text p → is_short p ≡ true → HasNoFlatForm text r → ⊥
 no_flat_too text p r is short (by_program none) = no_program_too text p r is none
 no_flat_too text p r is short (by_size q k long e) = not_long p q (one_program text p q is k) short long
 

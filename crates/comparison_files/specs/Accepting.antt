@@ -6,7 +6,7 @@ use Rattle.rules.specs.declared.rule.Refusal.{Refusal}
 use Rattle.program_tree.specs.Tree.{ProgramData}
 use Rattle.scan_model.specs.Pairs.{RelationData}
 use Rattle.queries.specs.Comparisons.{Comparison}
-use Rattle.command_files.specs.front_end.Texts.{IsProgram, HasTokens, HasNoTokens}
+use Rattle.command_files.specs.front_end.Texts.{StatesProgram, HasTokens, HasNoTokens}
 use Rattle.flat_form.specs.FlatPrograms.{flat_program, is_short}
 use Rattle.node_end.specs.FlatTexts.{HasNoFlatForm}
 use Rattle.node_core.specs.Scans.{ScanData, scan_of, is_small}
@@ -25,7 +25,7 @@ nodes_of p = scan_of (flat_program p)
 
 -- a text states a program with few flat statements and few nodes
 pub record StatesProgram (text : List ℕ) (p : ProgramData) : Type 0 where
-  pub is : IsProgram text p
+  pub is : StatesProgram text p
   pub short : IsTrue (is_short p)
   pub small : IsTrue (is_small (flat_program p))
 

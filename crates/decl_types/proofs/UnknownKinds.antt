@@ -34,11 +34,11 @@ of_choice false d whole = λ not. refl
 
 of_subrange_domain : (f : FileData) (k : Elementary) (at : ℕ) (b : BoundsData) → IsKnown (subrange_domain f k at b)
 of_subrange_domain f k at b =
-    of_choice (judged_subrange f k at b).whole (record { kind = OfElementary k; range = bounds_of f k b; limited = true; start = (bounds_of f k b).low; whole = true }) refl
+    of_choice (judged_subrange f k at b).whole (record { kind = OfElementary k; range = bounds_of f k b; is_subrange = true; start = (bounds_of f k b).low; whole = true }) refl
 
 of_enumeration : (number : ℕ) (others : List Named) → IsKnown (enumeration_domain number others)
 of_enumeration number others =
-    of_choice (has_few others) (record { kind = Enumeration number; range = record { low = pos 0; high = pos (length others) }; limited = false; start = pos 0; whole = true }) refl
+    of_choice (has_few others) (record { kind = Enumeration number; range = record { low = pos 0; high = pos (length others) }; is_subrange = false; start = pos 0; whole = true }) refl
 
 of_end : (f : FileData) (number : ℕ) (s : Option SpecificationData) → IsKnown (end_domain f number s)
 of_end f number None = λ not. refl

@@ -15,7 +15,7 @@ pub fn no_domain() -> Domain
     Domain {
         kind: DataType::Unknown,
         range: range(Elementary::Bool),
-        limited: false,
+        is_subrange: false,
         start: 0,
         whole: false,
     }
@@ -28,7 +28,7 @@ pub fn elementary_domain(kind: Elementary) -> Domain
     Domain {
         kind: DataType::Elementary(kind),
         range: range(kind),
-        limited: false,
+        is_subrange: false,
         start: 0,
         whole: true,
     }
@@ -55,7 +55,7 @@ pub fn enumeration_domain(number: usize, others: &[Name]) -> Domain
             low: first,
             high: others.len() as i64,
         },
-        limited: false,
+        is_subrange: false,
         start: first,
         whole: true,
     }

@@ -66,7 +66,7 @@ pub fn judge_types(domains: &Domains<'_>) -> Outcome
 {
     let mut judged = Outcome::ok();
     for spelled in &domains.judged {
-        judged = judged.also(spelled_outcome(domains, *spelled));
+        judged = judged.and(spelled_outcome(domains, *spelled));
     }
     judged
 }

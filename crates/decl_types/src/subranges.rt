@@ -68,7 +68,7 @@ fn judge_subrange(
 {
     let low = judge_bound(alloc, file, kind, &bounds.low)?;
     let high = judge_bound(alloc, file, kind, &bounds.high)?;
-    let parts = low.also(high);
+    let parts = low.and(high);
     let limits = parts.require(kind.is_integer(), Rule::OperandType, at);
     let in_order = are_in_order(range);
     Ok(limits.require(in_order, Rule::OutsideType, place_of(&bounds.low)))
@@ -94,7 +94,7 @@ pub(crate) fn judged_subrange_domain(
     let domain = Domain {
         kind: DataType::Elementary(kind),
         range,
-        limited: true,
+        is_subrange: true,
         start: range.low,
         whole: true,
     };

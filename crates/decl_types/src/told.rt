@@ -114,7 +114,7 @@ fn told_of<'f>(
         variable.initial,
     )?;
     let block = block_of(domains.types.names, variable);
-    let judged = judge_declared(alloc, domains, variable, block, of_type.also(of_value))?;
+    let judged = judge_declared(alloc, domains, variable, block, of_type.and(of_value))?;
     Ok(Told {
         name: variable.name,
         role: variable.role,
@@ -146,7 +146,7 @@ pub fn judge_told(so_far: Outcome, tolds: &[Told<'_>]) -> Outcome
 {
     let mut judged = so_far;
     for told in tolds {
-        judged = judged.also(told.judged);
+        judged = judged.and(told.judged);
     }
     judged
 }

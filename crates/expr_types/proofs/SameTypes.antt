@@ -9,7 +9,7 @@ use Rattle.plc_types.specs.declared.function.StandardFunction.TheVariants as fun
 use Rattle.rules.specs.declared.rule.Rule.TheVariants.{OperandType, ArgumentCount}
 use Rattle.naming.specs.Library.{standard_function}
 use Rattle.source_tree.specs.Syntax.{Tree, literal, path, enumerator, paren, unary, chain, call, Arguments, no_arguments, argument}
-use Rattle.rules.specs.Judgements.{Judgement, also, require}
+use Rattle.rules.specs.Judgements.{Judgement, and, require}
 use Rattle.typing.specs.declared.scope.Signature.{Signature}
 use Rattle.typing.specs.Typing.{Scope, bool_type, or_else, or_dint, compares, synthesized, synthesized_of_first, synthesized_of_links, synthesized_of_call, synthesized_of_arguments, type_of, common_type, takes_operands, takes_count, count_of, place_of_literal}
 use Rattle.typing.specs.Judged.{judged_literal, judged_unary, negative_literal, fit_from, judged_call, judged, judged_links, judged_arguments, judged_given, judged_alone}
@@ -31,7 +31,7 @@ operands_for false o first links w v h = h
 module _ (scope : Scope) (from to : ElementaryType) (t u : DataType) where
   converted : (place : ℕ) (args : Arguments) → judged_arguments scope (functions.Conversion from to) t place args ≡ judged_arguments scope (functions.Conversion from to) u place args
   converted place no_arguments = refl
-  converted place (argument n e args) = ap (also (judged scope (Some (Elementary from)) e)) (converted (place + 1) args)
+  converted place (argument n e args) = ap (and (judged scope (Some (Elementary from)) e)) (converted (place + 1) args)
 
   converted_fit : (place : ℕ) (args : Arguments) → fit_from scope (functions.Conversion from to) t place args ≡ fit_from scope (functions.Conversion from to) u place args
   converted_fit place no_arguments = refl

@@ -171,9 +171,9 @@ fn judge_given<S: Scope>(
         let port = scope.port(signature.function, to);
         let value = judge_and_synthesize(alloc, scope, expected_by(port), &argument.value)?;
         let fits = fits_port(port, value);
-        let parts = value.outcome.also(judge_port(port));
+        let parts = value.outcome.and(judge_port(port));
         let placed = fits_unless_named(&argument.name, fits);
-        outcome = outcome.also(judge_named(&argument.name, fits, parts));
+        outcome = outcome.and(judge_named(&argument.name, fits, parts));
         fit = fit && placed;
     }
     Ok(JudgedArguments { outcome, fit })
@@ -195,7 +195,7 @@ fn judge_answer<S: Scope>(
     let all = gives_all(alloc, scope, signature, arguments)?;
     let counted = judged.outcome.require(all, Rule::ArgumentCount, at);
     let fitting = counted.require(judged.fit, Rule::OperandType, at);
-    Ok(fitting.also(judge_port(Some(signature.result))))
+    Ok(fitting.and(judge_port(Some(signature.result))))
 }
 
 /// Whether a call of what may be a FUNCTION is whole, and what it breaks first; and its synthesized type.

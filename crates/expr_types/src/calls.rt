@@ -136,7 +136,7 @@ fn judge_arguments<S: Scope>(
         )?;
         let judged = judge_amount(scope, parameter, &argument.value, value.outcome);
         let fits = is_fitting(parameter, kind, value);
-        outcome = outcome.also(judged);
+        outcome = outcome.and(judged);
         fit = fit && fits;
     }
     Ok(JudgedArguments { outcome, fit })
@@ -154,7 +154,7 @@ fn judge_alone<S: Scope>(
     let mut judged = Outcome::ok();
     for argument in arguments {
         let value = judge_and_synthesize(alloc, scope, None, &argument.value)?;
-        judged = judged.also(value.outcome);
+        judged = judged.and(value.outcome);
     }
     Ok(judged)
 }

@@ -203,7 +203,7 @@ fn judge_links<S: Scope>(
         let right = judge_and_synthesize(alloc, scope, Some(kind), &link.right)?;
         let fits = takes(link.operator, kind) && right.kind(Some(kind)).is_same(kind);
         left = left
-            .also(right.outcome)
+            .and(right.outcome)
             .require(fits, Rule::OperandType, link.at);
         kind = next_type(link.operator, kind);
     }

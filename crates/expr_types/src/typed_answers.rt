@@ -46,7 +46,7 @@ pub(crate) fn type_answer<S: Scope>(
         return Ok(TypedExpr::Number(0));
     };
     let values = type_given(alloc, scope, signature, arguments)?;
-    Ok(TypedExpr::Answer(signature.number, values))
+    Ok(TypedExpr::CallFunction(signature.number, values))
 }
 
 // The values of a FUNCTION's inputs.

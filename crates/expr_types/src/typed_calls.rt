@@ -61,7 +61,7 @@ pub(crate) fn type_call<S: Scope>(
     };
     let kind = common_type(scope, expected, function, arguments);
     let operands = type_operands(alloc, scope, function, kind, arguments)?;
-    Ok(TypedExpr::Call(
+    Ok(TypedExpr::CallStandard(
         function_of(function, arguments),
         result_of(function).unwrap_or(kind).carrier(),
         operands,

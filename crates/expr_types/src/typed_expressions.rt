@@ -74,8 +74,8 @@ pub fn value_of_number(number: &TypedExpr) -> i64
         TypedExpr::Cell(_) => 0,
         TypedExpr::Unary(_, _, _) => 0,
         TypedExpr::Chain(_, _) => 0,
-        TypedExpr::Call(_, _, _) => 0,
-        TypedExpr::Answer(_, _) => 0,
+        TypedExpr::CallStandard(_, _, _) => 0,
+        TypedExpr::CallFunction(_, _) => 0,
     }
 }
 

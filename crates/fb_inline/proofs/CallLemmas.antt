@@ -2,7 +2,7 @@
 use Rattle.std.proofs.Common.{◌≡◌, ℕ, zero, suc, ◌+◌, ◌-◌, ◌<◌, List, [], ◌∷◌, ◌++◌, length, refl, ap, ◌∙◌, sym, arith, append_assoc, length-append}
 use Rattle.plc_types.specs.declared.elementary.Elementary.{Elementary}
 use Rattle.plc_types.specs.declared.operator.Operator.{Operator}
-use Rattle.program_tree.specs.Tree.{Expression, number, cell, answer, Operands, operand, Expressions, expression}
+use Rattle.program_tree.specs.Tree.{Expression, number, cell, call_function, Operands, operand, Expressions, expression}
 use Rattle.program_tree.specs.View.{OperandData}
 use Rattle.flat_core.specs.declared.flat_tree.Scratch.{Scratch}
 use Rattle.flat_core.specs.FlatTree.{FlatStatement, set}
@@ -91,13 +91,13 @@ module _ (bodies : Bodies) (f n cells : ℕ) (frame : FrameData) (es : Expressio
   answer_place : cells + length made2 ≡ cells + length made1 + others_behind frame n
   answer_place = omega (arith, ap length is_made2, length-append made1 (other_scratch frame (2 + n) (others_behind frame n)), length-others frame (2 + n) (others_behind frame n))
 
-  pub call-value : (owner : OwnerData) (base there : ℕ) → there ≡ cells + length made2 → cell there ≡ moved bodies owner base (answer f es) (cells + length made0)
+  pub call-value : (owner : OwnerData) (base there : ℕ) → there ≡ cells + length made2 → cell there ≡ moved bodies owner base (call_function f es) (cells + length made0)
   call-value owner base there is =
       let over : there ≡ cells + length made0 + length (input_scratch bodies frame 2 es) + others_behind frame (arity es)
       = is ∙ answer_place ∙ ap (λ (k : ℕ). k + others_behind frame n) first_free ∙ ap (λ (m : ℕ). cells + length made0 + length (input_scratch bodies frame 2 es) + others_behind frame m) inputs in
       ap (λ (k : ℕ). cell k) (over ∙ ap (λ (fr : FrameData). cells + length made0 + length (input_scratch bodies fr 2 es) + others_behind fr (arity es)) (sym same))
 
-  pub call-made : (made3 made4 : List Scratch) → made3 ≡ made2 ++ scratch_at frame 1 ∷ [] → made4 ≡ made3 ++ bodies.call_scratch f → made4 ≡ made0 ++ scratch_in bodies (answer f es)
+  pub call-made : (made3 made4 : List Scratch) → made3 ≡ made2 ++ scratch_at frame 1 ∷ [] → made4 ≡ made3 ++ bodies.call_scratch f → made4 ≡ made0 ++ scratch_in bodies (call_function f es)
   call-made made3 made4 is3 is4 =
       let over : made4 ≡ made0 ++ (input_scratch bodies frame 2 es ++ rest_scratch bodies frame f n) = rw (is4, is3, is_made2, is_made1) (simp append_assoc) in
       over ∙ ap (λ (m : ℕ). made0 ++ (input_scratch bodies frame 2 es ++ rest_scratch bodies frame f m)) inputs
@@ -110,7 +110,7 @@ module _ (bodies : Bodies) (f n cells : ℕ) (frame : FrameData) (es : Expressio
       → out2 ≡ out1 ++ other_starts frame (2 + n) (others_behind frame n) (cells + length made1)
       → out3 ≡ out2 ++ set (cells + length made2) (number (initial_at frame 1)) ∷ []
       → out4 ≡ out3 ++ bodies.call_list f there all_places (cells + length made3)
-      → out4 ≡ out0 ++ before bodies owner base (answer f es) (cells + length made0)
+      → out4 ≡ out0 ++ before bodies owner base (call_function f es) (cells + length made0)
   call-listed owner base there places all_places made3 out0 out1 out2 out3 out4 is3 is_there is_places is_all is1 is2 is_out3 is4 =
       let k1 = cells + length made1 in
       let last : cells + length made3 ≡ k1 + others_behind frame n + 1 = omega (arith, ap length is3, length-append made2 (scratch_at frame 1 ∷ []), answer_place) in

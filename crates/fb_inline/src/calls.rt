@@ -1,6 +1,6 @@
 // Expressions, with the statements that their calls become.
 ghost use Rattle.std.specs.Prelude.{◌≡◌, ◌+◌, ◌++◌, length, IfOk, OnOk};
-ghost use Rattle.program_tree.specs.Tree.{answer};
+ghost use Rattle.program_tree.specs.Tree.{call_function};
 ghost use Rattle.program_tree.specs.View.{expr_view, operands_view, arguments_view};
 ghost use Rattle.flat_core.specs.FlatView.{flats_view};
 ghost use Rattle.flat_charts.specs.Views.{frame_view};
@@ -43,11 +43,11 @@ pub fn flatten_expr(
             let operands = flatten_operands(operands, scope, scratch, out, alloc)?;
             Ok(TypedExpr::Chain(Box::new(alloc, first)?, operands))
         }
-        TypedExpr::Call(function, kind, operands) => {
+        TypedExpr::CallStandard(function, kind, operands) => {
             let operands = flatten_exprs(operands, scope, scratch, out, alloc)?;
-            Ok(TypedExpr::Call(*function, *kind, operands))
+            Ok(TypedExpr::CallStandard(*function, *kind, operands))
         }
-        TypedExpr::Answer(function, inputs) => {
+        TypedExpr::CallFunction(function, inputs) => {
             flatten_answer(inputs, *function, scope, scratch, out, alloc)
         }
     }
@@ -115,10 +115,10 @@ fn flatten_answer(
 ) -> Result<TypedExpr, AllocError>
     requires known { IsKnown scope.now }
     ensures value { IfOk result (λ e. expr_view e
-        ≡ moved (bodies_here scope.now) (owner_view scope.now.owner) scope.now.base (answer function (arguments_view inputs.now)) (scope.now.cells + length scratch.old.items)) }
+        ≡ moved (bodies_here scope.now) (owner_view scope.now.owner) scope.now.base (call_function function (arguments_view inputs.now)) (scope.now.cells + length scratch.old.items)) }
     ensures list { OnOk result (flats_view out.new.items
-        ≡ flats_view out.old.items ++ before (bodies_here scope.now) (owner_view scope.now.owner) scope.now.base (answer function (arguments_view inputs.now)) (scope.now.cells + length scratch.old.items)) }
-    ensures scratch { OnOk result (scratch.new.items ≡ scratch.old.items ++ scratch_in (bodies_here scope.now) (answer function (arguments_view inputs.now))) }
+        ≡ flats_view out.old.items ++ before (bodies_here scope.now) (owner_view scope.now.owner) scope.now.base (call_function function (arguments_view inputs.now)) (scope.now.cells + length scratch.old.items)) }
+    ensures scratch { OnOk result (scratch.new.items ≡ scratch.old.items ++ scratch_in (bodies_here scope.now) (call_function function (arguments_view inputs.now))) }
 {
     if function < scope.below {
         let callee = &scope.called[function];

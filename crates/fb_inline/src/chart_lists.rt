@@ -5,10 +5,12 @@ ghost use Rattle.program_tree.specs.View.{action_view, actions_view};
 ghost use Rattle.flat_core.specs.FlatTree.{set};
 ghost use Rattle.flat_core.specs.FlatView.{flats_view};
 ghost use Rattle.flat_charts.specs.Views.{owner_view};
-ghost use Rattle.flat_form.specs.FlatCharts.{latch_set, latch_list, flag_cell, flags_of, clear_flags, left_flag, left_set, come_set, fired_list, mark_before, mark_active, mark_list};
+ghost use Rattle.flat_form.specs.FlatCharts.{latch_set, latch_list, flag_cell, flags_of, clear_flags, exited_flag, exited_set, entered_set, fired_list, mark_before, mark_active, mark_list};
 
 use crate::puts::{new_scratch, put_number, put_set, whole_cell};
-use flat_charts::{FlatScope, cell_at, joined, latch_test, left_flag, own_cell, place_at, without};
+use flat_charts::{
+    FlatScope, cell_at, exited_flag, joined, latch_test, own_cell, place_at, without,
+};
 use flat_core::{FlatStmt, Scratch};
 use plc_types::{Elementary, Operator};
 use program_tree::{StepCells, TypedAction};
@@ -89,27 +91,27 @@ pub fn put_fired(
 ) -> Result<(), AllocError>
     ensures { OnOk result (flats_view out.new.items ≡ flats_view out.old.items ++ fired_list flags from.now to.now) }
 {
-    put_left(from, flags, out)?;
-    put_come(to, flags, out)?;
+    put_exited(from, flags, out)?;
+    put_entered(to, flags, out)?;
     Ok(())
 }
 
-fn put_left(list: &[usize], flags: usize, out: &mut Vec<FlatStmt>) -> Result<(), AllocError>
-    ensures { OnOk result (flats_view out.new.items ≡ flats_view out.old.items ++ map (left_set flags) list.now) }
+fn put_exited(list: &[usize], flags: usize, out: &mut Vec<FlatStmt>) -> Result<(), AllocError>
+    ensures { OnOk result (flats_view out.new.items ≡ flats_view out.old.items ++ map (exited_set flags) list.now) }
 {
     for step in list {
-        let flag = left_flag(flags, *step)?;
+        let flag = exited_flag(flags, *step)?;
         put_number(out, flag, 1)?;
     }
     Ok(())
 }
 
-fn put_come(list: &[usize], flags: usize, out: &mut Vec<FlatStmt>) -> Result<(), AllocError>
-    ensures { OnOk result (flats_view out.new.items ≡ flats_view out.old.items ++ map (come_set flags) list.now) }
+fn put_entered(list: &[usize], flags: usize, out: &mut Vec<FlatStmt>) -> Result<(), AllocError>
+    ensures { OnOk result (flats_view out.new.items ≡ flats_view out.old.items ++ map (entered_set flags) list.now) }
 {
     for step in list {
-        let left = left_flag(flags, *step)?;
-        let flag = behind(left, 1)?;
+        let exited = exited_flag(flags, *step)?;
+        let flag = behind(exited, 1)?;
         put_number(out, flag, 1)?;
     }
     Ok(())
@@ -136,20 +138,26 @@ pub fn put_marks(
 
 fn put_mark(
     step: StepCells,
-    left: usize,
+    exited: usize,
     scope: &FlatScope<'_, '_>,
     out: &mut Vec<FlatStmt>,
     alloc: Global,
 ) -> Result<(), AllocError>
     ensures { OnOk result (flats_view out.new.items ≡ flats_view out.old.items
-        ++ mark_before (owner_view scope.now.owner) scope.now.base step ∷ mark_active (owner_view scope.now.owner) scope.now.base step left ∷ []) }
+        ++ mark_before (owner_view scope.now.owner) scope.now.base step ∷ mark_active (owner_view scope.now.owner) scope.now.base step exited ∷ []) }
 {
-    let come = behind(left, 1)?;
+    let entered = behind(exited, 1)?;
     let before = place_at(scope, step.before)?;
     let active = place_at(scope, step.active)?;
     put_set(out, before, cell_at(active))?;
-    let stays = without(alloc, cell_at(active), cell_at(left))?;
-    let next = joined(alloc, stays, Operator::Or, Elementary::Bool, cell_at(come))?;
+    let stays = without(alloc, cell_at(active), cell_at(exited))?;
+    let next = joined(
+        alloc,
+        stays,
+        Operator::Or,
+        Elementary::Bool,
+        cell_at(entered),
+    )?;
     put_set(out, active, next)
 }
 

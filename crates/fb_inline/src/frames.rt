@@ -34,7 +34,7 @@ fn put_cell(
     let cell = Scratch {
         kind: kind.kind.carrier(),
         range,
-        limited: kind.limited,
+        is_subrange: kind.is_subrange,
     };
     new_scratch(cell, cells, scratch)
 }
@@ -88,7 +88,7 @@ fn put_input_start(
     ensures { OnOk result (flats_view out.new.items ≡ flats_view out.old.items ++ input_start (frame_view frame.now) place there) }
 {
     let kind = type_at(&frame.types, place);
-    if kind.limited {
+    if kind.is_subrange {
         let initial = initial_at(frame, place);
         put_number(out, there, initial)?;
     }

@@ -2,7 +2,7 @@
 ghost use Rattle.std.specs.Prelude.{◌≡◌, IfOk, MatchResult, IsTrue};
 ghost use Rattle.program_tree.specs.View.{cells_view, program_view};
 ghost use Rattle.rules.specs.Faults.{IfRefused};
-ghost use Rattle.scan_model.specs.InRange.{IsProgram};
+ghost use Rattle.scan_model.specs.InRange.{IsFitToRun};
 ghost use Rattle.flat_core.specs.FlatView.{flat_program_view};
 ghost use Rattle.flat_form.specs.FlatLaws.{LeavesTheSame};
 ghost use Rattle.flat_form.specs.FlatPrograms.{flat_program, is_short};
@@ -23,7 +23,7 @@ use std::alloc::{AllocError, Global};
 /// The flat form of a typed program, which is typed too; none of one that has more than 200,000 statements (M5), which are counted before
 /// any is built. A FOR with a value that is no i64 counts as want of memory, and so does a place that is no usize.
 pub fn flatten(alloc: Global, program: &Program) -> Result<Flat, Fault>
-    requires fit { IsProgram (program_view program.now) }
+    requires fit { IsFitToRun (program_view program.now) }
     requires typed { IsTypedProgram (program_view program.now) }
     ensures list { IfOk result (λ f. flat_program_view f ≡ flat_program (program_view program.now)) }
     ensures typed { IfOk result (λ f. IsTypedFlat (flat_program_view f)) }
@@ -42,7 +42,7 @@ pub fn flatten(alloc: Global, program: &Program) -> Result<Flat, Fault>
 
 // The flat form of a typed program, which keeps the rules of flat programs.
 fn flat_program(alloc: Global, program: &Program) -> Result<Flat, AllocError>
-    requires fit { IsProgram (program_view program.now) }
+    requires fit { IsFitToRun (program_view program.now) }
     requires typed { IsTypedProgram (program_view program.now) }
     ensures { IfOk result (λ f. flat_program_view f ≡ flat_program (program_view program.now)) }
 {

@@ -99,7 +99,7 @@ pub fn whole_cell(kind: Elementary) -> Scratch
     Scratch {
         kind,
         range: range_of(kind),
-        limited: false,
+        is_subrange: false,
     }
 }
 

@@ -57,7 +57,7 @@ fn flatten_one(
             let target = place_at(scope, *target)?;
             put_set(out, target, expr)
         }
-        TypedStmt::Run { block, offset } => {
+        TypedStmt::CallBlock { block, offset } => {
             flatten_block(*block, *offset, scope, scratch, out, alloc)
         }
         TypedStmt::If(arms, other) => {

@@ -13,7 +13,7 @@ use Rattle.grammar.specs.Fits.{StmtsFit}
 use Rattle.grammar.specs.Nesting.{nothing_open, NestsWithin, Shallow}
 use Rattle.grammar.specs.Reading.{ahead}
 use Rattle.grammar.specs.Files.{file}
-use Rattle.grammar.specs.FirstFault.{IsSound}
+use Rattle.grammar.specs.FirstFault.{AreSoundTokens}
 use Rattle.grammar.specs.WholeFile.{IsFile, IsFileFault}
 use Rattle.grammar_laws.proofs.Steps.{some_is}
 use Rattle.grammar_laws.proofs.Nests.{nests-behind, nests-length}
@@ -76,12 +76,12 @@ ahead_start : (toks : List Tok) → ahead toks 0 ≡ view.symbols toks
 unfolding ahead
 ahead_start toks = refl
 
-pub file_found : (toks : List Tok) (f : FileData) → IsSound toks → file (length toks) 64 (ahead toks 0) ≡ Some f → IsFile toks f
+pub file_found : (toks : List Tok) (f : FileData) → AreSoundTokens toks → file (length toks) 64 (ahead toks 0) ≡ Some f → IsFile toks f
 file_found toks f sound e =
     let found = file_is (length toks) 64 (view.symbols toks) f (ap (file (length toks) 64) (sym (ahead_start toks)) ∙ e) in
     record { sound = sound; printed = found.0; levelled = file_levelled f 64 found.1 }
 
-pub file_fault : (toks : List Tok) (stop : Stop) → IsSound toks → Shallow (view.symbols toks) → (stop ≢ stops.Memory → file (length toks) 64 (ahead toks 0) ≡ None) → IsFileFault toks (fault_of stop)
+pub file_fault : (toks : List Tok) (stop : Stop) → AreSoundTokens toks → Shallow (view.symbols toks) → (stop ≢ stops.Memory → file (length toks) 64 (ahead toks 0) ≡ None) → IsFileFault toks (fault_of stop)
 file_fault toks (stops.NoTree at) sound shallow none =
     inr (record {
       sound = sound;

@@ -8,7 +8,7 @@ ghost use Rattle.naming.specs.DeclarationUses.{declaration_uses, is_circular_use
 ghost use Rattle.naming.specs.Ends.{Marks};
 ghost use Rattle.naming.specs.FileScope.{types_of, pous_of, names_of, standing, kind_at, pou_number, block_number, number_if};
 ghost use Rattle.file_scope.specs.FileView.{file_names_view};
-ghost use Rattle.rules.specs.Judgements.{also};
+ghost use Rattle.rules.specs.Judgements.{and};
 ghost use Rattle.rules.specs.Outcomes.{outcome_of};
 ghost use Rattle.naming.specs.PouShapes.{pou_shape, ArePouShapes};
 ghost use Rattle.naming.specs.Scopes.{is_whole_type, block_of_type};
@@ -244,12 +244,12 @@ impl FileScope<'_> {
     }
 
     // The bounds in the declaration of a number.
-    #[tactic(auto, using(rules::proofs::Outcomes::outcome_also))]
+    #[tactic(auto, using(rules::proofs::Outcomes::outcome_and))]
     fn bounds(&self, user: usize, bounds: &Bounds) -> Outcome
-        ensures { let f = file_view self.now.types.names.file.now in result ≡ outcome_of (also (in_bound f user (tree_view bounds.now.low)) (in_bound f user (tree_view bounds.now.high))) }
+        ensures { let f = file_view self.now.types.names.file.now in result ≡ outcome_of (and (in_bound f user (tree_view bounds.now.low)) (in_bound f user (tree_view bounds.now.high))) }
     {
         let low = self.bound(user, &bounds.low);
-        low.also(self.bound(user, &bounds.high))
+        low.and(self.bound(user, &bounds.high))
     }
 
     // A type by name in the declaration of a number.

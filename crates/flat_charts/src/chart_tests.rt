@@ -4,7 +4,7 @@ ghost use Rattle.program_tree.specs.Tree.{cell};
 ghost use Rattle.program_tree.specs.View.{expr_view, operand_view};
 ghost use Rattle.meaning.specs.Charts.{is_set, is_reset};
 ghost use Rattle.flat_charts.specs.Views.{owner_view};
-ghost use Rattle.flat_form.specs.FlatCharts.{joining, joined_by, no_step, active_at, before_at, steps_that, unless_reset, latch_test, asking, terms, latch_start, runs_test, left_flag, ready_term, ready_test};
+ghost use Rattle.flat_form.specs.FlatCharts.{joining, joined_by, no_step, active_at, before_at, steps_that, unless_reset, latch_test, asking, terms, latch_start, runs_test, exited_flag, ready_term, ready_test};
 
 use crate::joins::{joined_to, put_operand, without};
 use crate::places::{cell_at, place_at};
@@ -298,14 +298,14 @@ fn ready_term(
     ensures { IfOk result (λ e. expr_view e ≡ ready_term (owner_view scope.now.owner) scope.now.base steps.now flags step) }
 {
     let active = active_at(step, steps, scope)?;
-    let flag = left_flag(flags, step)?;
+    let flag = exited_flag(flags, step)?;
     without(alloc, active, cell_at(flag))
 }
 
 /// Where the flag of a step stands that a transition left. A place that is no usize, which no step of a chart has, has no place in
 /// memory.
-pub fn left_flag(flags: usize, step: usize) -> Result<usize, AllocError>
-    ensures { IfOk result (λ place. place ≡ left_flag flags step) }
+pub fn exited_flag(flags: usize, step: usize) -> Result<usize, AllocError>
+    ensures { IfOk result (λ place. place ≡ exited_flag flags step) }
 {
     let behind = 2usize.checked_mul(step).ok_or(AllocError)?;
     flags.checked_add(behind).ok_or(AllocError)

@@ -4,14 +4,14 @@ use Rattle.std.specs.Prelude.{slice_set, slice_index_or, if◌then◌else◌, na
 use Rattle.std.proofs.lemmas.List.{length-set, length-map}
 use Rattle.plc_types.specs.declared.range.Range.{Range}
 use Rattle.plc_types.specs.Types.{in_range}
-use Rattle.program_tree.specs.Tree.{Expression, number, cell, unary, chain, call, answer, Operands, no_operands, operand, Expressions, no_expressions, expression, CellData}
+use Rattle.program_tree.specs.Tree.{Expression, number, cell, unary, chain, call_standard, call_function, Operands, no_operands, operand, Expressions, no_expressions, expression, CellData}
 use Rattle.meaning.specs.Values.{State, no_callees, value_of, value_on, values_of, faults, any_faults, one_faults, applied, is_truth}
 use Rattle.meaning.specs.Effects.{range_at, with_fault}
 use Rattle.scan_model.specs.Scans.{ranges_of}
 use Rattle.flat_core.specs.declared.flat_tree.Scratch.{Scratch}
 use Rattle.flat_core.specs.FlatTree.{FlatStatement, set, branch, FlatStatements, no_flats, flat}
 use Rattle.flat_core.specs.FlatScans.{takes, placed, run_of, run_of_all}
-use Rattle.flat_core.specs.FlatRules.{Reads, AllRead, EachReads, IsReadable, is_limited, IsTakenNumber, MaySet, set_behind, IsFlatOver, AreFlatOver}
+use Rattle.flat_core.specs.FlatRules.{Reads, AllRead, EachReads, IsReadable, has_subrange, IsTakenNumber, MaySet, set_behind, IsFlatOver, AreFlatOver}
 use Rattle.flat_core.specs.FlatLaws.{ScratchDoesNotCount}
 
 -- ---- an expression has one value in stores that agree where it reads
@@ -23,8 +23,8 @@ module _ (P : ℕ → Type 0) (x y : State) (same : (p : ℕ) → P p → slice_
     same_value (cell place) r = rw (zero-add place) (same place r)
     same_value (unary o t e) r = rw (same_value e r)
     same_value (chain e os) r = rw (same_value e r.0) (same_value_on (value_of no_callees 0 e y) os r.1)
-    same_value (call f t es) r = rw (same_values es r)
-    same_value (answer f es) r = absurd r
+    same_value (call_standard f t es) r = rw (same_values es r)
+    same_value (call_function f es) r = absurd r
 
     same_value_on : (v : ℤ) (os : Operands) → AllRead P os → value_on no_callees 0 v os x ≡ value_on no_callees 0 v os y
     same_value_on v no_operands r = refl
@@ -40,8 +40,8 @@ module _ (P : ℕ → Type 0) (x y : State) (same : (p : ℕ) → P p → slice_
     same_fault (cell place) r = refl
     same_fault (unary o t e) r = same_fault e r
     same_fault (chain e os) r = rw (same_fault e r.0, same_faults os r.1)
-    same_fault (call f t es) r = same_faults_of es r
-    same_fault (answer f es) r = absurd r
+    same_fault (call_standard f t es) r = same_faults_of es r
+    same_fault (call_function f es) r = absurd r
 
     same_faults : (os : Operands) → AllRead P os → any_faults no_callees 0 os x ≡ any_faults no_callees 0 os y
     same_faults no_operands r = refl
@@ -115,7 +115,7 @@ module _ (n : ℕ) where
 
 -- ---- statements
 
-free_takes : (cs : List Scratch) (c : ℕ) (v : ℤ) → is_limited cs c ≡ false → takes cs c v ≡ true
+free_takes : (cs : List Scratch) (c : ℕ) (v : ℤ) → has_subrange cs c ≡ false → takes cs c v ≡ true
 free_takes [] c v h = refl
 free_takes (s ∷ cs) zero v h = rw h
 free_takes (s ∷ cs) (suc c) v h = free_takes cs c v h
@@ -125,8 +125,8 @@ number_takes cs c (number v) x h = h
 number_takes cs c (cell place) x h = absurd h
 number_takes cs c (unary o t e) x h = absurd h
 number_takes cs c (chain e os) x h = absurd h
-number_takes cs c (call f t es) x h = absurd h
-number_takes cs c (answer f es) x h = absurd h
+number_takes cs c (call_standard f t es) x h = absurd h
+number_takes cs c (call_function f es) x h = absurd h
 
 below_where : (c n : ℕ) → nat_lt c n ≡ true → c < n
 below_where c n h = search (rules, tests)

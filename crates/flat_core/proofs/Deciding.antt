@@ -4,12 +4,12 @@ use Rattle.std.proofs.Common.{◌≡◌, ◌⊎◌, ℕ, ◌+◌, ◌-◌, ◌<�
 use Rattle.std.specs.Prelude.{◌==◌, nat_lt}
 use Rattle.std.proofs.lemmas.Bool.Decides.{nat_tests}
 use Rattle.std.proofs.lemmas.Grind.{not_there}
-use Rattle.program_tree.specs.Tree.{Expression, number, cell, unary, chain, call, answer, Operands, no_operands, operand, Expressions, no_expressions, expression}
+use Rattle.program_tree.specs.Tree.{Expression, number, cell, unary, chain, call_standard, call_function, Operands, no_operands, operand, Expressions, no_expressions, expression}
 use Rattle.flat_core.specs.declared.flat_tree.Scratch.{Scratch}
 use Rattle.flat_core.specs.declared.flat_program.Flat.{Flat}
 use Rattle.flat_core.specs.FlatTree.{FlatStatement, set, branch, FlatStatements, no_flats, flat}
 use Rattle.flat_core.specs.FlatScans.{takes}
-use Rattle.flat_core.specs.FlatRules.{Reads, AllRead, EachReads, IsOneOf, IsReadable, is_limited, IsTakenNumber, MaySet, set_behind, IsFlatOver, AreFlatOver, IsFlat}
+use Rattle.flat_core.specs.FlatRules.{Reads, AllRead, EachReads, IsOneOf, IsReadable, has_subrange, IsTakenNumber, MaySet, set_behind, IsFlatOver, AreFlatOver, IsFlat}
 use Rattle.flat_core.specs.FlatView.{flat_program_view}
 
 abbrev Decided : Type 0 → Type 0
@@ -57,8 +57,8 @@ module _ (P : ℕ → Type 0) (place_decided : (place : ℕ) → Decided (P plac
     reads_decided (cell place) = place_decided place
     reads_decided (unary o t e) = reads_decided e
     reads_decided (chain e os) = both_decided (reads_decided e) (all_decided os)
-    reads_decided (call f t es) = each_decided es
-    reads_decided (answer f es) = inr (λ h. h)
+    reads_decided (call_standard f t es) = each_decided es
+    reads_decided (call_function f es) = inr (λ h. h)
 
     all_decided : (os : Operands) → Decided (AllRead P os)
     all_decided no_operands = inl tt
@@ -73,12 +73,12 @@ taken_decided cs n (number v) = true_decided (takes cs n v)
 taken_decided cs n (cell place) = inr (λ h. h)
 taken_decided cs n (unary o t e) = inr (λ h. h)
 taken_decided cs n (chain e os) = inr (λ h. h)
-taken_decided cs n (call f t es) = inr (λ h. h)
-taken_decided cs n (answer f es) = inr (λ h. h)
+taken_decided cs n (call_standard f t es) = inr (λ h. h)
+taken_decided cs n (call_function f es) = inr (λ h. h)
 
 set_decided : (cells : ℕ) (cs : List Scratch) (done : List ℕ) (place : ℕ) (e : Expression) → Decided (MaySet cells cs done place e)
 set_decided cells cs done place e =
-    either_decided (readable_decided cells done place) (either_decided (false_decided (is_limited cs (place - cells))) (taken_decided cs (place - cells) e))
+    either_decided (readable_decided cells done place) (either_decided (false_decided (has_subrange cs (place - cells))) (taken_decided cs (place - cells) e))
 
 module _ (cells : ℕ) (cs : List Scratch) where
   mutual

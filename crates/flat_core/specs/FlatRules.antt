@@ -2,7 +2,7 @@
 -- that stands earlier in the same list or in one around it; and only behind such an assignment is a scratch cell of a subrange set
 -- to anything but a number of its range. So what scratch cells hold before a scan does not count.
 use Rattle.std.specs.Prelude.{◌≡◌, ◌<◌, ◌⊎◌, ℕ, zero, suc, ◌+◌, ◌-◌, Bool, true, false, List, [], ◌∷◌, length}
-use Rattle.program_tree.specs.Tree.{Expression, number, cell, unary, chain, call, answer, Operands, no_operands, operand, Expressions, no_expressions, expression}
+use Rattle.program_tree.specs.Tree.{Expression, number, cell, unary, chain, call_standard, call_function, Operands, no_operands, operand, Expressions, no_expressions, expression}
 use Rattle.flat_core.specs.declared.flat_tree.Scratch.{Scratch}
 use Rattle.flat_core.specs.FlatTree.{FlatStatement, set, branch, FlatStatements, no_flats, flat, FlatData}
 use Rattle.flat_core.specs.FlatScans.{takes}
@@ -14,8 +14,8 @@ abbrev mutual
   Reads P (cell place) = P place
   Reads P (unary o t e) = Reads P e
   Reads P (chain e os) = Reads P e × AllRead P os
-  Reads P (call f t es) = EachReads P es
-  Reads P (answer f es) = ⊥
+  Reads P (call_standard f t es) = EachReads P es
+  Reads P (call_function f es) = ⊥
 
   pub AllRead : (ℕ → Type 0) → Operands → Type 0
   AllRead P no_operands = Unit {0}
@@ -35,10 +35,10 @@ abbrev pub IsReadable : ℕ → List ℕ → ℕ → Type 0
 IsReadable cells done place = (place < cells) ⊎ IsOneOf done place
 
 -- whether a scratch cell is of a subrange
-abbrev pub is_limited : List Scratch → ℕ → Bool
-is_limited [] n = false
-is_limited (c ∷ cs) zero = c.limited
-is_limited (c ∷ cs) (suc n) = is_limited cs n
+abbrev pub has_subrange : List Scratch → ℕ → Bool
+has_subrange [] n = false
+has_subrange (c ∷ cs) zero = c.is_subrange
+has_subrange (c ∷ cs) (suc n) = has_subrange cs n
 
 -- a number that a scratch cell takes
 abbrev pub IsTakenNumber : List Scratch → ℕ → Expression → Type 0
@@ -46,12 +46,12 @@ IsTakenNumber cs n (number v) = takes cs n v ≡ true
 IsTakenNumber cs n (cell place) = ⊥
 IsTakenNumber cs n (unary o t e) = ⊥
 IsTakenNumber cs n (chain e os) = ⊥
-IsTakenNumber cs n (call f t es) = ⊥
-IsTakenNumber cs n (answer f es) = ⊥
+IsTakenNumber cs n (call_standard f t es) = ⊥
+IsTakenNumber cs n (call_function f es) = ⊥
 
 -- an assignment to a place that holds a value that counts; or to a scratch cell that takes each value, or this number
 abbrev pub MaySet : ℕ → List Scratch → List ℕ → ℕ → Expression → Type 0
-MaySet cells cs done place e = IsReadable cells done place ⊎ ((is_limited cs (place - cells) ≡ false) ⊎ IsTakenNumber cs (place - cells) e)
+MaySet cells cs done place e = IsReadable cells done place ⊎ ((has_subrange cs (place - cells) ≡ false) ⊎ IsTakenNumber cs (place - cells) e)
 
 -- the places that are set behind a statement; those that only one side of a choice sets are not
 abbrev pub set_behind : FlatStatement → List ℕ → List ℕ

@@ -12,7 +12,7 @@ use Rattle.flat_core.specs.FlatTree.{FlatStatement, set, branch, FlatStatements,
 -- a scratch cell of a subrange takes the values of its range, and any other takes each
 abbrev pub takes : List Scratch → ℕ → ℤ → Bool
 takes [] n v = true
-takes (c ∷ cs) zero v = not c.limited || in_range v c.range
+takes (c ∷ cs) zero v = not c.is_subrange || in_range v c.range
 takes (c ∷ cs) (suc n) v = takes cs n v
 
 -- A cell gets a value as by an assignment of the program. A value that a scratch cell does not take is a fault, and leaves it.

@@ -8,7 +8,7 @@ use program_tree::TypedExpr;
 pub struct Scratch {
     pub kind: Elementary,
     pub range: Range,
-    pub limited: bool,
+    pub is_subrange: bool,
 }
 
 /// A flat statement. A place counts the cells and behind them the scratch cells. An `If` is a chain of nested ones: what an

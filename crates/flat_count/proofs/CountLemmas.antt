@@ -5,7 +5,7 @@ use Rattle.std.proofs.lemmas.Bool.Decides.{nat_tests}
 use Rattle.plc_types.specs.declared.elementary.Elementary.{Elementary}
 use Rattle.program_tree.specs.declared.typed.StepCells.{StepCells}
 use Rattle.program_tree.specs.declared.typed.Association.{Association}
-use Rattle.program_tree.specs.Tree.{Expression, number, cell, unary, chain, call, answer, Operands, no_operands, operand, Expressions, no_expressions, expression, Statement, assign, run, choice, cases, repeat, chart, Statements, no_statements, statement, Choices, no_choices, choose, Entries, no_entries, entry, TransitionData, Actions, no_actions, action, CalledData, ProgramData}
+use Rattle.program_tree.specs.Tree.{Expression, number, cell, unary, chain, call_standard, call_function, Operands, no_operands, operand, Expressions, no_expressions, expression, Statement, assign, call_block, choice, cases, repeat, chart, Statements, no_statements, statement, Choices, no_choices, choose, Entries, no_entries, entry, TransitionData, Actions, no_actions, action, CalledData, ProgramData}
 use Rattle.std.proofs.lemmas.List.{length-map}
 use Rattle.program_tree.specs.declared.typed.Called.{Called}
 use Rattle.program_tree.specs.View.{called_view, all_called_view}
@@ -16,7 +16,7 @@ use Rattle.flat_form.specs.Frames.{FrameData, frames_of, function_body, type_at,
 use Rattle.flat_form.specs.Owners.{OwnerData, program_owner, call_owner}
 use Rattle.flat_form.specs.Bodies.{Bodies}
 use Rattle.flat_form.specs.Calls.{arity, rest_list, scratch_in, input_scratch, input_places, moved, before, operands_before, all_before, inputs_before}
-use Rattle.flat_form.specs.FlatCharts.{latch_set, latch_list, runs_test, of_associated, flags_of, clear_flags, left_set, come_set, fired_list, ready_test, condition_list, flat_transition, flat_transitions, mark_list, flat_moves}
+use Rattle.flat_form.specs.FlatCharts.{latch_set, latch_list, runs_test, of_associated, flags_of, clear_flags, exited_set, entered_set, fired_list, ready_test, condition_list, flat_transition, flat_transitions, mark_list, flat_moves}
 use Rattle.flat_form.specs.FlatLists.{scratch_of, scratch_of_all, scratch_of_choices, scratch_of_entries, scratch_of_actions, unrolled, flat_of, flat_of_all, flat_choices, flat_entries, flat_actions}
 use Rattle.flat_count.specs.Counts.{Counting, count_of_start, count_in, count_in_operands, count_in_all, count_in_inputs, count_of_latch, count_of_latches, count_of_transition, count_of_transitions, count_of_associated, count_of, count_of_all, count_of_choices, count_of_entries, count_of_actions, counting_of, counting, counted, capped, AreCounts}
 use Rattle.flat_form.specs.Pous.{block_body, bodies_of}
@@ -44,7 +44,7 @@ size-starts frame place zero k = refl
 size-starts frame place (suc n) k = omega (arith, size-starts frame (place + 1) n (k + 1))
 
 size-start : (frame : FrameData) (place t : ℕ) → size (input_start frame place t) ≡ count_of_start frame place
-size-start frame place t = size-if (type_at frame.types place).limited (set t (number (initial_at frame place)) ∷ []) [] 1 0 refl refl
+size-start frame place t = size-if (type_at frame.types place).is_subrange (set t (number (initial_at frame place)) ∷ []) [] 1 0 refl refl
 
 -- ---- charts
 
@@ -65,16 +65,16 @@ size-marks : (owner : OwnerData) (base : ℕ) (steps : List StepCells) (k : ℕ)
 size-marks owner base [] k = refl
 size-marks owner base (p ∷ ps) k = omega (arith, size-marks owner base ps (k + 2))
 
-size-left : (k : ℕ) (list : List ℕ) → size (map (left_set k) list) ≡ length list
-size-left k [] = refl
-size-left k (i ∷ list) = omega (arith, size-left k list)
+size-exited : (k : ℕ) (list : List ℕ) → size (map (exited_set k) list) ≡ length list
+size-exited k [] = refl
+size-exited k (i ∷ list) = omega (arith, size-exited k list)
 
-size-come : (k : ℕ) (list : List ℕ) → size (map (come_set k) list) ≡ length list
-size-come k [] = refl
-size-come k (i ∷ list) = omega (arith, size-come k list)
+size-entered : (k : ℕ) (list : List ℕ) → size (map (entered_set k) list) ≡ length list
+size-entered k [] = refl
+size-entered k (i ∷ list) = omega (arith, size-entered k list)
 
 size-fired : (k : ℕ) (from to : List ℕ) → size (fired_list k from to) ≡ length from + length to
-size-fired k from to = omega (arith, size-append (map (left_set k) from) (map (come_set k) to), size-left k from, size-come k to)
+size-fired k from to = omega (arith, size-append (map (exited_set k) from) (map (entered_set k) to), size-exited k from, size-entered k to)
 
 -- statements behind a test
 size-branch : (e : Expression) (a : List FlatStatement) (n : ℕ) → size a ≡ n → size (branch e (flats_of a) no_flats ∷ []) ≡ 1 + n
@@ -86,7 +86,7 @@ size-associated (x ∷ more) e a n h = size-branch e a n h
 
 module _ (bodies : Bodies) (counts : Counting) (same : (f : ℕ) → bodies.frame f ≡ counts.frame f)
     (each_run : (owner : OwnerData) (b base k : ℕ) → size (bodies.run_list owner b base k) ≡ counts.runs b)
-    (each_call : (f answer : ℕ) (places : List ℕ) (k : ℕ) → size (bodies.call_list f answer places k) ≡ counts.bodies f) where
+    (each_call : (f call_function : ℕ) (places : List ℕ) (k : ℕ) → size (bodies.call_list f call_function places k) ≡ counts.bodies f) where
   size-rest : (frame : FrameData) (f inputs : ℕ) (places : List ℕ) (k : ℕ) → size (rest_list bodies frame f inputs places k) ≡ others_behind frame inputs + (1 + counts.bodies f)
   size-rest frame f inputs places k =
       let others = others_behind frame inputs in
@@ -102,11 +102,11 @@ module _ (bodies : Bodies) (counts : Counting) (same : (f : ℕ) → bodies.fram
       size-before (unary o t e) k = size-before e k
       size-before (chain e os) k =
           omega (arith, size-append (before bodies owner base e k) (operands_before bodies owner base os (k + length (scratch_in bodies e))), size-before e k, size-operands os (k + length (scratch_in bodies e)))
-      size-before (call f t es) k = size-all es k
-      size-before (answer f es) k =
+      size-before (call_standard f t es) k = size-all es k
+      size-before (call_function f es) k =
           let inputs = inputs_before bodies owner base (bodies.frame f) 2 es k in
           let later = k + length (input_scratch bodies (bodies.frame f) 2 es) in
-          let whole : size (before bodies owner base (answer f es) k) ≡ count_in_inputs counts (bodies.frame f) 2 es + (others_behind (bodies.frame f) (arity es) + (1 + counts.bodies f))
+          let whole : size (before bodies owner base (call_function f es) k) ≡ count_in_inputs counts (bodies.frame f) 2 es + (others_behind (bodies.frame f) (arity es) + (1 + counts.bodies f))
           = omega (arith, size-append inputs (rest_list bodies (bodies.frame f) f (arity es) (input_places bodies es k) later), size-inputs (bodies.frame f) 2 es k, size-rest (bodies.frame f) f (arity es) (input_places bodies es k) later) in
           whole ∙ ap (λ (frame : FrameData). count_in_inputs counts frame 2 es + (others_behind frame (arity es) + (1 + counts.bodies f))) (same f)
 
@@ -154,7 +154,7 @@ module _ (bodies : Bodies) (counts : Counting) (same : (f : ℕ) → bodies.fram
       size_of-statement : (base : ℕ) (t : Statement) (k : ℕ) → size (flat_of bodies owner base t k) ≡ count_of counts t
       size_of-statement base (assign target e) k =
           omega (arith, size-append (before bodies owner base e k) (set (owner (base + target)) (moved bodies owner base e k) ∷ []), size-before owner base e k)
-      size_of-statement base (run b offset) k = each_run owner b (base + offset) k
+      size_of-statement base (call_block b offset) k = each_run owner b (base + offset) k
       size_of-statement base (choice arms other) k =
           size_of-choices base arms k (flat_of_all bodies owner base other (k + length (scratch_of_choices bodies arms))) _ (size_of-all base other _)
       size_of-statement base (cases kind e es other) k =
@@ -208,15 +208,15 @@ same-frames ps n f = ap (λ (g : ℕ → FrameData). g f) (frames-here ps n) ∙
 
 module _ (ps : List CalledData) where
   mutual
-    size-run : (n : ℕ) (owner : OwnerData) (b base k : ℕ) → size ((bodies_of ps n).run_list owner b base k) ≡ (counting_of ps n).runs b
-    size-run zero owner b base k = refl
-    size-run (suc n) owner b base k =
-        size-if (b == n) _ _ _ _ (size_of-all (bodies_of ps n) (counting_of ps n) (same-frames ps n) (λ o c at j. size-run n o c at j) (λ f a places j. size-call n f a places j) owner base (block_body (slice_index_or ps n nothing)) k) (size-run n owner b base k)
+    size-call_block : (n : ℕ) (owner : OwnerData) (b base k : ℕ) → size ((bodies_of ps n).run_list owner b base k) ≡ (counting_of ps n).runs b
+    size-call_block zero owner b base k = refl
+    size-call_block (suc n) owner b base k =
+        size-if (b == n) _ _ _ _ (size_of-all (bodies_of ps n) (counting_of ps n) (same-frames ps n) (λ o c at j. size-call_block n o c at j) (λ f a places j. size-call_standard n f a places j) owner base (block_body (slice_index_or ps n nothing)) k) (size-call_block n owner b base k)
 
-    size-call : (n f a : ℕ) (places : List ℕ) (k : ℕ) → size ((bodies_of ps n).call_list f a places k) ≡ (counting_of ps n).bodies f
-    size-call zero f a places k = refl
-    size-call (suc n) f a places k =
-        size-if (f == n) _ _ _ _ (size_of-all (bodies_of ps n) (counting_of ps n) (same-frames ps n) (λ o c at j. size-run n o c at j) (λ g b there j. size-call n g b there j) (call_owner a places) 0 (function_body (slice_index_or ps n nothing)) k) (size-call n f a places k)
+    size-call_standard : (n f a : ℕ) (places : List ℕ) (k : ℕ) → size ((bodies_of ps n).call_list f a places k) ≡ (counting_of ps n).bodies f
+    size-call_standard zero f a places k = refl
+    size-call_standard (suc n) f a places k =
+        size-if (f == n) _ _ _ _ (size_of-all (bodies_of ps n) (counting_of ps n) (same-frames ps n) (λ o c at j. size-call_block n o c at j) (λ g b there j. size-call_standard n g b there j) (call_owner a places) 0 (function_body (slice_index_or ps n nothing)) k) (size-call_standard n f a places k)
 
 -- ---- counts that are the same up to the limit give counts that are
 
@@ -243,8 +243,8 @@ module _ (f g : Counting) (frames : (n : ℕ) → f.frame n ≡ g.frame n) (same
     same_in (cell place) = refl
     same_in (unary o t e) = same_in e
     same_in (chain e os) = same_sum _ _ _ _ (same_in e) (same_operands os)
-    same_in (call h t es) = same_in_all es
-    same_in (answer h es) =
+    same_in (call_standard h t es) = same_in_all es
+    same_in (call_function h es) =
         same_sum (count_in_inputs f (f.frame h) 2 es) (others_behind (f.frame h) (arity es) + (1 + f.bodies h)) (count_in_inputs g (f.frame h) 2 es) (others_behind (f.frame h) (arity es) + (1 + g.bodies h)) (same_inputs (f.frame h) 2 es)
         (same_sum (others_behind (f.frame h) (arity es)) (1 + f.bodies h) (others_behind (f.frame h) (arity es)) (1 + g.bodies h) refl (same_sum 1 _ 1 _ refl (same_bodies h)))
         ∙ ap (λ (frame : FrameData). capped (count_in_inputs g frame 2 es + (others_behind frame (arity es) + (1 + g.bodies h)))) (frames h)
@@ -276,7 +276,7 @@ module _ (f g : Counting) (frames : (n : ℕ) → f.frame n ≡ g.frame n) (same
   mutual
     same_count : (t : Statement) → capped (count_of f t) ≡ capped (count_of g t)
     same_count (assign target e) = same_sum _ 1 _ 1 (same_in e) refl
-    same_count (run b offset) = same_runs b
+    same_count (call_block b offset) = same_runs b
     same_count (choice arms other) = same_sum _ _ _ _ (same_choices arms) (same_all other)
     same_count (cases kind e es other) = same_sum _ _ _ _ (same_sum _ _ _ _ (same_sum _ 1 _ 1 (same_in e) refl) (same_entries es)) (same_all other)
     same_count (repeat turns body) = same_turns turns.count _ _ (same_all body)
@@ -314,7 +314,7 @@ is_short-count p body runs bodies ps n counts are called same =
     let m = length p.called in
     let equal : n ≡ capped (count_of_all (counting_of p.called m) p.body)
     = counts ∙ counts-same runs bodies ps (length ps) are body ∙ ap (λ q. capped (count_of_all (counting_of q (length q)) body)) called ∙ ap (λ b. capped (count_of_all (counting_of p.called m) b)) same in
-    let whole = size_of-all (bodies_in p) (counting_of p.called m) (same-frames p.called m) (λ o b base k. size-run p.called m o b base k) (λ f a places k. size-call p.called m f a places k) program_owner 0 p.body (length p.cells) in
+    let whole = size_of-all (bodies_in p) (counting_of p.called m) (same-frames p.called m) (λ o b base k. size-call_block p.called m o b base k) (λ f a places k. size-call_standard p.called m f a places k) program_owner 0 p.body (length p.cells) in
     rw (equal, whole) (below_the_limit (count_of_all (counting_of p.called m) p.body))
 
 -- ---- the counts of POUs, one after the other
@@ -379,9 +379,9 @@ capped_right a b = grind (arith, nat_tests)
 capped_both : (a b : ℕ) → capped (capped a + capped b) ≡ capped (a + b)
 capped_both a b = grind (arith, nat_tests)
 
-pub answer-counted : (whole before rest others body at x y z b : ℕ) → whole ≡ capped (before + rest) → before ≡ capped x → rest ≡ capped (others + body) → others ≡ capped y → body ≡ capped (1 + at) → at ≡ capped b → y ≡ z
+pub call_function-counted : (whole before rest others body at x y z b : ℕ) → whole ≡ capped (before + rest) → before ≡ capped x → rest ≡ capped (others + body) → others ≡ capped y → body ≡ capped (1 + at) → at ≡ capped b → y ≡ z
     → whole ≡ capped (x + (z + (1 + b)))
-answer-counted whole before rest others body at x y z b is_whole is_before is_rest is_others is_body is_at same =
+call_function-counted whole before rest others body at x y z b is_whole is_before is_rest is_others is_body is_at same =
     let body_counted : body ≡ capped (1 + b) = is_body ∙ ap (λ (n : ℕ). capped (1 + n)) is_at ∙ capped_right 1 b in
     let rest_counted : rest ≡ capped (y + (1 + b)) = is_rest ∙ ap (λ (n : ℕ). capped (n + body)) is_others ∙ ap (λ (n : ℕ). capped (capped y + n)) body_counted ∙ capped_both y (1 + b) in
     is_whole ∙ ap (λ (n : ℕ). capped (n + rest)) is_before ∙ ap (λ (n : ℕ). capped (capped x + n)) rest_counted ∙ capped_both x (y + (1 + b)) ∙ ap (λ (n : ℕ). capped (x + (n + (1 + b)))) same

@@ -1,7 +1,7 @@
 -- How many flat statements a statement becomes, without its flat list, where the bodies of POUs become so many.
 use Rattle.std.specs.Prelude.{ℕ, zero, suc, ◌+◌, ◌*◌, ◌==◌, ◌≡◌, min, List, [], ◌∷◌, length, Option, None, Some, slice_index_or, if◌then◌else◌}
 use Rattle.program_tree.specs.declared.typed.Association.{Association}
-use Rattle.program_tree.specs.Tree.{Expression, number, cell, unary, chain, call, answer, Operands, no_operands, operand, Expressions, no_expressions, expression, Statement, assign, run, choice, cases, repeat, chart, Statements, no_statements, statement, Choices, no_choices, choose, Entries, no_entries, entry, TransitionData, Actions, no_actions, action, CalledData}
+use Rattle.program_tree.specs.Tree.{Expression, number, cell, unary, chain, call_standard, call_function, Operands, no_operands, operand, Expressions, no_expressions, expression, Statement, assign, call_block, choice, cases, repeat, chart, Statements, no_statements, statement, Choices, no_choices, choose, Entries, no_entries, entry, TransitionData, Actions, no_actions, action, CalledData}
 use Rattle.meaning.specs.Calls.{nothing}
 use Rattle.program_tree.specs.View.{all_called_view}
 use Rattle.flat_count.specs.declared.counts.Counts.{Counts}
@@ -17,7 +17,7 @@ pub record Counting : Type 0 where
 
 -- an input of a subrange is started
 abbrev pub count_of_start : FrameData → ℕ → ℕ
-count_of_start frame place = if (type_at frame.types place).limited then 1 else 0
+count_of_start frame place = if (type_at frame.types place).is_subrange then 1 else 0
 
 -- the statements that an expression's calls become: a call starts its other variables and its answer, and runs its body
 abbrev mutual
@@ -26,8 +26,8 @@ abbrev mutual
   count_in c (cell place) = 0
   count_in c (unary o t e) = count_in c e
   count_in c (chain e os) = count_in c e + count_in_operands c os
-  count_in c (call f t es) = count_in_all c es
-  count_in c (answer f es) = count_in_inputs c (c.frame f) 2 es + (others_behind (c.frame f) (arity es) + (1 + c.bodies f))
+  count_in c (call_standard f t es) = count_in_all c es
+  count_in c (call_function f es) = count_in_inputs c (c.frame f) 2 es + (others_behind (c.frame f) (arity es) + (1 + c.bodies f))
 
   pub count_in_operands : Counting → Operands → ℕ
   count_in_operands c no_operands = 0
@@ -66,7 +66,7 @@ count_of_associated (a ∷ more) n = 1 + n
 abbrev mutual
   pub count_of : Counting → Statement → ℕ
   count_of c (assign target e) = count_in c e + 1
-  count_of c (run b offset) = c.runs b
+  count_of c (call_block b offset) = c.runs b
   count_of c (choice arms other) = count_of_choices c arms + count_of_all c other
   count_of c (cases kind e es other) = count_in c e + 1 + count_of_entries c es + count_of_all c other
   count_of c (repeat turns body) = turns.count * (1 + count_of_all c body) + 1

@@ -75,7 +75,7 @@ fn count(stmt: &TypedStmt, counts: &Counts<'_>) -> usize
 {
     match stmt {
         TypedStmt::Assign(_, expr) => sum(count_calls(expr, counts), 1),
-        TypedStmt::Run { block, .. } => count_at(counts.runs, *block),
+        TypedStmt::CallBlock { block, .. } => count_at(counts.runs, *block),
         TypedStmt::Chart(steps, actions, transitions) => {
             let latches = count_latches(actions);
             let bodies = count_actions(actions, counts);

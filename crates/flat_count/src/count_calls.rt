@@ -1,6 +1,6 @@
 // How many flat statements the calls of expressions become.
 ghost use Rattle.std.specs.Prelude.{◌≡◌, ◌+◌, ◌*◌, ◌≤◌};
-ghost use Rattle.program_tree.specs.Tree.{answer};
+ghost use Rattle.program_tree.specs.Tree.{call_function};
 ghost use Rattle.program_tree.specs.View.{expr_view, operands_view, arguments_view, called_view, all_called_view};
 ghost use Rattle.flat_form.specs.Frames.{frame_of, frames_of, others_behind};
 ghost use Rattle.flat_count.specs.Counts.{count_in, count_in_operands, count_in_all, count_in_inputs, count_of_start, counting_here, capped};
@@ -22,8 +22,8 @@ pub fn count_calls(expr: &TypedExpr, counts: &Counts<'_>) -> usize
         TypedExpr::Chain(first, operands) => {
             sum(count_calls(first, counts), count_operands(operands, counts))
         }
-        TypedExpr::Call(_, _, operands) => count_exprs(operands, counts),
-        TypedExpr::Answer(function, inputs) => count_answer(inputs, *function, counts),
+        TypedExpr::CallStandard(_, _, operands) => count_exprs(operands, counts),
+        TypedExpr::CallFunction(function, inputs) => count_answer(inputs, *function, counts),
     }
 }
 
@@ -52,7 +52,7 @@ fn count_exprs(list: &[TypedExpr], counts: &Counts<'_>) -> usize
 // A call.
 #[cycle(count_calls)]
 fn count_answer(inputs: &[TypedExpr], function: usize, counts: &Counts<'_>) -> usize
-    ensures { result ≡ capped (count_in (counting_here counts.now) (answer function (arguments_view inputs.now))) }
+    ensures { result ≡ capped (count_in (counting_here counts.now) (call_function function (arguments_view inputs.now))) }
 {
     let before = count_inputs(inputs, function, counts);
     let others = count_others(counts.called, function, inputs.len());
@@ -92,7 +92,7 @@ fn count_start_of(callee: &Called, place: usize) -> usize
     ensures fits { result ≤ 1 }
 {
     if let Called::Function(frame, _) = callee {
-        if type_at(&frame.types, place).limited {
+        if type_at(&frame.types, place).is_subrange {
             return 1;
         }
     }

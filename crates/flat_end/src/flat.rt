@@ -1,13 +1,13 @@
 // The program that a text states, handed on to its flat form.
 ghost use Rattle.std.specs.Prelude.{◌≡◌, ℕ, List, IfOk, IfErr, IsTrue};
 ghost use Rattle.program_tree.specs.View.{program_view};
-ghost use Rattle.scan_model.specs.InRange.{IsProgram as IsFitToRun};
+ghost use Rattle.scan_model.specs.InRange.{IsFitToRun};
 ghost use Rattle.flat_core.specs.FlatView.{flat_program_view};
 ghost use Rattle.flat_form.specs.FlatPrograms.{flat_program, is_short};
 ghost use Rattle.flat_form.specs.FlatLaws.{LeavesTheSame};
 ghost use Rattle.source_tree.specs.SyntaxView.{file_view};
 ghost use Rattle.rules.specs.declared.rule.Rule.TheVariants.{TooManyStatements};
-ghost use Rattle.front_end.specs.Texts.{HasFile, AreNamesSound, IsProgram};
+ghost use Rattle.front_end.specs.Texts.{HasFile, AreNamesSound, StatesProgram};
 ghost use Rattle.node_core.specs.TypedFlats.{IsTypedFlat};
 ghost use Rattle.rules.specs.Faults.{IfRefused};
 ghost use Rattle.st_types.specs.CheckedFiles.{file_checked};
@@ -49,7 +49,7 @@ fn is_outline_long(alloc: Global, checked: &Checked<'_>) -> Result<bool, AllocEr
 // The program of a text's file that breaks no rule, unless its outline is too long.
 fn program_by_outline(alloc: Global, checked: Checked<'_>) -> Result<Program, Fault>
     requires { AreNamesSound (file_checked checked) }
-    ensures program { IfOk result (λ p. (text : List ℕ) → HasFile text (file_checked checked.entry) → IsProgram text (program_view p)) }
+    ensures program { IfOk result (λ p. (text : List ℕ) → HasFile text (file_checked checked.entry) → StatesProgram text (program_view p)) }
     ensures fit { IfOk result (λ p. IsFitToRun (program_view p)) }
     ensures typed { IfOk result (λ p. (text : List ℕ) → HasFile text (file_checked checked.entry) → IsTypedProgram (program_view p)) }
     ensures refused { IfErr result (λ e. (text : List ℕ) → HasFile text (file_checked checked.entry) → IfRefused (HasNoFlatForm text) e) }
@@ -67,7 +67,7 @@ fn program_by_outline(alloc: Global, checked: Checked<'_>) -> Result<Program, Fa
 // The program of a text's file whose names are bound, unless its outline is too long.
 fn short_program(alloc: Global, names: &Resolved<'_>) -> Result<Program, Fault>
     requires { AreNamesSound (file_view names.now.file.now) }
-    ensures program { IfOk result (λ p. (text : List ℕ) → HasFile text (file_view names.now.file.now) → IsProgram text (program_view p)) }
+    ensures program { IfOk result (λ p. (text : List ℕ) → HasFile text (file_view names.now.file.now) → StatesProgram text (program_view p)) }
     ensures fit { IfOk result (λ p. IsFitToRun (program_view p)) }
     ensures typed { IfOk result (λ p. (text : List ℕ) → HasFile text (file_view names.now.file.now) → IsTypedProgram (program_view p)) }
     ensures refused { IfErr result (λ e. (text : List ℕ) → HasFile text (file_view names.now.file.now) → IfRefused (HasNoFlatForm text) e) }
@@ -81,7 +81,7 @@ fn short_program(alloc: Global, names: &Resolved<'_>) -> Result<Program, Fault>
 
 // The program of a text's file, unless its outline is too long.
 fn short_file(alloc: Global, file: &SourceFile) -> Result<Program, Fault>
-    ensures program { IfOk result (λ p. (text : List ℕ) → HasFile text (file_view file.now) → IsProgram text (program_view p)) }
+    ensures program { IfOk result (λ p. (text : List ℕ) → HasFile text (file_view file.now) → StatesProgram text (program_view p)) }
     ensures fit { IfOk result (λ p. IsFitToRun (program_view p)) }
     ensures typed { IfOk result (λ p. (text : List ℕ) → HasFile text (file_view file.now) → IsTypedProgram (program_view p)) }
     ensures refused { IfErr result (λ e. (text : List ℕ) → HasFile text (file_view file.now) → IfRefused (HasNoFlatForm text) e) }
@@ -95,7 +95,7 @@ fn short_file(alloc: Global, file: &SourceFile) -> Result<Program, Fault>
 
 // The program that a text states, unless its outline is too long.
 fn accept_short(alloc: Global, text: &[u8]) -> Result<Program, Fault>
-    ensures program { IfOk result (λ p. IsProgram text.now (program_view p)) }
+    ensures program { IfOk result (λ p. StatesProgram text.now (program_view p)) }
     ensures fit { IfOk result (λ p. IsFitToRun (program_view p)) }
     ensures typed { IfOk result (λ p. IsTypedProgram (program_view p)) }
     ensures refused { IfErr result (IfRefused (HasNoFlatForm text.now)) }
@@ -110,7 +110,7 @@ fn accept_short(alloc: Global, text: &[u8]) -> Result<Program, Fault>
 /// The program that a text states and its flat form, or the first rule that it breaks: those of `accept_text`, and then that on the
 /// number of flat statements (M5). Each program that a text states is typed, as `flatten` asks, and so is its flat form.
 pub fn accept_flat(alloc: Global, text: &[u8]) -> Result<Accepted, Fault>
-    ensures program { IfOk result (λ a. IsProgram text.now (program_view a.program)) }
+    ensures program { IfOk result (λ a. StatesProgram text.now (program_view a.program)) }
     ensures fit { IfOk result (λ a. IsFitToRun (program_view a.program)) }
     ensures typed { IfOk result (λ a. IsTypedProgram (program_view a.program)) }
     ensures flat { IfOk result (λ a. flat_program_view a.flat ≡ flat_program (program_view a.program)) }

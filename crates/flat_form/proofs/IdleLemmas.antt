@@ -3,7 +3,7 @@ use Rattle.std.proofs.Common.{◌≡◌, ℕ, zero, suc, ◌+◌, Bool, true, fa
 use Rattle.std.proofs.lemmas.Bool.{and_parts}
 use Rattle.std.specs.Prelude.{◌==◌, slice_index_or, if◌then◌else◌}
 use Rattle.plc_types.specs.declared.range.Range.{Range}
-use Rattle.program_tree.specs.Tree.{Statement, assign, run, choice, cases, repeat, chart, Statements, no_statements, statement, CalledData, block, function}
+use Rattle.program_tree.specs.Tree.{Statement, assign, call_block, choice, cases, repeat, chart, Statements, no_statements, statement, CalledData, block, function}
 use Rattle.meaning.specs.Values.{State, Callees}
 use Rattle.meaning.specs.Effects.{effect_of, effect_of_all}
 use Rattle.meaning.specs.Calls.{nothing, run_of as effect_of_run, callees_of}
@@ -21,7 +21,7 @@ module _ (idle : ℕ → Bool) where
   module _ (bodies : Bodies) (each : (b : ℕ) → idle b ≡ true → bodies.run_scratch b ≡ []) where
     one-scratch : (t : Statement) → is_idle idle t ≡ true → scratch_of bodies t ≡ []
     one-scratch (assign target e) h = cc
-    one-scratch (run b offset) h = each b h
+    one-scratch (call_block b offset) h = each b h
     one-scratch (choice arms other) h = cc
     one-scratch (cases kind e es other) h = cc
     one-scratch (repeat turns body) h = cc
@@ -36,7 +36,7 @@ module _ (idle : ℕ → Bool) where
   module _ (bodies : Bodies) (owner : OwnerData) (each : (b base k : ℕ) → idle b ≡ true → bodies.run_list owner b base k ≡ []) where
     one-list : (base : ℕ) (t : Statement) (k : ℕ) → is_idle idle t ≡ true → flat_of bodies owner base t k ≡ []
     one-list base (assign target e) k h = cc
-    one-list base (run b offset) k h = each b (base + offset) k h
+    one-list base (call_block b offset) k h = each b (base + offset) k h
     one-list base (choice arms other) k h = cc
     one-list base (cases kind e es other) k h = cc
     one-list base (repeat turns body) k h = cc
@@ -52,7 +52,7 @@ module _ (idle : ℕ → Bool) where
   module _ (callees : Callees) (rs : List Range) (each : (b base : ℕ) (s : State) → idle b ≡ true → callees.runs b rs base s ≡ s) where
     one-effect : (base : ℕ) (t : Statement) (s : State) → is_idle idle t ≡ true → effect_of callees rs base t s ≡ s
     one-effect base (assign target e) s h = cc
-    one-effect base (run b offset) s h = each b (base + offset) s h
+    one-effect base (call_block b offset) s h = each b (base + offset) s h
     one-effect base (choice arms other) s h = cc
     one-effect base (cases kind e es other) s h = cc
     one-effect base (repeat turns body) s h = cc
@@ -64,9 +64,9 @@ module _ (idle : ℕ → Bool) where
         let each_holds = and_parts (is_idle idle t) (is_idle_all idle ts) h in
         ap (λ (u : State). effect_of_all callees rs base ts u) (one-effect base t s each_holds.0) ∙ all-effect base ts s each_holds.1
 
-    run-effect : (q : CalledData) (base : ℕ) (s : State) → is_idle_all idle (block_body q) ≡ true → effect_of_run callees q rs base s ≡ s
-    run-effect (block body) base s h = all-effect base body s h
-    run-effect (function types ranges start body) base s h = refl
+    call_block-effect : (q : CalledData) (base : ℕ) (s : State) → is_idle_all idle (block_body q) ≡ true → effect_of_run callees q rs base s ≡ s
+    call_block-effect (block body) base s h = all-effect base body s h
+    call_block-effect (function types ranges start body) base s h = refl
 
 -- ---- POUs, each of which runs those before it
 
@@ -94,7 +94,7 @@ module _ (ps : List CalledData) where
 
   next-effect : (n : ℕ) (rs : List Range) (each : (b base : ℕ) (s : State) → idle_of ps n b ≡ true → (callees_of ps n).runs b rs base s ≡ s) (b base : ℕ) (s : State) (test : Bool) → IdleBody n b test
       → (if test then effect_of_run (callees_of ps n) (slice_index_or ps n nothing) rs base s else (callees_of ps n).runs b rs base s) ≡ s
-  next-effect n rs each b base s true h = run-effect (idle_of ps n) (callees_of ps n) rs each (slice_index_or ps n nothing) base s h
+  next-effect n rs each b base s true h = call_block-effect (idle_of ps n) (callees_of ps n) rs each (slice_index_or ps n nothing) base s h
   next-effect n rs each b base s false h = each b base s h
 
   pub idle-effect : (n : ℕ) (rs : List Range) (b base : ℕ) (s : State) → idle_of ps n b ≡ true → (callees_of ps n).runs b rs base s ≡ s
@@ -110,4 +110,4 @@ module _ (ps : List CalledData) where
   idle_body-list n owner base ts k h = all-list (idle_of ps n) (bodies_of ps n) owner (idle-list n owner) base ts k h
 
   pub idle_body-effect : (n : ℕ) (rs : List Range) (q : CalledData) (base : ℕ) (s : State) → is_idle_all (idle_of ps n) (block_body q) ≡ true → effect_of_run (callees_of ps n) q rs base s ≡ s
-  idle_body-effect n rs q base s h = run-effect (idle_of ps n) (callees_of ps n) rs (idle-effect n rs) q base s h
+  idle_body-effect n rs q base s h = call_block-effect (idle_of ps n) (callees_of ps n) rs (idle-effect n rs) q base s h

@@ -2,7 +2,7 @@
 -- before what asks for the value, and the expression that is left, where the result's scratch cell stands for each call. Calls are
 -- made from left to right, and those in a call's inputs before it.
 use Rattle.std.specs.Prelude.{ℕ, ◌+◌, List, [], ◌∷◌, ◌++◌, length}
-use Rattle.program_tree.specs.Tree.{Expression, number, cell, unary, chain, call, answer, Operands, no_operands, operand, Expressions, no_expressions, expression}
+use Rattle.program_tree.specs.Tree.{Expression, number, cell, unary, chain, call_standard, call_function, Operands, no_operands, operand, Expressions, no_expressions, expression}
 use Rattle.flat_core.specs.declared.flat_tree.Scratch.{Scratch}
 use Rattle.flat_core.specs.FlatTree.{FlatStatement, set}
 use Rattle.flat_form.specs.Frames.{FrameData, scratch_at, initial_at, input_start, others_behind, other_scratch, other_starts, places_of}
@@ -31,8 +31,8 @@ abbrev mutual
   scratch_in bodies (cell place) = []
   scratch_in bodies (unary o t e) = scratch_in bodies e
   scratch_in bodies (chain e os) = scratch_in bodies e ++ operand_scratch bodies os
-  scratch_in bodies (call f t es) = all_scratch bodies es
-  scratch_in bodies (answer f es) = input_scratch bodies (bodies.frame f) 2 es ++ rest_scratch bodies (bodies.frame f) f (arity es)
+  scratch_in bodies (call_standard f t es) = all_scratch bodies es
+  scratch_in bodies (call_function f es) = input_scratch bodies (bodies.frame f) 2 es ++ rest_scratch bodies (bodies.frame f) f (arity es)
 
   pub operand_scratch : Bodies → Operands → List Scratch
   operand_scratch bodies no_operands = []
@@ -59,8 +59,8 @@ abbrev mutual
   moved bodies owner base (cell place) k = cell (owner (base + place))
   moved bodies owner base (unary o t e) k = unary o t (moved bodies owner base e k)
   moved bodies owner base (chain e os) k = chain (moved bodies owner base e k) (moved_operands bodies owner base os (k + length (scratch_in bodies e)))
-  moved bodies owner base (call f t es) k = call f t (all_moved bodies owner base es k)
-  moved bodies owner base (answer f es) k = cell (k + length (input_scratch bodies (bodies.frame f) 2 es) + others_behind (bodies.frame f) (arity es))
+  moved bodies owner base (call_standard f t es) k = call_standard f t (all_moved bodies owner base es k)
+  moved bodies owner base (call_function f es) k = cell (k + length (input_scratch bodies (bodies.frame f) 2 es) + others_behind (bodies.frame f) (arity es))
 
   pub moved_operands : Bodies → OwnerData → ℕ → Operands → ℕ → Operands
   moved_operands bodies owner base no_operands k = no_operands
@@ -78,8 +78,8 @@ abbrev mutual
   before bodies owner base (cell place) k = []
   before bodies owner base (unary o t e) k = before bodies owner base e k
   before bodies owner base (chain e os) k = before bodies owner base e k ++ operands_before bodies owner base os (k + length (scratch_in bodies e))
-  before bodies owner base (call f t es) k = all_before bodies owner base es k
-  before bodies owner base (answer f es) k =
+  before bodies owner base (call_standard f t es) k = all_before bodies owner base es k
+  before bodies owner base (call_function f es) k =
       inputs_before bodies owner base (bodies.frame f) 2 es k
       ++ rest_list bodies (bodies.frame f) f (arity es) (input_places bodies es k) (k + length (input_scratch bodies (bodies.frame f) 2 es))
 

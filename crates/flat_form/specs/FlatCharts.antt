@@ -119,11 +119,11 @@ abbrev pub flags_of : List StepCells → List Scratch
 flags_of [] = []
 flags_of (p ∷ ps) = flag_cell ∷ flag_cell ∷ flags_of ps
 
-abbrev pub left_flag : ℕ → ℕ → ℕ
-left_flag k i = k + 2 * i
+abbrev pub exited_flag : ℕ → ℕ → ℕ
+exited_flag k i = k + 2 * i
 
-abbrev pub come_flag : ℕ → ℕ → ℕ
-come_flag k i = k + 2 * i + 1
+abbrev pub entered_flag : ℕ → ℕ → ℕ
+entered_flag k i = k + 2 * i + 1
 
 abbrev pub clear_flags : List StepCells → ℕ → List FlatStatement
 clear_flags [] k = []
@@ -131,21 +131,21 @@ clear_flags (p ∷ ps) k = set k (number (pos 0)) ∷ set (k + 1) (number (pos 0
 
 -- all steps before a transition are active, and none was left by a transition that fired earlier
 abbrev pub ready_term : OwnerData → ℕ → List StepCells → ℕ → ℕ → Expression
-ready_term owner base steps k i = both (active_at owner base steps i) (negated (cell (left_flag k i)))
+ready_term owner base steps k i = both (active_at owner base steps i) (negated (cell (exited_flag k i)))
 
 abbrev pub ready_test : OwnerData → ℕ → List StepCells → ℕ → List ℕ → Expression
 ready_test owner base steps k [] = number (pos 1)
 ready_test owner base steps k (f ∷ fs) = joined_by And (ready_term owner base steps k f) (map (ready_term owner base steps k) fs)
 
 -- a transition that fires leaves the steps before it, and enters those behind it
-abbrev pub left_set : ℕ → ℕ → FlatStatement
-left_set k i = set (left_flag k i) (number (pos 1))
+abbrev pub exited_set : ℕ → ℕ → FlatStatement
+exited_set k i = set (exited_flag k i) (number (pos 1))
 
-abbrev pub come_set : ℕ → ℕ → FlatStatement
-come_set k i = set (come_flag k i) (number (pos 1))
+abbrev pub entered_set : ℕ → ℕ → FlatStatement
+entered_set k i = set (entered_flag k i) (number (pos 1))
 
 abbrev pub fired_list : ℕ → List ℕ → List ℕ → List FlatStatement
-fired_list k from to = map (left_set k) from ++ map (come_set k) to
+fired_list k from to = map (exited_set k) from ++ map (entered_set k) to
 
 -- The condition of a transition is evaluated only where the transition may fire. The scratch cells of the calls in it are numbered
 -- from j on.

@@ -3,7 +3,7 @@ use Rattle.std.specs.Prelude.{◌≡◌}
 use Rattle.program_tree.specs.Tree.{ProgramData}
 use Rattle.meaning.specs.Values.{State}
 use Rattle.scan_model.specs.Scans.{ranges_of, scanned}
-use Rattle.scan_model.specs.InRange.{IsInRange, IsProgram}
+use Rattle.scan_model.specs.InRange.{IsInRange, IsFitToRun}
 use Rattle.flat_core.specs.FlatTree.{FlatData}
 use Rattle.flat_core.specs.FlatScans.{flat_scanned}
 use Rattle.flat_core.specs.FlatRules.{IsFlat}
@@ -16,7 +16,7 @@ LeavesTheSame p f = (s : State) → IsInRange (ranges_of p.cells) s → flat_sca
 
 -- a well-typed program's flat form does, and keeps the rules of its kind
 abbrev pub FlatFormKeepsMeaning : Type 0
-FlatFormKeepsMeaning = (p : ProgramData) → IsProgram p → IsWellTyped p → LeavesTheSame p (flat_program p)
+FlatFormKeepsMeaning = (p : ProgramData) → IsFitToRun p → IsWellTyped p → LeavesTheSame p (flat_program p)
 
 abbrev pub FlatFormKeepsRules : Type 0
-FlatFormKeepsRules = (p : ProgramData) → IsProgram p → IsWellTyped p → IsFlat (flat_program p)
+FlatFormKeepsRules = (p : ProgramData) → IsFitToRun p → IsWellTyped p → IsFlat (flat_program p)

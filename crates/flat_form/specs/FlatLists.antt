@@ -6,7 +6,7 @@ use Rattle.plc_types.specs.declared.operator.Operator.TheVariants.{Or, And, Equa
 use Rattle.program_tree.specs.declared.typed.TypedLabel.{TypedLabel}
 use Rattle.program_tree.specs.declared.typed.TypedLabel.TheVariants.{Single, Span}
 use Rattle.program_tree.specs.declared.typed.StepCells.{StepCells}
-use Rattle.program_tree.specs.Tree.{Expression, number, cell, chain, no_operands, operand, Statement, assign, run, choice, cases, repeat, chart, Statements, no_statements, statement, Choices, no_choices, choose, Entries, no_entries, entry, Actions, no_actions, action}
+use Rattle.program_tree.specs.Tree.{Expression, number, cell, chain, no_operands, operand, Statement, assign, call_block, choice, cases, repeat, chart, Statements, no_statements, statement, Choices, no_choices, choose, Entries, no_entries, entry, Actions, no_actions, action}
 use Rattle.program_tree.specs.View.{OperandData, operands_of, ChoiceData, ActionData}
 use Rattle.flat_core.specs.declared.flat_tree.Scratch.{Scratch}
 use Rattle.flat_core.specs.FlatTree.{FlatStatement, set, branch, no_flats}
@@ -26,7 +26,7 @@ repeated (suc n) cs = cs ++ repeated n cs
 abbrev mutual
   pub scratch_of : Bodies → Statement → List Scratch
   scratch_of bodies (assign target e) = scratch_in bodies e
-  scratch_of bodies (run b offset) = bodies.run_scratch b
+  scratch_of bodies (call_block b offset) = bodies.run_scratch b
   scratch_of bodies (choice arms other) = scratch_of_choices bodies arms ++ scratch_of_all bodies other
   scratch_of bodies (cases kind e es other) =
       scratch_in bodies e ++ whole_cell kind ∷ (scratch_of_entries bodies es ++ scratch_of_all bodies other)
@@ -77,7 +77,7 @@ unrolled (suc n) control v step m body k = set control (number v) ∷ (body k ++
 abbrev mutual
   pub flat_of : Bodies → OwnerData → ℕ → Statement → ℕ → List FlatStatement
   flat_of bodies owner base (assign target e) k = before bodies owner base e k ++ set (owner (base + target)) (moved bodies owner base e k) ∷ []
-  flat_of bodies owner base (run b offset) k = bodies.run_list owner b (base + offset) k
+  flat_of bodies owner base (call_block b offset) k = bodies.run_list owner b (base + offset) k
   flat_of bodies owner base (choice arms other) k =
       nested (flat_choices bodies owner base arms k) (flat_of_all bodies owner base other (k + length (scratch_of_choices bodies arms)))
   flat_of bodies owner base (cases kind e es other) k =

@@ -34,21 +34,21 @@ function_body (function types ranges start body) = body
 
 -- where there is no cell, there is no type
 abbrev pub type_at : List CellType → ℕ → CellType
-type_at types place = slice_index_or types place (record { kind = Unknown; limited = false })
+type_at types place = slice_index_or types place (record { kind = Unknown; is_subrange = false })
 
 -- a scratch cell that takes each value of a type
 abbrev pub whole_cell : Elementary → Scratch
-whole_cell kind = record { kind = kind; range = range_of kind; limited = false }
+whole_cell kind = record { kind = kind; range = range_of kind; is_subrange = false }
 
 abbrev pub scratch_at : FrameData → ℕ → Scratch
-scratch_at frame place = record { kind = carrier (type_at frame.types place).kind; range = range_at frame.ranges place; limited = (type_at frame.types place).limited }
+scratch_at frame place = record { kind = carrier (type_at frame.types place).kind; range = range_at frame.ranges place; is_subrange = (type_at frame.types place).is_subrange }
 
 abbrev pub initial_at : FrameData → ℕ → ℤ
 initial_at frame place = slice_index_or frame.start place (pos 0)
 
 -- the assignment that starts an input of a subrange, whose scratch cell is t, before its value is assigned
 abbrev pub input_start : FrameData → ℕ → ℕ → List FlatStatement
-input_start frame place t = if (type_at frame.types place).limited then set t (number (initial_at frame place)) ∷ [] else []
+input_start frame place t = if (type_at frame.types place).is_subrange then set t (number (initial_at frame place)) ∷ [] else []
 
 -- how many variables stand behind so many inputs
 abbrev pub others_behind : FrameData → ℕ → ℕ

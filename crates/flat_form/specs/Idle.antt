@@ -1,13 +1,13 @@
 -- FUNCTION_BLOCKs that do nothing. They may run each other, so that one run of theirs reaches very many, and none of these is asked about.
 use Rattle.std.specs.Prelude.{◌≡◌, ◌<◌, ℕ, zero, suc, ◌==◌, ◌&&◌, Bool, true, false, List, length, slice_index_or, if◌then◌else◌}
-use Rattle.program_tree.specs.Tree.{Statement, assign, run, choice, cases, repeat, chart, Statements, no_statements, statement, CalledData}
+use Rattle.program_tree.specs.Tree.{Statement, assign, call_block, choice, cases, repeat, chart, Statements, no_statements, statement, CalledData}
 use Rattle.meaning.specs.Calls.{nothing}
 use Rattle.flat_form.specs.Pous.{block_body}
 
 -- no statement is idle but a run of a block that is
 abbrev pub is_idle : (ℕ → Bool) → Statement → Bool
 is_idle idle (assign target e) = false
-is_idle idle (run b offset) = idle b
+is_idle idle (call_block b offset) = idle b
 is_idle idle (choice arms other) = false
 is_idle idle (cases kind e es other) = false
 is_idle idle (repeat turns body) = false

@@ -9,7 +9,7 @@ use Rattle.program_tree.specs.declared.typed.Turns.{Turns}
 use Rattle.program_tree.specs.declared.typed.StepCells.{StepCells}
 use Rattle.program_tree.specs.declared.typed.Association.{Association}
 use Rattle.plc_types.specs.Types.{range_of, in_range}
-use Rattle.program_tree.specs.Tree.{Expression, number, cell, unary, chain, call, answer, Operands, no_operands, operand, Expressions, no_expressions, expression, TransitionData, Statement, assign, run, choice, cases, repeat, chart, Statements, no_statements, statement, Choices, no_choices, choose, Entries, no_entries, entry, Actions, no_actions, action, CalledData, ProgramData}
+use Rattle.program_tree.specs.Tree.{Expression, number, cell, unary, chain, call_standard, call_function, Operands, no_operands, operand, Expressions, no_expressions, expression, TransitionData, Statement, assign, call_block, choice, cases, repeat, chart, Statements, no_statements, statement, Choices, no_choices, choose, Entries, no_entries, entry, Actions, no_actions, action, CalledData, ProgramData}
 use Rattle.meaning.specs.Values.{result_type}
 use Rattle.meaning.specs.Effects.{range_at}
 use Rattle.meaning.specs.Calls.{nothing}
@@ -43,8 +43,8 @@ abbrev mutual
   stays_in frames rs base (cell place) r = covers r (range_at rs (base + place))
   stays_in frames rs base (unary o t e) r = covers r (range_of t)
   stays_in frames rs base (chain e os) r = last_stays (stays_in frames rs base e r) os r
-  stays_in frames rs base (call f t es) r = covers r (range_of t) || (covers (range_of t) r && chosen_stay f (each_stays frames rs base es r))
-  stays_in frames rs base (answer f es) r = covers r (range_at (frames f).ranges 1)
+  stays_in frames rs base (call_standard f t es) r = covers r (range_of t) || (covers (range_of t) r && chosen_stay f (each_stays frames rs base es r))
+  stays_in frames rs base (call_function f es) r = covers r (range_at (frames f).ranges 1)
 
   pub each_stays : (ℕ → FrameData) → List Range → ℕ → Expressions → Range → List Bool
   each_stays frames rs base no_expressions r = []
@@ -68,8 +68,8 @@ module _ (frames : ℕ → FrameData) (MayCall : ℕ → ℕ → Type 0) (rs : L
     IsTypedValue (cell place) = IsOwnPlace rs (base + place)
     IsTypedValue (unary o t e) = IsTypedValue e
     IsTypedValue (chain e os) = IsTypedValue e × AreTypedOperands os
-    IsTypedValue (call f t es) = AreTypedValues es
-    IsTypedValue (answer f es) = MayCall f (arity es) × AreTypedInputs (frames f) 2 es
+    IsTypedValue (call_standard f t es) = AreTypedValues es
+    IsTypedValue (call_function f es) = MayCall f (arity es) × AreTypedInputs (frames f) 2 es
 
     pub AreTypedOperands : Operands → Type 0
     AreTypedOperands no_operands = Unit {0}
@@ -83,7 +83,7 @@ module _ (frames : ℕ → FrameData) (MayCall : ℕ → ℕ → Type 0) (rs : L
     pub AreTypedInputs : FrameData → ℕ → Expressions → Type 0
     AreTypedInputs frame place no_expressions = Unit {0}
     AreTypedInputs frame place (expression e es) =
-        IsTypedValue e × (((type_at frame.types place).limited || stays_in frames rs base e (range_at frame.ranges place)) ≡ true) × AreTypedInputs frame (place + 1) es
+        IsTypedValue e × (((type_at frame.types place).is_subrange || stays_in frames rs base e (range_at frame.ranges place)) ≡ true) × AreTypedInputs frame (place + 1) es
 
 -- ---- the places that statements set
 
@@ -101,7 +101,7 @@ extent_of_steps (p ∷ ps) = max (max (p.active + 1) (p.before + 1)) (extent_of_
 abbrev mutual
   pub extent_of : (ℕ → ℕ) → Statement → ℕ
   extent_of extents (assign target e) = target + 1
-  extent_of extents (run b offset) = offset + extents b
+  extent_of extents (call_block b offset) = offset + extents b
   extent_of extents (choice arms other) = max (extent_of_choices extents arms) (extent_of_all extents other)
   extent_of extents (cases kind e es other) = max (extent_of_entries extents es) (extent_of_all extents other)
   extent_of extents (repeat turns body) = max (turns.control + 1) (extent_of_all extents body)
@@ -193,7 +193,7 @@ module _ (frames : ℕ → FrameData) (MayCall : ℕ → ℕ → Type 0) (MayRun
     pub IsTyped : ℕ → Statement → Type 0
     IsTyped base (assign target e) =
         IsOwnPlace rs (base + target) × IsTypedValue frames MayCall rs base e × ((tested (base + target) || stays_in frames rs base e (range_at rs (base + target))) ≡ true)
-    IsTyped base (run b offset) = (0 < base + offset) × MayRun b (base + offset)
+    IsTyped base (call_block b offset) = (0 < base + offset) × MayRun b (base + offset)
     IsTyped base (choice arms other) = AreTypedChoices base arms × AreTyped base other
     IsTyped base (cases kind e es other) = IsTypedValue frames MayCall rs base e × AreTypedEntries base es × AreTyped base other
     IsTyped base (repeat turns body) =
@@ -222,7 +222,7 @@ module _ (frames : ℕ → FrameData) (MayCall : ℕ → ℕ → Type 0) (MayRun
 
 -- an assignment to a variable of a FUNCTION tests the range of a subrange alone
 abbrev pub tested_in : FrameData → ℕ → Bool
-tested_in frame place = (type_at frame.types place).limited
+tested_in frame place = (type_at frame.types place).is_subrange
 
 -- the cells of a FUNCTION begin in their ranges, FAULT, a BOOL, at 0, and there are so many inputs
 pub record FrameFits (frame : FrameData) (inputs : ℕ) : Type 0 where

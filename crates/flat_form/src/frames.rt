@@ -10,7 +10,7 @@ use program_tree::CellType;
 
 const NO_TYPE: CellType = CellType {
     kind: DataType::Unknown,
-    limited: false,
+    is_subrange: false,
 };
 
 const NO_RANGE: Range = Range { low: 1, high: 0 };

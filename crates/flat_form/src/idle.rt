@@ -50,7 +50,7 @@ fn is_idle(stmt: &TypedStmt, idle: &[bool]) -> bool
     ensures { result ≡ is_idle (idle_in idle.now) (stmt_view stmt.now) }
 {
     match stmt {
-        TypedStmt::Run { block, .. } => is_idle_block(idle, *block),
+        TypedStmt::CallBlock { block, .. } => is_idle_block(idle, *block),
         _ => false,
     }
 }

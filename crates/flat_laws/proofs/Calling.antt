@@ -134,13 +134,13 @@ given-fault rs place (v ∷ vs) u some room =
 pub record Seat (rs : List Range) (cs : List Scratch) (frame : FrameData) (low high place p : ℕ) : Type 0 where
   pub above : low ≤ p
   pub below : p < high
-  pub fits : (v : ℤ) → takes cs (p - length rs) v ≡ (not (type_at frame.types place).limited || in_range v (range_at frame.ranges place))
+  pub fits : (v : ℤ) → takes cs (p - length rs) v ≡ (not (type_at frame.types place).is_subrange || in_range v (range_at frame.ranges place))
 
 module _ (rs : List Range) (cs : List Scratch) (frame : FrameData) where
   -- they rise
   abbrev pub Seated : ℕ → ℕ → ℕ → List ℕ → Type 0
   Seated low high place [] = low ≤ high
-  Seated low high place (p ∷ ps) = (low ≤ p) × ((v : ℤ) → takes cs (p - length rs) v ≡ (not (type_at frame.types place).limited || in_range v (range_at frame.ranges place))) × Seated (p + 1) high (place + 1) ps
+  Seated low high place (p ∷ ps) = (low ≤ p) × ((v : ℤ) → takes cs (p - length rs) v ≡ (not (type_at frame.types place).is_subrange || in_range v (range_at frame.ranges place))) × Seated (p + 1) high (place + 1) ps
 
   pub Seated-order : (low high place : ℕ) (ps : List ℕ) → Seated low high place ps → low ≤ high
   Seated-order low high place [] h = h
@@ -160,7 +160,7 @@ module _ (rs : List Range) (cs : List Scratch) (frame : FrameData) where
       let first = h.0 in
       let order = Seated-order (p + 1) high (place + 1) ps h.2 in
       let same : place ≡ q = omega (arith, e) in
-      record { above = h.0; below = omega arith; fits = subst (λ n. (v : ℤ) → takes cs (p - length rs) v ≡ (not (type_at frame.types n).limited || in_range v (range_at frame.ranges n))) same h.1 }
+      record { above = h.0; below = omega arith; fits = subst (λ n. (v : ℤ) → takes cs (p - length rs) v ≡ (not (type_at frame.types n).is_subrange || in_range v (range_at frame.ranges n))) same h.1 }
   seat low high place q (suc i) (p ∷ ps) e h less =
       let first = h.0 in
       let more = seat (p + 1) high (place + 1) q i ps (omega (arith, e)) h.2 (omega (arith, less)) in
@@ -204,11 +204,11 @@ module _ (rs : List Range) (cs : List Scratch) (frame : FrameData) where
   -- ---- assignments that start cells
 
   module _ (cells : 0 < length rs) (begins : (p : ℕ) → p < length frame.ranges → in_range (initial_at frame p) (range_at frame.ranges p) ≡ true) where
-    started : (place k : ℕ) (x : State) → length rs ≤ k → place < length frame.ranges → ((v : ℤ) → takes cs (k - length rs) v ≡ (not (type_at frame.types place).limited || in_range v (range_at frame.ranges place)))
+    started : (place k : ℕ) (x : State) → length rs ≤ k → place < length frame.ranges → ((v : ℤ) → takes cs (k - length rs) v ≡ (not (type_at frame.types place).is_subrange || in_range v (range_at frame.ranges place)))
         → placed rs cs k (initial_at frame place) x ≡ slice_set x k (initial_at frame place)
     started place k x le less fits =
         placed_scratch rs cs k (initial_at frame place) x le
-        ∙ ap (λ (b : Bool). if b then slice_set x k (initial_at frame place) else slice_set x 0 (pos 1)) (fits (initial_at frame place) ∙ ap (λ b. not (type_at frame.types place).limited || b) (begins place less) ∙ or-true (not (type_at frame.types place).limited))
+        ∙ ap (λ (b : Bool). if b then slice_set x k (initial_at frame place) else slice_set x 0 (pos 1)) (fits (initial_at frame place) ∙ ap (λ b. not (type_at frame.types place).is_subrange || b) (begins place less) ∙ or-true (not (type_at frame.types place).is_subrange))
 
     pub record Begun (place n k : ℕ) (x y : State) : Type 0 where
       pub reached : Reached k false x y
@@ -220,7 +220,7 @@ module _ (rs : List Range) (cs : List Scratch) (frame : FrameData) where
     begun (suc n) place k x le room fit stands =
         let v = initial_at frame place in
         let z = slice_set x k v in
-        let fits : (w : ℤ) → takes cs (k - length rs) w ≡ (not (type_at frame.types place).limited || in_range w (range_at frame.ranges place))
+        let fits : (w : ℤ) → takes cs (k - length rs) w ≡ (not (type_at frame.types place).is_subrange || in_range w (range_at frame.ranges place))
         = λ w. let same : k - length rs ≡ k + 0 - length rs = omega arith in ap (λ i. takes cs i w) same ∙ stands 0 w (omega arith) in
         let first : Reached k false x z = Reached-scratch k k v x (omega arith) (omega arith) in
         let long = first.long in
@@ -236,9 +236,9 @@ module _ (rs : List Range) (cs : List Scratch) (frame : FrameData) where
 
     -- ---- an input's value
 
-    input_begun : (place j : ℕ) (x : State) → length rs ≤ j → j < length x → place < length frame.ranges → ((v : ℤ) → takes cs (j - length rs) v ≡ (not (type_at frame.types place).limited || in_range v (range_at frame.ranges place)))
-        → Reached j false x (run_of_all rs cs (flats_of (input_start frame place j)) x) × ((type_at frame.types place).limited ≡ true → held (run_of_all rs cs (flats_of (input_start frame place j)) x) j ≡ initial_at frame place)
-    input_begun place j x le room less fits = by_test (type_at frame.types place).limited
+    input_begun : (place j : ℕ) (x : State) → length rs ≤ j → j < length x → place < length frame.ranges → ((v : ℤ) → takes cs (j - length rs) v ≡ (not (type_at frame.types place).is_subrange || in_range v (range_at frame.ranges place)))
+        → Reached j false x (run_of_all rs cs (flats_of (input_start frame place j)) x) × ((type_at frame.types place).is_subrange ≡ true → held (run_of_all rs cs (flats_of (input_start frame place j)) x) j ≡ initial_at frame place)
+    input_begun place j x le room less fits = by_test (type_at frame.types place).is_subrange
       where
         v : ℤ
         v = initial_at frame place
@@ -253,13 +253,13 @@ module _ (rs : List Range) (cs : List Scratch) (frame : FrameData) where
       pub reached : Reached j (faulted || not (in_range v (range_at frame.ranges place))) x y
       pub cell : held y j ≡ (if in_range v (range_at frame.ranges place) then v else initial_at frame place)
 
-    input_placed : (place j : ℕ) (faulted : Bool) (v : ℤ) (x : State) → length rs ≤ j → j < length x → ((v : ℤ) → takes cs (j - length rs) v ≡ (not (type_at frame.types place).limited || in_range v (range_at frame.ranges place)))
-        → ((type_at frame.types place).limited || in_range v (range_at frame.ranges place)) ≡ true → ((type_at frame.types place).limited ≡ true → held x j ≡ initial_at frame place)
+    input_placed : (place j : ℕ) (faulted : Bool) (v : ℤ) (x : State) → length rs ≤ j → j < length x → ((v : ℤ) → takes cs (j - length rs) v ≡ (not (type_at frame.types place).is_subrange || in_range v (range_at frame.ranges place)))
+        → ((type_at frame.types place).is_subrange || in_range v (range_at frame.ranges place)) ≡ true → ((type_at frame.types place).is_subrange ≡ true → held x j ≡ initial_at frame place)
         → InputSet place j faulted v x (placed rs cs j v (with_fault faulted x))
     input_placed place j faulted v x le room fits may holds =
-        let e : placed rs cs j v (with_fault faulted x) ≡ (if not (type_at frame.types place).limited || in_range v (range_at frame.ranges place) then slice_set (with_fault faulted x) j v else slice_set (with_fault faulted x) 0 (pos 1))
+        let e : placed rs cs j v (with_fault faulted x) ≡ (if not (type_at frame.types place).is_subrange || in_range v (range_at frame.ranges place) then slice_set (with_fault faulted x) j v else slice_set (with_fault faulted x) 0 (pos 1))
         = placed_scratch rs cs j v (with_fault faulted x) le ∙ ap (λ (b : Bool). if b then slice_set (with_fault faulted x) j v else slice_set (with_fault faulted x) 0 (pos 1)) (fits v) in
-        let both = by_tests (type_at frame.types place).limited (in_range v (range_at frame.ranges place)) may holds in
+        let both = by_tests (type_at frame.types place).is_subrange (in_range v (range_at frame.ranges place)) may holds in
         subst (λ w. InputSet place j faulted v x w) (sym e) (record { reached = both.0; cell = both.1 })
       where
         by_tests : (l b : Bool) → (l || b) ≡ true → (l ≡ true → held x j ≡ initial_at frame place)
@@ -284,8 +284,8 @@ module _ (rs : List Range) (cs : List Scratch) (frame : FrameData) where
 
     -- the expression that is left has this value, and meets that fault, also once the input's cell is set
     pub input_set : (place j : ℕ) (left : Expression) (v : ℤ) (a whole : Bool) (x : State) → length rs ≤ j → j < length x → place < length frame.ranges
-        → ((v : ℤ) → takes cs (j - length rs) v ≡ (not (type_at frame.types place).limited || in_range v (range_at frame.ranges place)))
-        → ((type_at frame.types place).limited || in_range v (range_at frame.ranges place)) ≡ true
+        → ((v : ℤ) → takes cs (j - length rs) v ≡ (not (type_at frame.types place).is_subrange || in_range v (range_at frame.ranges place)))
+        → ((type_at frame.types place).is_subrange || in_range v (range_at frame.ranges place)) ≡ true
         → ((z : State) → SameUpTo j x z → value_of no_callees 0 left z ≡ v) → ((z : State) → SameUpTo j x z → (a || faults no_callees 0 left z) ≡ whole)
         → (faulted : Bool) × ((a || faulted) ≡ whole) × InputSet place j faulted v x (run_of rs cs (set j left) (run_of_all rs cs (flats_of (input_start frame place j)) x))
     input_set place j left v a whole x le room less fits may value fault =
@@ -302,7 +302,7 @@ module _ (rs : List Range) (cs : List Scratch) (frame : FrameData) where
 -- ---- the cells of a call: what it answers stands last among the scratch cells, and first behind FAULT in the frame
 
 module _ (rs : List Range) (cs : List Scratch) (frame : FrameData) (low answer : ℕ) (ps : List ℕ) (long : length frame.ranges ≡ 2 + length ps) (le : length rs ≤ low) (cells : 0 < length rs) (seated : Seated rs cs frame low answer 2 ps)
-    (fits : (v : ℤ) → takes cs (answer - length rs) v ≡ (not (type_at frame.types 1).limited || in_range v (range_at frame.ranges 1))) where
+    (fits : (v : ℤ) → takes cs (answer - length rs) v ≡ (not (type_at frame.types 1).is_subrange || in_range v (range_at frame.ranges 1))) where
   seat_at : (p : ℕ) → 0 < p → p < length frame.ranges → Seat rs cs frame low (answer + 1) p (call_owner answer ps p)
   seat_at zero some h = absurd (omega (arith, some))
   seat_at (suc zero) some h = let order = Seated-order rs cs frame low answer 2 ps seated in record { above = omega arith; below = omega arith; fits = fits }
@@ -374,7 +374,7 @@ module _ (rs : List Range) (cs : List Scratch) (frame : FrameData) (cells : 0 < 
       let y = slice_set z a (initial_at frame 1) in
       let behind : Stands rs cs (k + length made) (scratch_at frame 1 ∷ after) = Stands-back rs cs k made (scratch_at frame 1 ∷ after) stands in
       let behind_here : Stands rs cs a (scratch_at frame 1 ∷ after) = (let same : k + length made ≡ a = omega arith in subst (λ n. Stands rs cs n (scratch_at frame 1 ∷ after)) same behind) in
-      let fits_answer : (v : ℤ) → takes cs (a - length rs) v ≡ (not (type_at frame.types 1).limited || in_range v (range_at frame.ranges 1))
+      let fits_answer : (v : ℤ) → takes cs (a - length rs) v ≡ (not (type_at frame.types 1).is_subrange || in_range v (range_at frame.ranges 1))
       = λ v. let same : a - length rs ≡ a + 0 - length rs = omega arith in ap (λ i. takes cs i v) same ∙ behind_here 0 v (omega arith) in
       let ps = places_of places k o in
       let ps_parts = length-append places (counted_from k o) in

@@ -7,12 +7,12 @@ use Rattle.std.proofs.lemmas.List.{length-set, get_or-set_same, get_or-set_other
 use Rattle.plc_types.specs.declared.range.Range.{Range}
 use Rattle.program_tree.specs.declared.typed.StepCells.{StepCells}
 use Rattle.plc_types.specs.Types.{in_range}
-use Rattle.program_tree.specs.Tree.{Expression, number, cell, unary, chain, call, answer, Operands, no_operands, operand, Expressions, no_expressions, expression, TransitionData, Actions}
+use Rattle.program_tree.specs.Tree.{Expression, number, cell, unary, chain, call_standard, call_function, Operands, no_operands, operand, Expressions, no_expressions, expression, TransitionData, Actions}
 use Rattle.meaning.specs.Values.{State, Callees, no_callees, is_truth, number_of, value_of, value_on, values_of, faults, any_faults, one_faults, applied}
 use Rattle.meaning.specs.Charts.{Marking, is_on, marking_now, marking_before, evaluated as tried, fired, holds_in, faults_in, is_next}
-use Rattle.meaning.specs.Flags.{no_steps, with_steps, may_leave, left_with, come_with, left_after, come_after, fault_after, is_next_from}
+use Rattle.meaning.specs.Flags.{no_steps, with_steps, may_leave, exited_with, entered_with, exited_after, entered_after, fault_after, is_next_from}
 use Rattle.meaning.specs.Effects.{range_at, with_fault, stored, marked, effect_of_transitions}
-use Rattle.meaning.proofs.Firing.{on-none, length-none, left-same, come-same, fault-same}
+use Rattle.meaning.proofs.Firing.{on-none, length-none, exited-same, entered-same, fault-same}
 use Rattle.scan_model.specs.InRange.{IsInRange}
 use Rattle.flat_core.specs.declared.flat_tree.Scratch.{Scratch}
 use Rattle.flat_core.specs.FlatTree.{set, branch, FlatStatements, no_flats}
@@ -22,7 +22,7 @@ use Rattle.flat_form.specs.Frames.{FrameData}
 use Rattle.flat_form.specs.Owners.{OwnerData}
 use Rattle.flat_form.specs.Bodies.{Bodies}
 use Rattle.flat_form.specs.Calls.{scratch_in, before, moved}
-use Rattle.flat_form.specs.FlatCharts.{no_step, flags_of, left_flag, come_flag, clear_flags, ready_test, left_set, come_set, fired_list, scratch_of_transitions, condition_list, flat_transition, flat_transitions, mark_before, mark_active, mark_list, scratch_of_moves, flat_moves}
+use Rattle.flat_form.specs.FlatCharts.{no_step, flags_of, exited_flag, entered_flag, clear_flags, ready_test, exited_set, entered_set, fired_list, scratch_of_transitions, condition_list, flat_transition, flat_transitions, mark_before, mark_active, mark_list, scratch_of_moves, flat_moves}
 use Rattle.flat_form.specs.WellTyped.{IsTypedValue, AreTypedOperands, AreTypedValues, AreTypedInputs, AreSteps, AreFlags, AreRisingFrom, chart_places, AreTypedTransitions}
 use Rattle.flat_laws.proofs.Shown.{held, Owns, Owns-later, Shows, Shows-scratch, Shows-kept, Ran-scratch, Ran-both, Ran-kept, Done, Done-stored, SameUpTo, Evaluated, Stands}
 use Rattle.scan_model.proofs.Keeping.{HoldsFault, fault_added}
@@ -40,8 +40,8 @@ module _ (frames : ℕ → FrameData) (MayCall : ℕ → ℕ → Type 0) (own : 
     value-agree (cell place) t = agree (base + place) t.0
     value-agree (unary o k e) t = rw (value-agree e t) refl
     value-agree (chain e os) t = rw (value-agree e t.0) (value_on-agree (value_of callees base e s) os t.1)
-    value-agree (call f k es) t = rw (values-agree es t) refl
-    value-agree (answer f es) t = rw (inputs-agree (frames f) 2 es t.1) refl
+    value-agree (call_standard f k es) t = rw (values-agree es t) refl
+    value-agree (call_function f es) t = rw (inputs-agree (frames f) 2 es t.1) refl
 
     value_on-agree : (v : ℤ) (os : Operands) → AreTypedOperands frames MayCall own base os → value_on callees base v os y ≡ value_on callees base v os s
     value_on-agree v no_operands t = refl
@@ -61,8 +61,8 @@ module _ (frames : ℕ → FrameData) (MayCall : ℕ → ℕ → Type 0) (own : 
     faults-agree (cell place) t = refl
     faults-agree (unary o k e) t = faults-agree e t
     faults-agree (chain e os) t = rw (faults-agree e t.0, any_faults-agree os t.1) refl
-    faults-agree (call f k es) t = one_faults-agree es t
-    faults-agree (answer f es) t = rw (input_faults-agree (frames f) 2 es t.1, inputs-agree (frames f) 2 es t.1) refl
+    faults-agree (call_standard f k es) t = one_faults-agree es t
+    faults-agree (call_function f es) t = rw (input_faults-agree (frames f) 2 es t.1, inputs-agree (frames f) 2 es t.1) refl
 
     any_faults-agree : (os : Operands) → AreTypedOperands frames MayCall own base os → any_faults callees base os y ≡ any_faults callees base os s
     any_faults-agree no_operands t = refl
@@ -89,58 +89,58 @@ takes-flags (p ∷ ps) (suc zero) v = refl
 takes-flags (p ∷ ps) (suc (suc i)) v = takes-flags ps i v
 
 -- the flags of m steps, from k on, say which steps were left, and which entered
-pub record Flags (m k : ℕ) (left come : Marking) (y : State) : Type 0 where
-  pub left_long : length left ≡ m
-  pub come_long : length come ≡ m
-  pub left_held : (i : ℕ) → i < m → held y (left_flag k i) ≡ number_of (is_on left i)
-  pub come_held : (i : ℕ) → i < m → held y (come_flag k i) ≡ number_of (is_on come i)
+pub record Flags (m k : ℕ) (exited entered : Marking) (y : State) : Type 0 where
+  pub exited_long : length exited ≡ m
+  pub entered_long : length entered ≡ m
+  pub exited_held : (i : ℕ) → i < m → held y (exited_flag k i) ≡ number_of (is_on exited i)
+  pub entered_held : (i : ℕ) → i < m → held y (entered_flag k i) ≡ number_of (is_on entered i)
 
-module _ (m k : ℕ) (left come : Marking) (y : State) where
-  Flags-kept : (z : State) (j : ℕ) → 0 < k → k + 2 * m ≤ j → SameUpTo j y z → Flags m k left come y → Flags m k left come z
+module _ (m k : ℕ) (exited entered : Marking) (y : State) where
+  Flags-kept : (z : State) (j : ℕ) → 0 < k → k + 2 * m ≤ j → SameUpTo j y z → Flags m k exited entered y → Flags m k exited entered z
   Flags-kept z j some room same h = record {
-    left_long = h.left_long;
-    come_long = h.come_long;
-    left_held = λ i less. same (left_flag k i) (omega arith) (omega arith) ∙ h.left_held i less;
-    come_held = λ i less. same (come_flag k i) (omega arith) (omega arith) ∙ h.come_held i less;
+    exited_long = h.exited_long;
+    entered_long = h.entered_long;
+    exited_held = λ i less. same (exited_flag k i) (omega arith) (omega arith) ∙ h.exited_held i less;
+    entered_held = λ i less. same (entered_flag k i) (omega arith) (omega arith) ∙ h.entered_held i less;
   }
 
-  Flags-left : (j : ℕ) → j < m → k + 2 * m ≤ length y → Flags m k left come y → Flags m k (slice_set left j (pos 1)) come (slice_set y (left_flag k j) (pos 1))
-  Flags-left j less room h = record {
-    left_long = length-set left j (pos 1) ∙ h.left_long;
-    come_long = h.come_long;
-    left_held = λ i low. by_test i low (i == j) refl;
-    come_held = λ i low. get_or-set_other y (left_flag k j) (come_flag k i) (pos 1) (pos 0) (omega arith) ∙ h.come_held i low;
+  Flags-exited : (j : ℕ) → j < m → k + 2 * m ≤ length y → Flags m k exited entered y → Flags m k (slice_set exited j (pos 1)) entered (slice_set y (exited_flag k j) (pos 1))
+  Flags-exited j less room h = record {
+    exited_long = length-set exited j (pos 1) ∙ h.exited_long;
+    entered_long = h.entered_long;
+    exited_held = λ i low. by_test i low (i == j) refl;
+    entered_held = λ i low. get_or-set_other y (exited_flag k j) (entered_flag k i) (pos 1) (pos 0) (omega arith) ∙ h.entered_held i low;
   }
     where
-      by_test : (i : ℕ) → i < m → (test : Bool) → (i == j) ≡ test → held (slice_set y (left_flag k j) (pos 1)) (left_flag k i) ≡ number_of (is_on (slice_set left j (pos 1)) i)
+      by_test : (i : ℕ) → i < m → (test : Bool) → (i == j) ≡ test → held (slice_set y (exited_flag k j) (pos 1)) (exited_flag k i) ≡ number_of (is_on (slice_set exited j (pos 1)) i)
       by_test i low true e =
           let same : i ≡ j = search (rules, tests) in
-          let long = h.left_long in
-          ap (λ (q : ℕ). held (slice_set y (left_flag k j) (pos 1)) (left_flag k q)) same ∙ get_or-set_same y (left_flag k j) (pos 1) (pos 0) (omega arith)
-          ∙ sym (ap (λ (v : ℤ). number_of (is_truth v)) (get_or-set_same left j (pos 1) (pos 0) (omega arith))) ∙ ap (λ (q : ℕ). number_of (is_on (slice_set left j (pos 1)) q)) (sym same)
+          let long = h.exited_long in
+          ap (λ (q : ℕ). held (slice_set y (exited_flag k j) (pos 1)) (exited_flag k q)) same ∙ get_or-set_same y (exited_flag k j) (pos 1) (pos 0) (omega arith)
+          ∙ sym (ap (λ (v : ℤ). number_of (is_truth v)) (get_or-set_same exited j (pos 1) (pos 0) (omega arith))) ∙ ap (λ (q : ℕ). number_of (is_on (slice_set exited j (pos 1)) q)) (sym same)
       by_test i low false e =
           let other : i ≢ j = λ is_same. let two : (i == j) ≡ true = search (rules, tests) in cc in
-          get_or-set_other y (left_flag k j) (left_flag k i) (pos 1) (pos 0) (omega arith) ∙ h.left_held i low
-          ∙ sym (ap (λ (v : ℤ). number_of (is_truth v)) (get_or-set_other left j i (pos 1) (pos 0) other))
+          get_or-set_other y (exited_flag k j) (exited_flag k i) (pos 1) (pos 0) (omega arith) ∙ h.exited_held i low
+          ∙ sym (ap (λ (v : ℤ). number_of (is_truth v)) (get_or-set_other exited j i (pos 1) (pos 0) other))
 
-  Flags-come : (j : ℕ) → j < m → k + 2 * m ≤ length y → Flags m k left come y → Flags m k left (slice_set come j (pos 1)) (slice_set y (come_flag k j) (pos 1))
-  Flags-come j less room h = record {
-    left_long = h.left_long;
-    come_long = length-set come j (pos 1) ∙ h.come_long;
-    left_held = λ i low. get_or-set_other y (come_flag k j) (left_flag k i) (pos 1) (pos 0) (omega arith) ∙ h.left_held i low;
-    come_held = λ i low. by_test i low (i == j) refl;
+  Flags-entered : (j : ℕ) → j < m → k + 2 * m ≤ length y → Flags m k exited entered y → Flags m k exited (slice_set entered j (pos 1)) (slice_set y (entered_flag k j) (pos 1))
+  Flags-entered j less room h = record {
+    exited_long = h.exited_long;
+    entered_long = length-set entered j (pos 1) ∙ h.entered_long;
+    exited_held = λ i low. get_or-set_other y (entered_flag k j) (exited_flag k i) (pos 1) (pos 0) (omega arith) ∙ h.exited_held i low;
+    entered_held = λ i low. by_test i low (i == j) refl;
   }
     where
-      by_test : (i : ℕ) → i < m → (test : Bool) → (i == j) ≡ test → held (slice_set y (come_flag k j) (pos 1)) (come_flag k i) ≡ number_of (is_on (slice_set come j (pos 1)) i)
+      by_test : (i : ℕ) → i < m → (test : Bool) → (i == j) ≡ test → held (slice_set y (entered_flag k j) (pos 1)) (entered_flag k i) ≡ number_of (is_on (slice_set entered j (pos 1)) i)
       by_test i low true e =
           let same : i ≡ j = search (rules, tests) in
-          let long = h.come_long in
-          ap (λ (q : ℕ). held (slice_set y (come_flag k j) (pos 1)) (come_flag k q)) same ∙ get_or-set_same y (come_flag k j) (pos 1) (pos 0) (omega arith)
-          ∙ sym (ap (λ (v : ℤ). number_of (is_truth v)) (get_or-set_same come j (pos 1) (pos 0) (omega arith))) ∙ ap (λ (q : ℕ). number_of (is_on (slice_set come j (pos 1)) q)) (sym same)
+          let long = h.entered_long in
+          ap (λ (q : ℕ). held (slice_set y (entered_flag k j) (pos 1)) (entered_flag k q)) same ∙ get_or-set_same y (entered_flag k j) (pos 1) (pos 0) (omega arith)
+          ∙ sym (ap (λ (v : ℤ). number_of (is_truth v)) (get_or-set_same entered j (pos 1) (pos 0) (omega arith))) ∙ ap (λ (q : ℕ). number_of (is_on (slice_set entered j (pos 1)) q)) (sym same)
       by_test i low false e =
           let other : i ≢ j = λ is_same. let two : (i == j) ≡ true = search (rules, tests) in cc in
-          get_or-set_other y (come_flag k j) (come_flag k i) (pos 1) (pos 0) (omega arith) ∙ h.come_held i low
-          ∙ sym (ap (λ (v : ℤ). number_of (is_truth v)) (get_or-set_other come j i (pos 1) (pos 0) other))
+          get_or-set_other y (entered_flag k j) (entered_flag k i) (pos 1) (pos 0) (omega arith) ∙ h.entered_held i low
+          ∙ sym (ap (λ (v : ℤ). number_of (is_truth v)) (get_or-set_other entered j i (pos 1) (pos 0) other))
 
 -- ---- setting flags
 
@@ -153,13 +153,13 @@ record Cleared (m k : ℕ) (y z : State) : Type 0 where
   long : length z ≡ length y
   kept : SameUpTo k y z
   fault : held z 0 ≡ held y 0
-  left : (i : ℕ) → i < m → held z (left_flag k i) ≡ pos 0
-  come : (i : ℕ) → i < m → held z (come_flag k i) ≡ pos 0
+  exited : (i : ℕ) → i < m → held z (exited_flag k i) ≡ pos 0
+  entered : (i : ℕ) → i < m → held z (entered_flag k i) ≡ pos 0
 
 module _ (rs : List Range) (cs : List Scratch) where
   clear : (steps : List StepCells) (k : ℕ) (y : State) → 0 < k → length rs ≤ k → k + 2 * length steps ≤ length y → ((c : ℕ) → k ≤ c → c < k + 2 * length steps → (v : ℤ) → takes cs (c - length rs) v ≡ true)
       → Cleared (length steps) k y (run_of_all rs cs (flats_of (clear_flags steps k)) y)
-  clear [] k y some low room free = record { long = refl; kept = λ p a b. refl; fault = refl; left = λ i h. absurd (omega arith); come = λ i h. absurd (omega arith) }
+  clear [] k y some low room free = record { long = refl; kept = λ p a b. refl; fault = refl; exited = λ i h. absurd (omega arith); entered = λ i h. absurd (omega arith) }
   clear (p ∷ ps) k y some low room free =
       let one = run_set rs cs k (pos 0) y low (free k (omega arith) (omega arith) (pos 0)) in
       let z = slice_set y k (pos 0) in
@@ -175,60 +175,60 @@ module _ (rs : List Range) (cs : List Scratch) where
         long = h.long ∙ length-set (slice_set y k (pos 0)) (k + 1) (pos 0) ∙ length-set y k (pos 0);
         kept = λ p a b. h.kept p a (omega arith) ∙ get_or-set_other (slice_set y k (pos 0)) (k + 1) p (pos 0) (pos 0) (omega arith) ∙ get_or-set_other y k p (pos 0) (pos 0) (omega arith);
         fault = h.fault ∙ get_or-set_other (slice_set y k (pos 0)) (k + 1) 0 (pos 0) (pos 0) (omega arith) ∙ get_or-set_other y k 0 (pos 0) (pos 0) (omega arith);
-        left = λ i less. first i less;
-        come = λ i less. second i less;
+        exited = λ i less. first i less;
+        entered = λ i less. second i less;
       }
         where
-          first : (i : ℕ) → i < suc m → held u (left_flag k i) ≡ pos 0
+          first : (i : ℕ) → i < suc m → held u (exited_flag k i) ≡ pos 0
           first zero less =
-              let same : left_flag k 0 ≡ k = omega arith in
+              let same : exited_flag k 0 ≡ k = omega arith in
               ap (λ (q : ℕ). held u q) same ∙ h.kept k some (omega arith) ∙ get_or-set_other (slice_set y k (pos 0)) (k + 1) k (pos 0) (pos 0) (omega arith) ∙ get_or-set_same y k (pos 0) (pos 0) (omega arith)
-          first (suc i) less = let same : left_flag k (suc i) ≡ left_flag (k + 2) i = omega arith in ap (λ (q : ℕ). held u q) same ∙ h.left i (omega arith)
+          first (suc i) less = let same : exited_flag k (suc i) ≡ exited_flag (k + 2) i = omega arith in ap (λ (q : ℕ). held u q) same ∙ h.exited i (omega arith)
 
-          second : (i : ℕ) → i < suc m → held u (come_flag k i) ≡ pos 0
+          second : (i : ℕ) → i < suc m → held u (entered_flag k i) ≡ pos 0
           second zero less =
-              let same : come_flag k 0 ≡ k + 1 = omega arith in
+              let same : entered_flag k 0 ≡ k + 1 = omega arith in
               let long = length-set y k (pos 0) in
               ap (λ (q : ℕ). held u q) same ∙ h.kept (k + 1) (omega arith) (omega arith) ∙ get_or-set_same (slice_set y k (pos 0)) (k + 1) (pos 0) (pos 0) (omega arith)
-          second (suc i) less = let same : come_flag k (suc i) ≡ come_flag (k + 2) i = omega arith in ap (λ (q : ℕ). held u q) same ∙ h.come i (omega arith)
+          second (suc i) less = let same : entered_flag k (suc i) ≡ entered_flag (k + 2) i = omega arith in ap (λ (q : ℕ). held u q) same ∙ h.entered i (omega arith)
 
 -- Behind a part of the transitions, which began with the store x: what the store shows, and what the flags say.
-record Tried (n m k : ℕ) (place_at : ℕ → ℕ) (f : ℤ) (s : State) (left come : Marking) (x y : State) : Type 0 where
+record Tried (n m k : ℕ) (place_at : ℕ → ℕ) (f : ℤ) (s : State) (exited entered : Marking) (x y : State) : Type 0 where
   done : Done n k place_at f s x y
-  flags : Flags m k left come y
+  flags : Flags m k exited entered y
 
 module _ (rs : List Range) (cs : List Scratch) (n m k : ℕ) (place_at : ℕ → ℕ) (f : ℤ) (above : (p : ℕ) → 0 < p → p < n → 0 < place_at p) (below : (p : ℕ) → 0 < p → p < n → place_at p < k) (some : 0 < k) (low : length rs ≤ k)
     (free : (c : ℕ) → k ≤ c → c < k + 2 * m → (v : ℤ) → takes cs (c - length rs) v ≡ true) (x : State) (room : k + 2 * m ≤ length x) where
-  tried_scratch : (s : State) (left come nl nc : Marking) (y : State) (c : ℕ) (v : ℤ) → k ≤ c → Tried n m k place_at f s left come x y → Flags m k nl nc (slice_set y c v) → Tried n m k place_at f s nl nc x (slice_set y c v)
-  tried_scratch s left come nl nc y c v h t flags = record {
+  tried_scratch : (s : State) (exited entered nl nc : Marking) (y : State) (c : ℕ) (v : ℤ) → k ≤ c → Tried n m k place_at f s exited entered x y → Flags m k nl nc (slice_set y c v) → Tried n m k place_at f s nl nc x (slice_set y c v)
+  tried_scratch s exited entered nl nc y c v h t flags = record {
     done = record { shown = Shows-scratch n place_at above f k s y c v below some h t.done.shown; ran = Ran-both n k place_at x y (slice_set y c v) t.done.ran (Ran-scratch n k place_at y c v h) };
     flags = flags;
   }
 
-  lefts : (is : List ℕ) (s : State) (left come : Marking) (y : State) → AreSteps m is → Tried n m k place_at f s left come x y
-      → Tried n m k place_at f s (with_steps is left) come x (run_of_all rs cs (flats_of (map (left_set k) is)) y)
-  lefts [] s left come y h t = t
-  lefts (i ∷ is) s left come y h t =
+  exits : (is : List ℕ) (s : State) (exited entered : Marking) (y : State) → AreSteps m is → Tried n m k place_at f s exited entered x y
+      → Tried n m k place_at f s (with_steps is exited) entered x (run_of_all rs cs (flats_of (map (exited_set k) is)) y)
+  exits [] s exited entered y h t = t
+  exits (i ∷ is) s exited entered y h t =
       let less = h.0 in
       let long = t.done.ran.long in
-      let one = run_set rs cs (left_flag k i) (pos 1) y (omega arith) (free (left_flag k i) (omega arith) (omega arith) (pos 1)) in
-      rw one (lefts is s (slice_set left i (pos 1)) come (slice_set y (left_flag k i) (pos 1)) h.1
-      (tried_scratch s left come (slice_set left i (pos 1)) come y (left_flag k i) (pos 1) (omega arith) t (Flags-left m k left come y i less (omega arith) t.flags)))
+      let one = run_set rs cs (exited_flag k i) (pos 1) y (omega arith) (free (exited_flag k i) (omega arith) (omega arith) (pos 1)) in
+      rw one (exits is s (slice_set exited i (pos 1)) entered (slice_set y (exited_flag k i) (pos 1)) h.1
+      (tried_scratch s exited entered (slice_set exited i (pos 1)) entered y (exited_flag k i) (pos 1) (omega arith) t (Flags-exited m k exited entered y i less (omega arith) t.flags)))
 
-  comes : (is : List ℕ) (s : State) (left come : Marking) (y : State) → AreSteps m is → Tried n m k place_at f s left come x y
-      → Tried n m k place_at f s left (with_steps is come) x (run_of_all rs cs (flats_of (map (come_set k) is)) y)
-  comes [] s left come y h t = t
-  comes (i ∷ is) s left come y h t =
+  enters : (is : List ℕ) (s : State) (exited entered : Marking) (y : State) → AreSteps m is → Tried n m k place_at f s exited entered x y
+      → Tried n m k place_at f s exited (with_steps is entered) x (run_of_all rs cs (flats_of (map (entered_set k) is)) y)
+  enters [] s exited entered y h t = t
+  enters (i ∷ is) s exited entered y h t =
       let less = h.0 in
       let long = t.done.ran.long in
-      let one = run_set rs cs (come_flag k i) (pos 1) y (omega arith) (free (come_flag k i) (omega arith) (omega arith) (pos 1)) in
-      rw one (comes is s left (slice_set come i (pos 1)) (slice_set y (come_flag k i) (pos 1)) h.1
-      (tried_scratch s left come left (slice_set come i (pos 1)) y (come_flag k i) (pos 1) (omega arith) t (Flags-come m k left come y i less (omega arith) t.flags)))
+      let one = run_set rs cs (entered_flag k i) (pos 1) y (omega arith) (free (entered_flag k i) (omega arith) (omega arith) (pos 1)) in
+      rw one (enters is s exited (slice_set entered i (pos 1)) (slice_set y (entered_flag k i) (pos 1)) h.1
+      (tried_scratch s exited entered exited (slice_set entered i (pos 1)) y (entered_flag k i) (pos 1) (omega arith) t (Flags-entered m k exited entered y i less (omega arith) t.flags)))
 
-  fires : (from to : List ℕ) (s : State) (left come : Marking) (y : State) → AreSteps m from → AreSteps m to → Tried n m k place_at f s left come x y
-      → Tried n m k place_at f s (with_steps from left) (with_steps to come) x (run_of_all rs cs (flats_of (fired_list k from to)) y)
-  fires from to s left come y a b t =
-      rw (run-append rs cs (map (left_set k) from) (map (come_set k) to) y) (comes to s (with_steps from left) come _ b (lefts from s left come y a t))
+  fires : (from to : List ℕ) (s : State) (exited entered : Marking) (y : State) → AreSteps m from → AreSteps m to → Tried n m k place_at f s exited entered x y
+      → Tried n m k place_at f s (with_steps from exited) (with_steps to entered) x (run_of_all rs cs (flats_of (fired_list k from to)) y)
+  fires from to s exited entered y a b t =
+      rw (run-append rs cs (map (exited_set k) from) (map (entered_set k) to) y) (enters to s (with_steps from exited) entered _ b (exits from s exited entered y a t))
 
 -- ---- the transitions
 
@@ -253,17 +253,17 @@ module _ (rs : List Range) (cs : List Scratch) (bodies : Bodies) (MayCall MayRun
     (s : State) (within : IsInRange own s) (xm : Marking)
     (known : (i : ℕ) → i < length steps → (0 < base + (slice_index_or steps i no_step).active) × (base + (slice_index_or steps i no_step).active < length own) × (held s (base + (slice_index_or steps i no_step).active) ≡ number_of (is_on xm i))) where
   abbrev After : Bool → Marking → Marking → State → Type 0
-  After b left come y = Tried (length own) (length steps) k owner f (with_fault b s) left come x y
+  After b exited entered y = Tried (length own) (length steps) k owner f (with_fault b s) exited entered x y
 
-  fired_where : (h b : Bool) (from to : List ℕ) (left come : Marking) (w : State) → AreSteps (length steps) from → AreSteps (length steps) to → After b left come w
-      → After b (if h then with_steps from left else left) (if h then with_steps to come else come) (if h then run_of_all rs cs (flats_of (fired_list k from to)) w else w)
-  fired_where true b from to left come w p q t = fires rs cs (length own) (length steps) k owner f o.above o.below (omega arith) low free x room from to (with_fault b s) left come w p q t
-  fired_where false b from to left come w p q t = t
+  fired_where : (h b : Bool) (from to : List ℕ) (exited entered : Marking) (w : State) → AreSteps (length steps) from → AreSteps (length steps) to → After b exited entered w
+      → After b (if h then with_steps from exited else exited) (if h then with_steps to entered else entered) (if h then run_of_all rs cs (flats_of (fired_list k from to)) w else w)
+  fired_where true b from to exited entered w p q t = fires rs cs (length own) (length steps) k owner f o.above o.below (omega arith) low free x room from to (with_fault b s) exited entered w p q t
+  fired_where false b from to exited entered w p q t = t
 
-  condition : (t : TransitionData) (j : ℕ) (b : Bool) (left come : Marking) (y : State) → IsTypedValue bodies.frame MayCall own base t.condition → AreSteps (length steps) t.from → AreSteps (length steps) t.to
-      → k + 2 * length steps ≤ j → j + length (scratch_in bodies t.condition) ≤ length x → Stands rs cs j (scratch_in bodies t.condition) → After b left come y
-      → After (b || faults_in callees base s t) (if holds_in callees base s t then with_steps t.from left else left) (if holds_in callees base s t then with_steps t.to come else come) (run_of_all rs cs (flats_of (condition_list bodies owner base k t j)) y)
-  condition t j b left come y typed from to behind fits stands so_far =
+  condition : (t : TransitionData) (j : ℕ) (b : Bool) (exited entered : Marking) (y : State) → IsTypedValue bodies.frame MayCall own base t.condition → AreSteps (length steps) t.from → AreSteps (length steps) t.to
+      → k + 2 * length steps ≤ j → j + length (scratch_in bodies t.condition) ≤ length x → Stands rs cs j (scratch_in bodies t.condition) → After b exited entered y
+      → After (b || faults_in callees base s t) (if holds_in callees base s t then with_steps t.from exited else exited) (if holds_in callees base s t then with_steps t.to entered else entered) (run_of_all rs cs (flats_of (condition_list bodies owner base k t j)) y)
+  condition t j b exited entered y typed from to behind fits stands so_far =
       let e = t.condition in
       let here = with_fault b s in
       let rest = moved bodies owner base e j in
@@ -279,38 +279,38 @@ module _ (rs : List Range) (cs : List Scratch) (bodies : Bodies) (MayCall MayRun
       let same_value = value-agree bodies.frame MayCall own callees base here s agree e typed in
       let same_state : with_fault (faults callees base e here) here ≡ with_fault (b || faults_in callees base s t) s = ap (λ (c : Bool). with_fault c here) same_fault ∙ with_fault-both b (faults callees base e s) s in
       let met : Done n k owner f (with_fault (b || faults_in callees base s t) s) y w = subst (λ (q : State). Done n k owner f q y w) same_state d in
-      let flags : Flags (length steps) k left come w = Flags-kept (length steps) k left come y w j (omega arith) behind (λ p a c. held-with_fault (faults no_callees 0 rest z) z p a ∙ is.kept p a c) so_far.flags in
-      let there : After (b || faults_in callees base s t) left come w = record { done = Done-both n k owner f here (with_fault (b || faults_in callees base s t) s) x y w so_far.done.ran met; flags = flags } in
+      let flags : Flags (length steps) k exited entered w = Flags-kept (length steps) k exited entered y w j (omega arith) behind (λ p a c. held-with_fault (faults no_callees 0 rest z) z p a ∙ is.kept p a c) so_far.flags in
+      let there : After (b || faults_in callees base s t) exited entered w = record { done = Done-both n k owner f here (with_fault (b || faults_in callees base s t) s) x y w so_far.done.ran met; flags = flags } in
       let truth : is_truth (value_of no_callees 0 rest z) ≡ holds_in callees base s t = ap is_truth (is.value z (λ p a c. refl) ∙ same_value) in
       let ran = run-append rs cs (before bodies owner base e j) (branch rest (flats_of (fired_list k t.from t.to)) no_flats ∷ []) y ∙ branch_run rs cs rest (flats_of (fired_list k t.from t.to)) no_flats z (holds_in callees base s t) truth in
-      subst (λ (q : State). After (b || faults_in callees base s t) (if holds_in callees base s t then with_steps t.from left else left) (if holds_in callees base s t then with_steps t.to come else come) q) (sym ran)
-      (fired_where (holds_in callees base s t) (b || faults_in callees base s t) t.from t.to left come w from to there)
+      subst (λ (q : State). After (b || faults_in callees base s t) (if holds_in callees base s t then with_steps t.from exited else exited) (if holds_in callees base s t then with_steps t.to entered else entered) q) (sym ran)
+      (fired_where (holds_in callees base s t) (b || faults_in callees base s t) t.from t.to exited entered w from to there)
 
-  gate : (may h bad b : Bool) (from to : List ℕ) (left come : Marking) (y z : State) → After b left come y → After (b || bad) (if h then with_steps from left else left) (if h then with_steps to come else come) z
-      → After (b || (may && bad)) (if may && h then with_steps from left else left) (if may && h then with_steps to come else come) (if may then z else y)
-  gate true h bad b from to left come y z p q = q
-  gate false h bad true from to left come y z p q = p
-  gate false h bad false from to left come y z p q = p
+  gate : (may h bad b : Bool) (from to : List ℕ) (exited entered : Marking) (y z : State) → After b exited entered y → After (b || bad) (if h then with_steps from exited else exited) (if h then with_steps to entered else entered) z
+      → After (b || (may && bad)) (if may && h then with_steps from exited else exited) (if may && h then with_steps to entered else entered) (if may then z else y)
+  gate true h bad b from to exited entered y z p q = q
+  gate false h bad true from to exited entered y z p q = p
+  gate false h bad false from to exited entered y z p q = p
 
-  transition : (t : TransitionData) (j : ℕ) (b : Bool) (left come : Marking) (y : State) → IsTypedValue bodies.frame MayCall own base t.condition → AreSteps (length steps) t.from → AreSteps (length steps) t.to
-      → k + 2 * length steps ≤ j → j + length (scratch_in bodies t.condition) ≤ length x → Stands rs cs j (scratch_in bodies t.condition) → After b left come y
-      → After (b || (may_leave xm left t.from && faults_in callees base s t)) (left_with xm (holds_in callees base s) t left) (come_with xm (holds_in callees base s) t left come) (run_of rs cs (flat_transition bodies owner base steps k t j) y)
-  transition t j b left come y typed from to behind fits stands so_far =
+  transition : (t : TransitionData) (j : ℕ) (b : Bool) (exited entered : Marking) (y : State) → IsTypedValue bodies.frame MayCall own base t.condition → AreSteps (length steps) t.from → AreSteps (length steps) t.to
+      → k + 2 * length steps ≤ j → j + length (scratch_in bodies t.condition) ≤ length x → Stands rs cs j (scratch_in bodies t.condition) → After b exited entered y
+      → After (b || (may_leave xm exited t.from && faults_in callees base s t)) (exited_with xm (holds_in callees base s) t exited) (entered_with xm (holds_in callees base s) t exited entered) (run_of rs cs (flat_transition bodies owner base steps k t j) y)
+  transition t j b exited entered y typed from to behind fits stands so_far =
       let here = λ (i : ℕ) (h : i < length steps). let g = known i h in
       IsTest-cell y (owner (base + (slice_index_or steps i no_step).active)) (is_on xm i) (so_far.done.shown.cells (base + (slice_index_or steps i no_step).active) g.0 g.1 ∙ held-with_fault b s (base + (slice_index_or steps i no_step).active) g.0 ∙ g.2) in
-      let test = IsTest-ready owner base steps y xm here k left so_far.flags.left_held t.from from in
-      let ran = test_run rs cs (ready_test owner base steps k t.from) (flats_of (condition_list bodies owner base k t j)) no_flats y (may_leave xm left t.from) test in
-      subst (λ (q : State). After (b || (may_leave xm left t.from && faults_in callees base s t)) (left_with xm (holds_in callees base s) t left) (come_with xm (holds_in callees base s) t left come) q) (sym ran)
-      (gate (may_leave xm left t.from) (holds_in callees base s t) (faults_in callees base s t) b t.from t.to left come y _ so_far (condition t j b left come y typed from to behind fits stands so_far))
+      let test = IsTest-ready owner base steps y xm here k exited so_far.flags.exited_held t.from from in
+      let ran = test_run rs cs (ready_test owner base steps k t.from) (flats_of (condition_list bodies owner base k t j)) no_flats y (may_leave xm exited t.from) test in
+      subst (λ (q : State). After (b || (may_leave xm exited t.from && faults_in callees base s t)) (exited_with xm (holds_in callees base s) t exited) (entered_with xm (holds_in callees base s) t exited entered) q) (sym ran)
+      (gate (may_leave xm exited t.from) (holds_in callees base s t) (faults_in callees base s t) b t.from t.to exited entered y _ so_far (condition t j b exited entered y typed from to behind fits stands so_far))
 
-  transitions : (ts : List TransitionData) (j : ℕ) (b : Bool) (left come : Marking) (y : State) → AreTypedTransitions bodies.frame MayCall MayRun extents own tested base (length steps) ts
-      → k + 2 * length steps ≤ j → j + length (scratch_of_transitions bodies ts) ≤ length x → Stands rs cs j (scratch_of_transitions bodies ts) → After b left come y
-      → After (fault_after xm (holds_in callees base s) (faults_in callees base s) ts left b) (left_after xm (holds_in callees base s) ts left) (come_after xm (holds_in callees base s) ts left come) (run_of_all rs cs (flats_of (flat_transitions bodies owner base steps k ts j)) y)
-  transitions [] j b left come y typed behind fits stands so_far = so_far
-  transitions (t ∷ ts) j b left come y typed behind fits stands so_far =
+  transitions : (ts : List TransitionData) (j : ℕ) (b : Bool) (exited entered : Marking) (y : State) → AreTypedTransitions bodies.frame MayCall MayRun extents own tested base (length steps) ts
+      → k + 2 * length steps ≤ j → j + length (scratch_of_transitions bodies ts) ≤ length x → Stands rs cs j (scratch_of_transitions bodies ts) → After b exited entered y
+      → After (fault_after xm (holds_in callees base s) (faults_in callees base s) ts exited b) (exited_after xm (holds_in callees base s) ts exited) (entered_after xm (holds_in callees base s) ts exited entered) (run_of_all rs cs (flats_of (flat_transitions bodies owner base steps k ts j)) y)
+  transitions [] j b exited entered y typed behind fits stands so_far = so_far
+  transitions (t ∷ ts) j b exited entered y typed behind fits stands so_far =
       let parts = length-append (scratch_in bodies t.condition) (scratch_of_transitions bodies ts) in
-      let one = transition t j b left come y typed.0 typed.1 typed.2 behind (omega arith) (Stands-front rs cs j (scratch_in bodies t.condition) (scratch_of_transitions bodies ts) stands) so_far in
-      transitions ts (j + length (scratch_in bodies t.condition)) (b || (may_leave xm left t.from && faults_in callees base s t)) (left_with xm (holds_in callees base s) t left) (come_with xm (holds_in callees base s) t left come) _ typed.3
+      let one = transition t j b exited entered y typed.0 typed.1 typed.2 behind (omega arith) (Stands-front rs cs j (scratch_in bodies t.condition) (scratch_of_transitions bodies ts) stands) so_far in
+      transitions ts (j + length (scratch_in bodies t.condition)) (b || (may_leave xm exited t.from && faults_in callees base s t)) (exited_with xm (holds_in callees base s) t exited) (entered_with xm (holds_in callees base s) t exited entered) _ typed.3
       (omega arith) (omega arith) (Stands-back rs cs j (scratch_in bodies t.condition) (scratch_of_transitions bodies ts) stands) one
 
 -- ---- the next marking
@@ -342,19 +342,19 @@ module _ (own : List Range) (base : ℕ) (xm : Marking) (actions : Actions) wher
       let b = rising.1.0 in
       (same p.active rising.0 fl.0.0 ∙ h.0, Holding-kept ps (i + 1) (p.before + 1) s z fl.3.3 rising.1.1 (λ c u v. same c (omega arith) v) h.1)
 
-module _ (rs : List Range) (cs : List Scratch) (own : List Range) (tested : ℕ → Bool) (owner : OwnerData) (base k : ℕ) (f : ℤ) (o : Owns rs cs own tested owner k) (some : 0 < k) (m : ℕ) (xm left come : Marking) (next_on : ℕ → Bool) (actions : Actions)
-    (bits : (i : ℕ) → i < m → held xm i ≡ number_of (is_on xm i)) (same_next : (i : ℕ) → i < m → is_next_from xm left come i ≡ next_on i) where
+module _ (rs : List Range) (cs : List Scratch) (own : List Range) (tested : ℕ → Bool) (owner : OwnerData) (base k : ℕ) (f : ℤ) (o : Owns rs cs own tested owner k) (some : 0 < k) (m : ℕ) (xm exited entered : Marking) (next_on : ℕ → Bool) (actions : Actions)
+    (bits : (i : ℕ) → i < m → held xm i ≡ number_of (is_on xm i)) (same_next : (i : ℕ) → i < m → is_next_from xm exited entered i ≡ next_on i) where
   -- the flags are no cells of the owner
-  Flags-placed : (c : ℕ) (v : ℤ) (y : State) → 0 < c → c < length own → Flags m k left come y → Flags m k left come (placed rs cs (owner c) v y)
+  Flags-placed : (c : ℕ) (v : ℤ) (y : State) → 0 < c → c < length own → Flags m k exited entered y → Flags m k exited entered (placed rs cs (owner c) v y)
   Flags-placed c v y low high h = let below = o.below c low high in record {
-    left_long = h.left_long;
-    come_long = h.come_long;
-    left_held = λ i less. placed-other rs cs own tested owner k o c v y low high (left_flag k i) (omega arith) (omega arith) ∙ h.left_held i less;
-    come_held = λ i less. placed-other rs cs own tested owner k o c v y low high (come_flag k i) (omega arith) (omega arith) ∙ h.come_held i less;
+    exited_long = h.exited_long;
+    entered_long = h.entered_long;
+    exited_held = λ i less. placed-other rs cs own tested owner k o c v y low high (exited_flag k i) (omega arith) (omega arith) ∙ h.exited_held i less;
+    entered_held = λ i less. placed-other rs cs own tested owner k o c v y low high (entered_flag k i) (omega arith) (omega arith) ∙ h.entered_held i less;
   }
 
   marks : (ps : List StepCells) (i q bound : ℕ) (s x y : State) → q ≡ k + 2 * i → i + length ps ≤ m → AreFlags own base (chart_places ps actions) → AreRisingFrom bound (chart_places ps actions) → Holding base xm i ps s → k ≤ length y
-      → Flags m k left come y → Done (length own) k owner f s x y → Done (length own) k owner f (marked own base xm next_on i ps s) x (run_of_all rs cs (flats_of (mark_list owner base ps q)) y)
+      → Flags m k exited entered y → Done (length own) k owner f s x y → Done (length own) k owner f (marked own base xm next_on i ps s) x (run_of_all rs cs (flats_of (mark_list owner base ps q)) y)
   marks [] i q bound s x y is_q many fl rising holding room flags done = done
   marks (p ∷ ps) i q bound s x y is_q many fl rising holding room flags done =
       let n = length own in
@@ -377,12 +377,12 @@ module _ (rs : List Range) (cs : List Scratch) (own : List Range) (tested : ℕ 
       let flags_one = Flags-placed b v y fl.3.0.0 fl.3.0.1 flags in
       let long_one = done_one.ran.long in
       let now : held y1 (owner a) ≡ number_of (is_on xm i) = done_one.shown.cells a fl.0.0 fl.0.1 ∙ stored-other own b v s a fl.0.0 (omega arith) ∙ holding.0 in
-      let left_here : held y1 q ≡ number_of (is_on left i) = ap (λ (c : ℕ). held y1 c) is_q ∙ flags_one.left_held i here in
-      let is_come : q + 1 ≡ come_flag k i = omega arith in
-      let come_here : held y1 (q + 1) ≡ number_of (is_on come i) = ap (λ (c : ℕ). held y1 c) is_come ∙ flags_one.come_held i here in
-      let test = IsTest-or y1 _ (cell (q + 1)) (is_on xm i && not (is_on left i)) (is_on come i)
-      (IsTest-and y1 (cell (owner a)) _ (is_on xm i) (not (is_on left i)) (IsTest-cell y1 (owner a) (is_on xm i) now) (IsTest-not y1 (cell q) (is_on left i) (IsTest-cell y1 q (is_on left i) left_here)))
-      (IsTest-cell y1 (q + 1) (is_on come i) come_here) in
+      let exited_here : held y1 q ≡ number_of (is_on exited i) = ap (λ (c : ℕ). held y1 c) is_q ∙ flags_one.exited_held i here in
+      let is_come : q + 1 ≡ entered_flag k i = omega arith in
+      let entered_here : held y1 (q + 1) ≡ number_of (is_on entered i) = ap (λ (c : ℕ). held y1 c) is_come ∙ flags_one.entered_held i here in
+      let test = IsTest-or y1 _ (cell (q + 1)) (is_on xm i && not (is_on exited i)) (is_on entered i)
+      (IsTest-and y1 (cell (owner a)) _ (is_on xm i) (not (is_on exited i)) (IsTest-cell y1 (owner a) (is_on xm i) now) (IsTest-not y1 (cell q) (is_on exited i) (IsTest-cell y1 q (is_on exited i) exited_here)))
+      (IsTest-cell y1 (q + 1) (is_on entered i) entered_here) in
       let two : run_of rs cs (mark_active owner base p q) y1 ≡ y2 = run_test rs cs (owner a) _ y1 _ test ∙ ap (λ (u : Bool). placed rs cs (owner a) (number_of u) y1) (same_next i here) in
       let fits_two : (tested a || in_range w (range_at own a)) ≡ true = or_right (tested a) _ (fits_bit (next_on i) (range_at own a) fl.1 fl.2) in
       let done_two : Done n k owner f s2 y1 y2 = Done-stored rs cs own tested owner k f a w s1 y1 o fl.0.0 fl.0.1 (omega arith) fits_two done_one.shown in
@@ -445,12 +445,12 @@ module _ (own : List Range) (base : ℕ) (xm : Marking) (s : State) (actions : A
       )
 
 module _ (x : Marking) (holds faulty : TransitionData → Bool) (ts : List TransitionData) where
-  moved_on : (i : ℕ) → i < length x → is_next_from x (left_after x holds ts (no_steps x)) (come_after x holds ts (no_steps x) (no_steps x)) i ≡ is_next x (fired x holds ts) i
+  moved_on : (i : ℕ) → i < length x → is_next_from x (exited_after x holds ts (no_steps x)) (entered_after x holds ts (no_steps x) (no_steps x)) i ≡ is_next x (fired x holds ts) i
   moved_on i h =
       let n = length-none x in
       let none = λ (j : ℕ) (g : j < length (no_steps x)). on-none x j in
-      let l = left-same x holds faulty ts [] (no_steps x) (sym n) none i (omega arith) in
-      let e = come-same x holds faulty ts [] (no_steps x) (no_steps x) (sym n) none i (omega arith) in
+      let l = exited-same x holds faulty ts [] (no_steps x) (sym n) none i (omega arith) in
+      let e = entered-same x holds faulty ts [] (no_steps x) (no_steps x) (sym n) none i (omega arith) in
       let z = on-none x i in
       rw (l, e, z) refl
 
@@ -484,27 +484,27 @@ module _ (rs : List Range) (cs : List Scratch) (bodies : Bodies) (MayCall MayRun
       let cl : Cleared m k x y0 = clear rs cs steps k x (omega arith) low (omega arith) free in
       let start : Done n k owner f s x y0 = record { shown = Shows-kept n owner o.above f k s x y0 o.below cl.kept cl.fault shown; ran = Ran-kept n k owner x y0 cl.long cl.kept } in
       let flags : Flags m k none none y0 = record {
-        left_long = long_none;
-        come_long = long_none;
-        left_held = λ i h. cl.left i h ∙ sym (ap number_of (on-none xm i));
-        come_held = λ i h. cl.come i h ∙ sym (ap number_of (on-none xm i));
+        exited_long = long_none;
+        entered_long = long_none;
+        exited_held = λ i h. cl.exited i h ∙ sym (ap number_of (on-none xm i));
+        entered_held = λ i h. cl.entered i h ∙ sym (ap number_of (on-none xm i));
       } in
       let begun : Tried n m k owner f (with_fault false s) none none x y0 = record { done = start; flags = flags } in
       let j = k + length (flags_of steps) in
-      let left = left_after xm holds ts none in
-      let come = come_after xm holds ts none none in
+      let exited = exited_after xm holds ts none in
+      let entered = entered_after xm holds ts none none in
       let fault = fault_after xm holds faulty ts none false in
       let y1 = run_of_all rs cs (flats_of (flat_transitions bodies owner base steps k ts j)) y0 in
-      let behind : Tried n m k owner f (with_fault fault s) left come x y1 =
+      let behind : Tried n m k owner f (with_fault fault s) exited entered x y1 =
       transitions rs cs bodies MayCall MayRun extents callees own tested owner base each first cells some k f o low steps free x (omega arith) s within xm known ts j false none none y0 typed (omega arith) (omega arith)
       (Stands-back rs cs k (flags_of steps) (scratch_of_transitions bodies ts) stands) begun in
       let bits : (i : ℕ) → i < m → held xm i ≡ number_of (is_on xm i) =
       λ i h. let g = known i h in sym (now-at base s steps i h ∙ ap (λ (q : Marking). held q i) marking) ∙ g.2 in
-      let next_same : (i : ℕ) → i < m → is_next_from xm left come i ≡ is_next xm (fired xm holds ts) i = λ i h. moved_on xm holds faulty ts i (omega arith) in
+      let next_same : (i : ℕ) → i < m → is_next_from xm exited entered i ≡ is_next xm (fired xm holds ts) i = λ i h. moved_on xm holds faulty ts i (omega arith) in
       let holding : Holding base xm 0 steps (with_fault fault s) =
       Holding-now own base xm (with_fault fault s) actions steps 0 fl (λ i h. let g = known i h in held-with_fault fault s (base + (slice_index_or steps i no_step).active) g.0 ∙ g.2 ∙ ap (λ (q : ℕ). number_of (is_on xm q)) (sym (zero-add i))) in
       let long_behind = behind.done.ran.long in
-      let last = marks rs cs own tested owner base k f o (omega arith) m xm left come (is_next xm (fired xm holds ts)) actions bits next_same steps 0 k bound (with_fault fault s) x y1 (omega arith) (omega arith) fl rising holding (omega arith) behind.flags behind.done in
+      let last = marks rs cs own tested owner base k f o (omega arith) m xm exited entered (is_next xm (fired xm holds ts)) actions bits next_same steps 0 k bound (with_fault fault s) x y1 (omega arith) (omega arith) fl rising holding (omega arith) behind.flags behind.done in
       let met : marked own base xm (is_next xm (fired xm holds ts)) 0 steps (with_fault fault s) ≡ effect_of_transitions callees own base xm steps ts s =
       ap (λ (b : Bool). marked own base xm (is_next xm (fired xm holds ts)) 0 steps (with_fault b s)) (met_faults xm holds faulty ts) in
       let rest = flat_transitions bodies owner base steps k ts j ++ mark_list owner base steps k in

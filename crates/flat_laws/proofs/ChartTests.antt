@@ -16,7 +16,7 @@ use Rattle.meaning.specs.Charts.{Marking, is_on, is_set, is_reset, sets, resets,
 use Rattle.meaning.specs.Flags.{may_leave}
 use Rattle.flat_form.specs.Owners.{OwnerData}
 use Rattle.flat_form.specs.WellTyped.{AreSteps, NameSteps}
-use Rattle.flat_form.specs.FlatCharts.{negated, both, operands_by, joined_by, active_at, before_at, steps_that, unless_reset, latch_test, asking, terms, latch_start, runs_test, left_flag, ready_term, ready_test}
+use Rattle.flat_form.specs.FlatCharts.{negated, both, operands_by, joined_by, active_at, before_at, steps_that, unless_reset, latch_test, asking, terms, latch_start, runs_test, exited_flag, ready_term, ready_test}
 use Rattle.flat_laws.proofs.Shown.{held}
 use Rattle.flat_laws.proofs.LabelLemmas.{and_bits, or_bits}
 
@@ -159,18 +159,18 @@ any_asks xm lm (a ∷ more) = asking_more a.qualifier (is_on xm a.step) (is_on l
 
 module _ (owner : OwnerData) (base : ℕ) (steps : List StepCells) (x : State) (xm : Marking) (here : (i : ℕ) → i < length steps → IsTest x (active_at owner base steps i) (is_on xm i)) where
   -- where flags say which steps were left
-  module _ (k : ℕ) (left : Marking) (flag : (i : ℕ) → i < length steps → held x (left_flag k i) ≡ number_of (is_on left i)) where
+  module _ (k : ℕ) (exited : Marking) (flag : (i : ℕ) → i < length steps → held x (exited_flag k i) ≡ number_of (is_on exited i)) where
     abbrev is_ready : ℕ → Bool
-    is_ready i = is_on xm i && not (is_on left i)
+    is_ready i = is_on xm i && not (is_on exited i)
 
     IsTest-ready_term : (i : ℕ) → i < length steps → IsTest x (ready_term owner base steps k i) (is_ready i)
-    IsTest-ready_term i h = IsTest-and x (active_at owner base steps i) (negated (cell (left_flag k i))) (is_on xm i) (not (is_on left i)) (here i h) (IsTest-not x (cell (left_flag k i)) (is_on left i) (IsTest-cell x (left_flag k i) (is_on left i) (flag i h)))
+    IsTest-ready_term i h = IsTest-and x (active_at owner base steps i) (negated (cell (exited_flag k i))) (is_on xm i) (not (is_on exited i)) (here i h) (IsTest-not x (cell (exited_flag k i)) (is_on exited i) (IsTest-cell x (exited_flag k i) (is_on exited i) (flag i h)))
 
     AreTests-ready : (fs : List ℕ) → AreSteps (length steps) fs → AreTests x (map (ready_term owner base steps k) fs) (map is_ready fs)
     AreTests-ready [] h = tt
     AreTests-ready (f ∷ fs) h = (IsTest-ready_term f h.0, AreTests-ready fs h.1)
 
-    pub IsTest-ready : (fs : List ℕ) → AreSteps (length steps) fs → IsTest x (ready_test owner base steps k fs) (may_leave xm left fs)
+    pub IsTest-ready : (fs : List ℕ) → AreSteps (length steps) fs → IsTest x (ready_test owner base steps k fs) (may_leave xm exited fs)
     IsTest-ready [] h = record { value = refl; fault = refl }
     IsTest-ready (f ∷ fs) h =
         let all = IsTest-all x (ready_term owner base steps k f) (is_ready f) (map (ready_term owner base steps k) fs) (map is_ready fs) (IsTest-ready_term f h.0) (AreTests-ready fs h.1) in

@@ -12,7 +12,7 @@ use Rattle.plc_types.specs.declared.function.Function.TheVariants as functions
 use Rattle.plc_types.specs.declared.range.Range.{Range}
 use Rattle.plc_types.specs.declared.operator.Operator.{Operator}
 use Rattle.plc_types.specs.Types.{width_of, is_signed, range_of, in_range, wrap_to}
-use Rattle.program_tree.specs.Tree.{Expression, number, cell, unary, chain, call, answer, Operands, no_operands, operand, Expressions, no_expressions, expression}
+use Rattle.program_tree.specs.Tree.{Expression, number, cell, unary, chain, call_standard, call_function, Operands, no_operands, operand, Expressions, no_expressions, expression}
 use Rattle.meaning.specs.Values.{State, Callees, no_callees, fault_in, answer_in, is_truth, value_of, value_on, values_of, faults, any_faults, one_faults, divides_by_zero, applied, unary_applied, result_type, called, function_result, selected}
 use Rattle.meaning.specs.Effects.{range_at, stored}
 use Rattle.meaning.specs.Calls.{given}
@@ -125,13 +125,13 @@ module _ (frames : ℕ → FrameData) (callees : Callees) (MayCall : ℕ → ℕ
     stays (cell place) r h b = covers-in r (range_at own (base + place)) _ h (in_range-at own s (base + place) range b.1)
     stays (unary o t e) r h b = covers-in r (range_of t) (unary_applied o t (value_of callees base e s)) h (wrapped-in t _)
     stays (chain e os) r h b = last-in (stays_in frames own base e r) (value_of callees base e s) os r (λ c. stays e r c b.0) h
-    stays (call f t es) r h b =
+    stays (call_standard f t es) r h b =
         let vs = values_of callees base es s in
         let all = stays_each es r b in
         by_either (covers r (range_of t)) (covers (range_of t) r) (chosen_stay f (each_stays frames own base es r)) h
         (λ c. covers-in r (range_of t) (called f t vs) c (wrapped-in t _))
         (λ c d. let is = chosen-in r f t (each_stays frames own base es r) vs all d in subst (λ v. in_range v r ≡ true) (sym (wrapped-same t (function_result f t vs) (covers-in (range_of t) r (function_result f t vs) c is))) is)
-    stays (answer f es) r h b = covers-in r (range_at (frames f).ranges 1) _ h (answers f (arity es) (values_of callees base es s) b.0)
+    stays (call_function f es) r h b = covers-in r (range_at (frames f).ranges 1) _ h (answers f (arity es) (values_of callees base es s) b.0)
 
     stays_each : (es : Expressions) (r : Range) → AreTypedValues frames MayCall own base es → AllIn r (each_stays frames own base es r) (values_of callees base es s)
     stays_each no_expressions r b = tt
@@ -243,7 +243,7 @@ module _ (callees : Callees) (base : ℕ) (s : State) where
 module _ (rs : List Range) (cs : List Scratch) (cells : 0 < length rs) (bodies : Bodies) (callees : Callees) (base : ℕ) (s : State) (frame : FrameData) where
   input_given : (place : ℕ) (e left : Expression) (es : Expressions) (k j : ℕ) (u x x1 w y : State) → 0 < place → place < length frame.ranges → length u ≡ length frame.ranges → held u place ≡ initial_at frame place
       → 0 < k → j ≡ k + length (scratch_in bodies e) → (ev : Evaluated callees base e left s k j x x1)
-      → ((v : ℤ) → takes cs (j - length rs) v ≡ (not (type_at frame.types place).limited || in_range v (range_at frame.ranges place)))
+      → ((v : ℤ) → takes cs (j - length rs) v ≡ (not (type_at frame.types place).is_subrange || in_range v (range_at frame.ranges place)))
       → ((b : Bool) × ((ev.faulted || b) ≡ faults callees base e s) × Reached j (b || not (in_range (value_of callees base e s) (range_at frame.ranges place))) x1 w × (held w j ≡ (if in_range (value_of callees base e s) (range_at frame.ranges place) then value_of callees base e s else initial_at frame place)))
       → InputsGiven rs cs bodies callees base s frame (place + 1) es (j + 1) (stored frame.ranges place (value_of callees base e s) u) w y
       → InputsGiven rs cs bodies callees base s frame place (expression e es) k u x y
@@ -293,7 +293,7 @@ module _ (rs : List Range) (cs : List Scratch) (cells : 0 < length rs) (bodies :
   call_evaluated : (k : ℕ) (x x1 : State) → length rs ≤ k → InputsGiven rs cs bodies callees base s (bodies.frame f) 2 es k (bodies.frame f).start x x1
       → Stands rs cs (k + length (input_scratch bodies (bodies.frame f) 2 es)) (rest_scratch bodies (bodies.frame f) f (arity es))
       → k + length (input_scratch bodies (bodies.frame f) 2 es ++ rest_scratch bodies (bodies.frame f) f (arity es)) ≤ length x
-      → Evaluated callees base (answer f es) (cell (k + length (input_scratch bodies (bodies.frame f) 2 es) + others_behind (bodies.frame f) (arity es))) s k
+      → Evaluated callees base (call_function f es) (cell (k + length (input_scratch bodies (bodies.frame f) 2 es) + others_behind (bodies.frame f) (arity es))) s k
       (k + length (input_scratch bodies (bodies.frame f) 2 es ++ rest_scratch bodies (bodies.frame f) f (arity es))) x
       (run_of_all rs cs (flats_of (rest_list bodies (bodies.frame f) f (arity es) (input_places bodies es k) (k + length (input_scratch bodies (bodies.frame f) 2 es)))) x1)
   call_evaluated k x x1 le given_now stands room =
@@ -330,7 +330,7 @@ module _ (rs : List Range) (cs : List Scratch) (cells : 0 < length rs) (bodies :
       let ends : callees.ends f vs ≡ c.effect t = c.ends vs in
       let w_long = done.ran.long in
       let y_long = b.reached.long in
-      let all : Evaluated callees base (answer f es) (cell (k1 + o)) s k (k + length (input_scratch bodies frame 2 es ++ rest_scratch bodies frame f (arity es))) x w = record {
+      let all : Evaluated callees base (call_function f es) (cell (k1 + o)) s k (k + length (input_scratch bodies frame 2 es ++ rest_scratch bodies frame f (arity es))) x w = record {
         long = w_long ∙ y_long ∙ x1_long;
         kept = λ p low high. done.ran.same p low (omega arith) (λ q q_low q_high e. let far = b.far q q_low q_high in omega arith) ∙ b.reached.kept p low (omega arith) ∙ given_now.reached.kept p low high;
         faulted = met || fault_in (callees.ends f vs);
@@ -338,7 +338,7 @@ module _ (rs : List Range) (cs : List Scratch) (cells : 0 < length rs) (bodies :
         value = λ z h. ap (λ n. held z n) (zero-add (k1 + o)) ∙ h (k1 + o) (omega arith) (omega arith) ∙ done.shown.cells 1 (omega arith) (omega arith) ∙ ap answer_in (sym ends);
         faults = λ z h. or-false (met || fault_in (callees.ends f vs));
       } in
-      subst (λ l. Evaluated callees base (answer f es) (cell (k1 + o)) s k (k + length (input_scratch bodies frame 2 es ++ rest_scratch bodies frame f (arity es))) x l)
+      subst (λ l. Evaluated callees base (call_function f es) (cell (k1 + o)) s k (k + length (input_scratch bodies frame 2 es ++ rest_scratch bodies frame f (arity es))) x l)
       (sym (run-append rs cs (other_starts frame (2 + arity es) o k1) (set (k1 + o) (number (initial_at frame 1)) ∷ bodies.call_list f (k1 + o) ps (k1 + o + 1)) x1)) all
 
 -- ---- expressions
@@ -389,7 +389,7 @@ module _ (rs : List Range) (cs : List Scratch) (cells : 0 < length rs) (bodies :
           let more = operands_evaluated os j x1 b.1 (Owns-later rs cs own tested owner k j (omega arith) o) (cells_kept k x x1 o ev.kept is) (omega arith) (omega arith) (Stands-back rs cs k here there stands) in
           subst (λ y. Evaluated callees base (chain e os) (moved bodies owner base (chain e os) k) s k (k + length (here ++ there)) x y) (sym (run-append rs cs (before bodies owner base e k) (operands_before bodies owner base os j) x))
           (chain_evaluated callees base s e (moved bodies owner base e k) os (moved_operands bodies owner base os j) k j (j + length there) (k + length (here ++ there)) x x1 _ (omega arith) (omega arith) (omega arith) ev more)
-      value_evaluated (call f t es) k x b o is le room stands =
+      value_evaluated (call_standard f t es) k x b o is le room stands =
           let all = all_evaluated es k x b o is le room stands in
           record {
             long = all.reached.long;
@@ -399,7 +399,7 @@ module _ (rs : List Range) (cs : List Scratch) (cells : 0 < length rs) (bodies :
             value = λ z h. ap (called f t) (all.values z h);
             faults = all.faults;
           }
-      value_evaluated (answer f es) k x b o is le room stands =
+      value_evaluated (call_function f es) k x b o is le room stands =
           let frame = bodies.frame f in
           let c = each_call f (arity es) b.0 in
           let fits : FrameFits frame (arity es) = c.fits in
@@ -411,7 +411,7 @@ module _ (rs : List Range) (cs : List Scratch) (cells : 0 < length rs) (bodies :
           let start_long = IsInRange-length frame.ranges frame.start fits.start_in_range in
           let x1 = run_of_all rs cs (flats_of (inputs_before bodies owner base frame 2 es k)) x in
           let ready = inputs_given frame (begins frame (arity es) fits) 2 es k frame.start x (omega arith) b.1 (omega arith) (sym start_long) (λ p h. refl) o is le (omega arith) (Stands-front rs cs k here there stands) in
-          subst (λ y. Evaluated callees base (answer f es) (moved bodies owner base (answer f es) k) s k (k + length (here ++ there)) x y)
+          subst (λ y. Evaluated callees base (call_function f es) (moved bodies owner base (call_function f es) k) s k (k + length (here ++ there)) x y)
           (sym (run-append rs cs (inputs_before bodies owner base frame 2 es k) (rest_list bodies frame f (arity es) (input_places bodies es k) (k + length here)) x))
           (call_evaluated rs cs cells bodies callees base s f es c k x x1 le ready (Stands-back rs cs k here there stands) room)
 
@@ -461,10 +461,10 @@ module _ (rs : List Range) (cs : List Scratch) (cells : 0 < length rs) (bodies :
           let x1 = run_of_all rs cs (flats_of (before bodies owner base e k)) x in
           let x1_long = ev.long in
           let behind : Stands rs cs j (scratch_at frame place ∷ there) = Stands-back rs cs k here (scratch_at frame place ∷ there) stands in
-          let fits : (w : ℤ) → takes cs (j - length rs) w ≡ (not (type_at frame.types place).limited || in_range w (range_at frame.ranges place))
+          let fits : (w : ℤ) → takes cs (j - length rs) w ≡ (not (type_at frame.types place).is_subrange || in_range w (range_at frame.ranges place))
           = λ w. let same : j - length rs ≡ j + 0 - length rs = omega arith in ap (λ i. takes cs i w) same ∙ behind 0 w (omega arith) in
-          let may : ((type_at frame.types place).limited || in_range v (range_at frame.ranges place)) ≡ true
-          = tested_fits (type_at frame.types place).limited (stays_in bodies.frame own base e (range_at frame.ranges place)) (in_range v (range_at frame.ranges place)) b.1
+          let may : ((type_at frame.types place).is_subrange || in_range v (range_at frame.ranges place)) ≡ true
+          = tested_fits (type_at frame.types place).is_subrange (stays_in bodies.frame own base e (range_at frame.ranges place)) (in_range v (range_at frame.ranges place)) b.1
           (λ h. stays bodies.frame callees MayCall own base s range answers-in e (range_at frame.ranges place) h b.0) in
           let put = input_set rs cs frame cells begin place j left v ev.faulted (faults callees base e s) x1 (omega arith) (omega arith) (omega arith) fits may ev.value ev.faults in
           let w = run_of rs cs (set j left) (run_of_all rs cs (flats_of (input_start frame place j)) x1) in

@@ -4,7 +4,7 @@ use Rattle.plc_types.specs.declared.range.Range.{Range}
 use Rattle.program_tree.specs.Tree.{ProgramData}
 use Rattle.meaning.specs.Values.{State}
 use Rattle.scan_model.specs.Scans.{ranges_of, scanned}
-use Rattle.scan_model.specs.InRange.{IsInRange, IsProgram}
+use Rattle.scan_model.specs.InRange.{IsInRange, IsFitToRun}
 use Rattle.flat_core.specs.declared.flat_tree.Scratch.{Scratch}
 use Rattle.flat_core.specs.FlatScans.{flat_scanned}
 use Rattle.flat_form.specs.FlatPrograms.{flat_program}
@@ -23,5 +23,5 @@ joined_stays rs cs some bodies callees MayCall own each base e r s h typed range
 joined_charts : (rs : List Range) (cs : List Scratch) → 0 < length rs → EachChartRuns rs cs
 joined_charts rs cs some = charts_run rs cs some
 
-pub keeps_meaning : (p : ProgramData) → IsProgram p → IsWellTyped p → (s : State) → IsInRange (ranges_of p.cells) s → flat_scanned (flat_program p) s ≡ scanned p s
+pub keeps_meaning : (p : ProgramData) → IsFitToRun p → IsWellTyped p → (s : State) → IsInRange (ranges_of p.cells) s → flat_scanned (flat_program p) s ≡ scanned p s
 keeps_meaning p is typed s range = flat_program-keeps joined_evaluated joined_stays joined_charts p is typed s range

@@ -13,7 +13,7 @@ use Rattle.meaning.specs.Values.{State, Callees, is_truth}
 use Rattle.meaning.specs.Effects.{range_at, stored, effect_of_all}
 use Rattle.meaning.specs.Calls.{given, nothing, run_of as effect_of_run, ends_of, callees_of}
 use Rattle.scan_model.specs.Scans.{ranges_of, callees_in, scanned}
-use Rattle.scan_model.specs.InRange.{IsInRange, BeginsWithFault, IsProgram}
+use Rattle.scan_model.specs.InRange.{IsInRange, BeginsWithFault, IsFitToRun}
 use Rattle.flat_core.specs.declared.flat_tree.Scratch.{Scratch}
 use Rattle.flat_core.specs.FlatTree.{FlatStatement}
 use Rattle.flat_core.specs.FlatView.{flats_of}
@@ -38,7 +38,7 @@ use Rattle.flat_laws.proofs.Running.{RunsAs, done_all}
 
 -- a cell of a range, FAULT by its part
 fault_cell : Range → CellData
-fault_cell r = record { path = []; part = parts.Fault; kind = Elementary types.Bool; range = r; limited = false; initial = pos 0 }
+fault_cell r = record { path = []; part = parts.Fault; kind = Elementary types.Bool; range = r; is_subrange = false; initial = pos 0 }
 
 ranges-back : (rs : List Range) → ranges_of (map fault_cell rs) ≡ rs
 unfolding fault_cell
@@ -223,7 +223,7 @@ shown-cells cells begins t z range shows room = take-same (length cells) z t sho
 
 -- so far as expressions and charts do
 module _ (evaluated : (rs : List Range) (cs : List Scratch) → 0 < length rs → EachExpressionRuns rs cs) (stays : (rs : List Range) (cs : List Scratch) → 0 < length rs → EachExpressionStays rs cs) (charts : (rs : List Range) (cs : List Scratch) → 0 < length rs → EachChartRuns rs cs) where
-  pub flat_program-keeps : (p : ProgramData) → IsProgram p → IsWellTyped p → (s : State) → IsInRange (ranges_of p.cells) s → flat_scanned (flat_program p) s ≡ scanned p s
+  pub flat_program-keeps : (p : ProgramData) → IsFitToRun p → IsWellTyped p → (s : State) → IsInRange (ranges_of p.cells) s → flat_scanned (flat_program p) s ≡ scanned p s
   flat_program-keeps p is typed s range =
       let begins = is.begins_with_fault in
       let rs = ranges_of p.cells in

@@ -7,7 +7,7 @@ use Rattle.plc_types.specs.declared.range.Range.{Range}
 use Rattle.program_tree.specs.declared.typed.StepCells.{StepCells}
 use Rattle.program_tree.specs.declared.typed.Association.{Association}
 use Rattle.plc_types.specs.Types.{in_range}
-use Rattle.program_tree.specs.Tree.{Statement, assign, run, choice, cases, repeat, chart, Statements, no_statements, statement, Choices, no_choices, choose, Entries, no_entries, entry, Actions, no_actions, action, CalledData, block, function}
+use Rattle.program_tree.specs.Tree.{Statement, assign, call_block, choice, cases, repeat, chart, Statements, no_statements, statement, Choices, no_choices, choose, Entries, no_entries, entry, Actions, no_actions, action, CalledData, block, function}
 use Rattle.meaning.specs.Values.{State, Callees, value_of, faults, is_truth}
 use Rattle.meaning.specs.Charts.{Marking, runs}
 use Rattle.meaning.specs.Effects.{range_at, with_fault, stored, is_labelled, effect_of_turns, latched, all_latched, marked, effect_of, effect_of_all, effect_of_choices, effect_of_entries, effect_of_actions}
@@ -65,7 +65,7 @@ module _ (own : List Range) (p : ℕ) (above : 0 < p) where
     mutual
       pub statement-leaves : (base : ℕ) (t : Statement) → base + extent_of extents t ≤ p → Leaves (effect_of callees own base t)
       statement-leaves base (assign target e) far s = below-leaves (base + target) _ (omega arith) _ ∙ with_fault-leaves (faults callees base e s) s
-      statement-leaves base (run b offset) far s = calls b (base + offset) (omega arith) s
+      statement-leaves base (call_block b offset) far s = calls b (base + offset) (omega arith) s
       statement-leaves base (choice arms other) far s =
           let a = le-max_left (extent_of_choices extents arms) (extent_of_all extents other) in
           let b = le-max_right (extent_of_choices extents arms) (extent_of_all extents other) in

@@ -9,16 +9,16 @@ use Rattle.program_tree.specs.declared.typed.TypedLabel.TheVariants.{Single, Spa
 use Rattle.program_tree.specs.declared.typed.StepCells.{StepCells}
 use Rattle.program_tree.specs.declared.typed.Association.{Association}
 use Rattle.plc_types.specs.Types.{in_range}
-use Rattle.program_tree.specs.Tree.{Statement, assign, run, choice, cases, repeat, chart, Statements, no_statements, statement, Choices, no_choices, choose, Entries, no_entries, entry, Actions, no_actions, action, CellData, CalledData, ProgramData}
+use Rattle.program_tree.specs.Tree.{Statement, assign, call_block, choice, cases, repeat, chart, Statements, no_statements, statement, Choices, no_choices, choose, Entries, no_entries, entry, Actions, no_actions, action, CellData, CalledData, ProgramData}
 use Rattle.program_tree.specs.View.{operands_of}
 use Rattle.meaning.specs.Calls.{nothing}
 use Rattle.scan_model.specs.Scans.{ranges_of}
-use Rattle.scan_model.specs.InRange.{BeginsWithFault, IsProgram}
+use Rattle.scan_model.specs.InRange.{BeginsWithFault, IsFitToRun}
 use Rattle.flat_core.specs.declared.flat_tree.Scratch.{Scratch}
 use Rattle.flat_core.specs.FlatTree.{FlatStatement}
 use Rattle.flat_core.specs.FlatView.{nested}
 use Rattle.flat_core.specs.FlatScans.{takes}
-use Rattle.flat_core.specs.FlatRules.{is_limited, Reads, AllRead, IsReadable, IsFlat}
+use Rattle.flat_core.specs.FlatRules.{has_subrange, Reads, AllRead, IsReadable, IsFlat}
 use Rattle.flat_form.specs.Frames.{FrameData, frames_of, function_body, whole_cell}
 use Rattle.flat_form.specs.Owners.{OwnerData, program_owner, call_owner}
 use Rattle.flat_form.specs.Bodies.{Bodies}
@@ -98,7 +98,7 @@ module _ (n : ℕ) (cs : List Scratch) where
           let its = mine (base + target) t.0.1 in
           Keeps-both n cs first _ d (before_keeps n cs bodies MayCall each_fits each_call owner own base e k d t.1 o is)
           ((its.1, moved_reads n cs bodies MayCall each_fits each_call owner own base e k d (behind first d) t.1 mine (λ p h. h), inl its.0), tt)
-      statement_keeps base (run b offset) k d t o is = each_run b (base + offset) t.1 k d o is
+      statement_keeps base (call_block b offset) k d t o is = each_run b (base + offset) t.1 k d o is
       statement_keeps base (choice arms other) k d t o is =
           let made = scratch_of_choices bodies arms in
           let rest = scratch_of_all bodies other in
@@ -115,7 +115,7 @@ module _ (n : ℕ) (cs : List Scratch) where
           let o1 = later_mine first d o in
           let o2 = Owned-later n cs now (j ∷ now) own owner (λ p h. inr h) o1 in
           Keeps-both n cs first _ d (before_keeps n cs bodies MayCall each_fits each_call owner own base e k d t.0 o (stand_front n cs mine (whole_cell kind ∷ (entries ++ others)) k is)) (
-            (back.0.room, moved_reads n cs bodies MayCall each_fits each_call owner own base e k d now t.0 o1 (λ p h. h), inr (inl back.0.limited)),
+            (back.0.room, moved_reads n cs bodies MayCall each_fits each_call owner own base e k d now t.0 o1 (λ p h. h), inr (inl back.0.is_subrange)),
             entries_keep base kind j es (j + 1) (flat_of_all bodies owner base other (j + 1 + length entries)) (j ∷ now) t.1 (inr (inl refl)) o2 (stand_front n cs entries others (j + 1) back.1)
                 (all_keep base other (j + 1 + length entries) (j ∷ now) t.2 o2 (stand_back n cs entries others (j + 1) back.1)),
           )
@@ -265,8 +265,8 @@ from_on (suc i) (c ∷ all) = from_on i all
 
 record FirstAt (all : List Scratch) (i : ℕ) (c : Scratch) (more : List Scratch) : Type 0 where
   room : i < length all
-  limited : is_limited all i ≡ c.limited
-  takes : (v : ℤ) → takes all i v ≡ (not c.limited || in_range v c.range)
+  is_subrange : has_subrange all i ≡ c.is_subrange
+  takes : (v : ℤ) → takes all i v ≡ (not c.is_subrange || in_range v c.range)
   behind_it : from_on (suc i) all ≡ more
 
 first_at : (all : List Scratch) (i : ℕ) (c : Scratch) (more : List Scratch) → from_on i all ≡ c ∷ more → FirstAt all i c more
@@ -274,11 +274,11 @@ first_at [] zero c more e = cc
 first_at [] (suc i) c more e = cc
 first_at (x ∷ all) zero c more e =
     let same : x ≡ c = cc in
-    record { room = omega arith; limited = ap (λ (y : Scratch). y.limited) same; takes = λ v. ap (λ (y : Scratch). not y.limited || in_range v y.range) same; behind_it = cc }
+    record { room = omega arith; is_subrange = ap (λ (y : Scratch). y.is_subrange) same; takes = λ v. ap (λ (y : Scratch). not y.is_subrange || in_range v y.range) same; behind_it = cc }
 first_at (x ∷ all) (suc i) c more e =
     let its = first_at all i c more e in
     let low = its.room in
-    record { room = omega arith; limited = its.limited; takes = its.takes; behind_it = its.behind_it }
+    record { room = omega arith; is_subrange = its.is_subrange; takes = its.takes; behind_it = its.behind_it }
 
 -- each stands behind the cells
 all_stand : (n : ℕ) (all made : List Scratch) (i : ℕ) → from_on i all ≡ made → StandAt n all (n + i) made
@@ -288,13 +288,13 @@ all_stand n all (c ∷ made) i e =
     let low = its.room in
     let back : n + i - n ≡ i = omega arith in
     let more : n + suc i ≡ n + i + 1 = omega arith in
-    (record { room = omega arith; limited = rw back its.limited; takes = λ v. rw back (its.takes v) }, subst (λ (j : ℕ). StandAt n all j made) more (all_stand n all made (suc i) its.behind_it))
+    (record { room = omega arith; is_subrange = rw back its.is_subrange; takes = λ v. rw back (its.takes v) }, subst (λ (j : ℕ). StandAt n all j made) more (all_stand n all made (suc i) its.behind_it))
 
 some_cells : (cells : List CellData) → BeginsWithFault cells → 0 < length cells
 some_cells [] begins = absurd begins
 some_cells (c ∷ cells) begins = omega arith
 
-pub flat_program-keeps_rules : (p : ProgramData) → IsProgram p → IsWellTyped p → IsFlat (flat_program p)
+pub flat_program-keeps_rules : (p : ProgramData) → IsFitToRun p → IsWellTyped p → IsFlat (flat_program p)
 flat_program-keeps_rules p is typed =
     let n = length p.cells in
     let cs = scratch_of_all (bodies_in p) p.body in

@@ -6,7 +6,7 @@ use Rattle.std.specs.Prelude.{slice_index_or, if◌then◌else◌}
 use Rattle.std.proofs.lemmas.Int.{ints}
 use Rattle.plc_types.specs.declared.range.Range.{Range}
 use Rattle.plc_types.specs.Types.{in_range}
-use Rattle.program_tree.specs.Tree.{Expression, number, cell, unary, chain, call, answer, Operands, no_operands, operand, Expressions, no_expressions, expression}
+use Rattle.program_tree.specs.Tree.{Expression, number, cell, unary, chain, call_standard, call_function, Operands, no_operands, operand, Expressions, no_expressions, expression}
 use Rattle.meaning.specs.Values.{State}
 use Rattle.meaning.specs.Effects.{range_at}
 use Rattle.scan_model.specs.InRange.{IsInRange}
@@ -14,7 +14,7 @@ use Rattle.flat_core.specs.declared.flat_tree.Scratch.{Scratch}
 use Rattle.flat_core.specs.FlatTree.{FlatStatement, set, branch}
 use Rattle.flat_core.specs.FlatView.{flats_of}
 use Rattle.flat_core.specs.FlatScans.{takes}
-use Rattle.flat_core.specs.FlatRules.{is_limited, Reads, AllRead, EachReads, IsOneOf, IsReadable, set_behind, AreFlatOver}
+use Rattle.flat_core.specs.FlatRules.{has_subrange, Reads, AllRead, EachReads, IsOneOf, IsReadable, set_behind, AreFlatOver}
 use Rattle.flat_form.specs.Frames.{FrameData, type_at, scratch_at, initial_at, input_start, others_behind, other_scratch, other_starts, counted_from, places_of}
 use Rattle.flat_form.specs.Owners.{OwnerData}
 use Rattle.flat_form.specs.Bodies.{Bodies}
@@ -25,8 +25,8 @@ use Rattle.flat_form.specs.WellTyped.{IsTypedValue, AreTypedOperands, AreTypedVa
 
 pub record IsCellAt (n : ℕ) (cs : List Scratch) (t : ℕ) (c : Scratch) : Type 0 where
   pub room : t < n + length cs
-  pub limited : is_limited cs (t - n) ≡ c.limited
-  pub takes : (v : ℤ) → takes cs (t - n) v ≡ (not c.limited || in_range v c.range)
+  pub is_subrange : has_subrange cs (t - n) ≡ c.is_subrange
+  pub takes : (v : ℤ) → takes cs (t - n) v ≡ (not c.is_subrange || in_range v c.range)
 
 abbrev pub Begins : FrameData → Type 0
 Begins frame = (p : ℕ) → p < length frame.ranges → in_range (initial_at frame p) (range_at frame.ranges p) ≡ true
@@ -126,7 +126,7 @@ module _ (n : ℕ) (cs : List Scratch) where
   starts_keep frame place (suc m) k done begins h is =
       let c = is.0 in
       let fits = begins place (omega arith) in
-      ((c.room, tt, inr (inr (c.takes (initial_at frame place) ∙ rw fits (or-true (not (type_at frame.types place).limited))))), starts_keep frame (place + 1) m (k + 1) (k ∷ done) begins (omega arith) is.1)
+      ((c.room, tt, inr (inr (c.takes (initial_at frame place) ∙ rw fits (or-true (not (type_at frame.types place).is_subrange))))), starts_keep frame (place + 1) m (k + 1) (k ∷ done) begins (omega arith) is.1)
 
   starts_set : (frame : FrameData) (place m k : ℕ) (done d : List ℕ) → StandAt k (other_scratch frame place m) → Within (behind (other_starts frame place m k) done) d → AllUsable d (counted_from k m)
   starts_set frame place zero k done d is w = tt
@@ -137,7 +137,7 @@ module _ (n : ℕ) (cs : List Scratch) where
   -- ---- expressions of an owner, where FUNCTIONs may be called whose lists keep the rules
 
   abbrev pub CallKeeps : Bodies → ℕ → Type 0
-  CallKeeps bodies f = (answer : ℕ) (places : List ℕ) (k : ℕ) (done : List ℕ) → Usable done answer → AllUsable done places → StandAt k (bodies.call_scratch f) → Keeps done (bodies.call_list f answer places k)
+  CallKeeps bodies f = (call_function : ℕ) (places : List ℕ) (k : ℕ) (done : List ℕ) → Usable done call_function → AllUsable done places → StandAt k (bodies.call_scratch f) → Keeps done (bodies.call_list f call_function places k)
 
   module _ (bodies : Bodies) (MayCall : ℕ → ℕ → Type 0)
       (each_fits : (f inputs : ℕ) → MayCall f inputs → FrameFits (bodies.frame f) inputs) (each_call : (f inputs : ℕ) → MayCall f inputs → CallKeeps bodies f) where
@@ -163,7 +163,7 @@ module _ (n : ℕ) (cs : List Scratch) where
         let later = λ (p : ℕ) (h : IsOneOf done p). behind-within starts done p h in
         Keeps-both starts _ done
         (starts_keep frame (2 + inputs) others k done (begins_of f inputs may) (omega arith) front) (
-          (c.room, tt, inr (inr (c.takes (initial_at frame 1) ∙ rw in_its (or-true (not (type_at frame.types 1).limited))))),
+          (c.room, tt, inr (inr (c.takes (initial_at frame 1) ∙ rw in_its (or-true (not (type_at frame.types 1).is_subrange))))),
           each_call f inputs may (k + others) (places_of places k others) (k + others + 1) d (inr (inl refl), c.room)
               (usable_append d places (counted_from k others) (usable_later done d (λ p h. inr (later p h)) places us) (starts_set frame (2 + inputs) others k done d front (λ p h. inr h)))
               back.1,
@@ -200,8 +200,8 @@ module _ (n : ℕ) (cs : List Scratch) where
               moved_reads e k done d t.0 o (within_front (before bodies owner base e k) (operands_before bodies owner base os j) done d w),
               operands_read os j (behind (before bodies owner base e k) done) d t.1 o (within_back (before bodies owner base e k) (operands_before bodies owner base os j) done d w),
             )
-        moved_reads (call f _ es) k done d t o w = all_read es k done d t o w
-        moved_reads (answer f es) k done d t o w =
+        moved_reads (call_standard f _ es) k done d t o w = all_read es k done d t o w
+        moved_reads (call_function f es) k done d t o w =
             let first = inputs_before bodies owner base (bodies.frame f) 2 es k in
             let j = k + length (input_scratch bodies (bodies.frame f) 2 es) in
             inr (rest_set f (arity es) (input_places bodies es k) j (behind first done) d (within_back first (rest_list bodies (bodies.frame f) f (arity es) (input_places bodies es k) j) done d w))
@@ -238,14 +238,14 @@ module _ (n : ℕ) (cs : List Scratch) where
       -- the assignments to an input's cell: that of its start, where it is of a subrange, and that of its value
       input_keeps : (frame : FrameData) (place t : ℕ) (e : Expression) (rest : List FlatStatement) (done : List ℕ) → IsCellAt n cs t (scratch_at frame place) → in_range (initial_at frame place) (range_at frame.ranges place) ≡ true
           → ((d : List ℕ) → Within done d → Reads (IsReadable n d) e) → ((d : List ℕ) → Within done d → Keeps d rest) → Keeps done (input_start frame place t ++ set t e ∷ rest)
-      input_keeps frame place t e rest done c fits reads more = by_test (type_at frame.types place).limited refl
+      input_keeps frame place t e rest done c fits reads more = by_test (type_at frame.types place).is_subrange refl
         where
-          by_test : (test : Bool) → (type_at frame.types place).limited ≡ test → Keeps done ((if test then set t (number (initial_at frame place)) ∷ [] else []) ++ set t e ∷ rest)
+          by_test : (test : Bool) → (type_at frame.types place).is_subrange ≡ test → Keeps done ((if test then set t (number (initial_at frame place)) ∷ [] else []) ++ set t e ∷ rest)
           by_test true same = (
-            (c.room, tt, inr (inr (c.takes (initial_at frame place) ∙ rw fits (or-true (not (type_at frame.types place).limited))))),
+            (c.room, tt, inr (inr (c.takes (initial_at frame place) ∙ rw fits (or-true (not (type_at frame.types place).is_subrange))))),
             ((c.room, reads (t ∷ done) (λ p h. inr h), inl (inr (inl refl))), more (t ∷ t ∷ done) (λ p h. inr (inr h))),
           )
-          by_test false same = ((c.room, reads done (λ p h. h), inr (inl (c.limited ∙ same))), more (t ∷ done) (λ p h. inr h))
+          by_test false same = ((c.room, reads done (λ p h. h), inr (inl (c.is_subrange ∙ same))), more (t ∷ done) (λ p h. inr h))
 
       mutual
         pub before_keeps : (e : Expression) (k : ℕ) (done : List ℕ) → Typed e → Owned done own owner → StandAt k (scratch_in bodies e) → Keeps done (before bodies owner base e k)
@@ -256,8 +256,8 @@ module _ (n : ℕ) (cs : List Scratch) where
             let first = before bodies owner base e k in
             Keeps-both first _ done (before_keeps e k done t.0 o (stand_front (scratch_in bodies e) (operand_scratch bodies os) k is))
             (operands_keep os (k + length (scratch_in bodies e)) (behind first done) t.1 (Owned-later done (behind first done) own owner (behind-within first done) o) (stand_back (scratch_in bodies e) (operand_scratch bodies os) k is))
-        before_keeps (call f _ es) k done t o is = all_keep es k done t o is
-        before_keeps (answer f es) k done t o is =
+        before_keeps (call_standard f _ es) k done t o is = all_keep es k done t o is
+        before_keeps (call_function f es) k done t o is =
             let frame = bodies.frame f in
             let fits = each_fits f (arity es) t.0 in
             let room = fits.room in

@@ -13,7 +13,7 @@ use Rattle.flat_core.specs.FlatRules.{Reads, AllRead, IsOneOf, IsReadable}
 use Rattle.flat_form.specs.Owners.{OwnerData}
 use Rattle.flat_form.specs.Bodies.{Bodies}
 use Rattle.flat_form.specs.Calls.{scratch_in, before}
-use Rattle.flat_form.specs.FlatCharts.{operands_by, joined_to, joined_by, no_step, active_at, before_at, steps_that, unless_reset, latch_test, latch_list, asking, terms, latch_start, runs_test, flags_of, left_flag, come_flag, clear_flags, ready_term, ready_test, come_set, fired_list, scratch_of_transitions, flat_transitions, mark_list, scratch_of_moves, flat_moves}
+use Rattle.flat_form.specs.FlatCharts.{operands_by, joined_to, joined_by, no_step, active_at, before_at, steps_that, unless_reset, latch_test, latch_list, asking, terms, latch_start, runs_test, flags_of, exited_flag, entered_flag, clear_flags, ready_term, ready_test, entered_set, fired_list, scratch_of_transitions, flat_transitions, mark_list, scratch_of_moves, flat_moves}
 use Rattle.flat_form.specs.WellTyped.{latch_places, chart_places, AreFlags, AreSteps, NameSteps, AreTypedTransitions, FrameFits}
 use Rattle.flat_rule_laws.proofs.RulesOfCalls.{Keeps, behind, Within, behind-within, Keeps-both, Usable, readable_later, Owned, Owned-later, StandAt, stand_front, stand_back, CallKeeps, moved_reads, before_keeps}
 
@@ -124,18 +124,18 @@ module _ (n : ℕ) (cs : List Scratch) (owner : OwnerData) (own : List Range) (b
   -- ---- the flags of transitions
 
   abbrev pub FlagsUsable : List ℕ → ℕ → ℕ → Type 0
-  FlagsUsable d k m = (i : ℕ) → i < m → Usable n cs d (left_flag k i) × Usable n cs d (come_flag k i)
+  FlagsUsable d k m = (i : ℕ) → i < m → Usable n cs d (exited_flag k i) × Usable n cs d (entered_flag k i)
 
   FlagsUsable-later : (done d : List ℕ) (k m : ℕ) → Within done d → FlagsUsable done k m → FlagsUsable d k m
   FlagsUsable-later done d k m w h i low =
       let its = h i low in
-      ((readable_later n cs done d w (left_flag k i) its.0.0, its.0.1), (readable_later n cs done d w (come_flag k i) its.1.0, its.1.1))
+      ((readable_later n cs done d w (exited_flag k i) its.0.0, its.0.1), (readable_later n cs done d w (entered_flag k i) its.1.0, its.1.1))
 
   FlagsUsable-rest : (d : List ℕ) (k m : ℕ) → FlagsUsable d k (suc m) → FlagsUsable d (k + 2) m
   FlagsUsable-rest d k m h i low =
       let its = h (suc i) (omega arith) in
-      let e : left_flag k (suc i) ≡ left_flag (k + 2) i = omega arith in
-      let f : come_flag k (suc i) ≡ come_flag (k + 2) i = omega arith in
+      let e : exited_flag k (suc i) ≡ exited_flag (k + 2) i = omega arith in
+      let f : entered_flag k (suc i) ≡ entered_flag (k + 2) i = omega arith in
       (subst (λ (t : ℕ). Usable n cs d t) e its.0, subst (λ (t : ℕ). Usable n cs d t) f its.1)
 
   clear_flags-keep : (steps : List StepCells) (k : ℕ) (d : List ℕ) → StandAt n cs k (flags_of steps) → Keeps n cs d (clear_flags steps k)
@@ -144,7 +144,7 @@ module _ (n : ℕ) (cs : List Scratch) (owner : OwnerData) (own : List Range) (b
       let a = is.0 in
       let b = is.1.0 in
       let e : k + 1 + 1 ≡ k + 2 = omega arith in
-      ((a.room, tt, inr (inl a.limited)), ((b.room, tt, inr (inl b.limited)), clear_flags-keep ps (k + 2) ((k + 1) ∷ k ∷ d) (subst (λ (j : ℕ). StandAt n cs j (flags_of ps)) e is.1.1)))
+      ((a.room, tt, inr (inl a.is_subrange)), ((b.room, tt, inr (inl b.is_subrange)), clear_flags-keep ps (k + 2) ((k + 1) ∷ k ∷ d) (subst (λ (j : ℕ). StandAt n cs j (flags_of ps)) e is.1.1)))
 
   clear_flags-set : (steps : List StepCells) (k : ℕ) (done d : List ℕ) → StandAt n cs k (flags_of steps) → Within (behind (clear_flags steps k) done) d → FlagsUsable d k (length steps)
   clear_flags-set [] k done d is w i low = absurd (omega arith)
@@ -152,29 +152,29 @@ module _ (n : ℕ) (cs : List Scratch) (owner : OwnerData) (own : List Range) (b
       let a = is.0 in
       let b = is.1.0 in
       let now = (k + 1) ∷ k ∷ done in
-      let e : k ≡ left_flag k 0 = omega arith in
-      let f : k + 1 ≡ come_flag k 0 = omega arith in (
+      let e : k ≡ exited_flag k 0 = omega arith in
+      let f : k + 1 ≡ entered_flag k 0 = omega arith in (
         subst (λ (t : ℕ). Usable n cs d t) e (inr (w k (behind-within (clear_flags ps (k + 2)) now k (inr (inl refl)))), a.room),
         subst (λ (t : ℕ). Usable n cs d t) f (inr (w (k + 1) (behind-within (clear_flags ps (k + 2)) now (k + 1) (inl refl))), b.room),
       )
   clear_flags-set (p ∷ ps) k done d is w (suc i) low =
       let g : k + 1 + 1 ≡ k + 2 = omega arith in
       let its = clear_flags-set ps (k + 2) ((k + 1) ∷ k ∷ done) d (subst (λ (j : ℕ). StandAt n cs j (flags_of ps)) g is.1.1) w i (omega arith) in
-      let e : left_flag (k + 2) i ≡ left_flag k (suc i) = omega arith in
-      let f : come_flag (k + 2) i ≡ come_flag k (suc i) = omega arith in
+      let e : exited_flag (k + 2) i ≡ exited_flag k (suc i) = omega arith in
+      let f : entered_flag (k + 2) i ≡ entered_flag k (suc i) = omega arith in
       (subst (λ (t : ℕ). Usable n cs d t) e its.0, subst (λ (t : ℕ). Usable n cs d t) f its.1)
 
-  come_keep : (k m : ℕ) (to : List ℕ) (d : List ℕ) → AreSteps m to → FlagsUsable d k m → Keeps n cs d (map (come_set k) to)
-  come_keep k m [] d h u = tt
-  come_keep k m (i ∷ to) d h u =
+  entered_keep : (k m : ℕ) (to : List ℕ) (d : List ℕ) → AreSteps m to → FlagsUsable d k m → Keeps n cs d (map (entered_set k) to)
+  entered_keep k m [] d h u = tt
+  entered_keep k m (i ∷ to) d h u =
       let its = (u i h.0).1 in
-      ((its.1, tt, inl its.0), come_keep k m to (come_flag k i ∷ d) h.1 (FlagsUsable-later d (come_flag k i ∷ d) k m (λ p q. inr q) u))
+      ((its.1, tt, inl its.0), entered_keep k m to (entered_flag k i ∷ d) h.1 (FlagsUsable-later d (entered_flag k i ∷ d) k m (λ p q. inr q) u))
 
   fired_list-keeps : (k m : ℕ) (from to : List ℕ) (d : List ℕ) → AreSteps m from → AreSteps m to → FlagsUsable d k m → Keeps n cs d (fired_list k from to)
-  fired_list-keeps k m [] to d h g u = come_keep k m to d g u
+  fired_list-keeps k m [] to d h g u = entered_keep k m to d g u
   fired_list-keeps k m (i ∷ from) to d h g u =
       let its = (u i h.0).0 in
-      ((its.1, tt, inl its.0), fired_list-keeps k m from to (left_flag k i ∷ d) h.1 g (FlagsUsable-later d (left_flag k i ∷ d) k m (λ p q. inr q) u))
+      ((its.1, tt, inl its.0), fired_list-keeps k m from to (exited_flag k i ∷ d) h.1 g (FlagsUsable-later d (exited_flag k i ∷ d) k m (λ p q. inr q) u))
 
   -- ---- the transitions
 
@@ -230,15 +230,15 @@ module _ (n : ℕ) (cs : List Scratch) (owner : OwnerData) (own : List Range) (b
       let is = o (base + p.active) flags.0.1 in
       let now = a ∷ b ∷ d in
       let later = λ (q : ℕ) (h : IsOneOf d q). let x : IsOneOf now q = inr (inr h) in x in
-      let e : left_flag k 0 ≡ k = omega arith in
-      let f : come_flag k 0 ≡ k + 1 = omega arith in
+      let e : exited_flag k 0 ≡ k = omega arith in
+      let f : entered_flag k 0 ≡ k + 1 = omega arith in
       let its = u 0 (omega arith) in
-      let left = readable_later n cs d (b ∷ d) (λ q h. inr h) k (subst (λ (t : ℕ). IsReadable n d t) e its.0.0) in
-      let come = readable_later n cs d (b ∷ d) (λ q h. inr h) (k + 1) (subst (λ (t : ℕ). IsReadable n d t) f its.1.0) in
+      let exited = readable_later n cs d (b ∷ d) (λ q h. inr h) k (subst (λ (t : ℕ). IsReadable n d t) e its.0.0) in
+      let entered = readable_later n cs d (b ∷ d) (λ q h. inr h) (k + 1) (subst (λ (t : ℕ). IsReadable n d t) f its.1.0) in
       let active = readable_later n cs d (b ∷ d) (λ q h. inr h) a is.0 in (
         (was.1, is.0, inl was.0),
         (
-          (is.1, ((active, (left, tt)), (come, tt)), inl active),
+          (is.1, ((active, (exited, tt)), (entered, tt)), inl active),
           mark_list-keeps ps all (k + 2) now flags.3.3 (Owned-later n cs d now own owner later o) (FlagsUsable-later d now (k + 2) (length ps) later (FlagsUsable-rest d k (length ps) u)),
         ),
       )

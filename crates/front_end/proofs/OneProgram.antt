@@ -11,7 +11,7 @@ use Rattle.naming.specs.FileScope.{pou_at}
 use Rattle.naming.specs.Circles.{IsBroken}
 use Rattle.typing.specs.Pous.{broken_types, has_room}
 use Rattle.running_pous.specs.Stated.{stated_program}
-use Rattle.front_end.specs.Texts.{HasFile, HasNoFile, by_text, by_prelude, AreNamesSound, HasProgram, IsProgram, IsNoProgram, by_file, by_names, by_types, by_room}
+use Rattle.front_end.specs.Texts.{HasFile, HasNoFile, by_text, by_prelude, AreNamesSound, HasProgram, StatesProgram, StatesNoProgram, by_file, by_names, by_types, by_room}
 use Rattle.front_end.proofs.OneReading.{one_tree, no_tree_too, one_no_tree}
 
 abbrev FirstIn : List Refusal → Refusal → Type 0
@@ -44,7 +44,7 @@ one_pou : (f g : FileData) (m n : ℕ) (p q : PouData) → f ≡ g → HasProgra
 one_pou f g m n p q e h k =
     same_pou p q (sym h.there ∙ ap (λ (x : FileData). pou_at x m) e ∙ ap (pou_at g) (one_number f g m n e h.is k.is) ∙ k.there)
 
-pub one_program : (text : List ℕ) (p q : ProgramData) → IsProgram text p → IsProgram text q → p ≡ q
+pub one_program : (text : List ℕ) (p q : ProgramData) → StatesProgram text p → StatesProgram text q → p ≡ q
 one_program text p q h k =
     let file = one_file text h.file k.file h.states k.states in
     let number = one_number h.file k.file h.number k.number file h.one.is k.one.is in
@@ -74,7 +74,7 @@ one_no_file text r s (by_text h) (by_prelude own tree k) = absurd (no_tree_too t
 one_no_file text r s (by_prelude own tree h) (by_text k) = absurd (no_tree_too text own s tree k)
 one_no_file text r s (by_prelude own tree h) (by_prelude other more k) = one_no_tree _ r s h k
 
-pub no_program_too : (text : List ℕ) (p : ProgramData) (r : Refusal) → IsProgram text p → IsNoProgram text r → ⊥
+pub no_program_too : (text : List ℕ) (p : ProgramData) (r : Refusal) → StatesProgram text p → StatesNoProgram text r → ⊥
 no_program_too text p r h (by_file none) = no_file_too text h.file r h.states none
 no_program_too text p r h (by_names f k first) = names_sound text f h.file r k h.states h.names first
 no_program_too text p r h (by_types f k names first) = types_sound text f h.file r k h.states h.typing first
@@ -89,7 +89,7 @@ first_types : (text : List ℕ) (f g : FileData) (r s : Refusal) → HasFile tex
 first_types text f g r s h k first other =
     inl (first_once (λ x. IsAmong x (broken_types g)) r s (subst (λ (x : FileData). FirstIn (broken_types x) r) (one_file text f g h k) first) other)
 
-pub one_refusal : (text : List ℕ) (r s : Refusal) → IsNoProgram text r → IsNoProgram text s → IsSame r s
+pub one_refusal : (text : List ℕ) (r s : Refusal) → StatesNoProgram text r → StatesNoProgram text s → IsSame r s
 one_refusal text r s (by_file h) (by_file k) = one_no_file text r s h k
 one_refusal text r s (by_file h) (by_names g k other) = absurd (no_file_too text g r k h)
 one_refusal text r s (by_file h) (by_types g k names other) = absurd (no_file_too text g r k h)

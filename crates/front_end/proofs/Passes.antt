@@ -20,7 +20,7 @@ use Rattle.typing.specs.Pous.{broken_types, has_room}
 use Rattle.typing.specs.Faults as typing
 use Rattle.running_pous.specs.Stated.{stated_program}
 use Rattle.rules.specs.declared.fault.Fault.TheVariants as faults
-use Rattle.front_end.specs.Texts.{HasTokens, HasTree, HasNoTree, by_nesting, by_grammar, HasFile, HasNoFile, by_text, by_prelude, AreNamesSound, HasProgram, IsProgram, IsNoProgram, by_file, by_names, by_types, by_room}
+use Rattle.front_end.specs.Texts.{HasTokens, HasTree, HasNoTree, by_nesting, by_grammar, HasFile, HasNoFile, by_text, by_prelude, AreNamesSound, HasProgram, StatesProgram, StatesNoProgram, by_file, by_names, by_types, by_room}
 use Rattle.front_end.proofs.OnePou.{one_pou}
 use Rattle.front_end.specs.StandardBlocks.{prelude_text}
 use Rattle.rules.specs.Faults.{IfRefused}
@@ -42,7 +42,7 @@ pub prelude_next : (text : List ℕ) (own : FileData) (e : Fault) → HasTree te
 prelude_next text own (faults.Refused r) tree h = by_prelude own tree h
 prelude_next text own faults.Memory tree h = tt
 
-pub file_first : (text : List ℕ) (e : Fault) → IfRefused (HasNoFile text) e → IfRefused (IsNoProgram text) e
+pub file_first : (text : List ℕ) (e : Fault) → IfRefused (HasNoFile text) e → IfRefused (StatesNoProgram text) e
 file_first text (faults.Refused r) h = by_file h
 file_first text faults.Memory h = tt
 
@@ -50,7 +50,7 @@ file_first text faults.Memory h = tt
 pub file_found : (text : List ℕ) (blocks own f : FileData) → HasTree prelude_text blocks → HasTree text own → f ≡ blocks ++ own → HasFile text f
 file_found text blocks own f h k joined = record { blocks = blocks; own = own; prelude = h; tree = k; joined = joined }
 
-pub names_refused : (text : List ℕ) (f : FileData) (e : Fault) → HasFile text f → naming.IsFaultOf f e → IfRefused (IsNoProgram text) e
+pub names_refused : (text : List ℕ) (f : FileData) (e : Fault) → HasFile text f → naming.IsFaultOf f e → IfRefused (StatesNoProgram text) e
 names_refused text f (faults.Refused r) h k = by_names f h k
 names_refused text f faults.Memory h k = tt
 
@@ -63,7 +63,7 @@ pub none_broken : (f : FileData) → AreNamesSound f → broken_names f ≡ []
 none_broken f names = nothing_left (broken_names f) (λ r among. names r (inl among))
 
 pub types_refused : (text : List ℕ) (f : FileData) (number : ℕ) (e : Fault) → HasFile text f → AreNamesSound f → program_number f ≡ Some number → typing.IsFaultOf f number e
-    → IfRefused (IsNoProgram text) e
+    → IfRefused (StatesNoProgram text) e
 types_refused text f number (faults.Refused r) h n one (inl k) = by_types f h n k
 types_refused text f number (faults.Refused r) h n one (inr k) = by_room f number h n one k.0 k.1 k.2
 types_refused text f number faults.Memory h n one k = tt
@@ -71,7 +71,7 @@ types_refused text f number faults.Memory h n one k = tt
 -- what a program's typing says, where the file's PROGRAM is known
 pub program_of : (text : List ℕ) (f : FileData) (number : ℕ) (pou : PouData) (p : ProgramData) → HasFile text f → AreNamesSound f → HasProgram f number pou
     → broken_types f ≡ [] → ((n : ℕ) → program_number f ≡ Some n → has_room f n ≡ true)
-    → ((n : ℕ) (q : PouData) → program_number f ≡ Some n → pou_at f n ≡ Some q → p ≡ stated_program f n q) → IsProgram text p
+    → ((n : ℕ) (q : PouData) → program_number f ≡ Some n → pou_at f n ≡ Some q → p ≡ stated_program f n q) → StatesProgram text p
 program_of text f number pou p h n one types room typed =
     record { file = f; number = number; pou = pou; states = h; names = n; one = one; typing = types; room = room number one.is; program = typed number pou one.is one.there }
 
@@ -86,7 +86,7 @@ err_more (Err e) P Q each h = each e h
 
 -- what the typing of a file says of each text of that file
 pub program_read : {E : Type 0} (f : FileData) (r : Result Program E) → AreNamesSound f → OnOk r (broken_types f ≡ []) → OnOk r ((n : ℕ) → program_number f ≡ Some n → has_room f n ≡ true)
-    → IfOk r (λ p. (n : ℕ) (q : PouData) → program_number f ≡ Some n → pou_at f n ≡ Some q → program_view p ≡ stated_program f n q) → IfOk r (λ p. (text : List ℕ) → HasFile text f → IsProgram text (program_view p))
+    → IfOk r (λ p. (n : ℕ) (q : PouData) → program_number f ≡ Some n → pou_at f n ≡ Some q → program_view p ≡ stated_program f n q) → IfOk r (λ p. (text : List ℕ) → HasFile text f → StatesProgram text (program_view p))
 program_read f (Ok p) names types room typed = λ text h. let one = one_pou f (none_broken f names) in program_of text f one.number one.pou (program_view p) h names one.one types room typed
 program_read f (Err e) names types room typed = typed
 

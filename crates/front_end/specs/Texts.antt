@@ -29,14 +29,14 @@ limit = 1048576
 -- A text has these tokens: it is short enough, breaks no rule on tokens, and spells them, each with what it is for the grammar.
 pub record HasTokens (text : List ℕ) (toks : List Tok) : Type 0 where
   pub short : length text ≤ limit
-  pub sound : lexer.IsSound text
+  pub sound : lexer.IsSoundText text
   pub spelled : Spells text (lexemes_of toks)
   pub classified : All IsClassified toks
 
 -- A text has no tokens: it is too long (M1), or breaks a rule on tokens, this one first.
 pub data HasNoTokens (text : List ℕ) (r : Refusal) : Type 0 where
   too_long : limit < length text → r ≡ record { rule = TooLong; at = 0 } → HasNoTokens text r
-  by_token : length text ≤ limit → lexer.IsFirst text r.rule r.at → HasNoTokens text r
+  by_token : length text ≤ limit → lexer.IsFirstInText text r.rule r.at → HasNoTokens text r
 
 -- no levelled tree prints tokens
 abbrev pub IsUnprinted : List Tok → Type 0
@@ -46,7 +46,7 @@ IsUnprinted toks = (f : FileData) → symbols toks ≡ print_file f → IsFileLe
 pub record HasTree (text : List ℕ) (f : FileData) : Type 0 where
   pub toks : List Tok
   pub tokens : HasTokens text toks
-  pub sound : nesting.IsSound toks
+  pub sound : nesting.AreSoundTokens toks
   pub printed : symbols toks ≡ print_file f
   pub levelled : IsFileLevelled f
 
@@ -54,7 +54,7 @@ pub record HasTree (text : List ℕ) (f : FileData) : Type 0 where
 pub data HasNoTree (text : List ℕ) (r : Refusal) : Type 0 where
   by_tokens : HasNoTokens text r → HasNoTree text r
   by_nesting : (toks : List Tok) → HasTokens text toks → nesting.IsFirstFault toks r → HasNoTree text r
-  by_grammar : (toks : List Tok) → HasTokens text toks → nesting.IsSound toks → IsUnprinted toks → r.rule ≡ NoTree → HasNoTree text r
+  by_grammar : (toks : List Tok) → HasTokens text toks → nesting.AreSoundTokens toks → IsUnprinted toks → r.rule ≡ NoTree → HasNoTree text r
 
 -- A text's file, once the blocks of the prelude stand before its own items.
 pub record HasFile (text : List ℕ) (f : FileData) : Type 0 where
@@ -80,7 +80,7 @@ pub record HasProgram (f : FileData) (number : ℕ) (p : PouData) : Type 0 where
 
 -- A text states a program: its file breaks no rule on names, has one PROGRAM, breaks no rule on types, and has room for its cells. The program is the
 -- typed program of the file, in which a FUNCTION that never runs keeps only the cells that its callers name, and no statements.
-pub record IsProgram (text : List ℕ) (p : ProgramData) : Type 0 where
+pub record StatesProgram (text : List ℕ) (p : ProgramData) : Type 0 where
   pub file : FileData
   pub number : ℕ
   pub pou : PouData
@@ -92,9 +92,9 @@ pub record IsProgram (text : List ℕ) (p : ProgramData) : Type 0 where
   pub program : p ≡ stated_program file number pou
 
 -- a text states no program, and this is the first rule that it breaks
-pub data IsNoProgram (text : List ℕ) (r : Refusal) : Type 0 where
-  by_file : HasNoFile text r → IsNoProgram text r
-  by_names : (f : FileData) → HasFile text f → IsFirst (IsBroken f) r → IsNoProgram text r
-  by_types : (f : FileData) → HasFile text f → AreNamesSound f → IsFirst (λ x. IsAmong x (broken_types f)) r → IsNoProgram text r
+pub data StatesNoProgram (text : List ℕ) (r : Refusal) : Type 0 where
+  by_file : HasNoFile text r → StatesNoProgram text r
+  by_names : (f : FileData) → HasFile text f → IsFirst (IsBroken f) r → StatesNoProgram text r
+  by_types : (f : FileData) → HasFile text f → AreNamesSound f → IsFirst (λ x. IsAmong x (broken_types f)) r → StatesNoProgram text r
   by_room : (f : FileData) → (number : ℕ) → HasFile text f → AreNamesSound f → program_number f ≡ Some number → broken_types f ≡ [] → has_room f number ≡ false
-      → r ≡ record { rule = TooManyCells; at = 0 } → IsNoProgram text r
+      → r ≡ record { rule = TooManyCells; at = 0 } → StatesNoProgram text r

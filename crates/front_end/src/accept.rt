@@ -3,9 +3,9 @@ ghost use Rattle.std.specs.Prelude.{◌≡◌, ℕ, List, IfOk, IfErr};
 ghost use Rattle.program_tree.specs.View.{program_view};
 ghost use Rattle.source_tree.specs.SyntaxView.{file_view};
 ghost use Rattle.front_end.specs.StandardBlocks.{prelude_text};
-ghost use Rattle.front_end.specs.Texts.{HasTokens, HasNoTokens, HasTree, HasNoTree, HasFile, HasNoFile, AreNamesSound, IsProgram, IsNoProgram};
+ghost use Rattle.front_end.specs.Texts.{HasTokens, HasNoTokens, HasTree, HasNoTree, HasFile, HasNoFile, AreNamesSound, StatesProgram, StatesNoProgram};
 ghost use Rattle.rules.specs.Faults.{IfRefused};
-ghost use Rattle.scan_model.specs.InRange.{IsProgram as IsFitToRun};
+ghost use Rattle.scan_model.specs.InRange.{IsFitToRun};
 ghost use Rattle.st_types.specs.CheckedFiles.{file_checked};
 ghost use Rattle.typed_programs.specs.Programs.{IsTypedProgram};
 
@@ -69,7 +69,7 @@ pub fn file_of(alloc: Global, text: &[u8]) -> Result<SourceFile, Fault>
 pub fn names_of(alloc: Global, file: &SourceFile) -> Result<Resolved<'_>, Fault>
     ensures file { IfOk result (λ n. file_view n.file.now ≡ file_view file.now) }
     ensures names { IfOk result (λ n. AreNamesSound (file_view n.file.now)) }
-    ensures refused { IfErr result (λ e. (text : List ℕ) → HasFile text (file_view file.now) → IfRefused (IsNoProgram text) e) }
+    ensures refused { IfErr result (λ e. (text : List ℕ) → HasFile text (file_view file.now) → IfRefused (StatesNoProgram text) e) }
 {
     resolve(alloc, file)
 }
@@ -78,7 +78,7 @@ pub fn names_of(alloc: Global, file: &SourceFile) -> Result<Resolved<'_>, Fault>
 pub fn checked_of<'p>(alloc: Global, names: &'p Resolved<'p>) -> Result<Checked<'p>, Fault>
     requires { AreNamesSound (file_view names.now.file.now) }
     ensures file { IfOk result (λ c. file_checked c ≡ file_view names.now.file.now) }
-    ensures refused { IfErr result (λ e. (text : List ℕ) → HasFile text (file_view names.now.file.now) → IfRefused (IsNoProgram text) e) }
+    ensures refused { IfErr result (λ e. (text : List ℕ) → HasFile text (file_view names.now.file.now) → IfRefused (StatesNoProgram text) e) }
 {
     check(alloc, names)
 }
@@ -86,7 +86,7 @@ pub fn checked_of<'p>(alloc: Global, names: &'p Resolved<'p>) -> Result<Checked<
 /// The program of a text's file that breaks no rule. Fails where memory runs out.
 pub fn program_of(alloc: Global, checked: Checked<'_>) -> Result<Program, AllocError>
     requires { AreNamesSound (file_checked checked) }
-    ensures program { IfOk result (λ p. (text : List ℕ) → HasFile text (file_checked checked.entry) → IsProgram text (program_view p)) }
+    ensures program { IfOk result (λ p. (text : List ℕ) → HasFile text (file_checked checked.entry) → StatesProgram text (program_view p)) }
     ensures fit { IfOk result (λ p. IsFitToRun (program_view p)) }
     ensures typed { IfOk result (λ p. (text : List ℕ) → HasFile text (file_checked checked.entry) → IsTypedProgram (program_view p)) }
 {
@@ -96,10 +96,10 @@ pub fn program_of(alloc: Global, checked: Checked<'_>) -> Result<Program, AllocE
 // The program of a text's file whose names are bound, or the first rule on types that the file breaks, or M2.
 fn accept_names(alloc: Global, names: &Resolved<'_>) -> Result<Program, Fault>
     requires { AreNamesSound (file_view names.now.file.now) }
-    ensures program { IfOk result (λ p. (text : List ℕ) → HasFile text (file_view names.now.file.now) → IsProgram text (program_view p)) }
+    ensures program { IfOk result (λ p. (text : List ℕ) → HasFile text (file_view names.now.file.now) → StatesProgram text (program_view p)) }
     ensures fit { IfOk result (λ p. IsFitToRun (program_view p)) }
     ensures typed { IfOk result (λ p. (text : List ℕ) → HasFile text (file_view names.now.file.now) → IsTypedProgram (program_view p)) }
-    ensures refused { IfErr result (λ e. (text : List ℕ) → HasFile text (file_view names.now.file.now) → IfRefused (IsNoProgram text) e) }
+    ensures refused { IfErr result (λ e. (text : List ℕ) → HasFile text (file_view names.now.file.now) → IfRefused (StatesNoProgram text) e) }
 {
     let checked = checked_of(alloc, names)?;
     Ok(program_of(alloc, checked)?)
@@ -107,10 +107,10 @@ fn accept_names(alloc: Global, names: &Resolved<'_>) -> Result<Program, Fault>
 
 // The program of a text's file, or the first rule on names or types that the file breaks, or M2.
 fn accept_file(alloc: Global, file: &SourceFile) -> Result<Program, Fault>
-    ensures program { IfOk result (λ p. (text : List ℕ) → HasFile text (file_view file.now) → IsProgram text (program_view p)) }
+    ensures program { IfOk result (λ p. (text : List ℕ) → HasFile text (file_view file.now) → StatesProgram text (program_view p)) }
     ensures fit { IfOk result (λ p. IsFitToRun (program_view p)) }
     ensures typed { IfOk result (λ p. (text : List ℕ) → HasFile text (file_view file.now) → IsTypedProgram (program_view p)) }
-    ensures refused { IfErr result (λ e. (text : List ℕ) → HasFile text (file_view file.now) → IfRefused (IsNoProgram text) e) }
+    ensures refused { IfErr result (λ e. (text : List ℕ) → HasFile text (file_view file.now) → IfRefused (StatesNoProgram text) e) }
 {
     let names = names_of(alloc, file)?;
     accept_names(alloc, &names)
@@ -119,10 +119,10 @@ fn accept_file(alloc: Global, file: &SourceFile) -> Result<Program, Fault>
 /// The program that a text states, or the first rule that it breaks of those on size, tokens, words that are left
 /// out, nesting, grammar, names, types and the count of cells, in this order of passes. The program is typed: no pass that follows has to ask.
 pub fn accept_text(alloc: Global, text: &[u8]) -> Result<Program, Fault>
-    ensures program { IfOk result (λ p. IsProgram text.now (program_view p)) }
+    ensures program { IfOk result (λ p. StatesProgram text.now (program_view p)) }
     ensures fit { IfOk result (λ p. IsFitToRun (program_view p)) }
     ensures typed { IfOk result (λ p. IsTypedProgram (program_view p)) }
-    ensures refused { IfErr result (IfRefused (IsNoProgram text.now)) }
+    ensures refused { IfErr result (IfRefused (StatesNoProgram text.now)) }
 {
     let file = file_of(alloc, text)?;
     accept_file(alloc, &file)

@@ -37,13 +37,13 @@ pub record IsBroken (o : Open) (toks : List Tok) (r : Refusal) : Type 0 where
   pub place : r.at ≡ token.at
 
 -- no token breaks a rule
-abbrev pub IsSound : List Tok → Type 0
-IsSound toks = (r : Refusal) → IsBroken nothing_open toks r → ⊥
+abbrev pub AreSoundTokens : List Tok → Type 0
+AreSoundTokens toks = (r : Refusal) → IsBroken nothing_open toks r → ⊥
 
 -- a token breaks a rule, and none before it does
 pub record IsFirstFault (toks : List Tok) (r : Refusal) : Type 0 where
   pub broken : IsBroken nothing_open toks r
-  pub first : IsSound broken.before
+  pub first : AreSoundTokens broken.before
 
 -- tokens stand one behind the other, from a place on
 abbrev pub AreFrom : ℕ → List Tok → Type 0

@@ -9,17 +9,17 @@ use Rattle.source_tree.specs.Syntax.{FileData}
 use Rattle.source_tree.specs.SyntaxView.{symbols}
 use Rattle.source_tree.specs.Prints.{print_file}
 use Rattle.source_tree.specs.Levels.{IsFileLevelled}
-use Rattle.grammar.specs.FirstFault.{IsSound, IsFirstFault}
+use Rattle.grammar.specs.FirstFault.{AreSoundTokens, IsFirstFault}
 
 -- Tokens are a file: they break neither X1 nor G2, and a levelled tree prints them.
 pub record IsFile (toks : List Tok) (f : FileData) : Type 0 where
-  pub sound : IsSound toks
+  pub sound : AreSoundTokens toks
   pub printed : symbols toks ≡ print_file f
   pub levelled : IsFileLevelled f
 
 -- Tokens break neither X1 nor G2, and no levelled tree prints them: G1.
 pub record HasNoTree (toks : List Tok) (r : Refusal) : Type 0 where
-  pub sound : IsSound toks
+  pub sound : AreSoundTokens toks
   pub rule : r.rule ≡ NoTree
   pub none : (f : FileData) → IsFileLevelled f → symbols toks ≡ print_file f → ⊥
 

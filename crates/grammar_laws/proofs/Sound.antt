@@ -175,8 +175,8 @@ module _ (turns d : ℕ) (inner : Read Tree) (sound : (ts : List Symbol) (t : Tr
       (record { parts = sign_is ts o at next is ∙ ap (λ (r : List Symbol). unary_symbol o at ∷ r) p.parts; fits = (p.is, p.fits); low = omega arith })
 
   -- operands of this level or tighter
-  abbrev IsSound : ℕ → Read Tree → Type 0
-  IsSound k operand = (ts : List Symbol) (t : Tree) (rest : List Symbol) → operand ts ≡ Some (t, rest) → LevelIs k ts t rest
+  abbrev IsSoundLevel : ℕ → Read Tree → Type 0
+  IsSoundLevel k operand = (ts : List Symbol) (t : Tree) (rest : List Symbol) → operand ts ≡ Some (t, rest) → LevelIs k ts t rest
 
   record LinksAre (k : ℕ) (before : Links) (ts : List Symbol) (ls : Links) (rest : List Symbol) : Type 0 where
     extra : Links
@@ -190,7 +190,7 @@ module _ (turns d : ℕ) (inner : Read Tree) (sound : (ts : List Symbol) (t : Tr
       record { extra = no_links; all = sym (ap (λ (x : Links × List Symbol). x.0) p) ∙ sym (join-none before); parts = ap (λ (x : Links × List Symbol). x.1) p; fits = tt }
 
   links_go : (operand : Read Tree) (k n : ℕ) (before : Links) (ts : List Symbol) (ls : Links) (rest : List Symbol) (o : Option ((Operator × ℕ) × List Symbol))
-      → IsSound k operand → operator_of (suc k) ts ≡ o → links_step operand (links operand (suc k) n) before ts o ≡ Some (ls, rest)
+      → IsSoundLevel k operand → operator_of (suc k) ts ≡ o → links_step operand (links operand (suc k) n) before ts o ≡ Some (ls, rest)
       → ((before : Links) (ts : List Symbol) → links operand (suc k) n before ts ≡ Some (ls, rest) → LinksAre (suc k) before ts ls rest)
       → LinksAre (suc k) before ts ls rest
   links_go operand k n before ts ls rest None sound_operand is e below = links_stop (suc k) before ts ls rest e
@@ -208,7 +208,7 @@ module _ (turns d : ℕ) (inner : Read Tree) (sound : (ts : List Symbol) (t : Tr
         fits = (w.1, omega (arith, r.low), r.fits, b.fits);
       }
 
-  links_are : (operand : Read Tree) (k n : ℕ) (before : Links) (ts : List Symbol) (ls : Links) (rest : List Symbol) → IsSound k operand → links operand (suc k) n before ts ≡ Some (ls, rest) → LinksAre (suc k) before ts ls rest
+  links_are : (operand : Read Tree) (k n : ℕ) (before : Links) (ts : List Symbol) (ls : Links) (rest : List Symbol) → IsSoundLevel k operand → links operand (suc k) n before ts ≡ Some (ls, rest) → LinksAre (suc k) before ts ls rest
   unfolding links
   links_are operand k zero before ts ls rest sound_operand e = links_stop (suc k) before ts ls rest e
   links_are operand k (suc n) before ts ls rest sound_operand e =
@@ -223,7 +223,7 @@ module _ (turns d : ℕ) (inner : Read Tree) (sound : (ts : List Symbol) (t : Tr
         low = omega (arith, fits.0);
       }
 
-  levelled_is : (k : ℕ) → IsSound k (levelled turns inner k)
+  levelled_is : (k : ℕ) → IsSoundLevel k (levelled turns inner k)
   unfolding levelled signed
   levelled_is zero ts t rest e = signed_go ts t rest (sign ts) refl e
   levelled_is (suc k) ts t rest e =

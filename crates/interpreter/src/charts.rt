@@ -4,7 +4,7 @@ ghost use Rattle.program_tree.specs.Tree.{chart};
 ghost use Rattle.program_tree.specs.View.{stmts_view, actions_view, transition_view, transitions_view};
 ghost use Rattle.meaning.specs.Charts.{runs, holds_in, faults_in};
 ghost use Rattle.meaning.specs.Effects.{effect_of, effect_of_all, effect_of_actions};
-ghost use Rattle.meaning.specs.Flags.{may_leave, left_with, come_with, left_after, come_after, fault_after};
+ghost use Rattle.meaning.specs.Flags.{may_leave, exited_with, entered_with, exited_after, entered_after, fault_after};
 ghost use Rattle.meaning.specs.Room.{markings_in_all, markings_in_actions};
 ghost use Rattle.interpreter.specs.Scopes.{callees_here, room_here};
 
@@ -34,17 +34,17 @@ pub fn run_chart(
 {
     let (now, stack) = stack.split_at_mut(steps.len());
     let (before, stack) = stack.split_at_mut(steps.len());
-    let (left, stack) = stack.split_at_mut(steps.len());
-    let (come, stack) = stack.split_at_mut(steps.len());
+    let (exited, stack) = stack.split_at_mut(steps.len());
+    let (entered, stack) = stack.split_at_mut(steps.len());
     read_now(now, steps, scope.base, cells);
     read_before(before, steps, scope.base, cells);
-    clear(left);
-    clear(come);
+    clear(exited);
+    clear(entered);
     latch_all(actions, now, scope, cells);
     run_actions(actions, now, before, scope, cells, stack);
-    let fault = fire_all(transitions, now, left, come, scope, cells, stack);
+    let fault = fire_all(transitions, now, exited, entered, scope, cells, stack);
     add_fault(fault, cells);
-    mark(steps, now, left, come, scope, cells);
+    mark(steps, now, exited, entered, scope, cells);
 }
 
 #[cycle(run)]
@@ -94,8 +94,8 @@ fn run_action(
 fn fire_all(
     transitions: &[TypedTransition],
     now: &[i64],
-    left: &mut [i64],
-    come: &mut [i64],
+    exited: &mut [i64],
+    entered: &mut [i64],
     scope: &Scope<'_>,
     cells: &[i64],
     stack: &mut [i64],
@@ -103,14 +103,14 @@ fn fire_all(
     requires known { scope.now.below ≤ length scope.now.called.now }
     requires bound { scope.now.base + (scope.now.below + 1) * 2 ^ 64 ≤ 2 ^ 128 }
     requires room { room_here scope.now ≤ length stack.old }
-    ensures left { left.new ≡ left_after now.now (holds_in (callees_here scope.now) scope.now.base cells.now) (transitions_view transitions.now) left.old }
-    ensures come { come.new ≡ come_after now.now (holds_in (callees_here scope.now) scope.now.base cells.now) (transitions_view transitions.now) left.old come.old }
-    ensures fault { result ≡ fault_after now.now (holds_in (callees_here scope.now) scope.now.base cells.now) (faults_in (callees_here scope.now) scope.now.base cells.now) (transitions_view transitions.now) left.old false }
+    ensures exited { exited.new ≡ exited_after now.now (holds_in (callees_here scope.now) scope.now.base cells.now) (transitions_view transitions.now) exited.old }
+    ensures entered { entered.new ≡ entered_after now.now (holds_in (callees_here scope.now) scope.now.base cells.now) (transitions_view transitions.now) exited.old entered.old }
+    ensures fault { result ≡ fault_after now.now (holds_in (callees_here scope.now) scope.now.base cells.now) (faults_in (callees_here scope.now) scope.now.base cells.now) (transitions_view transitions.now) exited.old false }
     ensures room { length stack.new ≡ length stack.old }
 {
     let mut fault = false;
     for transition in transitions {
-        let failed = fire(transition, now, left, come, scope, cells, stack);
+        let failed = fire(transition, now, exited, entered, scope, cells, stack);
         fault = either(fault, failed);
     }
     fault
@@ -120,8 +120,8 @@ fn fire_all(
 fn fire(
     transition: &TypedTransition,
     now: &[i64],
-    left: &mut [i64],
-    come: &mut [i64],
+    exited: &mut [i64],
+    entered: &mut [i64],
     scope: &Scope<'_>,
     cells: &[i64],
     stack: &mut [i64],
@@ -129,18 +129,18 @@ fn fire(
     requires known { scope.now.below ≤ length scope.now.called.now }
     requires bound { scope.now.base + (scope.now.below + 1) * 2 ^ 64 ≤ 2 ^ 128 }
     requires room { room_here scope.now ≤ length stack.old }
-    ensures left { left.new ≡ left_with now.now (holds_in (callees_here scope.now) scope.now.base cells.now) (transition_view transition.now) left.old }
-    ensures come { come.new ≡ come_with now.now (holds_in (callees_here scope.now) scope.now.base cells.now) (transition_view transition.now) left.old come.old }
-    ensures fault { result ≡ (may_leave now.now left.old transition.now.from.items && faults_in (callees_here scope.now) scope.now.base cells.now (transition_view transition.now)) }
+    ensures exited { exited.new ≡ exited_with now.now (holds_in (callees_here scope.now) scope.now.base cells.now) (transition_view transition.now) exited.old }
+    ensures entered { entered.new ≡ entered_with now.now (holds_in (callees_here scope.now) scope.now.base cells.now) (transition_view transition.now) exited.old entered.old }
+    ensures fault { result ≡ (may_leave now.now exited.old transition.now.from.items && faults_in (callees_here scope.now) scope.now.base cells.now (transition_view transition.now)) }
     ensures room { length stack.new ≡ length stack.old }
 {
-    if !may_leave(&transition.from, now, left) {
+    if !may_leave(&transition.from, now, exited) {
         return false;
     }
     let given = evaluate_over(&transition.condition, cells, scope, stack);
     if given.value == 1 {
-        enter_all(left, &transition.from);
-        enter_all(come, &transition.to);
+        enter_all(exited, &transition.from);
+        enter_all(entered, &transition.to);
     }
     given.fault
 }

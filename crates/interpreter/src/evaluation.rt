@@ -90,10 +90,10 @@ pub fn evaluate_in(expr: &TypedExpr, reading: &Reading<'_>, stack: &mut [i64]) -
             let left = evaluate_in(left, reading, stack);
             evaluate_on(left, operands, reading, stack)
         }
-        TypedExpr::Call(function, kind, operands) => {
+        TypedExpr::CallStandard(function, kind, operands) => {
             evaluate_call(operands, *function, *kind, reading, stack)
         }
-        TypedExpr::Answer(function, inputs) => answer(inputs, *function, reading, stack),
+        TypedExpr::CallFunction(function, inputs) => answer(inputs, *function, reading, stack),
     }
 }
 

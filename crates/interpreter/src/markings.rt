@@ -59,11 +59,11 @@ pub fn enter_all(marking: &mut [i64], steps: &[usize])
 }
 
 /// Whether all these steps are active, and none is left.
-pub fn may_leave(steps: &[usize], now: &[i64], left: &[i64]) -> bool
-    ensures { result ≡ may_leave now.now left.now steps.now }
+pub fn may_leave(steps: &[usize], now: &[i64], exited: &[i64]) -> bool
+    ensures { result ≡ may_leave now.now exited.now steps.now }
 {
     for step in steps {
-        if !is_on(now, *step) || is_on(left, *step) {
+        if !is_on(now, *step) || is_on(exited, *step) {
             return false;
         }
     }
@@ -188,10 +188,10 @@ fn next_latch(action: &TypedAction, now: &[i64], base: u128, cells: &[i64]) -> b
         && !any_resets(&action.associations, now)
 }
 
-fn is_next(now: &[i64], left: &[i64], come: &[i64], step: usize) -> bool
-    ensures { result ≡ is_next_from now.now left.now come.now step }
+fn is_next(now: &[i64], exited: &[i64], entered: &[i64], step: usize) -> bool
+    ensures { result ≡ is_next_from now.now exited.now entered.now step }
 {
-    is_on(now, step) && !is_on(left, step) || is_on(come, step)
+    is_on(now, step) && !is_on(exited, step) || is_on(entered, step)
 }
 
 fn number(holds: bool) -> i64
@@ -204,13 +204,13 @@ fn number(holds: bool) -> i64
 pub fn mark(
     steps: &[StepCells],
     now: &[i64],
-    left: &[i64],
-    come: &[i64],
+    exited: &[i64],
+    entered: &[i64],
     scope: &Scope<'_>,
     cells: &mut [i64],
 )
     requires { scope.now.base + 2 ^ 64 ≤ 2 ^ 128 }
-    ensures { cells.new ≡ marked scope.now.ranges.now scope.now.base now.now (is_next_from now.now left.now come.now) 0 steps.now cells.old }
+    ensures { cells.new ≡ marked scope.now.ranges.now scope.now.base now.now (is_next_from now.now exited.now entered.now) 0 steps.now cells.old }
 {
     for i in 0..steps.len() {
         let was = read(now, i as u128);
@@ -220,7 +220,7 @@ pub fn mark(
             was,
             cells,
         );
-        let next = is_next(now, left, come, i);
+        let next = is_next(now, exited, entered, i);
         store(
             scope.ranges,
             scope.base + steps[i].active as u128,

@@ -50,7 +50,7 @@ fn add_markings(stmt: &TypedStmt, stack: &mut Vec<i64>) -> Result<(), AllocError
     ensures { OnOk result (length stack.new.items ≡ length stack.old.items + markings_in (stmt_view stmt.now)) }
 {
     match stmt {
-        TypedStmt::Assign(_, _) | TypedStmt::Run { .. } => Ok(()),
+        TypedStmt::Assign(_, _) | TypedStmt::CallBlock { .. } => Ok(()),
         TypedStmt::If(arms, other) => {
             add_markings_of_arms(arms, stack)?;
             add_markings_of_all(other, stack)

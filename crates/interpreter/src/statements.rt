@@ -46,7 +46,7 @@ fn run(stmt: &TypedStmt, scope: &Scope<'_>, cells: &mut [i64], stack: &mut [i64]
                 cells,
             );
         }
-        TypedStmt::Run { block, offset } => run_block(*block, *offset, scope, cells, stack),
+        TypedStmt::CallBlock { block, offset } => run_block(*block, *offset, scope, cells, stack),
         TypedStmt::If(arms, other) => {
             if !run_arms(arms, scope, cells, stack) {
                 run_all(other, scope, cells, stack);

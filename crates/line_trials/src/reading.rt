@@ -2,7 +2,7 @@
 ghost use Rattle.std.specs.Prelude.{◌≡◌, IfOk, IfErr};
 ghost use Rattle.program_tree.specs.View.{program_view};
 ghost use Rattle.rules.specs.Faults.{IfRefused};
-ghost use Rattle.scan_model.specs.InRange.{IsProgram};
+ghost use Rattle.scan_model.specs.InRange.{IsFitToRun};
 ghost use Rattle.scan_model.specs.Pairs.{relation_view};
 ghost use Rattle.scan_replay.specs.Duos.{AreComparable};
 ghost use Rattle.command_files.specs.Stating.{StatesRelation, StatesNoRelation};
@@ -21,8 +21,8 @@ pub fn read_given(
     new: &Program,
     text: &[u8],
 ) -> Result<Relation, Fault>
-    requires old { IsProgram (program_view old.now) }
-    requires new { IsProgram (program_view new.now) }
+    requires old { IsFitToRun (program_view old.now) }
+    requires new { IsFitToRun (program_view new.now) }
     ensures stated { IfOk result (λ r. StatesRelation (program_view old.now) (program_view new.now) text.now (relation_view r)) }
     ensures comparable { IfOk result (λ r. AreComparable old.now new.now r) }
     ensures refused { IfErr result (IfRefused (StatesNoRelation (program_view old.now) (program_view new.now) text.now)) }
@@ -39,8 +39,8 @@ pub fn read_back(
     new: &Program,
     text: &[u8],
 ) -> Result<Relation, Fault>
-    requires old { IsProgram (program_view old.now) }
-    requires new { IsProgram (program_view new.now) }
+    requires old { IsFitToRun (program_view old.now) }
+    requires new { IsFitToRun (program_view new.now) }
     ensures stated { IfOk result (λ r. StatesRelation (program_view old.now) (program_view new.now) text.now (relation_view r)) }
     ensures comparable { IfOk result (λ r. AreComparable old.now new.now r) }
 {

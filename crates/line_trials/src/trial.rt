@@ -2,7 +2,7 @@
 // pairs is left out, until all holds.
 ghost use Rattle.std.specs.Prelude.{IfOk};
 ghost use Rattle.program_tree.specs.View.{program_view};
-ghost use Rattle.scan_model.specs.InRange.{IsProgram};
+ghost use Rattle.scan_model.specs.InRange.{IsFitToRun};
 ghost use Rattle.line_trials.specs.Held.{runs_of};
 ghost use Rattle.line_trials.specs.Lines.{lines_view};
 ghost use Rattle.line_trials.specs.Suggested.{IsHeldOrNot};
@@ -34,8 +34,8 @@ pub fn try_lines(
     lines: &[InvariantLine],
     runs: &[Vec<Vec<i64>>],
 ) -> Result<Trial, AllocError>
-    requires old { IsProgram (program_view old.now) }
-    requires new { IsProgram (program_view new.now) }
+    requires old { IsFitToRun (program_view old.now) }
+    requires new { IsFitToRun (program_view new.now) }
     ensures { IfOk result (IsHeldOrNot (program_view old.now) (program_view new.now) given text.now (lines_view lines.now) (runs_of runs.now)) }
 {
     let made = with_lines(alloc, text, lines)?;

@@ -11,9 +11,9 @@ use Rattle.program_tree.specs.declared.typed.TypedTransition.{TypedTransition}
 use Rattle.program_tree.specs.Tree.{TransitionData, Actions, chart}
 use Rattle.program_tree.specs.View.{actions_view, transitions_view}
 use Rattle.meaning.specs.Values.{State, Callees}
-use Rattle.meaning.specs.Charts.{Marking, is_on, marking_now, marking_before, is_among, is_left, is_entered, may_fire, evaluated, fired, holds_in, faults_in, is_next}
+use Rattle.meaning.specs.Charts.{Marking, is_on, marking_now, marking_before, is_among, is_exited, is_entered, may_fire, evaluated, fired, holds_in, faults_in, is_next}
 use Rattle.meaning.specs.Effects.{with_fault, all_latched, marked, effect_of_transitions, effect_of_actions, effect_of}
-use Rattle.meaning.specs.Flags.{no_steps, with_steps, may_leave, left_after, come_after, fault_after, is_next_from}
+use Rattle.meaning.specs.Flags.{no_steps, with_steps, may_leave, exited_after, entered_after, fault_after, is_next_from}
 use Rattle.meaning.proofs.Cases.{by_test, or-swap}
 use Rattle.meaning.proofs.Loops.{length-set}
 
@@ -59,58 +59,58 @@ length-none (a ∷ m) = ap suc (length-none m)
 
 -- a marking says which steps these transitions left
 abbrev Same : List ℤ → List TransitionData → Type 0
-Same left acc = (i : ℕ) → i < length left → is_on left i ≡ is_left acc i
+Same exited acc = (i : ℕ) → i < length exited → is_on exited i ≡ is_exited acc i
 
-may-same : (x left : List ℤ) (acc : List TransitionData) → length x ≡ length left → Same left acc → (is : List ℕ) → may_leave x left is ≡ list_all (λ i. is_on x i && not (is_left acc i)) is
-may-same x left acc len same [] = refl
-may-same x left acc len same (i ∷ is) =
-    let one : (is_on x i && not (is_on left i)) ≡ (is_on x i && not (is_left acc i)) =
-    by_test (nat_lt i (length left))
-    (λ e. let h : i < length left = grind (arith, nat_tests) in ap (λ b. is_on x i && not b) (same i h))
+may-same : (x exited : List ℤ) (acc : List TransitionData) → length x ≡ length exited → Same exited acc → (is : List ℕ) → may_leave x exited is ≡ list_all (λ i. is_on x i && not (is_exited acc i)) is
+may-same x exited acc len same [] = refl
+may-same x exited acc len same (i ∷ is) =
+    let one : (is_on x i && not (is_on exited i)) ≡ (is_on x i && not (is_exited acc i)) =
+    by_test (nat_lt i (length exited))
+    (λ e. let h : i < length exited = grind (arith, nat_tests) in ap (λ b. is_on x i && not b) (same i h))
     (λ e. let h : length x ≤ i = grind (arith, nat_tests) in let o = on-outside x i h in rw o refl) in
-    let rest = may-same x left acc len same is in
+    let rest = may-same x exited acc len same is in
     rw (one, rest) refl
 
-Same-with : (left : List ℤ) (acc : List TransitionData) (t : TransitionData) → Same left acc → Same (with_steps t.from left) (t ∷ acc)
-Same-with left acc t same i h =
-    let l = length-with t.from left in
-    let h' : i < length left = omega (arith, h, l) in
-    on-with t.from left i h' ∙ ap (λ b. is_among i t.from || b) (same i h')
+Same-with : (exited : List ℤ) (acc : List TransitionData) (t : TransitionData) → Same exited acc → Same (with_steps t.from exited) (t ∷ acc)
+Same-with exited acc t same i h =
+    let l = length-with t.from exited in
+    let h' : i < length exited = omega (arith, h, l) in
+    on-with t.from exited i h' ∙ ap (λ b. is_among i t.from || b) (same i h')
 
 module _ (x : List ℤ) (holds bad : TransitionData → Bool) where
-  pub fault-same : (ts acc : List TransitionData) (left : List ℤ) (f : Bool) → length x ≡ length left → Same left acc → fault_after x holds bad ts left f ≡ (f || list_any bad (evaluated x holds acc ts))
-  fault-same [] acc left f len same = sym (or-false f)
-  fault-same (t ∷ ts) acc left f len same =
-      let m = may-same x left acc len same t.from in
+  pub fault-same : (ts acc : List TransitionData) (exited : List ℤ) (f : Bool) → length x ≡ length exited → Same exited acc → fault_after x holds bad ts exited f ≡ (f || list_any bad (evaluated x holds acc ts))
+  fault-same [] acc exited f len same = sym (or-false f)
+  fault-same (t ∷ ts) acc exited f len same =
+      let m = may-same x exited acc len same t.from in
       by_test (may_fire x acc t)
       (λ e. by_test (holds t)
-      (λ h. rw (m, e, h) (fault-same ts (t ∷ acc) (with_steps t.from left) (f || bad t) (len ∙ sym (length-with t.from left)) (Same-with left acc t same) ∙ or_assoc f (bad t) _))
-      (λ h. rw (m, e, h) (fault-same ts acc left (f || bad t) len same ∙ or_assoc f (bad t) _)))
-      (λ e. rw (m, e, or-false f) (fault-same ts acc left f len same))
+      (λ h. rw (m, e, h) (fault-same ts (t ∷ acc) (with_steps t.from exited) (f || bad t) (len ∙ sym (length-with t.from exited)) (Same-with exited acc t same) ∙ or_assoc f (bad t) _))
+      (λ h. rw (m, e, h) (fault-same ts acc exited (f || bad t) len same ∙ or_assoc f (bad t) _)))
+      (λ e. rw (m, e, or-false f) (fault-same ts acc exited f len same))
 
-  pub left-same : (ts acc : List TransitionData) (left : List ℤ) → length x ≡ length left → Same left acc → (i : ℕ) → i < length left → is_on (left_after x holds ts left) i ≡ (is_left acc i || is_left (filter holds (evaluated x holds acc ts)) i)
-  left-same [] acc left len same i b = same i b ∙ sym (or-false (is_left acc i))
-  left-same (t ∷ ts) acc left len same i b =
-      let m = may-same x left acc len same t.from in
-      let l = length-with t.from left in
+  pub exited-same : (ts acc : List TransitionData) (exited : List ℤ) → length x ≡ length exited → Same exited acc → (i : ℕ) → i < length exited → is_on (exited_after x holds ts exited) i ≡ (is_exited acc i || is_exited (filter holds (evaluated x holds acc ts)) i)
+  exited-same [] acc exited len same i b = same i b ∙ sym (or-false (is_exited acc i))
+  exited-same (t ∷ ts) acc exited len same i b =
+      let m = may-same x exited acc len same t.from in
+      let l = length-with t.from exited in
       by_test (may_fire x acc t)
       (λ e. by_test (holds t)
-      (λ h. rw (m, e, h) (left-same ts (t ∷ acc) (with_steps t.from left) (len ∙ sym l) (Same-with left acc t same) i (omega (arith, b, l)) ∙ sym (or-swap (is_left acc i) (is_among i t.from) _)))
-      (λ h. rw (m, e, h) (left-same ts acc left len same i b)))
-      (λ e. rw (m, e) (left-same ts acc left len same i b))
+      (λ h. rw (m, e, h) (exited-same ts (t ∷ acc) (with_steps t.from exited) (len ∙ sym l) (Same-with exited acc t same) i (omega (arith, b, l)) ∙ sym (or-swap (is_exited acc i) (is_among i t.from) _)))
+      (λ h. rw (m, e, h) (exited-same ts acc exited len same i b)))
+      (λ e. rw (m, e) (exited-same ts acc exited len same i b))
 
-  pub come-same : (ts acc : List TransitionData) (left come : List ℤ) → length x ≡ length left → Same left acc → (i : ℕ) → i < length come → is_on (come_after x holds ts left come) i ≡ (is_on come i || is_entered (filter holds (evaluated x holds acc ts)) i)
-  come-same [] acc left come len same i b = sym (or-false (is_on come i))
-  come-same (t ∷ ts) acc left come len same i b =
-      let m = may-same x left acc len same t.from in
-      let l = length-with t.from left in
-      let k = length-with t.to come in
+  pub entered-same : (ts acc : List TransitionData) (exited entered : List ℤ) → length x ≡ length exited → Same exited acc → (i : ℕ) → i < length entered → is_on (entered_after x holds ts exited entered) i ≡ (is_on entered i || is_entered (filter holds (evaluated x holds acc ts)) i)
+  entered-same [] acc exited entered len same i b = sym (or-false (is_on entered i))
+  entered-same (t ∷ ts) acc exited entered len same i b =
+      let m = may-same x exited acc len same t.from in
+      let l = length-with t.from exited in
+      let k = length-with t.to entered in
       by_test (may_fire x acc t)
       (λ e. by_test (holds t)
-      (λ h. rw (m, e, h) (come-same ts (t ∷ acc) (with_steps t.from left) (with_steps t.to come) (len ∙ sym l) (Same-with left acc t same) i (omega (arith, b, k))
-      ∙ ap (λ c. c || is_entered (filter holds (evaluated x holds (t ∷ acc) ts)) i) (on-with t.to come i b) ∙ sym (or-swap (is_on come i) (is_among i t.to) _)))
-      (λ h. rw (m, e, h) (come-same ts acc left come len same i b)))
-      (λ e. rw (m, e) (come-same ts acc left come len same i b))
+      (λ h. rw (m, e, h) (entered-same ts (t ∷ acc) (with_steps t.from exited) (with_steps t.to entered) (len ∙ sym l) (Same-with exited acc t same) i (omega (arith, b, k))
+      ∙ ap (λ c. c || is_entered (filter holds (evaluated x holds (t ∷ acc) ts)) i) (on-with t.to entered i b) ∙ sym (or-swap (is_on entered i) (is_among i t.to) _)))
+      (λ h. rw (m, e, h) (entered-same ts acc exited entered len same i b)))
+      (λ e. rw (m, e) (entered-same ts acc exited entered len same i b))
 
 marked-same : (rs : List Range) (base : ℕ) (x : Marking) (next other : ℕ → Bool) (i : ℕ) (steps : List StepCells) (s : State) → ((k : ℕ) → k < i + length steps → next k ≡ other k) → marked rs base x next i steps s ≡ marked rs base x other i steps s
 marked-same rs base x next other i [] s same = refl
@@ -119,35 +119,35 @@ marked-same rs base x next other i (p ∷ rest) s same =
     rw e (marked-same rs base x next other (i + 1) rest _ (λ k h. same k (omega (arith, h))))
 
 -- the last two parts of a run, by markings
-transitions-same : (callees : Callees) (rs : List Range) (base : ℕ) (x : Marking) (steps : List StepCells) (ts : List TransitionData) (s left come : State) → length x ≡ length steps → length left ≡ length steps → length come ≡ length steps
-    → marked rs base x (is_next_from x (left_after x (holds_in callees base s) ts (no_steps left)) (come_after x (holds_in callees base s) ts (no_steps left) (no_steps come))) 0 steps
-    (with_fault (fault_after x (holds_in callees base s) (faults_in callees base s) ts (no_steps left) false) s)
+transitions-same : (callees : Callees) (rs : List Range) (base : ℕ) (x : Marking) (steps : List StepCells) (ts : List TransitionData) (s exited entered : State) → length x ≡ length steps → length exited ≡ length steps → length entered ≡ length steps
+    → marked rs base x (is_next_from x (exited_after x (holds_in callees base s) ts (no_steps exited)) (entered_after x (holds_in callees base s) ts (no_steps exited) (no_steps entered))) 0 steps
+    (with_fault (fault_after x (holds_in callees base s) (faults_in callees base s) ts (no_steps exited) false) s)
     ≡ effect_of_transitions callees rs base x steps ts s
-transitions-same callees rs base x steps ts s left come lx ll lc =
+transitions-same callees rs base x steps ts s exited entered lx ll lc =
     let h = holds_in callees base s in
     let b = faults_in callees base s in
-    let nl = length-none left in
-    let nc = length-none come in
-    let len : length x ≡ length (no_steps left) = lx ∙ sym (nl ∙ ll) in
-    let none : Same (no_steps left) [] = λ i _. on-none left i in
-    let f = fault-same x h b ts [] (no_steps left) false len none in
+    let nl = length-none exited in
+    let nc = length-none entered in
+    let len : length x ≡ length (no_steps exited) = lx ∙ sym (nl ∙ ll) in
+    let none : Same (no_steps exited) [] = λ i _. on-none exited i in
+    let f = fault-same x h b ts [] (no_steps exited) false len none in
     rw f (marked-same rs base x _ (is_next x (fired x h ts)) 0 steps _
-    (λ i k. let l = left-same x h b ts [] (no_steps left) len none i (omega (arith, k, ll, nl)) in
-    let e = come-same x h b ts [] (no_steps left) (no_steps come) len none i (omega (arith, k, lc, nc)) in
-    let z = on-none come i in
+    (λ i k. let l = exited-same x h b ts [] (no_steps exited) len none i (omega (arith, k, ll, nl)) in
+    let e = entered-same x h b ts [] (no_steps exited) (no_steps entered) len none i (omega (arith, k, lc, nc)) in
+    let z = on-none entered i in
     rw (l, e, z) refl))
 
 -- the steps of a run of a chart
-pub chart-ran : (callees : Callees) (rs : List Range) (base : ℕ) (steps : List StepCells) (actions : Actions) (ts : List TransitionData) (s x l left0 come0 z zc left come s1 s2 s3 s4 : State) (fault : Bool)
-    → length x ≡ length steps → length left0 ≡ length steps → length come0 ≡ length steps
-    → x ≡ marking_now base steps s → l ≡ marking_before base steps s → z ≡ no_steps left0 → zc ≡ no_steps come0
+pub chart-ran : (callees : Callees) (rs : List Range) (base : ℕ) (steps : List StepCells) (actions : Actions) (ts : List TransitionData) (s x l exited0 entered0 z zc exited entered s1 s2 s3 s4 : State) (fault : Bool)
+    → length x ≡ length steps → length exited0 ≡ length steps → length entered0 ≡ length steps
+    → x ≡ marking_now base steps s → l ≡ marking_before base steps s → z ≡ no_steps exited0 → zc ≡ no_steps entered0
     → s1 ≡ all_latched rs base x actions s → s2 ≡ effect_of_actions callees rs base x l actions s1
-    → left ≡ left_after x (holds_in callees base s2) ts z → come ≡ come_after x (holds_in callees base s2) ts z zc
+    → exited ≡ exited_after x (holds_in callees base s2) ts z → entered ≡ entered_after x (holds_in callees base s2) ts z zc
     → fault ≡ fault_after x (holds_in callees base s2) (faults_in callees base s2) ts z false
-    → s3 ≡ with_fault fault s2 → s4 ≡ marked rs base x (is_next_from x left come) 0 steps s3 → s4 ≡ effect_of callees rs base (chart steps actions ts) s
-chart-ran callees rs base steps actions ts s x l left0 come0 z zc left come s1 s2 s3 s4 fault lx ll lc ex elb ez ezc e1 e2 el ec ef e3 e4 =
+    → s3 ≡ with_fault fault s2 → s4 ≡ marked rs base x (is_next_from x exited entered) 0 steps s3 → s4 ≡ effect_of callees rs base (chart steps actions ts) s
+chart-ran callees rs base steps actions ts s x l exited0 entered0 z zc exited entered s1 s2 s3 s4 fault lx ll lc ex elb ez ezc e1 e2 el ec ef e3 e4 =
     let one : s4 ≡ effect_of_transitions callees rs base x steps ts s2 =
-    rw (e4, e3, ef, el, ec, ez, ezc) (transitions-same callees rs base x steps ts s2 left0 come0 lx ll lc) in
+    rw (e4, e3, ef, el, ec, ez, ezc) (transitions-same callees rs base x steps ts s2 exited0 entered0 lx ll lc) in
     let two : effect_of_transitions callees rs base x steps ts s2 ≡ effect_of callees rs base (chart steps actions ts) s = rw (e2, e1, ex, elb) refl in
     one ∙ two
 

@@ -1,6 +1,6 @@
 -- The measure of a run: what is left of the tree, and all that the POUs may do that it may call.
 use Rattle.std.proofs.Common.{ℕ, zero, suc, ◌+◌, ◌*◌, List, [], ◌∷◌, slice_index_or}
-use Rattle.program_tree.specs.Tree.{Expression, number, cell, unary, chain, call, answer, Operands, no_operands, operand, Expressions, no_expressions, expression, TransitionData, Statement, assign, run, choice, cases, repeat, chart, Statements, no_statements, statement, Choices, no_choices, choose, Entries, no_entries, entry, Actions, no_actions, action, CalledData, block, function}
+use Rattle.program_tree.specs.Tree.{Expression, number, cell, unary, chain, call_standard, call_function, Operands, no_operands, operand, Expressions, no_expressions, expression, TransitionData, Statement, assign, call_block, choice, cases, repeat, chart, Statements, no_statements, statement, Choices, no_choices, choose, Entries, no_entries, entry, Actions, no_actions, action, CalledData, block, function}
 use Rattle.meaning.specs.Calls.{nothing}
 
 abbrev mutual
@@ -9,8 +9,8 @@ abbrev mutual
   nodes (cell place) = 1
   nodes (unary o t e) = nodes e + 1
   nodes (chain e os) = nodes e + operand_nodes os + 1
-  nodes (call f t es) = all_nodes es + 1
-  nodes (answer f es) = all_nodes es + 2
+  nodes (call_standard f t es) = all_nodes es + 1
+  nodes (call_function f es) = all_nodes es + 2
 
   pub operand_nodes : Operands → ℕ
   operand_nodes no_operands = 0
@@ -27,7 +27,7 @@ transition_nodes (t ∷ ts) = nodes t.condition + transition_nodes ts + 2
 abbrev mutual
   pub statement_nodes : Statement → ℕ
   statement_nodes (assign target e) = nodes e + 1
-  statement_nodes (run b offset) = 1
+  statement_nodes (call_block b offset) = 1
   statement_nodes (choice arms other) = choice_nodes arms + body_nodes other + 1
   statement_nodes (cases kind e es other) = nodes e + entry_nodes es + body_nodes other + 1
   statement_nodes (repeat turns body) = body_nodes body + 1

@@ -70,15 +70,15 @@ runs base x l latch associations s = (latch_is_on base latch s || list_any (asks
 abbrev pub is_among : ℕ → List ℕ → Bool
 is_among i steps = list_any (λ j. i == j) steps
 
-abbrev pub is_left : List TransitionData → ℕ → Bool
-is_left ts i = list_any (λ t. is_among i t.from) ts
+abbrev pub is_exited : List TransitionData → ℕ → Bool
+is_exited ts i = list_any (λ t. is_among i t.from) ts
 
 abbrev pub is_entered : List TransitionData → ℕ → Bool
 is_entered ts i = list_any (λ t. is_among i t.to) ts
 
 -- all steps before a transition are active, and none was left by a transition that fired earlier
 abbrev pub may_fire : Marking → List TransitionData → TransitionData → Bool
-may_fire x earlier t = list_all (λ i. is_on x i && not (is_left earlier i)) t.from
+may_fire x earlier t = list_all (λ i. is_on x i && not (is_exited earlier i)) t.from
 
 -- The transitions whose conditions are evaluated: those that may fire, once some fired earlier. One of them fires where its
 -- condition is TRUE.
@@ -101,4 +101,4 @@ faults_in callees base s t = faults callees base t.condition s
 
 -- 4. The next marking: a step is active where it was and is not left, or where it is entered.
 abbrev pub is_next : Marking → List TransitionData → ℕ → Bool
-is_next x ts i = (is_on x i && not (is_left ts i)) || is_entered ts i
+is_next x ts i = (is_on x i && not (is_exited ts i)) || is_entered ts i

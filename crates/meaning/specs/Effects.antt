@@ -9,7 +9,7 @@ use Rattle.std.specs.List.{list_any}
 use Rattle.program_tree.specs.declared.typed.StepCells.{StepCells}
 use Rattle.program_tree.specs.declared.typed.Association.{Association}
 use Rattle.plc_types.specs.Types.{in_range}
-use Rattle.program_tree.specs.Tree.{Statement, TransitionData, assign, run, choice, cases, repeat, chart, Statements, no_statements, statement, Choices, no_choices, choose, Entries, no_entries, entry, Actions, no_actions, action}
+use Rattle.program_tree.specs.Tree.{Statement, TransitionData, assign, call_block, choice, cases, repeat, chart, Statements, no_statements, statement, Choices, no_choices, choose, Entries, no_entries, entry, Actions, no_actions, action}
 use Rattle.meaning.specs.Values.{State, Callees, number_of, value_of, faults, is_truth}
 use Rattle.meaning.specs.Charts.{Marking, marking_now, marking_before, next_latch, runs, evaluated, fired, holds_in, faults_in, is_next}
 
@@ -67,7 +67,7 @@ abbrev mutual
   pub effect_of : Callees → List Range → ℕ → Statement → State → State
   effect_of callees rs base (assign target e) s =
       stored rs (base + target) (value_of callees base e s) (with_fault (faults callees base e s) s)
-  effect_of callees rs base (run b offset) s = callees.runs b rs (base + offset) s
+  effect_of callees rs base (call_block b offset) s = callees.runs b rs (base + offset) s
   effect_of callees rs base (choice arms other) s = effect_of_choices callees rs base arms (effect_of_all callees rs base other) s
   effect_of callees rs base (cases kind e es other) s =
       effect_of_entries callees rs base (value_of callees base e s) es (effect_of_all callees rs base other) (with_fault (faults callees base e s) s)

@@ -1,13 +1,13 @@
 -- How many cells calls and charts take at once.
 use Rattle.std.specs.Prelude.{ℕ, zero, suc, ◌+◌, ◌*◌, List, length, slice_index_or}
-use Rattle.program_tree.specs.Tree.{Statement, assign, run, choice, cases, repeat, chart, Statements, no_statements, statement, Choices, no_choices, choose, Entries, no_entries, entry, Actions, no_actions, action, CalledData, block, function}
+use Rattle.program_tree.specs.Tree.{Statement, assign, call_block, choice, cases, repeat, chart, Statements, no_statements, statement, Choices, no_choices, choose, Entries, no_entries, entry, Actions, no_actions, action, CalledData, block, function}
 use Rattle.meaning.specs.Calls.{nothing}
 
 -- a chart keeps four markings while it runs
 abbrev mutual
   pub markings_in : Statement → ℕ
   markings_in (assign target e) = 0
-  markings_in (run b offset) = 0
+  markings_in (call_block b offset) = 0
   markings_in (choice arms other) = markings_in_choices arms + markings_in_all other
   markings_in (cases kind e es other) = markings_in_entries es + markings_in_all other
   markings_in (repeat turns body) = markings_in_all body

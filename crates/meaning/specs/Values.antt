@@ -15,7 +15,7 @@ use Rattle.plc_types.specs.declared.operator.UnaryOperator.{UnaryOperator}
 use Rattle.plc_types.specs.declared.operator.UnaryOperator.TheVariants as signs
 use Rattle.plc_types.specs.declared.operator.Operator.{Operator}
 use Rattle.plc_types.specs.declared.operator.Operator.TheVariants as ops
-use Rattle.program_tree.specs.Tree.{Expression, number, cell, unary, chain, call, answer, Operands, no_operands, operand, Expressions, no_expressions, expression}
+use Rattle.program_tree.specs.Tree.{Expression, number, cell, unary, chain, call_standard, call_function, Operands, no_operands, operand, Expressions, no_expressions, expression}
 use Rattle.plc_types.specs.Types.{width_of, wrap_to}
 
 -- the values of an owner's cells, in order, FAULT first
@@ -202,8 +202,8 @@ abbrev mutual
   value_of callees base (cell place) s = slice_index_or s (base + place) (pos 0)
   value_of callees base (unary o t e) s = unary_applied o t (value_of callees base e s)
   value_of callees base (chain e os) s = value_on callees base (value_of callees base e s) os s
-  value_of callees base (call f t es) s = called f t (values_of callees base es s)
-  value_of callees base (answer f es) s = answer_in (callees.ends f (values_of callees base es s))
+  value_of callees base (call_standard f t es) s = called f t (values_of callees base es s)
+  value_of callees base (call_function f es) s = answer_in (callees.ends f (values_of callees base es s))
 
   -- operands are joined from left to right
   pub value_on : Callees → ℕ → ℤ → Operands → State → ℤ
@@ -221,8 +221,8 @@ abbrev mutual
   faults callees base (cell place) s = false
   faults callees base (unary o t e) s = faults callees base e s
   faults callees base (chain e os) s = faults callees base e s || any_faults callees base os s
-  faults callees base (call f t es) s = one_faults callees base es s
-  faults callees base (answer f es) s = one_faults callees base es s || fault_in (callees.ends f (values_of callees base es s))
+  faults callees base (call_standard f t es) s = one_faults callees base es s
+  faults callees base (call_function f es) s = one_faults callees base es s || fault_in (callees.ends f (values_of callees base es s))
 
   pub any_faults : Callees → ℕ → Operands → State → Bool
   any_faults callees base no_operands s = false

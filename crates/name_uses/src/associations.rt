@@ -47,12 +47,12 @@ fn judged_word(word: Option<&Name>) -> Outcome
 }
 
 // An action that a step names, and its word.
-#[tactic(auto, using(rules::proofs::Outcomes::outcome_also))]
+#[tactic(auto, using(rules::proofs::Outcomes::outcome_and))]
 fn judged_association(scope: &Scope<'_, '_>, action: &StepAction) -> Outcome
     ensures { result ≡ outcome_of (in_association (file_in scope.now.names) (pou_in scope.now.names) (step_action_view action.now)) }
 {
     let known = action_by(scope.names.seen(&action.action), &action.action);
-    known.also(judged_word(word_of(&action.brackets)))
+    known.and(judged_word(word_of(&action.brackets)))
 }
 
 /// Keeps what the actions break that a step names.
@@ -61,6 +61,6 @@ pub fn walk_associations(scope: &Scope<'_, '_>, actions: &[StepAction], outcome:
     ensures { outcome.new ≡ both outcome.old (outcome_of (in_associations (file_in scope.now.names) (pou_in scope.now.names) (step_actions_view actions.now))) }
 {
     for action in actions {
-        *outcome = outcome.also(judged_association(scope, action));
+        *outcome = outcome.and(judged_association(scope, action));
     }
 }

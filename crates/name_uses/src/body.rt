@@ -29,7 +29,7 @@ pub fn walk_body(
     match body {
         Body::Statements(stmts) => walk_stmts(scope, stmts, outcome, numbers, calls),
         Body::Chart(chart) => {
-            *outcome = outcome.also(judged_chart(alloc, scope, &chart.parts, numbers, calls)?);
+            *outcome = outcome.and(judged_chart(alloc, scope, &chart.parts, numbers, calls)?);
             Ok(())
         }
     }

@@ -37,7 +37,7 @@ fn own_name_if(scope: &Scope<'_, '_>, name: &Option<Name>) -> Outcome
 fn walk_step(scope: &Scope<'_, '_>, step: &ChartStep, outcome: &mut Outcome)
     ensures { outcome.new ≡ both outcome.old (outcome_of (in_chart_step (file_in scope.now.names) (pou_in scope.now.names) (chart_step_view step.now))) }
 {
-    *outcome = outcome.also(own_name(scope, &step.name));
+    *outcome = outcome.and(own_name(scope, &step.name));
     walk_associations(scope, &step.actions, outcome);
 }
 
@@ -54,7 +54,7 @@ fn walk_transition(
     ensures judged { OnOk result (outcome.new ≡ both outcome.old (outcome_of (in_transition (file_in scope.now.names) (pou_in scope.now.names) (chart_transition_view transition.now)))) }
     ensures calls { OnOk result (calls.new.items ≡ calls.old.items ++ calls_in (file_in scope.now.names) (chart_transition_view transition.now).condition) }
 {
-    *outcome = outcome.also(own_name_if(scope, &transition.name));
+    *outcome = outcome.and(own_name_if(scope, &transition.name));
     walk_steps(alloc, scope, &transition.from, outcome)?;
     walk_steps(alloc, scope, &transition.to, outcome)?;
     walk_expr(scope, &transition.condition, outcome, numbers, calls)
@@ -72,7 +72,7 @@ fn walk_action(
     ensures judged { OnOk result (outcome.new ≡ both outcome.old (outcome_of (in_action (file_in scope.now.names) (pou_in scope.now.names) (chart_action_view action.now)))) }
     ensures calls { OnOk result (calls.new.items ≡ calls.old.items ++ calls_in_stmts (file_in scope.now.names) (chart_action_view action.now).body) }
 {
-    *outcome = outcome.also(own_name(scope, &action.name));
+    *outcome = outcome.and(own_name(scope, &action.name));
     walk_stmts(scope, &action.body, outcome, numbers, calls)
 }
 

@@ -59,7 +59,7 @@ fn walk_others(
     let mut met = IndexMap::new(alloc);
     add(&mut met, first)?;
     for name in others {
-        *outcome = outcome.also(judged_listed(scope, has(&met, name.text.as_str()), name));
+        *outcome = outcome.and(judged_listed(scope, has(&met, name.text.as_str()), name));
         add(&mut met, name)?;
     }
     Ok(())
@@ -77,11 +77,11 @@ pub fn walk_steps(
 {
     match steps {
         Steps::One(name) => {
-            *outcome = outcome.also(judged_listed(scope, false, name));
+            *outcome = outcome.and(judged_listed(scope, false, name));
             Ok(())
         }
         Steps::Several(_, first, others) => {
-            *outcome = outcome.also(judged_listed(scope, false, first));
+            *outcome = outcome.and(judged_listed(scope, false, first));
             walk_others(alloc, scope, first, others, outcome)
         }
     }

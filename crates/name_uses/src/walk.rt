@@ -29,11 +29,11 @@ pub fn walk_expr(
     match expr {
         Expr::Literal(_) => Ok(()),
         Expr::Path(path) => {
-            *outcome = outcome.also(scope.path(numbers, path));
+            *outcome = outcome.and(scope.path(numbers, path));
             Ok(())
         }
         Expr::Enumerator(kind, value) => {
-            *outcome = outcome.also(scope.enumerator(kind, value));
+            *outcome = outcome.and(scope.enumerator(kind, value));
             Ok(())
         }
         Expr::Paren(_, inner) => walk_expr(scope, inner, outcome, numbers, calls),
@@ -44,7 +44,7 @@ pub fn walk_expr(
         }
         Expr::Call(function, _, arguments) => {
             let callee = scope.names.file.callee(function);
-            *outcome = outcome.also(scope.called(callee, function));
+            *outcome = outcome.and(scope.called(callee, function));
             append_called(calls, callee)?;
             walk_arguments(scope, callee, arguments, outcome, numbers, calls)
         }
@@ -85,19 +85,19 @@ fn walk_arguments(
     ensures calls { OnOk result (calls.new.items ≡ calls.old.items ++ calls_in_arguments (file_in scope.now.names) (arguments_view arguments.now)) }
 {
     for argument in arguments {
-        *outcome = outcome.also(scope.argument_name(numbers, callee, &argument.name));
+        *outcome = outcome.and(scope.argument_name(numbers, callee, &argument.name));
         walk_expr(scope, &argument.value, outcome, numbers, calls)?;
     }
     Ok(())
 }
 
 // A label.
-#[tactic(auto, using(rules::proofs::Outcomes::outcome_also))]
+#[tactic(auto, using(rules::proofs::Outcomes::outcome_and))]
 fn judged_label(scope: &Scope<'_, '_>, label: &Label) -> Outcome
     ensures { result ≡ outcome_of (in_label (file_in scope.now.names) (pou_in scope.now.names) (label_view label.now)) }
 {
     let low = scope.names.constant(&label.low);
-    low.also(scope.names.written(&label.high))
+    low.and(scope.names.written(&label.high))
 }
 
 // Keeps what labels break.
@@ -106,7 +106,7 @@ fn walk_labels(scope: &Scope<'_, '_>, labels: &[Label], outcome: &mut Outcome)
     ensures { outcome.new ≡ both outcome.old (outcome_of (in_labels (file_in scope.now.names) (pou_in scope.now.names) (labels_view labels.now))) }
 {
     for label in labels {
-        *outcome = outcome.also(judged_label(scope, label));
+        *outcome = outcome.and(judged_label(scope, label));
     }
 }
 
@@ -140,7 +140,7 @@ fn walk_iteration(
     ensures judged { OnOk result (outcome.new ≡ both outcome.old (outcome_of (in_iteration (file_in scope.now.names) (pou_in scope.now.names) (iteration_view iteration.now)))) }
     ensures calls { OnOk result (calls.new.items ≡ calls.old.items ++ calls_in_iteration (file_in scope.now.names) (iteration_view iteration.now)) }
 {
-    *outcome = outcome.also(scope.control(numbers, &iteration.control));
+    *outcome = outcome.and(scope.control(numbers, &iteration.control));
     walk_expr(scope, &iteration.first, outcome, numbers, calls)?;
     walk_expr(scope, &iteration.last, outcome, numbers, calls)?;
     walk_step(scope, &iteration.step, outcome, numbers, calls)
@@ -161,12 +161,12 @@ fn walk_connection(
 {
     match connection {
         Connection::Input(name, value) => {
-            *outcome = outcome.also(scope.connected(numbers, block, name));
+            *outcome = outcome.and(scope.connected(numbers, block, name));
             walk_expr(scope, value, outcome, numbers, calls)
         }
         Connection::Output(name, target) => {
-            *outcome = outcome.also(scope.connected(numbers, block, name));
-            *outcome = outcome.also(scope.target(numbers, target));
+            *outcome = outcome.and(scope.connected(numbers, block, name));
+            *outcome = outcome.and(scope.target(numbers, target));
             Ok(())
         }
     }
@@ -226,12 +226,12 @@ fn walk_stmt(
     match stmt {
         Stmt::Empty => Ok(()),
         Stmt::Assign(target, value) => {
-            *outcome = outcome.also(scope.target(numbers, target));
+            *outcome = outcome.and(scope.target(numbers, target));
             walk_expr(scope, value, outcome, numbers, calls)
         }
         Stmt::Call(name, _, connections) => {
             let seen = scope.names.used(numbers, name);
-            *outcome = outcome.also(scope.instance(seen, name));
+            *outcome = outcome.and(scope.instance(seen, name));
             walk_connections(
                 scope,
                 instance_of(seen),

@@ -6,7 +6,7 @@ use Rattle.rules.specs.declared.rule.Rule.TheVariants.{NotOneInitialStep, StepTw
 use Rattle.source_tree.specs.Syntax.{Named, PartData, FileData}
 use Rattle.rules.specs.declared.outcome.Outcome.{Outcome}
 use Rattle.naming.specs.Broken.{listed_by, is_initial_part, place_of_chart, in_chart_parts, in_chart}
-use Rattle.rules.specs.Judgements.{Judgement, ok, also, breaks}
+use Rattle.rules.specs.Judgements.{Judgement, ok, and, breaks}
 use Rattle.rules.specs.Outcomes.{outcome_of, both}
 use Rattle.naming.specs.Scopes.{PouScope}
 use Rattle.rules.proofs.Outcomes.{outcome_whole, both_on, both_ok}
@@ -20,7 +20,7 @@ pub texts_push : (first : List ℕ) (ns : List Named) (n : Named) → first ∷ 
 texts_push first ns n = ap (λ ts. first ∷ ts) (map-append (λ (x : Named). x.text) ns (n ∷ []))
 
 -- a list of one name
-pub one_listed : (o : Outcome) (j : Judgement) → both o (outcome_of j) ≡ both o (outcome_of (also j ok))
+pub one_listed : (o : Outcome) (j : Judgement) → both o (outcome_of j) ≡ both o (outcome_of (and j ok))
 one_listed o j = sym (both_ok (both o (outcome_of j))) ∙ both_on o j ok
 
 module _ (j : Judgement) (o : Outcome) (is : o ≡ outcome_of j) where

@@ -10,7 +10,7 @@ use Rattle.naming.specs.declared.callee.Callee.TheVariants as callees
 use Rattle.naming.specs.declared.seen.Seen.{Seen}
 use Rattle.naming.specs.declared.standing.Standing.{Standing}
 use Rattle.naming.specs.declared.standing.Standing.TheVariants as standings
-use Rattle.rules.specs.Judgements.{Judgement, whole_if, ok, suppressed, also, breaks}
+use Rattle.rules.specs.Judgements.{Judgement, whole_if, ok, suppressed, and, breaks}
 use Rattle.naming.specs.Library.{is_library}
 use Rattle.naming.specs.ChartWords.{qualifier_named, word_of}
 use Rattle.naming.specs.FileScope.{types_of, pous_of, DeclaredName, names_of, is_declared_as, is_known, is_doubled_in_file, standing, is_type, is_value, pou_number, pou_at, kind_at, number_if, is_program}
@@ -40,7 +40,7 @@ names_twice before (d ∷ ds) =
 abbrev pub variables_twice : Bool → List Variable → List Variable → Judgement
 variables_twice has_fault before [] = ok
 variables_twice has_fault before (v ∷ vs) =
-    also (if is_fault has_fault v.name.text || list_any (is_of_name v.name.text) before then twice v.name else ok) (variables_twice has_fault (before ++ v ∷ []) vs)
+    and (if is_fault has_fault v.name.text || list_any (is_of_name v.name.text) before then twice v.name else ok) (variables_twice has_fault (before ++ v ∷ []) vs)
 
 -- a name of the file's scope, where none is that fits: N2 where the file lacks it, else N4
 abbrev pub in_file : FileData → Named → Judgement
@@ -113,7 +113,7 @@ in_declared_type f user n =
 abbrev pub in_specification : FileData → ℕ → SpecificationData → Judgement
 in_specification f user (of_values at first others) = ok
 in_specification f user (of_type (of_elementary kind at)) = ok
-in_specification f user (of_type (of_subrange kind at b)) = also (in_bound f user b.low) (in_bound f user b.high)
+in_specification f user (of_type (of_subrange kind at b)) = and (in_bound f user b.low) (in_bound f user b.high)
 in_specification f user (of_type (of_name n)) = in_declared_type f user n
 
 -- N3 at each type that is declared in terms of itself, also through others, and what the specifications of types break,
@@ -231,17 +231,17 @@ abbrev mutual
   in_tree f p (enumerator t v) = in_enumerator f t v (standing f t.text)
   in_tree f p (paren at e) = in_tree f p e
   in_tree f p (unary o at e) = in_tree f p e
-  in_tree f p (chain e ls) = also (in_tree f p e) (in_links f p ls)
-  in_tree f p (call n at args) = also (in_called f (callee_of f n.text) n) (in_arguments f p (callee_of f n.text) args)
+  in_tree f p (chain e ls) = and (in_tree f p e) (in_links f p ls)
+  in_tree f p (call n at args) = and (in_called f (callee_of f n.text) n) (in_arguments f p (callee_of f n.text) args)
 
   pub in_links : FileData → PouScope → Links → Judgement
   in_links f p no_links = ok
-  in_links f p (link o at e ls) = also (in_tree f p e) (in_links f p ls)
+  in_links f p (link o at e ls) = and (in_tree f p e) (in_links f p ls)
 
   -- the arguments of a call
   pub in_arguments : FileData → PouScope → Callee → Arguments → Judgement
   in_arguments f p callee no_arguments = ok
-  in_arguments f p callee (argument n e args) = also (also (in_argument_name f callee n) (in_tree f p e)) (in_arguments f p callee args)
+  in_arguments f p callee (argument n e args) = and (and (in_argument_name f callee n) (in_tree f p e)) (in_arguments f p callee args)
 
 -- a variable where a value by name is wanted is N4, unless its declaration breaks a rule
 abbrev pub in_value : FileData → PouScope → Option Seen → Named → Judgement
@@ -285,7 +285,7 @@ in_named_type f v n =
 
 abbrev pub in_type : FileData → PouScope → ℕ → Variable → TypeData → Judgement
 in_type f p user v (of_elementary kind at) = ok
-in_type f p user v (of_subrange kind at b) = also (in_declared_constant f p user b.low) (in_declared_constant f p user b.high)
+in_type f p user v (of_subrange kind at b) = and (in_declared_constant f p user b.low) (in_declared_constant f p user b.high)
 in_type f p user v (of_name n) = in_named_type f v n
 
 -- a name of a chart has no type
@@ -294,11 +294,11 @@ in_kind f p user v None = ok
 in_kind f p user v (Some t) = in_type f p user v t
 
 abbrev pub in_label : FileData → PouScope → LabelData → Judgement
-in_label f p l = also (in_constant f p l.low) (in_constant_if f p l.high)
+in_label f p l = and (in_constant f p l.low) (in_constant_if f p l.high)
 
 abbrev pub in_labels : FileData → PouScope → List LabelData → Judgement
 in_labels f p [] = ok
-in_labels f p (l ∷ ls) = also (in_label f p l) (in_labels f p ls)
+in_labels f p (l ∷ ls) = and (in_label f p l) (in_labels f p ls)
 
 abbrev pub alone : Named → PathData
 alone n = record { first = n; members = [] }
@@ -310,7 +310,7 @@ in_step f p (Some e) = in_tree f p e
 -- a FOR's control variable is a path without members
 abbrev pub in_iteration : FileData → PouScope → IterationData → Judgement
 in_iteration f p i =
-    also (also (also (in_target f p (seen_named f p i.control.text) (alone i.control)) (in_tree f p i.first)) (in_tree f p i.last)) (in_step f p i.step)
+    and (and (and (in_target f p (seen_named f p i.control.text) (alone i.control)) (in_tree f p i.first)) (in_tree f p i.last)) (in_step f p i.step)
 
 -- the name of a block's call is that of an instance
 abbrev pub in_instance : FileData → PouScope → Option Seen → Named → Judgement
@@ -328,35 +328,35 @@ in_connected f None n = ok
 in_connected f (Some block) n = in_member f block n
 
 abbrev pub in_connection : FileData → PouScope → Option ℕ → ConnectionData → Judgement
-in_connection f p block (input n e) = also (in_connected f block n) (in_tree f p e)
-in_connection f p block (output n q) = also (in_connected f block n) (in_target f p (seen_named f p q.first.text) q)
+in_connection f p block (input n e) = and (in_connected f block n) (in_tree f p e)
+in_connection f p block (output n q) = and (in_connected f block n) (in_target f p (seen_named f p q.first.text) q)
 
 abbrev pub in_connections : FileData → PouScope → Option ℕ → List ConnectionData → Judgement
 in_connections f p block [] = ok
-in_connections f p block (c ∷ cs) = also (in_connection f p block c) (in_connections f p block cs)
+in_connections f p block (c ∷ cs) = and (in_connection f p block c) (in_connections f p block cs)
 
 abbrev mutual
   pub in_stmt : FileData → PouScope → Stmt → Judgement
   in_stmt f p empty = ok
-  in_stmt f p (assign q e) = also (in_target f p (seen_named f p q.first.text) q) (in_tree f p e)
+  in_stmt f p (assign q e) = and (in_target f p (seen_named f p q.first.text) q) (in_tree f p e)
   in_stmt f p (invoke n at cs) =
       let s = seen_named f p n.text in
-      also (in_instance f p s n) (in_connections f p (instance_of s) cs)
-  in_stmt f p (branch arms other) = also (in_arms f p arms) (in_else f p other)
-  in_stmt f p (cases e es other) = also (also (in_tree f p e) (in_entries f p es)) (in_else f p other)
-  in_stmt f p (iterate i ss) = also (in_iteration f p i) (in_stmts f p ss)
+      and (in_instance f p s n) (in_connections f p (instance_of s) cs)
+  in_stmt f p (branch arms other) = and (in_arms f p arms) (in_else f p other)
+  in_stmt f p (cases e es other) = and (and (in_tree f p e) (in_entries f p es)) (in_else f p other)
+  in_stmt f p (iterate i ss) = and (in_iteration f p i) (in_stmts f p ss)
 
   pub in_stmts : FileData → PouScope → Stmts → Judgement
   in_stmts f p no_stmts = ok
-  in_stmts f p (stmt s ss) = also (in_stmt f p s) (in_stmts f p ss)
+  in_stmts f p (stmt s ss) = and (in_stmt f p s) (in_stmts f p ss)
 
   pub in_arms : FileData → PouScope → Arms → Judgement
   in_arms f p no_arms = ok
-  in_arms f p (arm e ss arms) = also (also (in_tree f p e) (in_stmts f p ss)) (in_arms f p arms)
+  in_arms f p (arm e ss arms) = and (and (in_tree f p e) (in_stmts f p ss)) (in_arms f p arms)
 
   pub in_entries : FileData → PouScope → Entries → Judgement
   in_entries f p no_entries = ok
-  in_entries f p (entry ls ss es) = also (also (in_labels f p ls) (in_stmts f p ss)) (in_entries f p es)
+  in_entries f p (entry ls ss es) = and (and (in_labels f p ls) (in_stmts f p ss)) (in_entries f p es)
 
   pub in_else : FileData → PouScope → Otherwise → Judgement
   in_else f p no_else = ok
@@ -364,12 +364,12 @@ abbrev mutual
 
 -- a declaration, by its number
 abbrev pub in_declaration : FileData → PouScope → ℕ → Variable → Judgement
-in_declaration f p user v = also (in_kind f p user v v.kind) (in_initial f p user v.initial)
+in_declaration f p user v = and (in_kind f p user v v.kind) (in_initial f p user v.initial)
 
 -- declarations that are counted from a number on
 abbrev pub in_declarations : FileData → PouScope → ℕ → List Variable → Judgement
 in_declarations f p number [] = ok
-in_declarations f p number (v ∷ vs) = also (in_declaration f p number v) (in_declarations f p (number + 1) vs)
+in_declarations f p number (v ∷ vs) = and (in_declaration f p number v) (in_declarations f p (number + 1) vs)
 
 -- the name of a part of a chart; where it is declared twice, the part is broken
 abbrev pub in_own_name : PouScope → Named → Judgement
@@ -390,11 +390,11 @@ in_word None = ok
 in_word (Some n) = if is_some (qualifier_named n.text) then ok else breaks UnknownQualifier n.at
 
 abbrev pub in_association : FileData → PouScope → StepActionData → Judgement
-in_association f p a = also (action_by (seen_named f p a.action.text) a.action) (in_word (word_of a.brackets))
+in_association f p a = and (action_by (seen_named f p a.action.text) a.action) (in_word (word_of a.brackets))
 
 abbrev pub in_associations : FileData → PouScope → List StepActionData → Judgement
 in_associations f p [] = ok
-in_associations f p (a ∷ rest) = also (in_association f p a) (in_associations f p rest)
+in_associations f p (a ∷ rest) = and (in_association f p a) (in_associations f p rest)
 
 -- C2: before and behind a transition stand steps of the chart
 abbrev pub step_by : Option Seen → Named → Judgement
@@ -410,7 +410,7 @@ in_listed f p before n = listed_by (step_by (seen_named f p n.text) n) (list_any
 
 abbrev pub in_listed_from : FileData → PouScope → List (List ℕ) → List Named → Judgement
 in_listed_from f p before [] = ok
-in_listed_from f p before (n ∷ ns) = also (in_listed f p before n) (in_listed_from f p (before ++ n.text ∷ []) ns)
+in_listed_from f p before (n ∷ ns) = and (in_listed f p before n) (in_listed_from f p (before ++ n.text ∷ []) ns)
 
 abbrev pub steps_in : StepsData → List Named
 steps_in (one_step n) = n ∷ []
@@ -420,13 +420,13 @@ abbrev pub in_steps : FileData → PouScope → StepsData → Judgement
 in_steps f p s = in_listed_from f p [] (steps_in s)
 
 abbrev pub in_chart_step : FileData → PouScope → ChartStepData → Judgement
-in_chart_step f p s = also (in_own_name p s.name) (in_associations f p s.actions)
+in_chart_step f p s = and (in_own_name p s.name) (in_associations f p s.actions)
 
 abbrev pub in_transition : FileData → PouScope → ChartTransitionData → Judgement
-in_transition f p t = also (in_own_name_if p t.name) (also (in_steps f p t.from) (also (in_steps f p t.to) (in_tree f p t.condition)))
+in_transition f p t = and (in_own_name_if p t.name) (and (in_steps f p t.from) (and (in_steps f p t.to) (in_tree f p t.condition)))
 
 abbrev pub in_action : FileData → PouScope → ChartActionData → Judgement
-in_action f p a = also (in_own_name p a.name) (in_stmts f p a.body)
+in_action f p a = and (in_own_name p a.name) (in_stmts f p a.body)
 
 abbrev pub in_part : FileData → PouScope → PartData → Judgement
 in_part f p (step_part s) = in_chart_step f p s
@@ -435,7 +435,7 @@ in_part f p (action_part a) = in_action f p a
 
 abbrev pub in_chart_parts : FileData → PouScope → List PartData → Judgement
 in_chart_parts f p [] = ok
-in_chart_parts f p (q ∷ qs) = also (in_part f p q) (in_chart_parts f p qs)
+in_chart_parts f p (q ∷ qs) = and (in_part f p q) (in_chart_parts f p qs)
 
 abbrev pub is_initial_part : PartData → Bool
 is_initial_part (step_part s) = s.is_initial
@@ -464,7 +464,7 @@ in_body f p (chart_body qs) = in_chart f p qs
 
 -- a body, and the declarations of its POU
 unfoldable pub in_pou_scope : FileData → PouScope → BodyData → Judgement
-in_pou_scope f p body = also (also (variables_twice p.has_fault [] p.variables) (in_declarations f p 0 p.variables)) (in_body f p body)
+in_pou_scope f p body = and (and (variables_twice p.has_fault [] p.variables) (in_declarations f p 0 p.variables)) (in_body f p body)
 
 -- a POU, but for its own name and, of a FUNCTION, the type of its result
 abbrev pub in_pou : FileData → PouData → Judgement

@@ -7,7 +7,7 @@ use Rattle.plc_types.specs.declared.elementary.Elementary.TheVariants as types
 use Rattle.plc_types.specs.declared.function.Function.{Function}
 use Rattle.plc_types.specs.declared.function.Function.TheVariants as functions
 use Rattle.plc_types.specs.declared.operator.Operator.{Operator}
-use Rattle.program_tree.specs.Tree.{Expression, number, cell, unary, chain, call, answer, Operands, no_operands, operand, Expressions, no_expressions, expression}
+use Rattle.program_tree.specs.Tree.{Expression, number, cell, unary, chain, call_standard, call_function, Operands, no_operands, operand, Expressions, no_expressions, expression}
 use Rattle.meaning.specs.Values.{divides}
 use Rattle.flat_core.specs.declared.flat_tree.Scratch.{Scratch}
 use Rattle.flat_core.specs.FlatTree.{FlatStatement, set, branch, FlatStatements, no_flats, flat}
@@ -101,8 +101,8 @@ mutual
   grows_word store t (cell place) n = grows_none n
   grows_word store t (unary o k e) n = grows_both n (word_of store k e n).list _ (grows_word store k e n) (grows_made _ _)
   grows_word store t (chain e os) n = grows_both n (word_of store (first_kind t os) e n).list _ (grows_word store (first_kind t os) e n) (grows_on store (word_of store (first_kind t os) e n).word os (word_of store (first_kind t os) e n).list)
-  grows_word store t (call f k es) n = grows_both n (words_of store (first_operand_kind f k) k es n).list _ (grows_words store (first_operand_kind f k) k es n) (grows_called f k _ _)
-  grows_word store t (answer f es) n = grows_made _ n
+  grows_word store t (call_standard f k es) n = grows_both n (words_of store (first_operand_kind f k) k es n).list _ (grows_words store (first_operand_kind f k) k es n) (grows_called f k _ _)
+  grows_word store t (call_function f es) n = grows_made _ n
 
   pub grows_on : (store : Store) (a : ℕ) (os : Operands) (n : NodeList) → Grows n (word_on store a os n).list
   grows_on store a no_operands n = grows_none n
@@ -130,7 +130,7 @@ grows_tested p old a n =
 pub grows_target : (p : Scratch) (held : Option ℕ) (a : ℕ) (n : NodeList) → Grows n (target_word p held a n).list
 unfolding target_word
 grows_target p None a n = grows_none n
-grows_target p (Some old) a n = by_test p.limited
+grows_target p (Some old) a n = by_test p.is_subrange
   where
     by_test : (test : Bool) → Grows n (if test then tested_word p old a n else taken a n).list
     by_test true = grows_tested p old a n

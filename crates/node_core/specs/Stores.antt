@@ -10,14 +10,14 @@ use Rattle.node_core.specs.Words.{NodeList, Made, Store, word_at, taken, made, f
 
 -- what each place takes: the type of its words, a range, and whether it is a subrange, which takes no others
 abbrev pub of_cell : CellData → Scratch
-of_cell c = record { kind = carrier c.kind; range = c.range; limited = c.limited }
+of_cell c = record { kind = carrier c.kind; range = c.range; is_subrange = c.is_subrange }
 
 abbrev pub places_of : FlatData → List Scratch
 places_of f = map of_cell f.cells ++ f.scratch
 
 -- where there is no place, there is nothing that one takes
 abbrev pub place_at : List Scratch → ℕ → Scratch
-place_at ps place = slice_index_or ps place (record { kind = types.Bool; range = record { low = pos 1; high = pos 0 }; limited = false })
+place_at ps place = slice_index_or ps place (record { kind = types.Bool; range = record { low = pos 1; high = pos 0 }; is_subrange = false })
 
 pub record MadeStore : Type 0 where
   pub store : Store
@@ -40,7 +40,7 @@ tested_word p old a n =
 
 unfoldable pub target_word : Scratch → Option ℕ → ℕ → NodeList → Made
 target_word p None a n = taken a n
-target_word p (Some old) a n = if p.limited then tested_word p old a n else taken a n
+target_word p (Some old) a n = if p.is_subrange then tested_word p old a n else taken a n
 
 -- the word that a place gets
 abbrev pub set_word : List Scratch → ℕ → Expression → Store → NodeList → Made

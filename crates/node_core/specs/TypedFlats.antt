@@ -7,7 +7,7 @@ use Rattle.plc_types.specs.declared.function.Function.{Function}
 use Rattle.plc_types.specs.declared.function.Function.TheVariants as functions
 use Rattle.plc_types.specs.declared.range.Range.{Range}
 use Rattle.plc_types.specs.Types.{range_of, in_range, is_signed}
-use Rattle.program_tree.specs.Tree.{Expression, number, cell, unary, chain, call, answer, Operands, no_operands, operand, Expressions, no_expressions, expression}
+use Rattle.program_tree.specs.Tree.{Expression, number, cell, unary, chain, call_standard, call_function, Operands, no_operands, operand, Expressions, no_expressions, expression}
 use Rattle.meaning.specs.Values.{result_type}
 use Rattle.scan_model.specs.InRange.{BeginsWithFault}
 use Rattle.flat_core.specs.declared.flat_tree.Scratch.{Scratch}
@@ -31,8 +31,8 @@ abbrev mutual
   IsOf ps t (cell place) = (place_at ps place).kind ≡ t
   IsOf ps t (unary o k e) = (k ≡ t) × IsOf ps k e
   IsOf ps t (chain e os) = IsOf ps (first_kind t os) e × Join ps (first_kind t os) t os
-  IsOf ps t (call f k es) = (k ≡ t) × (is_function_for f k ≡ true) × AreOf ps (first_operand_kind f k) k es
-  IsOf ps t (answer f es) = ⊥
+  IsOf ps t (call_standard f k es) = (k ≡ t) × (is_function_for f k ≡ true) × AreOf ps (first_operand_kind f k) k es
+  IsOf ps t (call_function f es) = ⊥
 
   pub Join : List Scratch → Elementary → Elementary → Operands → Type 0
   Join ps left t no_operands = left ≡ t
@@ -65,8 +65,8 @@ abbrev mutual
   stays_in ps (cell place) r = covers r (place_at ps place).range
   stays_in ps (unary o t e) r = covers r (range_of t)
   stays_in ps (chain e os) r = last_stays (stays_in ps e r) os r
-  stays_in ps (call f t es) r = covers r (range_of t) || (covers (range_of t) r && chosen_stay f (each_stays ps es r))
-  stays_in ps (answer f es) r = false
+  stays_in ps (call_standard f t es) r = covers r (range_of t) || (covers (range_of t) r && chosen_stay f (each_stays ps es r))
+  stays_in ps (call_function f es) r = false
 
   pub each_stays : List Scratch → Expressions → Range → List Bool
   each_stays ps no_expressions r = []
@@ -76,7 +76,7 @@ abbrev mutual
 
 -- a place takes an expression
 abbrev pub Takes : List Scratch → Scratch → Expression → Type 0
-Takes ps p e = IsOf ps p.kind e × ((p.limited || stays_in ps e p.range) ≡ true)
+Takes ps p e = IsOf ps p.kind e × ((p.is_subrange || stays_in ps e p.range) ≡ true)
 
 abbrev mutual
   pub IsTypedFlatOver : List Scratch → FlatStatement → Type 0
@@ -97,7 +97,7 @@ IsTypedPlace p = (in_range p.range.low (range_of p.kind) ≡ true) × (in_range 
 pub record IsTypedFlat (f : FlatData) : Type 0 where
   pub flat : IsFlat f
   pub begins_with_fault : BeginsWithFault f.cells
-  pub whole_fault : (place_at (places_of f) 0).limited ≡ false
+  pub whole_fault : (place_at (places_of f) 0).is_subrange ≡ false
   pub places : All IsTypedPlace (places_of f)
   pub statements : AreTypedFlatOver (places_of f) f.body
 

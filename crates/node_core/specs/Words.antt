@@ -7,7 +7,7 @@ use Rattle.plc_types.specs.declared.function.Function.{Function}
 use Rattle.plc_types.specs.declared.function.Function.TheVariants as functions
 use Rattle.plc_types.specs.declared.operator.Operator.{Operator}
 use Rattle.plc_types.specs.declared.operator.Operator.TheVariants.{Or}
-use Rattle.program_tree.specs.Tree.{Expression, number, cell, unary, chain, call, answer, Operands, no_operands, operand, Expressions, no_expressions, expression}
+use Rattle.program_tree.specs.Tree.{Expression, number, cell, unary, chain, call_standard, call_function, Operands, no_operands, operand, Expressions, no_expressions, expression}
 use Rattle.meaning.specs.Values.{divides}
 use Rattle.node_core.specs.Sources.{source_of}
 use Rattle.node_core.specs.declared.node.Node.{Node}
@@ -121,10 +121,10 @@ abbrev mutual
   word_of store t (chain e os) n =
       let m = word_of store (first_kind t os) e n in
       word_on store m.word os m.list
-  word_of store t (call f k es) n =
+  word_of store t (call_standard f k es) n =
       let m = words_of store (first_operand_kind f k) k es n in
       called_word f k m.words m.list
-  word_of store t (answer f es) n = nothing t n
+  word_of store t (call_function f es) n = nothing t n
 
   -- operands are joined from left to right
   pub word_on : Store → ℕ → Operands → NodeList → Made

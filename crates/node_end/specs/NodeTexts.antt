@@ -2,7 +2,7 @@
 use Rattle.std.specs.Prelude.{◌≡◌, ℕ, List, false, IsTrue}
 use Rattle.program_tree.specs.Tree.{ProgramData}
 use Rattle.flat_form.specs.FlatPrograms.{flat_program, is_short}
-use Rattle.flat_end.specs.Texts.{IsProgram}
+use Rattle.flat_end.specs.Texts.{StatesProgram}
 use Rattle.flat_end.specs.FlatTexts.{HasNoFlatForm}
 use Rattle.node_core.specs.Scans.{is_small}
 use Rattle.node_end.specs.declared.fault.AcceptFault.{AcceptFault}
@@ -11,7 +11,7 @@ use Rattle.node_end.specs.declared.fault.AcceptFault.TheVariants.{Refused, TooMa
 -- A text states a program with few flat statements, whose scan has more than 1,000,000 nodes (M6).
 pub record HasManyNodes (text : List ℕ) : Type 0 where
   pub program : ProgramData
-  pub is : IsProgram text program
+  pub is : StatesProgram text program
   pub short : IsTrue (is_short program)
   pub many : is_small (flat_program program) ≡ false
 

@@ -7,7 +7,7 @@ use Rattle.plc_types.specs.declared.function.Function.{Function}
 use Rattle.plc_types.specs.declared.function.Function.TheVariants as functions
 use Rattle.plc_types.specs.declared.range.Range.{Range}
 use Rattle.plc_types.specs.Types.{range_of, in_range}
-use Rattle.program_tree.specs.Tree.{Expression, number, cell, unary, chain, call, answer, Operands, no_operands, operand, Expressions, no_expressions, expression}
+use Rattle.program_tree.specs.Tree.{Expression, number, cell, unary, chain, call_standard, call_function, Operands, no_operands, operand, Expressions, no_expressions, expression}
 use Rattle.meaning.specs.Values.{State, number_of, is_truth, selected, unary_applied, applied, result_type, divides_by_zero, called, function_result, no_callees, value_of, value_on, values_of, faults, any_faults, one_faults}
 use Rattle.flat_core.specs.declared.flat_tree.Scratch.{Scratch}
 use Rattle.flat_core.specs.FlatRules.{Reads, AllRead, EachReads}
@@ -86,13 +86,13 @@ module _ (val : ℕ → ℤ) (ps : List Scratch) (store : Store) (s : State) (P 
     stays (cell place) r h reads = subst (λ (v : ℤ). in_range v r ≡ true) (sym (at place reads)) (covers-in r (place_at ps place).range _ h (known place reads).inside)
     stays (unary o t e) r h reads = covers-in r (range_of t) (unary_applied o t (value_of no_callees 0 e s)) h (wrapped-in t _)
     stays (chain e os) r h reads = last_in (stays_in ps e r) (value_of no_callees 0 e s) os r (λ c. stays e r c reads.0) h
-    stays (call f t es) r h reads =
+    stays (call_standard f t es) r h reads =
         let vs = values_of no_callees 0 es s in
         let all = stays_each es r reads in
         by_either (covers r (range_of t)) (covers (range_of t) r) (chosen_stay f (each_stays ps es r)) h
         (λ c. covers-in r (range_of t) (called f t vs) c (wrapped-in t _))
         (λ c d. let is = chosen-in r f t (each_stays ps es r) vs all d in subst (λ v. in_range v r ≡ true) (sym (wrapped-same t (function_result f t vs) (covers-in (range_of t) r (function_result f t vs) c is))) is)
-    stays (answer f es) r h reads = absurd reads
+    stays (call_function f es) r h reads = absurd reads
 
     stays_each : (es : Expressions) (r : Range) → EachReads P es → AllIn r (each_stays ps es r) (values_of no_callees 0 es s)
     stays_each no_expressions r reads = tt
@@ -110,8 +110,8 @@ module _ (val : ℕ → ℤ) (ps : List Scratch) (store : Store) (s : State) (P 
       subst (λ (v : ℤ). in_range v (range_of t) ≡ true) (sym (at place reads)) (subst (λ (k : Elementary). in_range (slice_index_or s place (pos 0)) (range_of k) ≡ true) is (known place reads).typed)
   fits (unary o k e) t is reads = subst (λ (j : Elementary). in_range (unary_applied o k (value_of no_callees 0 e s)) (range_of j) ≡ true) is.0 (wrapped-in k _)
   fits (chain e os) t is reads = fits_on os (first_kind t os) t (value_of no_callees 0 e s) is.1 (fits e (first_kind t os) is.0 reads.0)
-  fits (call f k es) t is reads = subst (λ (j : Elementary). in_range (called f k (values_of no_callees 0 es s)) (range_of j) ≡ true) is.0 (wrapped-in k _)
-  fits (answer f es) t is reads = absurd reads
+  fits (call_standard f k es) t is reads = subst (λ (j : Elementary). in_range (called f k (values_of no_callees 0 es s)) (range_of j) ≡ true) is.0 (wrapped-in k _)
+  fits (call_function f es) t is reads = absurd reads
 
   pub fit_all : (es : Expressions) (first others : Elementary) → AreOf ps first others es → EachReads P es → Fit first others (values_of no_callees 0 es s)
   fit_all no_expressions first others are reads = fit_none first others
@@ -143,13 +143,13 @@ module _ (val : ℕ → ℤ) (ps : List Scratch) (store : Store) (s : State) (P 
           word = rest.word ∙ ap (λ (v : ℤ). value_on no_callees 0 v os s) first.word;
           fault = rest.fault ∙ ap number_of (or_assoc b (faults no_callees 0 e s) (any_faults no_callees 0 os s));
         }
-    gives (call f k es) t n b is reads h is_b =
+    gives (call_standard f k es) t n b is reads h is_b =
         let m = words_of store (first_operand_kind f k) k es n in
         let held = hold_before val m.list (called_word f k m.words m.list).list (grows_called f k m.words m.list) h in
         let all = gives_all es (first_operand_kind f k) k n b is.2 reads held is_b in
         let whole = gives_called val f k m.words m.list (b || one_faults no_callees 0 es s) (subst (λ vs. Fit (first_operand_kind f k) k vs) (sym all.each) (fit_all es (first_operand_kind f k) k is.2 reads)) h all.fault in
         record { word = whole.word ∙ ap (called f k) all.each; fault = whole.fault }
-    gives (answer f es) t n b is reads h is_b = absurd reads
+    gives (call_function f es) t n b is reads h is_b = absurd reads
 
     gives_on : (os : Operands) (left t : Elementary) (a : ℕ) (n : NodeList) (b : Bool) → Join ps left t os → AllRead P os → Hold val (word_on store a os n).list → val n.fault ≡ number_of b
         → Gives val (word_on store a os n) (value_on no_callees 0 (val a) os s) (b || any_faults no_callees 0 os s)

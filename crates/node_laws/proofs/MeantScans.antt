@@ -61,7 +61,7 @@ range_at-in (r ∷ rs) [] place h is = absurd is
 range_at-in (r ∷ rs) (v ∷ s) zero h is = within v r.low r.high is.0 is.1
 range_at-in (r ∷ rs) (v ∷ s) (suc place) h is = range_at-in rs s place (omega arith) is.2
 
-fault_first : (cells : List CellData) (cs : List Scratch) → BeginsWithFault cells → (place_at (map of_cell cells ++ cs) 0).limited ≡ false → FaultFirst (map of_cell cells ++ cs) (length cells)
+fault_first : (cells : List CellData) (cs : List Scratch) → BeginsWithFault cells → (place_at (map of_cell cells ++ cs) 0).is_subrange ≡ false → FaultFirst (map of_cell cells ++ cs) (length cells)
 fault_first [] cs begins whole = absurd begins
 fault_first (c ∷ cells) cs begins whole = record {
   some = omega arith;

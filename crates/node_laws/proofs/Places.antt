@@ -7,14 +7,14 @@ use Rattle.std.proofs.lemmas.List.{length-map, length-set, get_or-set_same, get_
 use Rattle.plc_types.specs.declared.elementary.Elementary.TheVariants as types
 use Rattle.plc_types.specs.declared.range.Range.{Range}
 use Rattle.plc_types.specs.Types.{range_of, in_range}
-use Rattle.program_tree.specs.Tree.{Expression, number, cell, unary, chain, call, answer, CellData}
+use Rattle.program_tree.specs.Tree.{Expression, number, cell, unary, chain, call_standard, call_function, CellData}
 use Rattle.meaning.specs.Values.{State, number_of, is_truth, no_callees, value_of}
 use Rattle.meaning.specs.Effects.{range_at, with_fault, stored}
 use Rattle.scan_model.specs.Scans.{ranges_of}
 use Rattle.flat_core.specs.declared.flat_tree.Scratch.{Scratch}
 use Rattle.flat_core.specs.FlatTree.{FlatStatement, set, branch}
 use Rattle.flat_core.specs.FlatScans.{takes, placed}
-use Rattle.flat_core.specs.FlatRules.{IsReadable, is_limited, IsTakenNumber, MaySet, set_behind}
+use Rattle.flat_core.specs.FlatRules.{IsReadable, has_subrange, IsTakenNumber, MaySet, set_behind}
 use Rattle.node_core.specs.Words.{Store, word_at}
 use Rattle.node_core.specs.Stores.{of_cell, place_at, with_word}
 use Rattle.node_core.specs.TypedFlats.{IsTypedPlace}
@@ -33,11 +33,11 @@ typed_at ps place v typed h = by_place (nat_lt place (length ps)) refl
     by_place : (test : Bool) → nat_lt place (length ps) ≡ test → in_range v (range_of (place_at ps place).kind) ≡ true
     by_place true e =
         let below : place < length ps = search (rules, tests) in
-        let is = typed place (record { kind = types.Bool; range = record { low = pos 1; high = pos 0 }; limited = false }) below in
+        let is = typed place (record { kind = types.Bool; range = record { low = pos 1; high = pos 0 }; is_subrange = false }) below in
         between-in (range_of (place_at ps place).kind) (place_at ps place).range v is.0 is.1 h
     by_place false e =
         let above : length ps ≤ place = search (rules, tests) in
-        let none = get_or_past ps place (record { kind = types.Bool; range = record { low = pos 1; high = pos 0 }; limited = false }) above in
+        let none = get_or_past ps place (record { kind = types.Bool; range = record { low = pos 1; high = pos 0 }; is_subrange = false }) above in
         absurd (nowhere v (subst (λ (p : Scratch). in_range v p.range ≡ true) none h))
 
 pub range_below : (cells : List CellData) (cs : List Scratch) (place : ℕ) → place < length cells → (place_at (map of_cell cells ++ cs) place).range ≡ range_at (ranges_of cells) place
@@ -48,21 +48,21 @@ range_below (c ∷ cells) cs (suc place) h = range_below cells cs place (omega a
 place_above : (cells : List CellData) (cs : List Scratch) (i : ℕ) → place_at (map of_cell cells ++ cs) (length cells + i) ≡ place_at cs i
 place_above cells cs i =
     ap (λ n. place_at (map of_cell cells ++ cs) (n + i)) (sym (length-map cells of_cell))
-    ∙ get_or-append-add (map of_cell cells) cs i (record { kind = types.Bool; range = record { low = pos 1; high = pos 0 }; limited = false })
+    ∙ get_or-append-add (map of_cell cells) cs i (record { kind = types.Bool; range = record { low = pos 1; high = pos 0 }; is_subrange = false })
 
-takes_at : (cs : List Scratch) (i : ℕ) (v : ℤ) → i < length cs → takes cs i v ≡ (not (place_at cs i).limited || in_range v (place_at cs i).range)
+takes_at : (cs : List Scratch) (i : ℕ) (v : ℤ) → i < length cs → takes cs i v ≡ (not (place_at cs i).is_subrange || in_range v (place_at cs i).range)
 takes_at [] i v h = absurd (omega arith)
 takes_at (c ∷ cs) zero v h = refl
 takes_at (c ∷ cs) (suc i) v h = takes_at cs i v (omega arith)
 
-limited_at : (cs : List Scratch) (i : ℕ) → is_limited cs i ≡ (place_at cs i).limited
+limited_at : (cs : List Scratch) (i : ℕ) → has_subrange cs i ≡ (place_at cs i).is_subrange
 limited_at [] i = refl
 limited_at (c ∷ cs) zero = refl
 limited_at (c ∷ cs) (suc i) = limited_at cs i
 
 -- a place takes a value; where it does not, that is a fault
 unfoldable pub may_take : Scratch → ℤ → Bool
-may_take p v = not p.limited || in_range v p.range
+may_take p v = not p.is_subrange || in_range v p.range
 
 unfoldable pub put : Scratch → ℕ → ℤ → State → State
 put p place v s = if may_take p v then slice_set s place v else slice_set s 0 (pos 1)
@@ -72,7 +72,7 @@ module _ (cells : List CellData) (cs : List Scratch) where
   ps = map of_cell cells ++ cs
 
   -- an assignment of a value that lies in the range, or to a subrange
-  pub placed_is : (place : ℕ) (v : ℤ) (s : State) → place < length cells + length cs → ((place_at (map of_cell cells ++ cs) place).limited || in_range v (place_at (map of_cell cells ++ cs) place).range) ≡ true
+  pub placed_is : (place : ℕ) (v : ℤ) (s : State) → place < length cells + length cs → ((place_at (map of_cell cells ++ cs) place).is_subrange || in_range v (place_at (map of_cell cells ++ cs) place).range) ≡ true
       → placed (ranges_of cells) cs place v s ≡ put (place_at (map of_cell cells ++ cs) place) place v s
   unfolding put may_take
   placed_is place v s low h = by_place (nat_lt place (length (ranges_of cells))) refl
@@ -89,15 +89,15 @@ module _ (cells : List CellData) (cs : List Scratch) where
       by_cell false false x y h = cc
 
       by_place : (test : Bool) → nat_lt place (length (ranges_of cells)) ≡ test
-          → (if test then stored (ranges_of cells) place v s else (if takes cs (place - length (ranges_of cells)) v then slice_set s place v else slice_set s 0 (pos 1))) ≡ (if not p.limited || in_range v p.range then slice_set s place v else slice_set s 0 (pos 1))
+          → (if test then stored (ranges_of cells) place v s else (if takes cs (place - length (ranges_of cells)) v then slice_set s place v else slice_set s 0 (pos 1))) ≡ (if not p.is_subrange || in_range v p.range then slice_set s place v else slice_set s 0 (pos 1))
       by_place true e =
           let below : place < length (ranges_of cells) = search (rules, tests) in
-          ap (λ (r : Range). if in_range v r then slice_set s place v else slice_set s 0 (pos 1)) (sym (range_below cells cs place (omega (arith, same)))) ∙ by_cell p.limited (in_range v p.range) _ _ h
+          ap (λ (r : Range). if in_range v r then slice_set s place v else slice_set s 0 (pos 1)) (sym (range_below cells cs place (omega (arith, same)))) ∙ by_cell p.is_subrange (in_range v p.range) _ _ h
       by_place false e =
           let above : length (ranges_of cells) ≤ place = search (rules, tests) in
           let i : place ≡ length cells + (place - length (ranges_of cells)) = omega (arith, same) in
           let is : p ≡ place_at cs (place - length (ranges_of cells)) = ap (place_at ps) i ∙ place_above cells cs (place - length (ranges_of cells)) in
-          ap (λ (b : Bool). if b then slice_set s place v else slice_set s 0 (pos 1)) (takes_at cs (place - length (ranges_of cells)) v (omega (arith, same)) ∙ ap (λ (q : Scratch). not q.limited || in_range v q.range) (sym is))
+          ap (λ (b : Bool). if b then slice_set s place v else slice_set s 0 (pos 1)) (takes_at cs (place - length (ranges_of cells)) v (omega (arith, same)) ∙ ap (λ (q : Scratch). not q.is_subrange || in_range v q.range) (sym is))
 
   -- what may be set takes the value, or may be read already
   pub taken_or_readable : (done : List ℕ) (place : ℕ) (e : Expression) (s : State) → place < length cells + length cs → MaySet (length cells) cs done place e
@@ -114,22 +114,22 @@ module _ (cells : List CellData) (cs : List Scratch) where
       number_takes (cell place) h = absurd h
       number_takes (unary o t e) h = absurd h
       number_takes (chain e os) h = absurd h
-      number_takes (call f t es) h = absurd h
-      number_takes (answer f es) h = absurd h
+      number_takes (call_standard f t es) h = absurd h
+      number_takes (call_function f es) h = absurd h
 
-      by_place : (test : Bool) → nat_lt place (length cells) ≡ test → (is_limited cs i ≡ false) ⊎ IsTakenNumber cs i e
-          → ((not (place_at ps place).limited || in_range (value_of no_callees 0 e s) (place_at ps place).range) ≡ true) ⊎ IsReadable (length cells) done place
+      by_place : (test : Bool) → nat_lt place (length cells) ≡ test → (has_subrange cs i ≡ false) ⊎ IsTakenNumber cs i e
+          → ((not (place_at ps place).is_subrange || in_range (value_of no_callees 0 e s) (place_at ps place).range) ≡ true) ⊎ IsReadable (length cells) done place
       by_place true h or_free = inr (inl (search (rules, tests)))
       by_place false h (inl free) =
           let above : length cells ≤ place = search (rules, tests) in
           let is : place ≡ length cells + i = omega arith in
           let at : place_at ps place ≡ place_at cs i = ap (place_at ps) is ∙ place_above cells cs i in
-          inl (ap (λ (b : Bool). not b || in_range (value_of no_callees 0 e s) (place_at ps place).range) (ap (λ (q : Scratch). q.limited) at ∙ sym (limited_at cs i) ∙ free))
+          inl (ap (λ (b : Bool). not b || in_range (value_of no_callees 0 e s) (place_at ps place).range) (ap (λ (q : Scratch). q.is_subrange) at ∙ sym (limited_at cs i) ∙ free))
       by_place false h (inr taken) =
           let above : length cells ≤ place = search (rules, tests) in
           let is : place ≡ length cells + i = omega arith in
           let at : place_at ps place ≡ place_at cs i = ap (place_at ps) is ∙ place_above cells cs i in
-          inl (ap (λ (q : Scratch). not q.limited || in_range (value_of no_callees 0 e s) q.range) at ∙ sym (takes_at cs i (value_of no_callees 0 e s) (omega arith)) ∙ number_takes e taken)
+          inl (ap (λ (q : Scratch). not q.is_subrange || in_range (value_of no_callees 0 e s) q.range) at ∙ sym (takes_at cs i (value_of no_callees 0 e s) (omega arith)) ∙ number_takes e taken)
 
 -- ---- stores of words that show states
 
@@ -212,7 +212,7 @@ pub record FaultFirst (ps : List Scratch) (n : ℕ) : Type 0 where
   pub some : 0 < n
   pub few : n ≤ length ps
   pub range : (place_at ps 0).range ≡ range_of types.Bool
-  pub whole : (place_at ps 0).limited ≡ false
+  pub whole : (place_at ps 0).is_subrange ≡ false
 
 module _ (val : ℕ → ℤ) (ps : List Scratch) (n : ℕ) (first : FaultFirst ps n) where
   unfoldable pub fault_at : State → Bool

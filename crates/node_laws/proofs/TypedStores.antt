@@ -109,7 +109,7 @@ module _ (ts : List Elementary) (ps : List Scratch) where
       → Makes ts (target_word p held a n) p.kind
   unfolding target_word
   makes_target p None a n place typed fault of_held of_a = record { typed = typed; word = of_a; fault = fault }
-  makes_target p (Some old) a n place typed fault of_held of_a = by_test p.limited
+  makes_target p (Some old) a n place typed fault of_held of_a = by_test p.is_subrange
     where
       by_test : (test : Bool) → Makes ts (if test then tested_word p old a n else taken a n) p.kind
       by_test true = makes_tested p old a n place typed fault (of_held old refl) of_a

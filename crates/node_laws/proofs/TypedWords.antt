@@ -9,7 +9,7 @@ use Rattle.plc_types.specs.declared.function.Function.TheVariants as functions
 use Rattle.plc_types.specs.declared.operator.Operator.{Operator}
 use Rattle.plc_types.specs.declared.operator.Operator.TheVariants as ops
 use Rattle.plc_types.specs.Types.{is_signed}
-use Rattle.program_tree.specs.Tree.{Expression, number, cell, unary, chain, call, answer, Operands, no_operands, operand, Expressions, no_expressions, expression}
+use Rattle.program_tree.specs.Tree.{Expression, number, cell, unary, chain, call_standard, call_function, Operands, no_operands, operand, Expressions, no_expressions, expression}
 use Rattle.meaning.specs.Values.{divides, result_type}
 use Rattle.flat_core.specs.declared.flat_tree.Scratch.{Scratch}
 use Rattle.flat_core.specs.FlatRules.{Reads, AllRead, EachReads}
@@ -232,11 +232,11 @@ module _ (ts : List Elementary) where
           let m = word_of store (first_kind t os) e n in
           let one = makes e (first_kind t os) n is.0 reads.0 reading typed fault in
           makes_on os (first_kind t os) t m.word m.list is.1 reads.1 (reading_later n m.list (grows_word store (first_kind t os) e n) reading) one.typed one.fault one.word
-      makes (call f k es) t n is reads reading typed fault =
+      makes (call_standard f k es) t n is reads reading typed fault =
           let m = words_of store (first_operand_kind f k) k es n in
           let all = makes_all es (first_operand_kind f k) k n is.2 reads reading typed fault in
           as_kind _ k t is.0 (makes_called k f m.words m.list is.1 all.typed all.fault all.words)
-      makes (answer f es) t n is reads reading typed fault = absurd reads
+      makes (call_function f es) t n is reads reading typed fault = absurd reads
 
       makes_on : (os : Operands) (left t : Elementary) (a : ℕ) (n : NodeList) → Join ps left t os → AllRead P os → Reading n → Typed ts n → IsWordOf (all_kinds ts n.nodes) types.Bool n.fault → IsWordOf (all_kinds ts n.nodes) left a → Makes ts (word_on store a os n) t
       makes_on no_operands left t a n join reads reading typed fault of_a = record { typed = typed; word = subst (λ k. IsWordOf (all_kinds ts n.nodes) k a) join of_a; fault = fault }

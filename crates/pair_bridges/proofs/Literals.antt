@@ -30,7 +30,7 @@ enumeration_same (kinds.Elementary k) = refl
 enumeration_same kinds.Unknown = refl
 
 bounded_same : (c : CellData) → (shape_of c).bounded ≡ meant.is_bounded c
-bounded_same c = ap (λ (b : Bool). c.limited || b) (enumeration_same c.kind)
+bounded_same c = ap (λ (b : Bool). c.is_subrange || b) (enumeration_same c.kind)
 
 -- one cell's literal, if it has one
 abbrev one_of : Bool → Made → Netlist → made.MadeLiterals

@@ -17,7 +17,7 @@ is_enumeration kinds.Unknown = false
 
 -- A subrange and an enumeration are bounded: a word of their width can have other values.
 abbrev pub shape_of : CellData → CellShape
-shape_of c = record { kind = carrier c.kind; bounded = c.limited || is_enumeration c.kind; range = c.range; initial = c.initial }
+shape_of c = record { kind = carrier c.kind; bounded = c.is_subrange || is_enumeration c.kind; range = c.range; initial = c.initial }
 
 abbrev pub shapes_of : List CellData → List CellShape
 shapes_of cells = map shape_of cells

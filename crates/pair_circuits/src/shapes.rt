@@ -29,7 +29,7 @@ fn shape(cell: &Cell) -> CellShape
 {
     CellShape {
         kind: cell.kind.carrier(),
-        bounded: cell.limited || is_enumeration(cell.kind),
+        bounded: cell.is_subrange || is_enumeration(cell.kind),
         range: cell.range,
         initial: cell.initial,
     }

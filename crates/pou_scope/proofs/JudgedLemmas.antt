@@ -9,14 +9,14 @@ use Rattle.rules.specs.declared.outcome.Outcome.{Outcome}
 use Rattle.naming.specs.Broken.{variables_twice, in_declarations, in_body, in_pou_scope}
 use Rattle.naming.specs.Circles.{blocks_used, calls_in_body, uses_in}
 use Rattle.naming.specs.FileScope.{pous_of, pou_at, is_program}
-use Rattle.rules.specs.Judgements.{also}
+use Rattle.rules.specs.Judgements.{and}
 use Rattle.pou_scope.specs.NamesView.{scope_named, pous_named, scopes_named, seens_named, seen_by, AreNamesOf}
 use Rattle.pou_scope.specs.AllSeen.{all_seen, seen_in}
 use Rattle.pou_scope.proofs.SeenLemmas.{seen_by_is}
 use Rattle.rules.specs.Outcomes.{outcome_of, both}
 use Rattle.naming.specs.Scopes.{Variable, PouScope, scope_of, variables_in_pou, seen_named}
 use Rattle.naming.specs.ScopeView.{variables_view}
-use Rattle.rules.proofs.Outcomes.{outcome_also}
+use Rattle.rules.proofs.Outcomes.{outcome_and}
 
 pub pou_judged : (f : FileData) (p : PouScope) (body : BodyData) (a b d : Outcome) → a ≡ outcome_of (variables_twice p.has_fault [] p.variables) → b ≡ both a (outcome_of (in_declarations f p 0 p.variables))
     → d ≡ both b (outcome_of (in_body f p body)) → d ≡ outcome_of (in_pou_scope f p body)
@@ -24,8 +24,8 @@ unfolding in_pou_scope
 pou_judged f p body a b d once declared inner =
     let front = variables_twice p.has_fault [] p.variables in
     let middle = in_declarations f p 0 p.variables in
-    let two : b ≡ outcome_of (also front middle) = declared ∙ ap (λ o. both o (outcome_of middle)) once ∙ outcome_also front middle in
-    inner ∙ ap (λ o. both o (outcome_of (in_body f p body))) two ∙ outcome_also (also front middle) (in_body f p body)
+    let two : b ≡ outcome_of (and front middle) = declared ∙ ap (λ o. both o (outcome_of middle)) once ∙ outcome_and front middle in
+    inner ∙ ap (λ o. both o (outcome_of (in_body f p body))) two ∙ outcome_and (and front middle) (in_body f p body)
 
 pub scope_is : (n : NamesOfPou) (p : PouData) → n.has_fault ≡ is_program p.kind → variables_view n.variables.items ≡ variables_in_pou p → scope_named n ≡ scope_of p
 scope_is n p fault variables =

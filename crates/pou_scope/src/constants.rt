@@ -2,7 +2,7 @@
 ghost use Rattle.std.specs.Prelude.{◌≡◌, option_map};
 ghost use Rattle.source_tree.specs.SyntaxView.{name_view, tree_view, type_view, initial_view};
 ghost use Rattle.naming.specs.Broken.{in_named_type, in_type, in_kind, in_value, in_constant, in_constant_if, in_declared_constant, in_initial, in_declaration};
-ghost use Rattle.rules.specs.Judgements.{also};
+ghost use Rattle.rules.specs.Judgements.{and};
 ghost use Rattle.rules.specs.Outcomes.{outcome_of};
 ghost use Rattle.naming.specs.Scopes.{seen_named};
 ghost use Rattle.naming.specs.ScopeView.{variable_view};
@@ -93,12 +93,12 @@ impl Names<'_, '_> {
     }
 
     // The bounds in the declaration of a number.
-    #[tactic(auto, using(rules::proofs::Outcomes::outcome_also))]
+    #[tactic(auto, using(rules::proofs::Outcomes::outcome_and))]
     fn bounds(&self, user: usize, bounds: &Bounds) -> Outcome
-        ensures { result ≡ outcome_of (also (in_declared_constant (file_in self.now) (pou_in self.now) user (tree_view bounds.now.low)) (in_declared_constant (file_in self.now) (pou_in self.now) user (tree_view bounds.now.high))) }
+        ensures { result ≡ outcome_of (and (in_declared_constant (file_in self.now) (pou_in self.now) user (tree_view bounds.now.low)) (in_declared_constant (file_in self.now) (pou_in self.now) user (tree_view bounds.now.high))) }
     {
         let low = self.declared_constant(user, &bounds.low);
-        low.also(self.declared_constant(user, &bounds.high))
+        low.and(self.declared_constant(user, &bounds.high))
     }
 
     // The type of a variable by name.
@@ -140,11 +140,11 @@ impl Names<'_, '_> {
     }
 
     /// The declaration of a number.
-    #[tactic(auto, using(rules::proofs::Outcomes::outcome_also))]
+    #[tactic(auto, using(rules::proofs::Outcomes::outcome_and))]
     pub fn declaration(&self, user: usize, variable: &Declared<'_>) -> Outcome
         ensures { result ≡ outcome_of (in_declaration (file_in self.now) (pou_in self.now) user (variable_view variable.now)) }
     {
         let kind = self.kind_of(user, variable);
-        kind.also(self.initial(user, variable.initial))
+        kind.and(self.initial(user, variable.initial))
     }
 }

@@ -17,7 +17,7 @@ pub fn walk_declarations(names: &Names<'_, '_>, outcome: &mut Outcome)
     ensures { outcome.new ≡ both outcome.old (outcome_of (in_declarations (file_in names.now) (pou_in names.now) 0 (pou_in names.now).variables)) }
 {
     for (number, variable) in names.own.variables.iter().enumerate() {
-        *outcome = outcome.also(names.declaration(number, variable));
+        *outcome = outcome.and(names.declaration(number, variable));
     }
 }
 

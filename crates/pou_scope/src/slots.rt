@@ -108,7 +108,7 @@ pub fn slots(
     for (place, variable) in variables.iter().enumerate() {
         let name = variable.name;
         let known = slot_at(&slots, name.text.as_str());
-        outcome = outcome.also(declared_twice(has_fault, known, name));
+        outcome = outcome.and(declared_twice(has_fault, known, name));
         let slot = entered(has_fault, variable, place + 1, known);
         slots.insert(name.text.clone()?, slot)?;
     }

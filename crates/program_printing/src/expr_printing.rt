@@ -28,12 +28,12 @@ pub fn print_expr(
             print_expr(first, names, alloc, text)?;
             print_operands(operands, names, alloc, text)
         }
-        TypedExpr::Call(function, kind, operands) => {
+        TypedExpr::CallStandard(function, kind, operands) => {
             print_function(*function, *kind, alloc, text)?;
             print_expressions(operands, names, alloc, text)?;
             text.push_str(")")
         }
-        TypedExpr::Answer(number, inputs) => {
+        TypedExpr::CallFunction(number, inputs) => {
             text.push_str(format!(in alloc; "call {number}(")?.as_str())?;
             print_expressions(inputs, names, alloc, text)?;
             text.push_str(")")

@@ -8,7 +8,7 @@ pub fn print_flat(alloc: Global, flat: &Flat) -> Result<String, AllocError> {
     let mut text = String::new(alloc);
     for scratch in &flat.scratch {
         text.push_str(kind_name(scratch.kind))?;
-        text.push_str(if scratch.limited { "! " } else { " " })?;
+        text.push_str(if scratch.is_subrange { "! " } else { " " })?;
     }
     text.push_str("|")?;
     print_all(&flat.body, alloc, &mut text)?;

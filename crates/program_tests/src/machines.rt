@@ -2,7 +2,7 @@
 ghost use Rattle.std.specs.Prelude.{◌≡◌, IsTrue, IfOk};
 ghost use Rattle.program_tree.specs.View.{program_view, cells_view};
 ghost use Rattle.scan_model.specs.Scans.{ranges_of};
-ghost use Rattle.scan_model.specs.InRange.{IsInRange, IsProgram};
+ghost use Rattle.scan_model.specs.InRange.{IsInRange, IsFitToRun};
 ghost use Rattle.scan_replay.specs.Duos.{AreComparable};
 
 use crate::comparison::{Comparison, compared};
@@ -22,7 +22,7 @@ const RELATION: &str =
 
 // Whether a program's cells may have these values.
 fn fits(alloc: Global, program: &Program, values: &[i64]) -> Result<bool, AllocError>
-    requires { IsProgram (program_view program.now) }
+    requires { IsFitToRun (program_view program.now) }
     ensures { IfOk result (λ yes. IsTrue yes → IsInRange (ranges_of (cells_view program.now.cells.items)) values.now) }
 {
     let machine = Machine::new(alloc, program)?;

@@ -94,10 +94,10 @@ fn cells_of_declared_types(rt: HostRuntime) -> Result<(), Fail> {
         (int, -32768, 32767, 0, false),
     ];
     assert_eq!(rt; program.cells.len(), 4);
-    for (cell, (kind, low, high, initial, limited)) in program.cells.iter().skip(1).zip(rows) {
+    for (cell, (kind, low, high, initial, is_subrange)) in program.cells.iter().skip(1).zip(rows) {
         assert_eq!(rt; cell.kind, kind);
         assert_eq!(rt; cell.range, Range { low, high });
-        assert_eq!(rt; (cell.initial, cell.limited), (initial, limited));
+        assert_eq!(rt; (cell.initial, cell.is_subrange), (initial, is_subrange));
     }
     assert_eq!(rt; program.types.len(), 2);
     for (names, count) in program.types.iter().zip([0, 3]) {

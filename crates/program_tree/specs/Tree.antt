@@ -14,16 +14,16 @@ use Rattle.program_tree.specs.declared.typed.Turns.{Turns}
 use Rattle.program_tree.specs.declared.typed.StepCells.{StepCells}
 use Rattle.program_tree.specs.declared.typed.Association.{Association}
 
--- expressions, operands of one level that are joined from left to right, and the operands of a function; an answer is that of a
--- FUNCTION, by its number among the POUs that may be called, for the values of its inputs in declared order
+-- expressions, operands of one level that are joined from left to right, and the operands of a standard function; a call of a
+-- FUNCTION names it by its number among the POUs that may be called, and has the values of its inputs in declared order
 mutual
   pub data Expression : Type 0 where
     number : ℤ → Expression
     cell : ℕ → Expression
     unary : UnaryOperator → Elementary → Expression → Expression
     chain : Expression → Operands → Expression
-    call : Function → Elementary → Expressions → Expression
-    answer : ℕ → Expressions → Expression
+    call_standard : Function → Elementary → Expressions → Expression
+    call_function : ℕ → Expressions → Expression
 
   pub data Operands : Type 0 where
     no_operands : Operands
@@ -39,14 +39,14 @@ pub record TransitionData : Type 0 where
   pub to : List ℕ
   pub condition : Expression
 
--- statements: an assignment, a run of a FUNCTION_BLOCK's body, by its number, over the cells of an instance, which begin at a place,
+-- statements: an assignment, a call of a block, which runs the body of a FUNCTION_BLOCK, by its number, over the cells of an instance, which begin at a place,
 -- an IF with its conditions and what runs where none is TRUE, a CASE with the type of its selector, its entries and what runs where none fits, a FOR by its
 -- turns, and a chart, with its steps and actions in the order of the text and its transitions in the order in which they fire. An
 -- action has the cell of its latch, where it has one, its associations with steps, and its statements.
 mutual
   pub data Statement : Type 0 where
     assign : ℕ → Expression → Statement
-    run : ℕ → ℕ → Statement
+    call_block : ℕ → ℕ → Statement
     choice : Choices → Statements → Statement
     cases : Elementary → Expression → Entries → Statements → Statement
     repeat : Turns → Statements → Statement
@@ -74,7 +74,7 @@ pub record CellData : Type 0 where
   pub part : Part
   pub kind : DataType
   pub range : Range
-  pub limited : Bool
+  pub is_subrange : Bool
   pub initial : ℤ
 
 -- A POU that may be called: the body of a FUNCTION_BLOCK, over the cells of an instance, from place 0 on; or the cells of a

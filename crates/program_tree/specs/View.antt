@@ -20,7 +20,7 @@ use Rattle.program_tree.specs.declared.typed.Cell.{Cell}
 use Rattle.program_tree.specs.declared.typed.Called.{Called}
 use Rattle.program_tree.specs.declared.typed.Called.TheVariants as called
 use Rattle.program_tree.specs.declared.typed.Program.{Program}
-use Rattle.program_tree.specs.Tree.{Expression, number, cell, unary, chain, call, answer, Operands, no_operands, operand, Expressions, no_expressions, expression, TransitionData, Statement, assign, run, choice, cases, repeat, chart, Statements, no_statements, statement, Choices, no_choices, choose, Entries, no_entries, entry, Actions, no_actions, action, CellData, CalledData, block, function, ProgramData}
+use Rattle.program_tree.specs.Tree.{Expression, number, cell, unary, chain, call_standard, call_function, Operands, no_operands, operand, Expressions, no_expressions, expression, TransitionData, Statement, assign, call_block, choice, cases, repeat, chart, Statements, no_statements, statement, Choices, no_choices, choose, Entries, no_entries, entry, Actions, no_actions, action, CellData, CalledData, block, function, ProgramData}
 
 -- an operator, the type of its operands, and its right operand
 abbrev pub OperandData : Type 0
@@ -39,8 +39,8 @@ expr_step (TypedExpr-F.Number value) = number value
 expr_step (TypedExpr-F.Cell place) = cell place
 expr_step (TypedExpr-F.Unary o kind e) = unary o kind e.value
 expr_step (TypedExpr-F.Chain first rest) = chain first.value (operands_of rest.items)
-expr_step (TypedExpr-F.Call f kind es) = call f kind (expressions_of es.items)
-expr_step (TypedExpr-F.Answer f es) = answer f (expressions_of es.items)
+expr_step (TypedExpr-F.CallStandard f kind es) = call_standard f kind (expressions_of es.items)
+expr_step (TypedExpr-F.CallFunction f es) = call_function f (expressions_of es.items)
 
 abbrev pub operand_step : Operand-F Expression OperandData → OperandData
 operand_step o = (o.operator, o.kind, o.right)
@@ -96,7 +96,7 @@ actions_of (a ∷ rest) = action a.0 a.1 a.2 (actions_of rest)
 
 abbrev pub stmt_step : TypedStmt-F Statement ActionData ChoiceData EntryData → Statement
 stmt_step (TypedStmt-F.Assign target e) = assign target (expr_view e)
-stmt_step (TypedStmt-F.Run b offset) = run b offset
+stmt_step (TypedStmt-F.CallBlock b offset) = call_block b offset
 stmt_step (TypedStmt-F.If arms other) = choice (choices_of arms.items) (statements_of other.items)
 stmt_step (TypedStmt-F.Case kind e es other) = cases kind (expr_view e) (entries_of es.items) (statements_of other.items)
 stmt_step (TypedStmt-F.For turns ss) = repeat turns (statements_of ss.items)
@@ -136,7 +136,7 @@ abbrev pub actions_view : List TypedAction → Actions
 actions_view actions = actions_of (map action_view actions)
 
 abbrev pub cell_view : Cell → CellData
-cell_view c = record { path = string_bytes c.path; part = c.part; kind = c.kind; range = c.range; limited = c.limited; initial = c.initial }
+cell_view c = record { path = string_bytes c.path; part = c.part; kind = c.kind; range = c.range; is_subrange = c.is_subrange; initial = c.initial }
 
 abbrev pub cells_view : List Cell → List CellData
 cells_view cs = map cell_view cs

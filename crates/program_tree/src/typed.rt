@@ -2,8 +2,8 @@
 use plc_types::{DataType, Elementary, Function, Operator, Range, UnaryOperator};
 
 /// An expression over the cells of a POU, each by its place. An operator has the type of its operands, and a call of a
-/// standard function that of its result. An answer is that of a FUNCTION, by its number among the POUs that the program may
-/// call, with the values of all its inputs in declared order.
+/// standard function that of its result. A FUNCTION is called by its number among the POUs that the program may call, with the
+/// values of all its inputs in declared order.
 #[derive(Drop)]
 #[cycle(typed_expr)]
 pub enum TypedExpr {
@@ -11,8 +11,8 @@ pub enum TypedExpr {
     Cell(usize),
     Unary(UnaryOperator, Elementary, Box<TypedExpr>),
     Chain(Box<TypedExpr>, Vec<Operand>),
-    Call(Function, Elementary, Vec<TypedExpr>),
-    Answer(usize, Vec<TypedExpr>),
+    CallStandard(Function, Elementary, Vec<TypedExpr>),
+    CallFunction(usize, Vec<TypedExpr>),
 }
 
 /// An operator, the type of its operands, and what stands to its right.
@@ -57,7 +57,7 @@ pub struct TypedTransition {
     pub condition: TypedExpr,
 }
 
-/// A statement. A target is the place of its cell. A run is one of a FUNCTION_BLOCK's body, by its number among the POUs that the
+/// A statement. A target is the place of its cell. A call of a block runs the body of a FUNCTION_BLOCK, by its number among the POUs that the
 /// program may call, over the cells of an instance, which begin at a place. A chart is what a POU does whose body is one
 /// (IEC 61131-3, 2.6): its steps and its actions in the order of the text, and its transitions in the order in which they fire. A
 /// CASE has the elementary type whose numbers the values of its selector are.
@@ -65,7 +65,7 @@ pub struct TypedTransition {
 #[cycle(typed_stmt)]
 pub enum TypedStmt {
     Assign(usize, TypedExpr),
-    Run { block: usize, offset: usize },
+    CallBlock { block: usize, offset: usize },
     If(Vec<TypedArm>, Vec<TypedStmt>),
     Case(Elementary, TypedExpr, Vec<TypedEntry>, Vec<TypedStmt>),
     For(Turns, Vec<TypedStmt>),
@@ -133,7 +133,7 @@ pub struct Cell {
     pub part: Part,
     pub kind: DataType,
     pub range: Range,
-    pub limited: bool,
+    pub is_subrange: bool,
     pub initial: i64,
 }
 
@@ -141,7 +141,7 @@ pub struct Cell {
 #[derive(Clone, Copy, Debug, PartialEq, Eq)]
 pub struct CellType {
     pub kind: DataType,
-    pub limited: bool,
+    pub is_subrange: bool,
 }
 
 /// The cells of a FUNCTION, which each call has anew: FAULT, what it answers, its inputs in declared order, and then its other

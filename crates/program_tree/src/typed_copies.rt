@@ -27,13 +27,13 @@ impl TypedExpr {
                 let operands = copy_operands(operands, alloc)?;
                 Ok(TypedExpr::Chain(Box::new(alloc, first)?, operands))
             }
-            TypedExpr::Call(function, kind, operands) => {
+            TypedExpr::CallStandard(function, kind, operands) => {
                 let operands = copy_expressions(operands, alloc)?;
-                Ok(TypedExpr::Call(*function, *kind, operands))
+                Ok(TypedExpr::CallStandard(*function, *kind, operands))
             }
-            TypedExpr::Answer(function, inputs) => {
+            TypedExpr::CallFunction(function, inputs) => {
                 let inputs = copy_expressions(inputs, alloc)?;
-                Ok(TypedExpr::Answer(*function, inputs))
+                Ok(TypedExpr::CallFunction(*function, inputs))
             }
         }
     }
@@ -75,7 +75,7 @@ impl TypedStmt {
     {
         match self {
             TypedStmt::Assign(target, expr) => Ok(TypedStmt::Assign(*target, expr.copy(alloc)?)),
-            TypedStmt::Run { block, offset } => Ok(TypedStmt::Run {
+            TypedStmt::CallBlock { block, offset } => Ok(TypedStmt::CallBlock {
                 block: *block,
                 offset: *offset,
             }),
@@ -254,7 +254,7 @@ impl Cell {
             part: self.part,
             kind: self.kind,
             range: self.range,
-            limited: self.limited,
+            is_subrange: self.is_subrange,
             initial: self.initial,
         })
     }

@@ -37,7 +37,7 @@ is_enumeration kinds.Unknown = false
 
 -- a subrange, or an enumeration: a word of its width can have other values
 abbrev pub is_bounded : CellData → Bool
-is_bounded c = c.limited || is_enumeration c.kind
+is_bounded c = c.is_subrange || is_enumeration c.kind
 
 -- a word lies outside of its cell's range
 abbrev pub outside_cell : CellData → List Lit → Netlist → Made

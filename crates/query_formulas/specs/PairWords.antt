@@ -50,7 +50,7 @@ initial_words cells = map (λ c. constant_of (width_of_cell c) c.initial) cells
 
 -- where there is no cell, one of BOOL
 abbrev pub cell_at : List CellData → ℕ → CellData
-cell_at cells place = slice_index_or cells place (record { path = []; part = parts.Local; kind = kinds.Elementary types.Bool; range = record { low = pos 0; high = pos 1 }; limited = false; initial = pos 0 })
+cell_at cells place = slice_index_or cells place (record { path = []; part = parts.Local; kind = kinds.Elementary types.Bool; range = record { low = pos 0; high = pos 1 }; is_subrange = false; initial = pos 0 })
 
 -- the cell that an INPUT line names, OLD's where it names two, which are alike
 abbrev pub cell_of_line : ProgramData → ProgramData → InputLine → CellData

@@ -56,7 +56,7 @@ module _ (old new : ProgramData) where
   both_belong a b None q f g h = tt
   both_belong a b (Some p) None f g h = tt
   both_belong a b (Some p) (Some q) f g h =
-      let e = and_parts (is_same_type p.kind (paired_type old.types new.types q.kind) && is_same_flag p.limited q.limited) (is_same_range p.range q.range) h in
+      let e = and_parts (is_same_type p.kind (paired_type old.types new.types q.kind) && is_same_flag p.is_subrange q.is_subrange) (is_same_range p.range q.range) h in
       (is_cell old a.text p f, subst (IsCellOf new q.place) (sym (same_range p.range q.range e.1)) (is_cell new b.text q g))
 
   single_old : (a : Named) (p : Option Placed) → cell_named a.text 0 old.cells ≡ p → IfLine (single_line sides.Old p)

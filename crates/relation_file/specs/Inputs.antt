@@ -58,7 +58,7 @@ is_same_flag false b = not b
 
 -- two inputs, one of OLD and one of NEW, are of one type with the same bounds; a whole type has none
 abbrev pub are_alike : (DataType → DataType) → Option Placed → Option Placed → Bool
-are_alike of_pair (Some a) (Some b) = is_same_type a.kind (of_pair b.kind) && is_same_flag a.limited b.limited && is_same_range a.range b.range
+are_alike of_pair (Some a) (Some b) = is_same_type a.kind (of_pair b.kind) && is_same_flag a.is_subrange b.is_subrange && is_same_range a.range b.range
 are_alike of_pair _ _ = false
 
 -- each input is named

@@ -95,7 +95,7 @@ fn are_alike(pair: &Pair<'_>, old: Option<Placed>, new: Option<Placed>) -> bool
     match (old, new) {
         (Some(old), Some(new)) => {
             old.kind.is_same(pair.paired(new.kind))
-                && is_same_flag(old.limited, new.limited)
+                && is_same_flag(old.is_subrange, new.is_subrange)
                 && is_same_range(old.range, new.range)
         }
         (_, _) => false,

@@ -9,7 +9,7 @@ use Rattle.grammar.specs.declared.fault.Stop.TheVariants as stops
 use Rattle.grammar.specs.Faults.{fault_of}
 use Rattle.grammar.specs.Nesting.{nothing_open, NestsWithin, Shallow}
 use Rattle.grammar.specs.Reading.{ahead}
-use Rattle.grammar.specs.FirstFault.{IsSound}
+use Rattle.grammar.specs.FirstFault.{AreSoundTokens}
 use Rattle.grammar_laws.proofs.Steps.{some_is}
 use Rattle.grammar_laws.proofs.Nests.{nests-length}
 use Rattle.relation_lines.specs.Lines.{LineData}
@@ -39,12 +39,12 @@ ahead_start : (toks : List Tok) → ahead toks 0 ≡ view.symbols toks
 unfolding ahead
 ahead_start toks = refl
 
-pub lines_found : (toks : List Tok) (ls : List LineData) → IsSound toks → file (length toks) 64 (ahead toks 0) ≡ Some ls → AreLines toks ls
+pub lines_found : (toks : List Tok) (ls : List LineData) → AreSoundTokens toks → file (length toks) 64 (ahead toks 0) ≡ Some ls → AreLines toks ls
 lines_found toks ls sound e =
     let found = file_is (length toks) 64 (view.symbols toks) ls (ap (file (length toks) 64) (sym (ahead_start toks)) ∙ e) in
     record { sound = sound; printed = found.0; levelled = lines_levelled ls 64 found.1 }
 
-pub lines_fault : (toks : List Tok) (stop : Stop) → IsSound toks → Shallow (view.symbols toks) → (stop ≢ stops.Memory → file (length toks) 64 (ahead toks 0) ≡ None) → IsLinesFault toks (fault_of stop)
+pub lines_fault : (toks : List Tok) (stop : Stop) → AreSoundTokens toks → Shallow (view.symbols toks) → (stop ≢ stops.Memory → file (length toks) 64 (ahead toks 0) ≡ None) → IsLinesFault toks (fault_of stop)
 lines_fault toks (stops.NoTree at) sound shallow none =
     inr (record {
       sound = sound;

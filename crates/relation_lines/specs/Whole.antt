@@ -6,20 +6,20 @@ use Rattle.rules.specs.declared.rule.Refusal.{Refusal}
 use Rattle.rules.specs.declared.fault.Fault.{Fault}
 use Rattle.rules.specs.declared.fault.Fault.TheVariants.{Refused, Memory}
 use Rattle.source_tree.specs.SyntaxView.{symbols}
-use Rattle.grammar.specs.FirstFault.{IsSound, IsFirstFault}
+use Rattle.grammar.specs.FirstFault.{AreSoundTokens, IsFirstFault}
 use Rattle.relation_lines.specs.Lines.{LineData}
 use Rattle.relation_lines.specs.Prints.{print_lines}
 use Rattle.relation_lines.specs.Levels.{AreLinesLevelled}
 
 -- Tokens are these lines: they break neither X1 nor G2, and the lines, which are levelled, print them.
 pub record AreLines (toks : List Tok) (ls : List LineData) : Type 0 where
-  pub sound : IsSound toks
+  pub sound : AreSoundTokens toks
   pub printed : symbols toks ≡ print_lines ls
   pub levelled : AreLinesLevelled ls
 
 -- Tokens break neither X1 nor G2, and no levelled lines print them: G1.
 pub record HasNoLines (toks : List Tok) (r : Refusal) : Type 0 where
-  pub sound : IsSound toks
+  pub sound : AreSoundTokens toks
   pub rule : r.rule ≡ NoTree
   pub none : (ls : List LineData) → AreLinesLevelled ls → symbols toks ≡ print_lines ls → ⊥
 

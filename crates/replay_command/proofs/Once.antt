@@ -4,7 +4,7 @@ use Rattle.rules.specs.declared.rule.Refusal.{Refusal}
 use Rattle.rules.specs.Rules.{IsSame}
 use Rattle.program_tree.specs.Tree.{ProgramData}
 use Rattle.grammar_laws.proofs.Steps.{some_is}
-use Rattle.command_files.specs.front_end.Texts.{IsProgram}
+use Rattle.command_files.specs.front_end.Texts.{StatesProgram}
 use Rattle.command_files.proofs.front_end.OneProgram.{one_program, no_program_too, one_refusal}
 use Rattle.command_files.proofs.Once.{states_once, not_stated_too, not_stated_once}
 use Rattle.scan_model.specs.declared.relation.Ending.{Ending}
@@ -59,7 +59,7 @@ rel_once : (t : Texts) (o o' n n' : ProgramData) (l l' : RelationData) → o ≡
 rel_once t o o' n n' l l' e f h k = states_once o' n' t.rel l l' (moved (RelStated t l) o o' n n' e f h) k
 
 -- what is stated by the same texts is not refused
-rel_apart : (t : Texts) (o o' n n' : ProgramData) (l : RelationData) (r : Refusal) → IsProgram t.old o → IsProgram t.old o' → IsProgram t.new n → IsProgram t.new n'
+rel_apart : (t : Texts) (o o' n n' : ProgramData) (l : RelationData) (r : Refusal) → StatesProgram t.old o → StatesProgram t.old o' → StatesProgram t.new n → StatesProgram t.new n'
     → RelStated t l o n → RelBroken t r o' n' → ⊥
 rel_apart t o o' n n' l r a b c d h k =
     not_stated_too o' n' t.rel l r (moved (RelStated t l) o o' n n' (one_program t.old o o' a b) (one_program t.new n n' c d) h) k

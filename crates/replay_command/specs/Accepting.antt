@@ -3,7 +3,7 @@ use Rattle.std.specs.Prelude.{◌≡◌, ◌<◌, ◌≤◌, ◌⊎◌, ℕ, Lis
 use Rattle.rules.specs.declared.rule.Rule.TheVariants.{TooLong, NoTrace}
 use Rattle.rules.specs.declared.rule.Refusal.{Refusal}
 use Rattle.program_tree.specs.Tree.{ProgramData}
-use Rattle.command_files.specs.front_end.Texts.{limit, IsProgram, IsNoProgram}
+use Rattle.command_files.specs.front_end.Texts.{limit, StatesProgram, StatesNoProgram}
 use Rattle.scan_model.specs.InRange.{Row}
 use Rattle.scan_model.specs.Pairs.{RelationData}
 use Rattle.command_answers.specs.declared.source.Source.{Source}
@@ -25,15 +25,15 @@ IsNoTrace width text r =
 
 -- the texts are these programs, this relation of them and these rows
 pub record IsAccepted (t : Texts) (old new : ProgramData) (rel : RelationData) (rows : List Row) : Type 0 where
-  pub old_is : IsProgram t.old old
-  pub new_is : IsProgram t.new new
+  pub old_is : StatesProgram t.old old
+  pub new_is : StatesProgram t.new new
   pub rel_is : StatesRelation old new t.rel rel
   pub trace_is : Accepts (IsTrace (length rel.inputs) t.trace) t.trace rows
 
 -- a file is the first that breaks a rule, and this is the first rule that it breaks
 pub data IsRefused (t : Texts) (file : Source) (r : Refusal) : Type 0 where
-  old_refused : IsNoProgram t.old r → file ≡ Old → IsRefused t file r
-  new_refused : (old : ProgramData) → IsProgram t.old old → IsNoProgram t.new r → file ≡ New → IsRefused t file r
-  rel_refused : (old new : ProgramData) → IsProgram t.old old → IsProgram t.new new → StatesNoRelation old new t.rel r → file ≡ RelationFile → IsRefused t file r
-  trace_refused : (old new : ProgramData) (rel : RelationData) → IsProgram t.old old → IsProgram t.new new → StatesRelation old new t.rel rel
+  old_refused : StatesNoProgram t.old r → file ≡ Old → IsRefused t file r
+  new_refused : (old : ProgramData) → StatesProgram t.old old → StatesNoProgram t.new r → file ≡ New → IsRefused t file r
+  rel_refused : (old new : ProgramData) → StatesProgram t.old old → StatesProgram t.new new → StatesNoRelation old new t.rel r → file ≡ RelationFile → IsRefused t file r
+  trace_refused : (old new : ProgramData) (rel : RelationData) → StatesProgram t.old old → StatesProgram t.new new → StatesRelation old new t.rel rel
       → IsNoTrace (length rel.inputs) t.trace r → file ≡ Trace → IsRefused t file r

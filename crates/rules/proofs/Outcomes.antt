@@ -5,7 +5,7 @@ use Rattle.rules.specs.declared.rule.Refusal.{Refusal}
 use Rattle.rules.specs.Rules.{earlier, first_in}
 use Rattle.rules.proofs.Refusals.{earlier-assoc, first_in-append}
 use Rattle.rules.specs.declared.outcome.Outcome.{Outcome}
-use Rattle.rules.specs.Judgements.{Judgement, ok, also}
+use Rattle.rules.specs.Judgements.{Judgement, ok, and}
 use Rattle.rules.specs.Outcomes.{outcome_of, both}
 
 -- the first so far, and what a further list has before it
@@ -21,16 +21,16 @@ pub first_before : (a b o : Option Refusal) (xs ys : List Refusal) → b ≡ ear
 first_before a b o xs ys step all = ap (λ p. earlier p (first_in ys)) step ∙ earlier_on a xs ys ∙ all
 
 -- two parts, of which each was judged
-pub outcome_also : (j k : Judgement) → both (outcome_of j) (outcome_of k) ≡ outcome_of (also j k)
+pub outcome_and : (j k : Judgement) → both (outcome_of j) (outcome_of k) ≡ outcome_of (and j k)
 unfolding outcome_of both
-outcome_also j k = ap (λ o. record { whole = j.whole && k.whole; first = o }) (sym (first_in-append j.broken k.broken))
+outcome_and j k = ap (λ o. record { whole = j.whole && k.whole; first = o }) (sym (first_in-append j.broken k.broken))
 
 earlier_none : (o : Option Refusal) → earlier o None ≡ o
 earlier_none None = refl
 earlier_none (Some r) = refl
 
 -- what was judged so far, and two further parts
-pub both_on : (o : Outcome) (j k : Judgement) → both (both o (outcome_of j)) (outcome_of k) ≡ both o (outcome_of (also j k))
+pub both_on : (o : Outcome) (j k : Judgement) → both (both o (outcome_of j)) (outcome_of k) ≡ both o (outcome_of (and j k))
 unfolding outcome_of both
 both_on o j k = rw (and_assoc o.whole j.whole k.whole, earlier_on o.first j.broken k.broken) refl
 
@@ -40,11 +40,11 @@ unfolding outcome_of both
 both_ok o = rw (and-true o.whole, earlier_none o.first) refl
 
 -- what was judged so far, then one part, then another
-pub then_on : (a b d : Outcome) (j k : Judgement) → b ≡ both a (outcome_of j) → d ≡ both b (outcome_of k) → d ≡ both a (outcome_of (also j k))
+pub then_on : (a b d : Outcome) (j k : Judgement) → b ≡ both a (outcome_of j) → d ≡ both b (outcome_of k) → d ≡ both a (outcome_of (and j k))
 then_on a b d j k before behind = behind ∙ ap (λ o. both o (outcome_of k)) before ∙ both_on a j k
 
 -- what was judged so far, before what is left
-pub before_rest : (a b o : Outcome) (j k : Judgement) → b ≡ both a (outcome_of j) → both a (outcome_of (also j k)) ≡ o → both b (outcome_of k) ≡ o
+pub before_rest : (a b o : Outcome) (j k : Judgement) → b ≡ both a (outcome_of j) → both a (outcome_of (and j k)) ≡ o → both b (outcome_of k) ≡ o
 before_rest a b o j k step all = ap (λ p. both p (outcome_of k)) step ∙ both_on a j k ∙ all
 
 -- a part behind nothing

@@ -19,12 +19,12 @@ ok = whole_if true
 abbrev pub suppressed : Judgement
 suppressed = whole_if false
 
-abbrev pub also : Judgement → Judgement → Judgement
-also j k = record { whole = j.whole && k.whole; broken = j.broken ++ k.broken }
+abbrev pub and : Judgement → Judgement → Judgement
+and j k = record { whole = j.whole && k.whole; broken = j.broken ++ k.broken }
 
 abbrev pub breaks : Rule → ℕ → Judgement
 breaks rule at = record { whole = false; broken = record { rule = rule; at = at } ∷ [] }
 
 -- a construct with whole parts breaks a rule where its test fails; one with a broken part breaks none
 abbrev pub require : Judgement → Bool → Rule → ℕ → Judgement
-require parts holds rule at = if parts.whole then (if holds then parts else also parts (breaks rule at)) else parts
+require parts holds rule at = if parts.whole then (if holds then parts else and parts (breaks rule at)) else parts

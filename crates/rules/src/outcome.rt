@@ -52,7 +52,7 @@ impl Outcome {
     }
 
     /// Two parts of a construct.
-    pub fn also(self, other: Outcome) -> Outcome
+    pub fn and(self, other: Outcome) -> Outcome
         ensures { result ≡ both self other }
     {
         Outcome {
@@ -66,7 +66,7 @@ impl Outcome {
         ensures { result ≡ tried self holds rule at }
     {
         if self.whole && !holds {
-            self.also(Outcome::breaks(rule, at))
+            self.and(Outcome::breaks(rule, at))
         } else {
             self
         }

@@ -4,7 +4,7 @@ use Rattle.std.specs.Prelude.{◌==◌}
 use Rattle.std.proofs.lemmas.Bool.Decides.{nat_tests}
 use Rattle.call_order.specs.Uses.{is_among}
 use Rattle.call_order.proofs.Members.{is_among-left, is_among-right, is_among-head, is_among-tail}
-use Rattle.program_tree.specs.Tree.{Expression, number, cell, unary, chain, call, answer, Operands, no_operands, operand, Expressions, no_expressions, expression, Statement, assign, run, choice, cases, repeat, chart, Statements, no_statements, statement, Choices, no_choices, choose, Entries, no_entries, entry, TransitionData, Actions, no_actions, action}
+use Rattle.program_tree.specs.Tree.{Expression, number, cell, unary, chain, call_standard, call_function, Operands, no_operands, operand, Expressions, no_expressions, expression, Statement, assign, call_block, choice, cases, repeat, chart, Statements, no_statements, statement, Choices, no_choices, choose, Entries, no_entries, entry, TransitionData, Actions, no_actions, action}
 use Rattle.flat_form.specs.Frames.{FrameData, others_behind}
 use Rattle.flat_form.specs.Calls.{arity}
 use Rattle.flat_count.specs.Counts.{Counting, count_of_start, count_in, count_in_operands, count_in_all, count_in_inputs, count_of_latches, count_of_transitions, count_of_associated, count_of, count_of_all, count_of_choices, count_of_entries, count_of_actions}
@@ -55,8 +55,8 @@ module _ (a b : Counting) where
         let one = alike_in e (left (uses_in e) (uses_in_operands os) all) in
         let more = alike_operands os (right (uses_in e) (uses_in_operands os) all) in
         λ i. one i + more i
-    alike_in (call f t es) all = alike_values es all
-    alike_in (answer f es) all =
+    alike_in (call_standard f t es) all = alike_values es all
+    alike_in (call_function f es) all =
         let here = first f (uses_in_all es) all in
         let inputs = alike_inputs (a.frame f) 2 es (rest f (uses_in_all es) all) in
         let body = here.bodies in
@@ -95,7 +95,7 @@ module _ (a b : Counting) where
   mutual
     alike_of : (t : Statement) → AreAlike (uses_of t) → count_of a t ≡ count_of b t
     alike_of (assign target e) all = ap (λ (n : ℕ). n + 1) (alike_in e all)
-    alike_of (run k offset) all = (first k [] all).runs
+    alike_of (call_block k offset) all = (first k [] all).runs
     alike_of (choice arms other) all =
         let one = alike_choices arms (left (uses_of_choices arms) (uses_of_all other) all) in
         let more = alike_all other (right (uses_of_choices arms) (uses_of_all other) all) in

@@ -5,7 +5,7 @@ use Rattle.std.specs.List.{list_any}
 use Rattle.std.proofs.lemmas.Bool.{eqb-true}
 use Rattle.plc_types.specs.declared.range.Range.{Range}
 use Rattle.program_tree.specs.declared.typed.StepCells.{StepCells}
-use Rattle.program_tree.specs.Tree.{Expression, number, cell, unary, chain, call, answer, Operands, no_operands, operand, Expressions, no_expressions, expression, TransitionData, Statement, assign, run, choice, cases, repeat, chart, Statements, no_statements, statement, Choices, no_choices, choose, Entries, no_entries, entry, Actions, no_actions, action}
+use Rattle.program_tree.specs.Tree.{Expression, number, cell, unary, chain, call_standard, call_function, Operands, no_operands, operand, Expressions, no_expressions, expression, TransitionData, Statement, assign, call_block, choice, cases, repeat, chart, Statements, no_statements, statement, Choices, no_choices, choose, Entries, no_entries, entry, Actions, no_actions, action}
 use Rattle.call_order.specs.Uses.{is_among}
 use Rattle.call_order.proofs.Members.{is_among-left, is_among-right, is_among-head, is_among-tail}
 use Rattle.meaning.specs.Values.{State, Callees, is_truth, unary_applied, applied, divides_by_zero, called, fault_in, answer_in, value_of, value_on, values_of, faults, any_faults, one_faults}
@@ -114,8 +114,8 @@ module _ (a b : Callees) where
       value_same (unary o t e) h s = ap (λ (v : ℤ). unary_applied o t v) (value_same e h s)
       value_same (chain e os) h s =
           joined_same os (right_of (uses_in e) (uses_in_operands os) h) s (value_of a base e s) (value_of b base e s) (value_same e (left_of (uses_in e) (uses_in_operands os) h) s)
-      value_same (call f t es) h s = ap (λ (vs : List ℤ). called f t vs) (values_same es h s)
-      value_same (answer f es) h s =
+      value_same (call_standard f t es) h s = ap (λ (vs : List ℤ). called f t vs) (values_same es h s)
+      value_same (call_function f es) h s =
           ap answer_in (ended f (values_of a base es s) (values_of b base es s) (head_of f (uses_in_all es) h) (values_same es (tail_of f (uses_in_all es) h) s))
 
       joined_same : (os : Operands) → DoSameFor a b (uses_in_operands os) → (s : State) (v w : ℤ) → v ≡ w → value_on a base v os s ≡ value_on b base w os s
@@ -136,8 +136,8 @@ module _ (a b : Callees) where
       faults_same (unary o t e) h s = faults_same e h s
       faults_same (chain e os) h s =
           ap₂ (λ c d. c || d) (faults_same e (left_of (uses_in e) (uses_in_operands os) h) s) (any_faults_same os (right_of (uses_in e) (uses_in_operands os) h) s)
-      faults_same (call f t es) h s = one_faults_same es h s
-      faults_same (answer f es) h s =
+      faults_same (call_standard f t es) h s = one_faults_same es h s
+      faults_same (call_function f es) h s =
           ap₂ (λ c d. c || d) (one_faults_same es (tail_of f (uses_in_all es) h) s)
           (ap fault_in (ended f (values_of a base es s) (values_of b base es s) (head_of f (uses_in_all es) h) (values_same es (tail_of f (uses_in_all es) h) s)))
 
@@ -188,7 +188,7 @@ module _ (a b : Callees) where
       mutual
         effect_same : (t : Statement) → DoSameFor a b (uses_of t) → (s : State) → effect_of a rs base t s ≡ effect_of b rs base t s
         effect_same (assign target e) h s = ap₂ (λ v fault. stored rs (base + target) v (with_fault fault s)) (value_same e h s) (faults_same e h s)
-        effect_same (run n offset) h s = (head_of n [] h).0 rs (base + offset) s
+        effect_same (call_block n offset) h s = (head_of n [] h).0 rs (base + offset) s
         effect_same (choice arms other) h s =
             let rest = right_of (uses_of_choices arms) (uses_of_all other) h in
             choices_same arms (left_of (uses_of_choices arms) (uses_of_all other) h) (effect_of_all a rs base other) (effect_of_all b rs base other) (λ z. all_same other rest z) s

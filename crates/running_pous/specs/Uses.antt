@@ -1,6 +1,6 @@
 -- The POUs that expressions and statements use: the FUNCTIONs that they call, and the FUNCTION_BLOCKs whose bodies they run, by their numbers.
 use Rattle.std.specs.Prelude.{ℕ, ◌==◌, List, [], ◌∷◌, ◌++◌, if◌then◌else◌}
-use Rattle.program_tree.specs.Tree.{Expression, number, cell, unary, chain, call, answer, Operands, no_operands, operand, Expressions, no_expressions, expression, TransitionData, Statement, assign, run, choice, cases, repeat, chart, Statements, no_statements, statement, Choices, no_choices, choose, Entries, no_entries, entry, Actions, no_actions, action, CalledData, block, function}
+use Rattle.program_tree.specs.Tree.{Expression, number, cell, unary, chain, call_standard, call_function, Operands, no_operands, operand, Expressions, no_expressions, expression, TransitionData, Statement, assign, call_block, choice, cases, repeat, chart, Statements, no_statements, statement, Choices, no_choices, choose, Entries, no_entries, entry, Actions, no_actions, action, CalledData, block, function}
 
 abbrev mutual
   pub uses_in : Expression → List ℕ
@@ -8,8 +8,8 @@ abbrev mutual
   uses_in (cell place) = []
   uses_in (unary o t e) = uses_in e
   uses_in (chain e os) = uses_in e ++ uses_in_operands os
-  uses_in (call f t es) = uses_in_all es
-  uses_in (answer f es) = f ∷ uses_in_all es
+  uses_in (call_standard f t es) = uses_in_all es
+  uses_in (call_function f es) = f ∷ uses_in_all es
 
   pub uses_in_operands : Operands → List ℕ
   uses_in_operands no_operands = []
@@ -27,7 +27,7 @@ uses_of_transitions (t ∷ ts) = uses_in t.condition ++ uses_of_transitions ts
 abbrev mutual
   pub uses_of : Statement → List ℕ
   uses_of (assign target e) = uses_in e
-  uses_of (run b offset) = b ∷ []
+  uses_of (call_block b offset) = b ∷ []
   uses_of (choice arms other) = uses_of_choices arms ++ uses_of_all other
   uses_of (cases kind e es other) = uses_in e ++ (uses_of_entries es ++ uses_of_all other)
   uses_of (repeat turns body) = if turns.count == 0 then [] else uses_of_all body

@@ -22,8 +22,8 @@ fn append_uses_in(expr: &TypedExpr, uses: &mut Vec<usize>) -> Result<(), AllocEr
             append_uses_in(first, uses)?;
             append_in_operands(operands, uses)
         }
-        TypedExpr::Call(_, _, operands) => append_in_all(operands, uses),
-        TypedExpr::Answer(function, inputs) => {
+        TypedExpr::CallStandard(_, _, operands) => append_in_all(operands, uses),
+        TypedExpr::CallFunction(function, inputs) => {
             uses.push(*function)?;
             append_in_all(inputs, uses)
         }
@@ -72,7 +72,7 @@ fn append_in_stmt(stmt: &TypedStmt, uses: &mut Vec<usize>) -> Result<(), AllocEr
 {
     match stmt {
         TypedStmt::Assign(_, expr) => append_uses_in(expr, uses),
-        TypedStmt::Run { block, .. } => {
+        TypedStmt::CallBlock { block, .. } => {
             uses.push(*block)?;
             Ok(())
         }

@@ -58,7 +58,7 @@ fn takes(flat: &Flat, place: usize, value: i64) -> bool {
         return range.low <= value && value <= range.high;
     }
     match flat.scratch.get(place - cells) {
-        Some(scratch) if scratch.limited => {
+        Some(scratch) if scratch.is_subrange => {
             scratch.range.low <= value && value <= scratch.range.high
         }
         _ => true,

@@ -1,7 +1,7 @@
 // The states behind scans, and how many statements the flat form has.
 ghost use Rattle.std.specs.Prelude.{IfOk};
 ghost use Rattle.program_tree.specs.View.{program_view};
-ghost use Rattle.scan_model.specs.InRange.{IsProgram};
+ghost use Rattle.scan_model.specs.InRange.{IsFitToRun};
 
 use crate::flat_run::{run_all, size_of};
 use crate::node_run::node_scan;
@@ -69,7 +69,7 @@ fn nodes_of(alloc: Global, flat: &Flat) -> Result<Scan, CaseFault> {
 
 // The program of a text that has to be accepted, with its flat form.
 fn flat_of(alloc: Global, text: &[u8]) -> Result<Accepted, CaseFault>
-    ensures { IfOk result (λ a. IsProgram (program_view a.program)) }
+    ensures { IfOk result (λ a. IsFitToRun (program_view a.program)) }
 {
     match accept_flat(alloc, text) {
         Ok(accepted) => Ok(accepted),
@@ -88,7 +88,7 @@ fn run_pairs(
     pairs: &[StatePair],
     found: &mut Vec<Mismatch>,
 ) -> Result<(), CaseFault>
-    requires { IsProgram (program_view accepted.now.program) }
+    requires { IsFitToRun (program_view accepted.now.program) }
 {
     for pair in pairs {
         run_pair(alloc, accepted, nodes, pair, found)?;
@@ -103,7 +103,7 @@ fn run_pair(
     pair: &StatePair,
     found: &mut Vec<Mismatch>,
 ) -> Result<(), CaseFault>
-    requires { IsProgram (program_view accepted.now.program) }
+    requires { IsFitToRun (program_view accepted.now.program) }
 {
     let (before, after) = (&pair.before, &pair.after);
     let Some(state) = interpreted_scan(alloc, &accepted.program, before)? else {
@@ -127,7 +127,7 @@ fn interpreted_scan(
     program: &Program,
     before: &[i64],
 ) -> Result<Option<Vec<i64>>, AllocError>
-    requires { IsProgram (program_view program.now) }
+    requires { IsFitToRun (program_view program.now) }
 {
     let mut machine = Machine::new(alloc, program)?;
     if !machine.state_fits(before) {

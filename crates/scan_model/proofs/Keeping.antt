@@ -7,7 +7,7 @@ use Rattle.plc_types.specs.declared.range.Range.{Range}
 use Rattle.program_tree.specs.declared.typed.StepCells.{StepCells}
 use Rattle.program_tree.specs.declared.typed.Association.{Association}
 use Rattle.plc_types.specs.Types.{in_range}
-use Rattle.program_tree.specs.Tree.{Statement, assign, run, choice, cases, repeat, chart, Statements, no_statements, statement, Choices, no_choices, choose, Entries, no_entries, entry, Actions, no_actions, action, CellData, CalledData, block, function, ProgramData}
+use Rattle.program_tree.specs.Tree.{Statement, assign, call_block, choice, cases, repeat, chart, Statements, no_statements, statement, Choices, no_choices, choose, Entries, no_entries, entry, Actions, no_actions, action, CellData, CalledData, block, function, ProgramData}
 use Rattle.scan_model.specs.declared.relation.InputLine.{InputLine}
 use Rattle.scan_model.specs.declared.relation.InputLine.TheVariants.{Both, Old, New}
 use Rattle.meaning.specs.Values.{State, Callees, value_of, faults, is_truth}
@@ -15,7 +15,7 @@ use Rattle.meaning.specs.Charts.{Marking, runs}
 use Rattle.meaning.specs.Effects.{range_at, with_fault, stored, is_labelled, effect_of_turns, latched, all_latched, marked, effect_of, effect_of_all, effect_of_choices, effect_of_entries, effect_of_actions}
 use Rattle.meaning.specs.Calls.{run_of, nothing, callees_of}
 use Rattle.scan_model.specs.Scans.{ranges_of, callees_in, scanned}
-use Rattle.scan_model.specs.InRange.{Row, IsInRange, BeginsWithFault, IsProgram, fits_places, put_at}
+use Rattle.scan_model.specs.InRange.{Row, IsInRange, BeginsWithFault, IsFitToRun, fits_places, put_at}
 use Rattle.scan_model.specs.Pairs.{RelationData, BelongsTo, is_allowed, after_row, Pair, IsPairInRange, IsCellOf, NamesCells, fits_lines, range_of_line, loaded_one, loaded}
 
 -- a test that holds, as two orders
@@ -90,7 +90,7 @@ module _ (rs : List Range) (first : HoldsFault rs) where
     mutual
       pub kept_by_statement : (base : ℕ) (a : Statement) (s : State) → IsInRange rs s → IsInRange rs (effect_of callees rs base a s)
       kept_by_statement base (assign c e) s f = kept_by_store (base + c) _ _ (fault_added (faults callees base e s) s f)
-      kept_by_statement base (run b offset) s f = calls b (base + offset) s f
+      kept_by_statement base (call_block b offset) s f = calls b (base + offset) s f
       kept_by_statement base (choice arms other) s f = kept_by_choices base arms (effect_of_all callees rs base other) (λ x g. kept_by_all base other x g) s f
       kept_by_statement base (cases kind e es other) s f =
           kept_by_entries base (value_of callees base e s) es (effect_of_all callees rs base other) (λ x g. kept_by_all base other x g) _ (fault_added (faults callees base e s) s f)
@@ -129,7 +129,7 @@ module _ (rs : List Range) (first : HoldsFault rs) where
       either rs (b == n) _ _ (λ _. kept_by_call (callees_of ps n) (kept_by_calls ps n) (slice_index_or ps n nothing) base s f) (λ _. kept_by_calls ps n b base s f)
 
 -- a scan keeps the ranges
-pub IsInRange-scanned : (p : ProgramData) → IsProgram p → (s : State) → IsInRange (ranges_of p.cells) s → IsInRange (ranges_of p.cells) (scanned p s)
+pub IsInRange-scanned : (p : ProgramData) → IsFitToRun p → (s : State) → IsInRange (ranges_of p.cells) s → IsInRange (ranges_of p.cells) (scanned p s)
 IsInRange-scanned p is s f =
     let first = holds_fault p.cells is.begins_with_fault in
     kept_by_all (ranges_of p.cells) first (callees_in p) (kept_by_calls (ranges_of p.cells) first p.called (length p.called)) 0 p.body _ (cleared (ranges_of p.cells) first s f)
@@ -161,7 +161,7 @@ IsPairInRange-loaded old new (l ∷ ls) (v ∷ vs) pair names h f =
     IsPairInRange-loaded old new ls vs _ (λ k d below. names (suc k) d (omega arith)) fits.1 (kept_by_line old new l v pair (names 0 l (omega arith)) fits.0 f)
 
 -- so an allowed row leads from a pair in range to a pair in range
-pub IsPairInRange-after_row : (old new : ProgramData) (rel : RelationData) → IsProgram old → IsProgram new → BelongsTo old new rel → (row : Row) (pair : Pair) → is_allowed rel row pair ≡ true → IsPairInRange old new pair → IsPairInRange old new (after_row old new rel row pair)
+pub IsPairInRange-after_row : (old new : ProgramData) (rel : RelationData) → IsFitToRun old → IsFitToRun new → BelongsTo old new rel → (row : Row) (pair : Pair) → is_allowed rel row pair ≡ true → IsPairInRange old new pair → IsPairInRange old new (after_row old new rel row pair)
 IsPairInRange-after_row old new rel is_old is_new belongs row pair h f =
     let fits = and_parts (fits_lines rel.inputs row) _ h in
     let kept = IsPairInRange-loaded old new rel.inputs row pair belongs fits.0 f in

@@ -23,7 +23,7 @@ BeginsWithFault [] = ⊥
 BeginsWithFault (c ∷ cs) = (c.part ≡ parts.Fault) × (c.kind ≡ Elementary types.Bool) × (c.range ≡ range_of types.Bool)
 
 -- what scans ask of a program
-pub record IsProgram (p : ProgramData) : Type 0 where
+pub record IsFitToRun (p : ProgramData) : Type 0 where
   pub begins_with_fault : BeginsWithFault p.cells
   pub start_in_range : IsInRange (ranges_of p.cells) (initial p.cells)
 

@@ -3,15 +3,15 @@ use Rattle.std.specs.Prelude.{◌≡◌, ◌<◌, ℕ, List, true, false}
 use Rattle.program_tree.specs.Tree.{ProgramData}
 use Rattle.scan_model.specs.declared.verdict.Verdict.{Verdict}
 use Rattle.scan_model.specs.declared.verdict.Verdict.TheVariants.{Related}
-use Rattle.scan_model.specs.InRange.{Row, IsProgram}
+use Rattle.scan_model.specs.InRange.{Row, IsFitToRun}
 use Rattle.scan_model.specs.Pairs.{RelationData, Pair, BelongsTo, IsPairInRange, start, holds, is_allowed, after_row}
 use Rattle.scan_model.specs.Candidates.{candidates_of, clause_at}
 use Rattle.scan_model.specs.Verdicts.{CandidateSet, Meets, IsInductive, IsKept, IsGreatest, HasBreak, count_of, IsVerdict, AreAllowedFrom, AreRelatedFrom}
 
 -- two programs, and a relation between them
 pub record AreRelatable (old new : ProgramData) (rel : RelationData) : Type 0 where
-  pub old_is_program : IsProgram old
-  pub new_is_program : IsProgram new
+  pub old_is_program : IsFitToRun old
+  pub new_is_program : IsFitToRun new
   pub belongs : BelongsTo old new rel
 
 -- where the verdict is RELATED, the pair is related after every row of every list of allowed rows

@@ -8,7 +8,7 @@ use Rattle.scan_model.specs.declared.relation.Relation.{Relation}
 use Rattle.scan_model.specs.declared.relation.InputLine.{InputLine}
 use Rattle.meaning.specs.Values.{State}
 use Rattle.scan_model.specs.Scans.{ranges_of, scanned}
-use Rattle.scan_model.specs.InRange.{Row, IsInRange, IsProgram}
+use Rattle.scan_model.specs.InRange.{Row, IsInRange, IsFitToRun}
 use Rattle.scan_model.specs.Pairs.{Pair, IsPairInRange, relation_view, is_allowed, loaded, scanned_both}
 use Rattle.scan_model.proofs.Keeping.{IsInRange-length, IsInRange-scanned, IsPairInRange-after_row}
 use Rattle.scan_replay.specs.Duos.{AreComparable}
@@ -21,7 +21,7 @@ pub equally_long : (rs : List Range) (s t : State) → IsInRange rs s → IsInRa
 equally_long rs s t f g = sym (IsInRange-length rs s f) ∙ IsInRange-length rs t g
 
 -- a machine's state behind a scan, as it is written back
-pub run_in_range : (p : Program) (n : ℕ) (before given after : State) → IsProgram (program_view p) → IsInRange (ranges_of (cells_view p.cells.items)) before → length after ≡ n → after ≡ scanned (program_view p) given → given ≡ before
+pub run_in_range : (p : Program) (n : ℕ) (before given after : State) → IsFitToRun (program_view p) → IsInRange (ranges_of (cells_view p.cells.items)) before → length after ≡ n → after ≡ scanned (program_view p) given → given ≡ before
     → IsInRange (ranges_of (cells_view p.cells.items)) (take n (after ++ drop (length after) before))
 run_in_range p n before given after is f long ran same =
     let kept = IsInRange-scanned (program_view p) is before f in

@@ -4,7 +4,7 @@ use Rattle.program_tree.specs.declared.typed.Program.{Program}
 use Rattle.program_tree.specs.View.{program_view}
 use Rattle.scan_model.specs.declared.relation.Relation.{Relation}
 use Rattle.meaning.specs.Values.{State}
-use Rattle.scan_model.specs.InRange.{Row, IsProgram}
+use Rattle.scan_model.specs.InRange.{Row, IsFitToRun}
 use Rattle.scan_model.specs.Pairs.{Pair, relation_view, BelongsTo, IsPairInRange, is_allowed, is_related, after_row, start}
 use Rattle.scan_model.specs.Candidates.{candidate_holds}
 use Rattle.scan_model.specs.declared.side.Side.{Side}
@@ -23,8 +23,8 @@ with_pair pair d = record { old_program = d.old_program; new_program = d.new_pro
 
 -- what a comparison asks of the programs and their relation
 pub record AreComparable (old new : Program) (relation : Relation) : Type 0 where
-  pub old_is_program : IsProgram (program_view old)
-  pub new_is_program : IsProgram (program_view new)
+  pub old_is_program : IsFitToRun (program_view old)
+  pub new_is_program : IsFitToRun (program_view new)
   pub belongs : BelongsTo (program_view old) (program_view new) (relation_view relation)
 
 abbrev pub IsInRangeOf : Compared → Pair → Type 0

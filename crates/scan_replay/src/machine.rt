@@ -3,7 +3,7 @@ ghost use Rattle.std.specs.Prelude.{◌≡◌, ◌<◌, ◌↔◌, IsTrue, IfOk,
 ghost use Rattle.program_tree.specs.Cells.{inputs_of};
 ghost use Rattle.program_tree.specs.View.{program_view, cells_view};
 ghost use Rattle.scan_model.specs.Scans.{ranges_of, initial, scanned};
-ghost use Rattle.scan_model.specs.InRange.{IsInRange, IsProgram};
+ghost use Rattle.scan_model.specs.InRange.{IsInRange, IsFitToRun};
 ghost use Rattle.scan_replay.specs.Machines.{fits_inputs, with_inputs};
 
 use crate::cells::ranges_of;
@@ -29,7 +29,7 @@ pub struct Machine<'p> {
 impl<'p> Model for Machine<'p> {
     ghost use Rattle.scan_replay.specs.Machines.{Running, room_of_program};
     ghost use Rattle.scan_model.specs.Scans.{ranges_of};
-    ghost use Rattle.scan_model.specs.InRange.{IsInRange, IsProgram};
+    ghost use Rattle.scan_model.specs.InRange.{IsInRange, IsFitToRun};
     ghost use Rattle.program_tree.specs.Cells.{inputs_of};
     ghost use Rattle.program_tree.specs.View.{program_view, cells_view};
     ghost use Rattle.program_tree.specs.contracts.typed.TypedStmt as stmt;
@@ -42,14 +42,14 @@ impl<'p> Model for Machine<'p> {
 
     ghost view = { λ m. record { program = m.program.now; state = m.state.items } };
 
-    ghost invariant = { λ m. IsProgram (program_view m.program.now) × (m.inputs.items ≡ inputs_of (program_view m.program.now)) × IsInRange (ranges_of (cells_view m.program.now.cells.items)) m.state.items
+    ghost invariant = { λ m. IsFitToRun (program_view m.program.now) × (m.inputs.items ≡ inputs_of (program_view m.program.now)) × IsInRange (ranges_of (cells_view m.program.now.cells.items)) m.state.items
         × (m.ranges.items ≡ ranges_of (cells_view m.program.now.cells.items)) × (room_of_program m.program.now ≤ length m.stack.items) };
 }
 
 impl<'p> Machine<'p> {
     /// A machine at the program's start.
     pub fn new(alloc: Global, program: &'p Program) -> Result<Machine<'p>, AllocError>
-        requires { IsProgram (program_view program.now) }
+        requires { IsFitToRun (program_view program.now) }
         ensures program { IfOk result (λ m. m.program ≡ program.now) }
         ensures start { IfOk result (λ m. m.state ≡ initial (cells_view program.now.cells.items)) }
     {

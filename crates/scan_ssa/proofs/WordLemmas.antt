@@ -4,7 +4,7 @@ use Rattle.plc_types.specs.declared.elementary.Elementary.{Elementary}
 use Rattle.plc_types.specs.declared.function.Function.{Function}
 use Rattle.plc_types.specs.declared.operator.UnaryOperator.{UnaryOperator}
 use Rattle.plc_types.specs.declared.operator.Operator.{Operator}
-use Rattle.program_tree.specs.Tree.{Expression, unary, chain, call, Operands, operand, Expressions, expression}
+use Rattle.program_tree.specs.Tree.{Expression, unary, chain, call_standard, Operands, operand, Expressions, expression}
 use Rattle.program_tree.specs.declared.typed.TypedExpr.{TypedExpr}
 use Rattle.program_tree.specs.declared.typed.Operand.{Operand, out-Operand}
 use Rattle.program_tree.specs.declared.typed.TypedExpr.TheFolds.{fold_out-Operand}
@@ -25,7 +25,7 @@ behind_right store a o k e y n is = rw is (grows_joined o k a (word_of store k e
 pub behind_operand : (store : Store) (a : ℕ) (y : OperandData) (os rest : Operands) (n : NodeList) → os ≡ operand y.0 y.1 y.2 rest → Grows (word_on store a (operands_of (y ∷ [])) n).list (word_on store a os n).list
 behind_operand store a y os rest n is = rw is (let m = word_of store y.1 y.2 n in let j = joined y.0 y.1 a m.word m.list in grows_on store j.word rest j.list)
 
-pub behind_arguments : (store : Store) (t k : Elementary) (f : Function) (es : Expressions) (n : NodeList) → k ≡ first_operand_kind f t → Grows (words_of store k t es n).list (word_of store t (call f t es) n).list
+pub behind_arguments : (store : Store) (t k : Elementary) (f : Function) (es : Expressions) (n : NodeList) → k ≡ first_operand_kind f t → Grows (words_of store k t es n).list (word_of store t (call_standard f t es) n).list
 behind_arguments store t k f es n kind = rw kind (grows_called f t _ _)
 
 pub behind_argument : (store : Store) (first others : Elementary) (e : Expression) (all es : Expressions) (n : NodeList) → all ≡ expression e es → Grows (word_of store first e n).list (words_of store first others all n).list

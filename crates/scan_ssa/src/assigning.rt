@@ -80,7 +80,7 @@ fn put_into(
     match held {
         None => Ok(word),
         Some(old) => {
-            if target.limited {
+            if target.is_subrange {
                 test_range(making, target, old, word)
             } else {
                 Ok(word)

@@ -26,7 +26,7 @@ pub fn source_of(function: Function, kind: Elementary) -> Elementary
 
 /// The word of a function of words.
 #[tactic(auto, unfolding(node_core::specs::Words::called_word))]
-pub fn call_function(
+pub fn call_standard(
     making: &mut Making,
     function: Function,
     kind: Elementary,

@@ -18,7 +18,7 @@ pub fn place_at(places: &[Scratch], place: usize) -> Scratch
         Scratch {
             kind: Elementary::Bool,
             range: Range { low: 1, high: 0 },
-            limited: false,
+            is_subrange: false,
         }
     }
 }
@@ -36,7 +36,7 @@ pub fn places_of(
         places.push(Scratch {
             kind: cell.kind.carrier(),
             range: cell.range,
-            limited: cell.limited,
+            is_subrange: cell.is_subrange,
         })?;
     }
     places.extend_from_slice(scratch)?;

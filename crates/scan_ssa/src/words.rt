@@ -2,12 +2,12 @@
 ghost use Rattle.std.specs.Prelude.{◌≡◌, [], ◌∷◌, IfOk, IfErr, OnOk, length};
 ghost use Rattle.program_tree.specs.View.{expr_view, operand_view, operands_of, operands_view, arguments_view};
 ghost use Rattle.node_core.specs.Words.{first_kind, first_operand_kind, word_of, word_on, words_of};
-ghost use Rattle.program_tree.specs.Tree.{call};
+ghost use Rattle.program_tree.specs.Tree.{call_standard};
 ghost use Rattle.scan_ssa.specs.Making.{list_view, IsOver};
 ghost use Rattle.scan_ssa.specs.Held.{held_store};
 
 use crate::fault::NodeFault;
-use crate::functions::{call_function, nothing, source_of};
+use crate::functions::{call_standard, nothing, source_of};
 use crate::held::{Held, word_at};
 use crate::making::{join, make};
 use crate::nodes::Making;
@@ -54,10 +54,10 @@ pub fn word_of(
             let left = word_of(making, held, first_kind(kind, operands), first, alloc)?;
             word_on(making, held, left, operands, alloc)
         }
-        TypedExpr::Call(function, of, arguments) => {
+        TypedExpr::CallStandard(function, of, arguments) => {
             word_of_call(making, held, *function, *of, arguments, alloc)
         }
-        TypedExpr::Answer(_, _) => nothing(making, kind),
+        TypedExpr::CallFunction(_, _) => nothing(making, kind),
     }
 }
 
@@ -119,14 +119,14 @@ fn word_of_call(
     arguments: &[TypedExpr],
     alloc: Global,
 ) -> Result<usize, NodeFault>
-    ensures word { IfOk result (λ w. w ≡ (word_of (held_store held.now) kind (call function kind (arguments_view arguments.now)) (list_view making.old)).word) }
-    ensures list { OnOk result (list_view making.new ≡ (word_of (held_store held.now) kind (call function kind (arguments_view arguments.now)) (list_view making.old)).list) }
-    ensures too_many { IfErr result (λ e. e ≡ NodeFault.TooMany → IsOver making.old.limit (length (word_of (held_store held.now) kind (call function kind (arguments_view arguments.now)) (list_view making.old)).list.nodes)) }
+    ensures word { IfOk result (λ w. w ≡ (word_of (held_store held.now) kind (call_standard function kind (arguments_view arguments.now)) (list_view making.old)).word) }
+    ensures list { OnOk result (list_view making.new ≡ (word_of (held_store held.now) kind (call_standard function kind (arguments_view arguments.now)) (list_view making.old)).list) }
+    ensures too_many { IfErr result (λ e. e ≡ NodeFault.TooMany → IsOver making.old.limit (length (word_of (held_store held.now) kind (call_standard function kind (arguments_view arguments.now)) (list_view making.old)).list.nodes)) }
     ensures limit { making.new.limit ≡ making.old.limit }
 {
     let first = first_operand_kind(function, kind);
     let words = words_of(making, held, first, kind, arguments, alloc)?;
-    call_function(making, function, kind, &words)
+    call_standard(making, function, kind, &words)
 }
 
 // The type of a function's first operand.

@@ -12,7 +12,7 @@ use Rattle.st_lexer.specs.Lexing.{IsRightFault}
 use Rattle.st_lexer.specs.declared.front.Front.{Front}
 use Rattle.st_lexer.specs.declared.front.Front.TheVariants.{Token}
 use Rattle.st_lexer.specs.Fronts.{front_of, size_of, stuck_rule}
-use Rattle.st_lexer.specs.Parts.{Part, proper, stray, unclosed, bytes_of, opens_block, Starts, IsCut, piece_rule, broken_rule, KeepsRules, BreaksFrom, IsBroken, IsSound, IsFirst}
+use Rattle.st_lexer.specs.Parts.{Part, proper, stray, unclosed, bytes_of, opens_block, Starts, IsCut, piece_rule, broken_rule, KeepsRules, BreaksFrom, IsBroken, IsSoundText, IsFirstInText}
 use Rattle.st_lexer.proofs.FrontLemmas.{piece_at}
 use Rattle.st_lexer.proofs.Beginnings.{IsFront, slice_at, begins, no_front}
 use Rattle.st_lexer.proofs.Cuts.{starts_once, part_some, no_part, cut_of}
@@ -61,7 +61,7 @@ behind : (at : ℕ) (p : Part) (r : List ℕ) (rule : Rule) (place : ℕ) → 0 
 behind at p r rule place some (ps, c, b) = omega (arith, breaks_behind (at + length (bytes_of p)) ps rule place b)
 
 -- the part that stands next, where it breaks a rule, is the first that does
-pub read_first : (text : List ℕ) (at : ℕ) (rest : List ℕ) (p : Part) (r : List ℕ) (rule : Rule) → Starts rest p r → broken_rule p ≡ Some rule → IsRead text at rest → IsFirst text rule at
+pub read_first : (text : List ℕ) (at : ℕ) (rest : List ℕ) (p : Part) (r : List ℕ) (rule : Rule) → Starts rest p r → broken_rule p ≡ Some rule → IsRead text at rest → IsFirstInText text rule at
 read_first text at rest p r rule s broken h = record {
   broken = h.on rule at (broken_here at rest p r rule s broken);
   others = λ other place b. elim (broken_back at rest p r other place s (h.back other place b)) [
@@ -75,14 +75,14 @@ nothing : (at : ℕ) (rest : List ℕ) (rule : Rule) (place : ℕ) → length re
 nothing at rest rule place z ([], c, b) = b
 nothing at rest rule place z (p ∷ ps, (r, s, c), b) = no_part rest p r s z
 
-pub read_end : (text : List ℕ) (at : ℕ) (rest : List ℕ) → length rest ≡ 0 → IsRead text at rest → IsSound text
+pub read_end : (text : List ℕ) (at : ℕ) (rest : List ℕ) → length rest ≡ 0 → IsRead text at rest → IsSoundText text
 read_end text at rest z h = λ rule place b. nothing at rest rule place z (h.back rule place b)
 
 -- where no gap and no token stands next, the rule of what is stuck is the first
-pub read_stuck : (text : List ℕ) (at : ℕ) (rest : List ℕ) → 0 < length rest → front_of rest ≡ None → IsRead text at rest → IsFirst text (stuck_rule rest) at
+pub read_stuck : (text : List ℕ) (at : ℕ) (rest : List ℕ) → 0 < length rest → front_of rest ≡ None → IsRead text at rest → IsFirstInText text (stuck_rule rest) at
 read_stuck text at [] z f h = absurd (omega arith)
 read_stuck text at (b ∷ bs) z f h =
-    elim (opens_block (b ∷ bs)) as (λ x. opens_block (b ∷ bs) ≡ x → IsFirst text (stuck_rule (b ∷ bs)) at) [
+    elim (opens_block (b ∷ bs)) as (λ x. opens_block (b ∷ bs) ≡ x → IsFirstInText text (stuck_rule (b ∷ bs)) at) [
       | true ↦ λ e. read_first text at (b ∷ bs) (unclosed (b ∷ bs)) [] (stuck_rule (b ∷ bs)) (refl, refl, e, λ p r k. no_front (b ∷ bs) p r f k) (rw e refl) h
       | false ↦ λ e. read_first text at (b ∷ bs) (stray b) bs (stuck_rule (b ∷ bs)) (refl, e, λ p r k. no_front (b ∷ bs) p r f k) (rw e refl) h
     ] refl
@@ -95,7 +95,7 @@ pub read_front : (text : List ℕ) (at : ℕ) (rest : List ℕ) (f : Front) (res
 read_front text at rest f rest' h e whole k =
     subst (IsRead text (at + size_of f)) (sym e) (read_on text at (size_of f) rest (proper (piece_at f rest)) (drop (size_of f) rest) (begins rest f h) (front_size rest f h) whole k)
 
-pub read_broken : (text : List ℕ) (at : ℕ) (rest : List ℕ) (f : Front) (rule : Rule) → IsFront rest f → broken_rule (proper (piece_at f rest)) ≡ Some rule → IsRead text at rest → IsFirst text rule at
+pub read_broken : (text : List ℕ) (at : ℕ) (rest : List ℕ) (f : Front) (rule : Rule) → IsFront rest f → broken_rule (proper (piece_at f rest)) ≡ Some rule → IsRead text at rest → IsFirstInText text rule at
 read_broken text at rest f rule h broken k = read_first text at rest (proper (piece_at f rest)) (drop (size_of f) rest) rule (begins rest f h) broken k
 
 -- the rule of a token, by its slice
@@ -106,5 +106,5 @@ pub kept_push : (tokens tokens' : List Lexeme) (l : Lexeme) → tokens' ≡ toke
 kept_push tokens tokens' l e k h = All-same KeepsRules tokens' (tokens ++ l ∷ []) e (All-push KeepsRules tokens l h k)
 
 -- a refusal of the first rule is right
-pub right_fault : (text : List ℕ) (rule told : Rule) (at : ℕ) (fault : Fault) → fault ≡ Refused (record { rule = told; at = at }) → told ≡ rule → IsFirst text rule at → IsRightFault text fault
-right_fault text rule told at fault e f h = subst (IsRightFault text) (sym e) (subst (λ r. IsFirst text r at) (sym f) h)
+pub right_fault : (text : List ℕ) (rule told : Rule) (at : ℕ) (fault : Fault) → fault ≡ Refused (record { rule = told; at = at }) → told ≡ rule → IsFirstInText text rule at → IsRightFault text fault
+right_fault text rule told at fault e f h = subst (IsRightFault text) (sym e) (subst (λ r. IsFirstInText text r at) (sym f) h)

@@ -67,10 +67,10 @@ abbrev pub IsBroken : List ℕ → Rule → ℕ → Type 0
 IsBroken text rule at = (parts : List Part) × IsCut (drop (mark_len text) text) parts × BreaksFrom (mark_len text) parts rule at
 
 -- no part of a text breaks a rule
-abbrev pub IsSound : List ℕ → Type 0
-IsSound text = (rule : Rule) (at : ℕ) → IsBroken text rule at → ⊥
+abbrev pub IsSoundText : List ℕ → Type 0
+IsSoundText text = (rule : Rule) (at : ℕ) → IsBroken text rule at → ⊥
 
 -- the first rule that a text breaks: each other one is broken behind it
-pub record IsFirst (text : List ℕ) (rule : Rule) (at : ℕ) : Type 0 where
+pub record IsFirstInText (text : List ℕ) (rule : Rule) (at : ℕ) : Type 0 where
   pub broken : IsBroken text rule at
   pub others : (other : Rule) (place : ℕ) → IsBroken text other place → (at < place) ⊎ ((at ≡ place) × (rule ≡ other))

@@ -3,7 +3,7 @@ ghost use Rattle.std.specs.Prelude.{◌≡◌, List, length, true, All, IfOk, If
 ghost use Rattle.source_tree.specs.Tokens.{Lexeme, Spells, token, is_formed};
 ghost use Rattle.source_tree.specs.Terminals.{IsClassified};
 ghost use Rattle.source_tree.specs.Places.{ArePlaced};
-ghost use Rattle.st_lexer.specs.Parts.{Part, IsCut, KeepsRules, IsSound};
+ghost use Rattle.st_lexer.specs.Parts.{Part, IsCut, KeepsRules, IsSoundText};
 ghost use Rattle.st_lexer.specs.Lexing.{lexemes_of, IsRightFault};
 ghost use Rattle.rules.specs.declared.fault.Fault.TheVariants.{Refused};
 
@@ -35,7 +35,7 @@ fn refused(rule: Rule, at: usize) -> Fault
 pub fn lex(alloc: Global, text: &[u8]) -> Result<Vec<Tok<'_>>, Fault>
     ensures spelled { IfOk result (λ v. Spells text.now (lexemes_of v.items)) }
     ensures kept { IfOk result (λ v. All KeepsRules (lexemes_of v.items)) }
-    ensures sound { IfOk result (λ v. IsSound text.now) }
+    ensures sound { IfOk result (λ v. IsSoundText text.now) }
     ensures classified { IfOk result (λ v. All IsClassified v.items) }
     ensures placed { IfOk result (λ v. ArePlaced 0 (length text.now) v.items) }
     ensures refused { IfErr result (λ e. IsRightFault text.now e) }

@@ -14,7 +14,7 @@ told_cell_for inside before t = record {
   part = part_in inside t.role;
   kind = t.domain.kind;
   range = t.domain.range;
-  limited = t.domain.limited;
+  is_subrange = t.domain.is_subrange;
   initial = t.initial;
 }
 

@@ -48,7 +48,7 @@ fn judge_pou(
     let declared = judge_told(Outcome::ok(), pous.told_at(number));
     let scope = PouScope { pous, number };
     let body = judge_body(alloc, &scope, &pou.body)?;
-    Ok(declared.also(body))
+    Ok(declared.and(body))
 }
 
 /// What the POUs of a file break, behind what was judged so far.
@@ -63,7 +63,7 @@ pub(crate) fn judge_pous(
     let names = pous.domains.types.names;
     let mut judged = so_far;
     for number in 0..names.pou_count() {
-        judged = judged.also(judge_pou(alloc, pous, number, names.pou(number))?);
+        judged = judged.and(judge_pou(alloc, pous, number, names.pou(number))?);
     }
     Ok(judged)
 }

@@ -45,7 +45,7 @@ fn types_of(alloc: Global, cells: &[Cell]) -> Result<Vec<CellType>, AllocError>
     for cell in cells {
         list.push(CellType {
             kind: cell.kind,
-            limited: cell.limited,
+            is_subrange: cell.is_subrange,
         })?;
     }
     Ok(list)

@@ -88,7 +88,7 @@ fn cell_for(
         part: part_in(inside, told.role),
         kind: told.domain.kind,
         range: told.domain.range,
-        limited: told.domain.limited,
+        is_subrange: told.domain.is_subrange,
         initial: told.initial,
     })
 }
@@ -113,7 +113,7 @@ fn flag_cell(
         part: Part::Local,
         kind: bool_type(),
         range: range(Elementary::Bool),
-        limited: false,
+        is_subrange: false,
         initial,
     })
 }
@@ -150,7 +150,7 @@ fn fault_cell(alloc: Global) -> Result<Cell, AllocError>
         part: Part::Fault,
         kind: bool_type(),
         range: range(Elementary::Bool),
-        limited: false,
+        is_subrange: false,
         initial: 0,
     })
 }

@@ -41,7 +41,7 @@ pub(crate) fn judge_parts<S: Scope>(
 {
     let mut judged = Outcome::ok();
     for part in parts {
-        judged = judged.also(judge_part(alloc, scope, part)?);
+        judged = judged.and(judge_part(alloc, scope, part)?);
     }
     Ok(judged)
 }

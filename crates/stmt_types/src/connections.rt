@@ -69,7 +69,7 @@ fn judge_input<S: Scope>(
     let expected = kind_at(meaning);
     let judged = judge_and_synthesize(alloc, scope, expected, value)?;
     let fits = judged.kind(expected).is_same(or_dint(expected));
-    let parts = judge_meaning(meaning).also(judged.outcome);
+    let parts = judge_meaning(meaning).and(judged.outcome);
     Ok(parts.require(fits, Rule::ValueType, name.at))
 }
 
@@ -84,7 +84,7 @@ fn judge_output(
     ensures { result ≡ outcome_of (judged_output controls.now meaning target at) }
 {
     let fits = or_dint(kind_at(target)).is_same(or_dint(kind_at(meaning)));
-    let parts = judge_meaning(meaning).also(judge_target(controls, target, at));
+    let parts = judge_meaning(meaning).and(judge_target(controls, target, at));
     parts.require(fits, Rule::ValueType, at)
 }
 
@@ -134,7 +134,7 @@ fn with_next(so_far: JudgedConnections, next: JudgedConnections) -> JudgedConnec
     ensures right { result.right ≡ (so_far.right && next.right) }
 {
     JudgedConnections {
-        judged: so_far.judged.also(next.judged),
+        judged: so_far.judged.and(next.judged),
         right: so_far.right && next.right,
     }
 }
@@ -271,7 +271,7 @@ fn type_run(instance: Option<Instance>, list: &mut Vec<TypedStmt>) -> Result<(),
     match instance {
         None => Ok(()),
         Some(Instance { block, offset }) => {
-            list.push(TypedStmt::Run { block, offset })?;
+            list.push(TypedStmt::CallBlock { block, offset })?;
             Ok(())
         }
     }

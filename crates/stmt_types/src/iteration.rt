@@ -182,8 +182,8 @@ pub(crate) fn judge_turns<S: Scope>(
     let step = judge_step(alloc, scope, kind, &iteration.step)?;
     let rule = broken_by_turns(range_at(meaning), first.value, last.value, step.value);
     let fits = first.fits && last.fits && step.fits;
-    let bounds = first.judged.also(last.judged.also(step.judged));
-    let parts = judge_control(controls, meaning, at).also(bounds);
+    let bounds = first.judged.and(last.judged.and(step.judged));
+    let parts = judge_control(controls, meaning, at).and(bounds);
     let judged = parts.require(fits, Rule::ValueType, at);
     Ok(JudgedTurns { judged, rule })
 }

@@ -4,7 +4,7 @@ ghost use Rattle.source_tree.specs.SyntaxView.{tree_view, initial_view, label_vi
 ghost use Rattle.typing.specs.Labels.{label_range, labelled_by, typed_label, judged_high, is_of_type, high_is_of_type, overlaps, judged_label, judged_labels, seen_with, seen_behind};
 ghost use Rattle.rules.specs.Outcomes.{outcome_of};
 ghost use Rattle.typing.specs.Outcomes.{labels_outcome, all_labels};
-ghost use Rattle.rules.specs.Judgements.{also};
+ghost use Rattle.rules.specs.Judgements.{and};
 ghost use Rattle.typing.specs.Judged.{judged, judged_meaning};
 ghost use Rattle.typing.specs.Typed.{read_of, meaning_read, value_of_number, constant_of};
 ghost use Rattle.typing.specs.Typing.{kind_at, or_dint, or_else};
@@ -159,7 +159,7 @@ fn judge_constants<S: Scope>(
     label: &Label,
 ) -> Result<Constants, AllocError>
     ensures range { IfOk result (λ c. c.range ≡ label_range (S.means scope.now) kind (label_view label.now)) }
-    ensures judged { IfOk result (λ c. c.judged ≡ outcome_of (also (judged (S.means scope.now) (Some kind) (tree_view label.now.low)) (judged_high (S.means scope.now) kind (initial_view label.now.high)))) }
+    ensures judged { IfOk result (λ c. c.judged ≡ outcome_of (and (judged (S.means scope.now) (Some kind) (tree_view label.now.low)) (judged_high (S.means scope.now) kind (initial_view label.now.high)))) }
     ensures fit { IfOk result (λ c. c.fit ≡ (is_of_type (S.means scope.now) kind (tree_view label.now.low) && high_is_of_type (S.means scope.now) kind (initial_view label.now.high))) }
 {
     let low = judge_constant(alloc, scope, kind, &label.low)?;
@@ -169,7 +169,7 @@ fn judge_constants<S: Scope>(
                 low: low.value,
                 high: low.value,
             },
-            judged: low.judged.also(Outcome::ok()),
+            judged: low.judged.and(Outcome::ok()),
             fit: low.fits,
         }),
         Some(high) => {
@@ -179,7 +179,7 @@ fn judge_constants<S: Scope>(
                     low: low.value,
                     high: high.value,
                 },
-                judged: low.judged.also(high.judged),
+                judged: low.judged.and(high.judged),
                 fit: low.fits && high.fits,
             })
         }
@@ -200,7 +200,7 @@ fn judge_label<S: Scope>(
     constants: Constants,
     is_new: bool,
 ) -> Outcome
-    ensures { (seen : List Range) → constants.judged ≡ outcome_of (also (judged (S.means scope.now) (Some kind) (tree_view label.now.low)) (judged_high (S.means scope.now) kind (initial_view label.now.high)))
+    ensures { (seen : List Range) → constants.judged ≡ outcome_of (and (judged (S.means scope.now) (Some kind) (tree_view label.now.low)) (judged_high (S.means scope.now) kind (initial_view label.now.high)))
         → constants.range ≡ label_range (S.means scope.now) kind (label_view label.now)
         → constants.fit ≡ (is_of_type (S.means scope.now) kind (tree_view label.now.low) && high_is_of_type (S.means scope.now) kind (initial_view label.now.high))
         → is_new ≡ not (overlaps seen constants.range) → result ≡ outcome_of (judged_label (S.means scope.now) kind seen (label_view label.now)) }
@@ -247,7 +247,7 @@ fn take_labels<S: Scope>(
 {
     let mut judged = so_far;
     for label in labels {
-        judged = judged.also(take_label(alloc, scope, kind, seen, label)?);
+        judged = judged.and(take_label(alloc, scope, kind, seen, label)?);
     }
     Ok(judged)
 }

@@ -65,5 +65,5 @@ pub(crate) fn judge_selection<S: Scope>(
         return Ok(judged.outcome);
     }
     let labels = judge_labels(alloc, scope, judged.kind, entries)?;
-    Ok(judged.outcome.also(labels))
+    Ok(judged.outcome.and(labels))
 }

@@ -40,7 +40,7 @@ fn judge_assign<S: Scope>(
     let target = judge_target(controls, meaning, path.first.at);
     let judged = judge_and_synthesize(alloc, scope, expected, value)?;
     let fits = judged.kind(expected).is_same(or_dint(expected));
-    let parts = target.also(judged.outcome);
+    let parts = target.and(judged.outcome);
     Ok(parts.require(fits, Rule::ValueType, path.first.at))
 }
 
@@ -58,11 +58,11 @@ fn judge_stmt<S: Scope>(
         Stmt::Empty => Ok(so_far),
         Stmt::Assign(path, value) => {
             let judged = judge_assign(alloc, scope, controls, path, value)?;
-            Ok(so_far.also(judged))
+            Ok(so_far.and(judged))
         }
         Stmt::Call(name, _at, connections) => {
             let judged = judge_invoke(alloc, scope, controls, name, connections)?;
-            Ok(so_far.also(judged))
+            Ok(so_far.and(judged))
         }
         Stmt::If(arms, other) => {
             let judged = judge_arms(alloc, scope, controls, so_far, arms)?;
@@ -70,7 +70,7 @@ fn judge_stmt<S: Scope>(
         }
         Stmt::Case(selector, entries, other) => {
             let selection = judge_selection(alloc, scope, selector, entries)?;
-            let judged = judge_bodies(alloc, scope, controls, so_far.also(selection), entries)?;
+            let judged = judge_bodies(alloc, scope, controls, so_far.and(selection), entries)?;
             judge_else(alloc, scope, controls, judged, other)
         }
         Stmt::For(iteration, body) => {
@@ -78,7 +78,7 @@ fn judge_stmt<S: Scope>(
             let turns = judge_turns(alloc, scope, controls, meaning, iteration)?;
             let inner = with_control(alloc, controls, meaning)?;
             let parts = judge_all(alloc, scope, &inner, turns.judged, body)?;
-            Ok(so_far.also(parts.ruled(turns.rule, iteration.at)))
+            Ok(so_far.and(parts.ruled(turns.rule, iteration.at)))
         }
     }
 }
@@ -114,7 +114,7 @@ fn judge_arms<S: Scope>(
     let mut judged = so_far;
     for arm in arms {
         let condition = judge_condition(alloc, scope, Rule::OperandType, &arm.condition)?;
-        judged = judge_all(alloc, scope, controls, judged.also(condition), &arm.body)?;
+        judged = judge_all(alloc, scope, controls, judged.and(condition), &arm.body)?;
     }
     Ok(judged)
 }

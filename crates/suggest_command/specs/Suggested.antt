@@ -2,7 +2,7 @@
 use Rattle.std.specs.Prelude.{◌≡◌, ℕ, List}
 use Rattle.rules.specs.declared.rule.Refusal.{Refusal}
 use Rattle.program_tree.specs.Tree.{ProgramData}
-use Rattle.command_files.specs.front_end.Texts.{IsProgram, IsNoProgram}
+use Rattle.command_files.specs.front_end.Texts.{StatesProgram, StatesNoProgram}
 use Rattle.command_answers.specs.declared.source.Source.{Source}
 use Rattle.command_answers.specs.declared.source.Source.TheVariants as sources
 use Rattle.command_files.specs.Stating.{StatesNoRelation}
@@ -15,14 +15,14 @@ use Rattle.suggestion.specs.line_trials.Suggested.{IsSuggestion}
 pub record IsSuggestedFor (old_text new_text text : List ℕ) (s : Suggestion) : Type 0 where
   pub old : ProgramData
   pub new : ProgramData
-  pub old_is : IsProgram old_text old
-  pub new_is : IsProgram new_text new
+  pub old_is : StatesProgram old_text old
+  pub new_is : StatesProgram new_text new
   pub made : s.text.items ≡ with_lines text (lines_view s.lines.items)
   pub held : IsSuggestion old new text s.text.items (runs_of s.runs.items)
 
 -- the first rule that the first of the texts breaks that breaks one
 pub data IsRefusedFor (old_text new_text text : List ℕ) (file : Source) (r : Refusal) : Type 0 where
-  by_old : file ≡ sources.Old → IsNoProgram old_text r → IsRefusedFor old_text new_text text file r
-  by_new : (old : ProgramData) → IsProgram old_text old → file ≡ sources.New → IsNoProgram new_text r → IsRefusedFor old_text new_text text file r
-  by_relation : (old new : ProgramData) → IsProgram old_text old → IsProgram new_text new → file ≡ sources.Relation → StatesNoRelation old new text r
+  by_old : file ≡ sources.Old → StatesNoProgram old_text r → IsRefusedFor old_text new_text text file r
+  by_new : (old : ProgramData) → StatesProgram old_text old → file ≡ sources.New → StatesNoProgram new_text r → IsRefusedFor old_text new_text text file r
+  by_relation : (old new : ProgramData) → StatesProgram old_text old → StatesProgram new_text new → file ≡ sources.Relation → StatesNoRelation old new text r
       → IsRefusedFor old_text new_text text file r

@@ -1,8 +1,8 @@
 // What is suggested for three texts.
 ghost use Rattle.std.specs.Prelude.{IfOk, IfErr};
 ghost use Rattle.program_tree.specs.View.{program_view};
-ghost use Rattle.scan_model.specs.InRange.{IsProgram as IsFitToRun};
-ghost use Rattle.command_files.specs.front_end.Texts.{IsProgram, IsNoProgram};
+ghost use Rattle.scan_model.specs.InRange.{IsFitToRun};
+ghost use Rattle.command_files.specs.front_end.Texts.{StatesProgram, StatesNoProgram};
 ghost use Rattle.command_files.specs.Refused.{IfRefused, IfRefusedOf};
 ghost use Rattle.suggest_command.specs.Suggested.{IsSuggestedFor, IsRefusedFor};
 
@@ -15,9 +15,9 @@ use suggestion::{Suggestion, suggest};
 
 // The program of a text.
 fn program_of(alloc: Global, source: Source, text: &[u8]) -> Result<Program, AcceptError>
-    ensures ok { IfOk result (λ p. IsProgram text.now (program_view p)) }
+    ensures ok { IfOk result (λ p. StatesProgram text.now (program_view p)) }
     ensures fit { IfOk result (λ p. IsFitToRun (program_view p)) }
-    ensures refused { IfErr result (IfRefusedOf source (IsNoProgram text.now)) }
+    ensures refused { IfErr result (IfRefusedOf source (StatesNoProgram text.now)) }
 {
     match accept_text(alloc, text) {
         Ok(program) => Ok(program),

@@ -28,7 +28,7 @@ pub fn numbers_of(toks: &[Tok<'_>], numbers: &mut Vec<i64>) -> Result<(), AllocE
 
 fn add_bounds_of_cells(program: &Program, edges: &mut Vec<i64>) -> Result<(), AllocError> {
     for cell in &program.cells {
-        if cell.limited && matches!(cell.kind, DataType::Elementary(_)) {
+        if cell.is_subrange && matches!(cell.kind, DataType::Elementary(_)) {
             edges.push(cell.range.low)?;
             edges.push(cell.range.high)?;
         }

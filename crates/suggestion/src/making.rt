@@ -1,7 +1,7 @@
 // What is suggested for the text of a relation.
 ghost use Rattle.std.specs.Prelude.{◌≡◌, IfOk, IfErr, IfSome, length};
 ghost use Rattle.program_tree.specs.View.{program_view};
-ghost use Rattle.scan_model.specs.InRange.{IsProgram};
+ghost use Rattle.scan_model.specs.InRange.{IsFitToRun};
 ghost use Rattle.scan_model.specs.Pairs.{relation_view};
 ghost use Rattle.scan_replay.specs.Duos.{AreComparable};
 ghost use Rattle.line_trials.specs.Stating.{StatesRelation, StatesNoRelation};
@@ -46,8 +46,8 @@ fn settle(
     lines: Vec<InvariantLine>,
     runs: &[Vec<Vec<i64>>],
 ) -> Result<Option<Settled>, AllocError>
-    requires old { IsProgram (program_view old.now) }
-    requires new { IsProgram (program_view new.now) }
+    requires old { IsFitToRun (program_view old.now) }
+    requires new { IsFitToRun (program_view new.now) }
     ensures lines { IfOk result (λ o. IfSome o (λ s. s.text.items ≡ with_lines text.now (lines_view s.lines.items))) }
     ensures held { IfOk result (λ o. IfSome o (λ s. HasHeld (program_view old.now) (program_view new.now) given s.text.items (runs_of runs.now))) }
 {
@@ -118,8 +118,8 @@ pub fn suggest(
     numbers: &[i64],
     seed: u64,
 ) -> Result<Suggestion, Fault>
-    requires old { IsProgram (program_view old.now) }
-    requires new { IsProgram (program_view new.now) }
+    requires old { IsFitToRun (program_view old.now) }
+    requires new { IsFitToRun (program_view new.now) }
 
     // The text is the one that was given, with the lines behind it.
     ensures lines { IfOk result (λ s. s.text.items ≡ with_lines text.now (lines_view s.lines.items)) }

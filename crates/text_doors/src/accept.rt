@@ -1,7 +1,7 @@
 // The door `accept`: a text is accepted, or refused by the rule and at the place that its mark names.
 ghost use Rattle.std.specs.Prelude.{IfOk};
 ghost use Rattle.program_tree.specs.View.{program_view};
-ghost use Rattle.scan_model.specs.InRange.{IsProgram as IsFitToRun};
+ghost use Rattle.scan_model.specs.InRange.{IsFitToRun};
 
 use case_files::{
     Case, CaseFault, Marked, Mismatch, Word, compare, malformed, program_of, refused_at,

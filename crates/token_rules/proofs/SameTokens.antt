@@ -6,7 +6,7 @@ use Rattle.source_tree.specs.Syntax.{Symbol}
 use Rattle.source_tree.specs.SyntaxView.{symbol, symbols}
 use Rattle.grammar.specs.declared.open.Open.{Open}
 use Rattle.grammar.specs.Nesting.{nothing_open}
-use Rattle.grammar.specs.FirstFault.{behind_all, fault_at, IsBroken, IsSound, IsFirstFault}
+use Rattle.grammar.specs.FirstFault.{behind_all, fault_at, IsBroken, AreSoundTokens, IsFirstFault}
 use Rattle.grammar.specs.Same.{placed_symbol, AreSameTokens}
 use Rattle.token_rules.proofs.FirstFaults.{first_fault_once}
 
@@ -81,7 +81,7 @@ split_of o ts us r e b = split_same b.before b.token b.rest us (ap (map placed_s
 broken_same : (o : Open) (ts us : List Tok) (r : Refusal) → AreSameTokens ts us → IsBroken o ts r → IsBroken o us r
 broken_same o ts us r e b = fault_moved o ts us r b (split_of o ts us r e b)
 
-pub sound_same : (ts us : List Tok) → AreSameTokens ts us → IsSound ts → IsSound us
+pub sound_same : (ts us : List Tok) → AreSameTokens ts us → AreSoundTokens ts → AreSoundTokens us
 sound_same ts us e sound r b = sound r (broken_same nothing_open us ts r (sym e) b)
 
 first_same : (ts us : List Tok) (r : Refusal) → AreSameTokens ts us → IsFirstFault ts r → IsFirstFault us r
@@ -91,7 +91,7 @@ first_same ts us r e h =
     record { broken = fault_moved nothing_open ts us r h.broken s; first = sound_same h.broken.before s.front s.same_front h.first }
 
 -- tokens that break no rule spell none that do
-pub sound_or_broken : (ts us : List Tok) (r : Refusal) → AreSameTokens ts us → IsSound ts → IsFirstFault us r → ⊥
+pub sound_or_broken : (ts us : List Tok) (r : Refusal) → AreSameTokens ts us → AreSoundTokens ts → IsFirstFault us r → ⊥
 sound_or_broken ts us r e sound h = sound_same ts us e sound r h.broken
 
 pub one_first_fault : (ts us : List Tok) (r s : Refusal) → AreSameTokens ts us → IsFirstFault ts r → IsFirstFault us s → r ≡ s

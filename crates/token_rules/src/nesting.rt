@@ -2,7 +2,7 @@
 ghost use Rattle.std.specs.Prelude.{ℕ, List, ◌≡◌, ◌+◌, ◌≤◌, IfOk, IfErr, IfSome, IfNone, Some, None};
 ghost use Rattle.source_tree.specs.SyntaxView.{symbol, symbols};
 ghost use Rattle.grammar.specs.Nesting.{behind, total, nothing_open, Shallow};
-ghost use Rattle.grammar.specs.FirstFault.{fault_at, IsBroken, IsSound, IsFirstFault, AreFrom};
+ghost use Rattle.grammar.specs.FirstFault.{fault_at, IsBroken, AreSoundTokens, IsFirstFault, AreFrom};
 ghost use Rattle.source_tree.specs.declared.token.Tok.{Tok};
 ghost use Rattle.rules.specs.declared.rule.Refusal.{Refusal};
 ghost use Rattle.rules.specs.Rules.{IsFirst};
@@ -43,7 +43,7 @@ fn step(held: Open, tok: Tok<'_>) -> Result<Open, Rule>
 /// The first token that is a word left out (X1) or opens a 65th parenthesis, IF, CASE or FOR (G2).
 pub fn first_fault(toks: &[Tok<'_>]) -> Option<Refusal>
     ensures first { IfSome result (IsFirstFault toks.now) }
-    ensures none { IfNone result (IsSound toks.now) }
+    ensures none { IfNone result (AreSoundTokens toks.now) }
     ensures shallow { IfNone result (Shallow (symbols toks.now)) }
 {
     let mut held = Open {

@@ -56,7 +56,7 @@ module _ (f : FileData) (ps : Pous) (b : BodyScope) where
       let inside = initial_in f v in
       let in_type = covers-in (range_of_type (last f) d.kind) d.range (initial_of f v) sound.within inside in
       subst (λ (q : Scratch). Takes ps b q (number (initial_of f v))) (sym is)
-      (covers-in (range_of (carrier d.kind)) (range_of_type (last f) d.kind) (initial_of f v) (carrier_covers (last f) d.kind sound.known) in_type, or_right d.limited (in_range (initial_of f v) d.range) inside)
+      (covers-in (range_of (carrier d.kind)) (range_of_type (last f) d.kind) (initial_of f v) (carrier_covers (last f) d.kind sound.known) in_type, or_right d.is_subrange (in_range (initial_of f v) d.range) inside)
 
   module _ (ns : List Variable) (chart : AllByRecursion IsOfChart ns) (ss : Statements) (typed : AreTypedParts ps b ss) where
     begun_by : (t : Bool) (next : Next) (v : Variable) (ds : List Variable) → is_temporary v.role ≡ t → HasSize f v → IsPlain v → (judged_variable f v).whole ≡ true → Occurs (variable_places f v) b.places (first_place next v)

@@ -4,7 +4,7 @@ use Rattle.call_order.specs.Marks.{is_marked}
 use Rattle.source_tree.specs.Syntax.{PartData, BodyData, statements, chart, PouKindData, function, function_block, program, PouData, FileData}
 use Rattle.std.specs.Prelude.{Some}
 use Rattle.source_tree.specs.Levels.{MayDo}
-use Rattle.program_tree.specs.Tree.{Statement, Statements, assign, run, choice, cases, repeat, chart as typed_chart_statement, no_statements, statement}
+use Rattle.program_tree.specs.Tree.{Statement, Statements, assign, call_block, choice, cases, repeat, chart as typed_chart_statement, no_statements, statement}
 use Rattle.naming.specs.Broken.{variables_twice}
 use Rattle.naming.specs.FileScope.{pou_at, is_program}
 use Rattle.naming.specs.Scopes.{variables_in_pou}
@@ -28,7 +28,7 @@ use Rattle.typed_cells.proofs.ChartCells.{chart_flags, chart_rising}
 module _ (ps : Pous) (b : BodyScope) where
   part_is : (t : Statement) → IsTyped ps b t → IsTypedPart ps b t
   part_is (assign target e) typed = typed
-  part_is (run block offset) typed = typed
+  part_is (call_block block offset) typed = typed
   part_is (choice arms other) typed = typed
   part_is (cases kind e es other) typed = typed
   part_is (repeat turns body) typed = typed

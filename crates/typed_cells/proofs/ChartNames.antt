@@ -12,7 +12,7 @@ use Rattle.naming.specs.Scopes.{Variable, is_fault, is_of_name, of_chart, step_r
 use Rattle.typing.specs.declared.next.Next.{Next}
 use Rattle.typing.specs.Places.{is_front, cells_taken, sizes_of, first_place, places_behind}
 use Rattle.typing.specs.Members.{member_of, member_among}
-use Rattle.typed_scopes.proofs.Wholes.{whole_also}
+use Rattle.typed_scopes.proofs.Wholes.{whole_and}
 use Rattle.typed_cells.proofs.Walks.{among_here, among_other, passed_front, passed_rest}
 
 -- ---- each name once
@@ -28,11 +28,11 @@ not_twice false n whole = refl
 -- a name is none of an earlier one
 pub once : (fault : Bool) (before b : List Variable) (v : Variable) (c : List Variable) → (variables_twice fault before (b ++ v ∷ c)).whole ≡ true → list_any (is_of_name v.name.text) (before ++ b) ≡ false
 once fault before [] v c whole =
-    let parts = whole_also (if is_fault fault v.name.text || list_any (is_of_name v.name.text) before then twice v.name else ok) (variables_twice fault (before ++ v ∷ []) c) whole in
+    let parts = whole_and (if is_fault fault v.name.text || list_any (is_of_name v.name.text) before then twice v.name else ok) (variables_twice fault (before ++ v ∷ []) c) whole in
     let none = first_of_or (is_fault fault v.name.text) (list_any (is_of_name v.name.text) before) (not_twice (is_fault fault v.name.text || list_any (is_of_name v.name.text) before) v.name parts.0) in
     list_any-append (is_of_name v.name.text) before [] ∙ ap (λ (x : Bool). x || false) none.1
 once fault before (u ∷ b) v c whole =
-    let parts = whole_also (if is_fault fault u.name.text || list_any (is_of_name u.name.text) before then twice u.name else ok) (variables_twice fault (before ++ u ∷ []) (b ++ v ∷ c)) whole in
+    let parts = whole_and (if is_fault fault u.name.text || list_any (is_of_name u.name.text) before then twice u.name else ok) (variables_twice fault (before ++ u ∷ []) (b ++ v ∷ c)) whole in
     ap (list_any (is_of_name v.name.text)) (sym (append_assoc before (u ∷ []) b)) ∙ once fault (before ++ u ∷ []) b v c parts.1
 
 -- ---- the places behind names

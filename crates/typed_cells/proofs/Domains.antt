@@ -11,7 +11,7 @@ use Rattle.plc_types.specs.declared.range.Range.{Range}
 use Rattle.plc_types.specs.DataTypes.{is_same_type}
 use Rattle.plc_types.specs.Types.{is_integer, range_of, in_range}
 use Rattle.rules.specs.declared.rule.Rule.TheVariants.{ValueType, OutsideType, OperandType}
-use Rattle.rules.specs.Judgements.{also, require}
+use Rattle.rules.specs.Judgements.{and, require}
 use Rattle.source_tree.specs.Syntax.{Named, Tree, BoundsData, TypeData, of_elementary, of_subrange, of_name, SpecificationData, of_type, of_values, FileData}
 use Rattle.naming.specs.declared.standing.Standing.{Standing}
 use Rattle.naming.specs.declared.standing.Standing.TheVariants as standings
@@ -27,30 +27,30 @@ use Rattle.typing.specs.Variables.{domain_if, domain_of_variable, judged_initial
 use Rattle.node_core.specs.TypedFlats.{covers}
 use Rattle.typed_scopes.specs.Types.{range_of_type, IsKnown, IsPlaceOf}
 use Rattle.typed_scopes.proofs.Numbers.{covers-self, zero-in}
-use Rattle.typed_scopes.proofs.Wholes.{whole_require, whole_also}
+use Rattle.typed_scopes.proofs.Wholes.{whole_require, whole_and}
 use Rattle.typed_cells.specs.Places.{last_value, last}
 use Rattle.typed_cells.specs.Variables.{place_for}
 use Rattle.typed_cells.proofs.Constants.{within, constant_in}
 
 -- an enumeration is no subrange
 abbrev pub IsOpen : DataType → Bool → Type 0
-IsOpen (kinds.Elementary k) limited = Unit {0}
-IsOpen (kinds.Enumeration n) limited = limited ≡ false
-IsOpen kinds.Unknown limited = Unit {0}
+IsOpen (kinds.Elementary k) is_subrange = Unit {0}
+IsOpen (kinds.Enumeration n) is_subrange = is_subrange ≡ false
+IsOpen kinds.Unknown is_subrange = Unit {0}
 
-pub record IsSound (f : FileData) (d : Domain) : Type 0 where
+pub record IsSoundDomain (f : FileData) (d : Domain) : Type 0 where
   pub place : is_unknown d.kind ≡ false → IsPlaceOf (last f) d.kind (place_for d)
   pub start : in_range d.start d.range ≡ true
   pub known : d.whole ≡ true → is_unknown d.kind ≡ false
-  pub whole : IsOpen d.kind d.limited
+  pub whole : IsOpen d.kind d.is_subrange
 
 true≢false : {P : Type 0} → true ≡ false → P
 true≢false h = absurd (let e : ⊥ = cc in e)
 
-none_sound : (f : FileData) → IsSound f no_domain
+none_sound : (f : FileData) → IsSoundDomain f no_domain
 none_sound f = record { place = λ known. true≢false known; start = zero-in types.Bool; known = λ whole. absurd (false≢true whole); whole = tt }
 
-elementary_sound : (f : FileData) (k : Elementary) → IsSound f (elementary_domain k)
+elementary_sound : (f : FileData) (k : Elementary) → IsSoundDomain f (elementary_domain k)
 elementary_sound f k = record { place = λ known. record { known = tt; kind = refl; within = covers-self (range_of k); whole = λ all. refl }; start = zero-in k; known = λ whole. refl; whole = tt }
 
 -- ---- subranges
@@ -66,12 +66,12 @@ bound_in f k e whole =
     constant_in f k e
     (whole_require (judged (values_scope f) (Some (kinds.Elementary k)) e) (is_same_type (type_of (values_scope f) (Some (kinds.Elementary k)) e) (kinds.Elementary k)) OperandType (place_of e) whole).1
 
-subrange_by : (c : Bool) (f : FileData) (k : Elementary) (at : ℕ) (b : BoundsData) → (judged_subrange f k at b).whole ≡ c → IsSound f (subrange_domain f k at b)
+subrange_by : (c : Bool) (f : FileData) (k : Elementary) (at : ℕ) (b : BoundsData) → (judged_subrange f k at b).whole ≡ c → IsSoundDomain f (subrange_domain f k at b)
 subrange_by true f k at b is =
-    let parts = also (judged_bound_of f k b.low) (judged_bound_of f k b.high) in
+    let parts = and (judged_bound_of f k b.low) (judged_bound_of f k b.high) in
     let r = bounds_of f k b in
     let ends = whole_require (require parts (is_integer k) OperandType at) (int_le r.low r.high) OutsideType (place_of b.low) is in
-    let each = whole_also (judged_bound_of f k b.low) (judged_bound_of f k b.high) (whole_require parts (is_integer k) OperandType at ends.0).0 in
+    let each = whole_and (judged_bound_of f k b.low) (judged_bound_of f k b.high) (whole_require parts (is_integer k) OperandType at ends.0).0 in
     let low = bound_in f k b.low each.0 in
     let high = bound_in f k b.high each.1 in
     rw is
@@ -83,7 +83,7 @@ subrange_by true f k at b is =
     })
 subrange_by false f k at b is = rw is (none_sound f)
 
-subrange_sound : (f : FileData) (k : Elementary) (at : ℕ) (b : BoundsData) → IsSound f (subrange_domain f k at b)
+subrange_sound : (f : FileData) (k : Elementary) (at : ℕ) (b : BoundsData) → IsSoundDomain f (subrange_domain f k at b)
 subrange_sound f k at b = subrange_by (judged_subrange f k at b).whole f k at b refl
 
 -- ---- enumerations
@@ -101,7 +101,7 @@ last_is f t at first others is = ap last_value is
 pub known_values : (f : FileData) (t : ℕ) (at : ℕ) (first : Named) (others : List Named) → specification_at f t ≡ Some (of_values at first others) → has_few others ≡ true → IsKnown (last f) (kinds.Enumeration t)
 known_values f t at first others is few = subst (λ (v : ℤ). in_range v (range_of types.Usint) ≡ true) (sym (last_is f t at first others is)) (few_in (length others) few)
 
-enumeration_by : (c : Bool) (f : FileData) (t at : ℕ) (first : Named) (others : List Named) → specification_at f t ≡ Some (of_values at first others) → has_few others ≡ c → IsSound f (enumeration_domain t others)
+enumeration_by : (c : Bool) (f : FileData) (t at : ℕ) (first : Named) (others : List Named) → specification_at f t ≡ Some (of_values at first others) → has_few others ≡ c → IsSoundDomain f (enumeration_domain t others)
 enumeration_by true f t at first others there is =
     let same : (let r : Range = record { low = pos 0; high = pos (length others) } in r) ≡ range_of_type (last f) (kinds.Enumeration t) = λ i. record { low = pos 0; high = sym (last_is f t at first others there) i } in
     rw is
@@ -120,30 +120,30 @@ enumeration_by false f t at first others there is = rw is (none_sound f)
 
 -- ---- types
 
-end_sound : (f : FileData) (t : ℕ) (s : Option SpecificationData) → specification_at f t ≡ s → IsSound f (end_domain f t s)
+end_sound : (f : FileData) (t : ℕ) (s : Option SpecificationData) → specification_at f t ≡ s → IsSoundDomain f (end_domain f t s)
 end_sound f t None is = none_sound f
 end_sound f t (Some (of_values at first others)) is = enumeration_by (has_few others) f t at first others is refl
 end_sound f t (Some (of_type (of_elementary k at))) is = elementary_sound f k
 end_sound f t (Some (of_type (of_subrange k at b))) is = subrange_sound f k at b
 end_sound f t (Some (of_type (of_name n))) is = none_sound f
 
-named_sound : (f : FileData) (s : Option Standing) → IsSound f (named_domain f s)
+named_sound : (f : FileData) (s : Option Standing) → IsSoundDomain f (named_domain f s)
 named_sound f None = none_sound f
 named_sound f (Some (standings.Type t)) = end_sound f (end_of f t) (end_specification f t) refl
 named_sound f (Some (standings.Value t k)) = none_sound f
 named_sound f (Some (standings.Pou p)) = none_sound f
 
-domain_sound : (f : FileData) (t : TypeData) → IsSound f (domain_of f t)
+domain_sound : (f : FileData) (t : TypeData) → IsSoundDomain f (domain_of f t)
 domain_sound f (of_elementary k at) = elementary_sound f k
 domain_sound f (of_subrange k at b) = subrange_sound f k at b
 domain_sound f (of_name n) = named_sound f (standing f n.text)
 
-if_sound : (f : FileData) (t : Option TypeData) → IsSound f (domain_if f t)
+if_sound : (f : FileData) (t : Option TypeData) → IsSoundDomain f (domain_if f t)
 if_sound f None = elementary_sound f types.Bool
 if_sound f (Some t) = domain_sound f t
 
 -- the domain of each variable
-pub variable_sound : (f : FileData) (v : Variable) → IsSound f (domain_of_variable f v)
+pub variable_sound : (f : FileData) (v : Variable) → IsSoundDomain f (domain_of_variable f v)
 variable_sound f v = if_sound f v.kind
 
 -- ---- what a variable begins with

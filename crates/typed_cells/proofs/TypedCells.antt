@@ -26,13 +26,13 @@ use Rattle.node_core.specs.TypedFlats.{covers, IsTypedPlace}
 use Rattle.typed_programs.specs.Programs.{HasWholeRange, IsTypedCell}
 use Rattle.typed_scopes.specs.Types.{range_of_type, IsKnown, IsPlaceOf}
 use Rattle.typed_scopes.proofs.Numbers.{bounds, covers-in, covers-self, usint-covers}
-use Rattle.typed_scopes.proofs.Wholes.{whole_also}
+use Rattle.typed_scopes.proofs.Wholes.{whole_and}
 use Rattle.typed_cells.specs.Places.{last}
 use Rattle.typed_cells.specs.Variables.{place_for}
 use Rattle.typed_cells.specs.Premises.{AreWhole}
 use Rattle.typed_cells.proofs.Lists.{all-filter, all-in_order}
 use Rattle.typed_cells.proofs.Constants.{within}
-use Rattle.typed_cells.proofs.Domains.{IsOpen, IsSound, variable_sound, initial_in}
+use Rattle.typed_cells.proofs.Domains.{IsOpen, IsSoundDomain, variable_sound, initial_in}
 
 -- a cell of a range of its type, which begins in its range
 pub record IsReadyCell (c : CellData) : Type 0 where
@@ -46,7 +46,7 @@ carrier_covers last (kinds.Elementary k) known = covers-self (range_of k)
 carrier_covers last (kinds.Enumeration n) known = usint-covers (last n) known
 carrier_covers last kinds.Unknown known = absurd known
 
-whole_by : (last : ℕ → ℤ) (c : CellData) (t : DataType) → IsPlaceOf last t (of_cell c) → IsOpen t c.limited → HasWholeRange c t
+whole_by : (last : ℕ → ℤ) (c : CellData) (t : DataType) → IsPlaceOf last t (of_cell c) → IsOpen t c.is_subrange → HasWholeRange c t
 whole_by last c (kinds.Elementary k) place open_range = place.whole
 whole_by last c (kinds.Enumeration n) place open_range = open_range
 whole_by last c kinds.Unknown place open_range = absurd place.known
@@ -61,7 +61,7 @@ high_in s v inside = let b = bounds v s inside in within s.high s.low s.high (om
 ends_in : (r s : Range) (v : ℤ) → covers r s ≡ true → in_range v s ≡ true → (in_range s.low r ≡ true) × (in_range s.high r ≡ true)
 ends_in r s v covered inside = (covers-in r s s.low covered (low_in s v inside), covers-in r s s.high covered (high_in s v inside))
 
-place_typed : (f : FileData) (d : Domain) → IsSound f d → is_unknown d.kind ≡ false → IsTypedPlace (place_for d)
+place_typed : (f : FileData) (d : Domain) → IsSoundDomain f d → is_unknown d.kind ≡ false → IsTypedPlace (place_for d)
 place_typed f d sound known =
     let place = sound.place known in
     let ends = ends_in (range_of_type (last f) d.kind) d.range d.start place.within sound.start in
@@ -78,7 +78,7 @@ whole_domain false f v is whole = absurd (let h : false ≡ true = rw is at whol
 pub kind_known : (f : FileData) (v : Variable) → block_of f v ≡ None → (judged_variable f v).whole ≡ true → is_unknown (domain_of_variable f v).kind ≡ false
 kind_known f v none whole =
     let plain : (judged_by_block f v None).whole ≡ true = subst (λ (o : Option ℕ). (judged_by_block f v o).whole ≡ true) none whole in
-    let parts = whole_also (judged_type_if f v.kind) (judged_value f (domain_of_variable f v) v.name.at v.initial) plain in
+    let parts = whole_and (judged_type_if f v.kind) (judged_value f (domain_of_variable f v) v.name.at v.initial) plain in
     let d : (domain_of_variable f v).whole ≡ true = whole_domain (domain_of_variable f v).whole f v refl parts.1 in
     (variable_sound f v).known d
 
@@ -150,7 +150,7 @@ all_ready f of_block inside before (v ∷ vs) whole blocks =
 
 pub each_whole : (f : FileData) (vs : List Variable) → (judged_variables f vs).whole ≡ true → AllByRecursion (λ v. (judged_variable f v).whole ≡ true) vs
 each_whole f [] whole = tt
-each_whole f (v ∷ vs) whole = let two = whole_also (judged_variable f v) (judged_variables f vs) whole in (two.0, each_whole f vs two.1)
+each_whole f (v ∷ vs) whole = let two = whole_and (judged_variable f v) (judged_variables f vs) whole in (two.0, each_whole f vs two.1)
 
 module _ (f : FileData) (whole : AreWhole f) where
   wholes : (k : ℕ) (o : Bool) → AllByRecursion (λ v. (judged_variable f v).whole ≡ true) (in_order o (variables_at f k))

@@ -12,7 +12,7 @@ use Rattle.flat_form.specs.Frames.{whole_cell}
 use Rattle.typed_cells.specs.Places.{block_places}
 
 abbrev pub place_for : Domain → Scratch
-place_for d = record { kind = carrier d.kind; range = d.range; limited = d.limited }
+place_for d = record { kind = carrier d.kind; range = d.range; is_subrange = d.is_subrange }
 
 -- of a name that is no instance: of a step its two flags, of a stored action its latch
 abbrev pub plain_places : FileData → Variable → List Scratch

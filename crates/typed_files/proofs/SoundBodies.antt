@@ -1,7 +1,7 @@
 -- In a file that breaks no rule each body is sound, and so typed over the cells of its POU.
 use Rattle.std.proofs.Common.{◌≡◌, ℕ, Bool, List, [], ◌∷◌, Option, Some, None, true, refl}
 use Rattle.call_order.specs.Marks.{is_marked}
-use Rattle.rules.specs.Judgements.{also}
+use Rattle.rules.specs.Judgements.{and}
 use Rattle.source_tree.specs.Syntax.{PartData, BodyData, statements, chart as chart_body, PouData, FileData}
 use Rattle.source_tree.specs.Levels.{ArePartsLevelled, IsBodyLevelled, IsFileLevelled}
 use Rattle.naming.specs.FileScope.{pou_at, is_program}
@@ -14,7 +14,7 @@ use Rattle.typing.specs.Members.{scope_of}
 use Rattle.typing.specs.Pous.{judged_body, broken_types}
 use Rattle.typing.specs.Reached.{reached}
 use Rattle.typed_scopes.specs.Uses.{Usable}
-use Rattle.typed_scopes.proofs.Wholes.{whole_also}
+use Rattle.typed_scopes.proofs.Wholes.{whole_and}
 use Rattle.bound_names.specs.BoundNames.{IsBodyWithin}
 use Rattle.st_names.proofs.WholeNames.{pou_whole}
 use Rattle.whole_files.specs.WholePous.{IsNamedBody}
@@ -44,7 +44,7 @@ names_once f d h =
     let p = names_of d in
     let twice = variables_twice p.has_fault [] p.variables in
     let declared = in_declarations f p 0 p.variables in
-    (whole_also twice declared (whole_also (also twice declared) (in_body f p d.body) h).0).0
+    (whole_and twice declared (whole_and (and twice declared) (in_body f p d.body) h).0).0
 
 module _ (f : FileData) (names : broken_names f ≡ []) (levels : IsFileLevelled f) (types : broken_types f ≡ []) where
   pub variables_whole : AreWhole f

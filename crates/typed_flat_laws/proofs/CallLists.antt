@@ -5,7 +5,7 @@ use Rattle.std.proofs.lemmas.Bool.{or_right}
 use Rattle.std.proofs.lemmas.List.{length-append}
 use Rattle.plc_types.specs.declared.elementary.Elementary.{Elementary}
 use Rattle.plc_types.specs.Types.{range_of, in_range}
-use Rattle.program_tree.specs.Tree.{Expression, number, cell, unary, chain, call, answer, Operands, no_operands, operand, Expressions, no_expressions, expression}
+use Rattle.program_tree.specs.Tree.{Expression, number, cell, unary, chain, call_standard, call_function, Operands, no_operands, operand, Expressions, no_expressions, expression}
 use Rattle.meaning.specs.Values.{result_type}
 use Rattle.flat_core.specs.declared.flat_tree.Scratch.{Scratch}
 use Rattle.flat_core.specs.FlatTree.{FlatStatement, set}
@@ -26,7 +26,7 @@ use Rattle.typed_flat_laws.proofs.Moved.{Stand, Is, left, moved-taken}
 initial-taken : (ps : List Scratch) (frame : FrameData) → Begins frame → (n : ℕ) → n < length frame.types → flats.Takes ps (scratch_at frame n) (number (initial_at frame n))
 initial-taken ps frame begins n low =
     let its = begins n low in
-    (between_in (range_of (scratch_at frame n).kind) (scratch_at frame n).range (initial_at frame n) its.0.0 its.0.1 its.1, or_right (scratch_at frame n).limited (in_range (initial_at frame n) (scratch_at frame n).range) its.1)
+    (between_in (range_of (scratch_at frame n).kind) (scratch_at frame n).range (initial_at frame n) its.0.0 its.0.1 its.1, or_right (scratch_at frame n).is_subrange (in_range (initial_at frame n) (scratch_at frame n).range) its.1)
 
 module _ (s : Standing) where
   -- a list over these places
@@ -64,7 +64,7 @@ module _ (s : Standing) where
   -- the assignments to an input's cell: that of its start, where it is of a subrange, and that of its value
   input-typed : (frame : FrameData) → Begins frame → (n t : ℕ) (e : Expression) (rest : List FlatStatement) → n < length frame.types → place_at s.places t ≡ scratch_at frame n → flats.Takes s.places (scratch_at frame n) e → Lists rest
       → Lists (input_start frame n t ++ set t e ∷ rest)
-  input-typed frame begins n t e rest low is taken more = by_test (type_at frame.types n).limited
+  input-typed frame begins n t e rest low is taken more = by_test (type_at frame.types n).is_subrange
     where
       by_test : (test : Bool) → Lists ((if test then set t (number (initial_at frame n)) ∷ [] else []) ++ set t e ∷ rest)
       by_test true = (start-typed frame begins n t low is, (takes_at s.places t (scratch_at frame n) e is taken, more))
@@ -82,8 +82,8 @@ module _ (s : Standing) where
         let others = operand_scratch s.bodies os in
         typed_both s.places (before s.bodies s.owner s.base e k) _ (before-typed (first_kind t os) e k h.0 (stand_front s.places mine others k stands))
         (operands-typed (first_kind t os) t os (k + length mine) h.1 (stand_back s.places mine others k stands))
-    before-typed t (call f q es) k h stands = all-typed (first_operand_kind f q) q es k h.2 stands
-    before-typed t (answer f es) k h stands =
+    before-typed t (call_standard f q es) k h stands = all-typed (first_operand_kind f q) q es k h.2 stands
+    before-typed t (call_function f es) k h stands =
         let frame = s.bodies.frame f in
         let room = h.1 in
         let inputs = input_scratch s.bodies frame 2 es in

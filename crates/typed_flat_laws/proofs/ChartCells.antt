@@ -9,7 +9,7 @@ use Rattle.program_tree.specs.Tree.{Expression, cell, Statements, Actions, actio
 use Rattle.flat_core.specs.declared.flat_tree.Scratch.{Scratch}
 use Rattle.flat_core.specs.FlatTree.{set}
 use Rattle.flat_form.specs.Frames.{whole_cell}
-use Rattle.flat_form.specs.FlatCharts.{no_step, latch_start, flags_of, left_flag, come_flag}
+use Rattle.flat_form.specs.FlatCharts.{no_step, latch_start, flags_of, exited_flag, entered_flag}
 use Rattle.flat_form.specs.WellTyped.{chart_places, latch_places}
 use Rattle.node_core.specs.Stores.{place_at}
 use Rattle.node_core.specs.TypedFlats.{IsTypedPlace, IsTypedFlatOver}
@@ -32,26 +32,26 @@ module _ (ps : List Scratch) where
   -- ---- the scratch cells of a chart
 
   abbrev pub FlagsStand : ℕ → ℕ → Type 0
-  FlagsStand k n = (i : ℕ) → i < n → IsFlagAt (left_flag k i) × IsFlagAt (come_flag k i)
+  FlagsStand k n = (i : ℕ) → i < n → IsFlagAt (exited_flag k i) × IsFlagAt (entered_flag k i)
 
   pub flags-stand : (steps : List StepCells) (k : ℕ) → StandFrom ps k (flags_of steps) → FlagsStand k (length steps)
   flags-stand [] k h i low = absurd (omega arith)
   flags-stand (p ∷ steps) k h zero low =
-      let e : k ≡ left_flag k 0 = omega arith in
-      let f : k + 1 ≡ come_flag k 0 = omega arith in
+      let e : k ≡ exited_flag k 0 = omega arith in
+      let f : k + 1 ≡ entered_flag k 0 = omega arith in
       (subst IsFlagAt e h.0, subst IsFlagAt f h.1.0)
   flags-stand (p ∷ steps) k h (suc i) low =
       let g : k + 1 + 1 ≡ k + 2 = omega arith in
       let its = flags-stand steps (k + 2) (subst (λ j. StandFrom ps j (flags_of steps)) g h.1.1) i (omega arith) in
-      let e : left_flag (k + 2) i ≡ left_flag k (suc i) = omega arith in
-      let f : come_flag (k + 2) i ≡ come_flag k (suc i) = omega arith in
+      let e : exited_flag (k + 2) i ≡ exited_flag k (suc i) = omega arith in
+      let f : entered_flag (k + 2) i ≡ entered_flag k (suc i) = omega arith in
       (subst IsFlagAt e its.0, subst IsFlagAt f its.1)
 
   pub flags-rest : (k n : ℕ) → FlagsStand k (suc n) → FlagsStand (k + 2) n
   flags-rest k n h i low =
       let its = h (suc i) (omega arith) in
-      let e : left_flag k (suc i) ≡ left_flag (k + 2) i = omega arith in
-      let f : come_flag k (suc i) ≡ come_flag (k + 2) i = omega arith in
+      let e : exited_flag k (suc i) ≡ exited_flag (k + 2) i = omega arith in
+      let f : entered_flag k (suc i) ≡ entered_flag (k + 2) i = omega arith in
       (subst IsFlagAt e its.0, subst IsFlagAt f its.1)
 
 -- ---- its cells

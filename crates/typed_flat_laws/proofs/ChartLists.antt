@@ -6,7 +6,7 @@ use Rattle.plc_types.specs.declared.operator.Operator.TheVariants.{Or}
 use Rattle.program_tree.specs.declared.typed.StepCells.{StepCells}
 use Rattle.program_tree.specs.Tree.{number, cell, chain, no_operands, operand, TransitionData, Actions, no_actions, action, chart}
 use Rattle.flat_form.specs.Calls.{scratch_in, before}
-use Rattle.flat_form.specs.FlatCharts.{negated, both, latch_test, latch_list, flags_of, left_flag, come_flag, clear_flags, ready_term, ready_test, come_set, fired_list, scratch_of_transitions, flat_transitions, mark_list, scratch_of_moves, flat_moves}
+use Rattle.flat_form.specs.FlatCharts.{negated, both, latch_test, latch_list, flags_of, exited_flag, entered_flag, clear_flags, ready_term, ready_test, entered_set, fired_list, scratch_of_transitions, flat_transitions, mark_list, scratch_of_moves, flat_moves}
 use Rattle.flat_form.specs.FlatLists.{scratch_of, scratch_of_all, scratch_of_actions, flat_of, flat_actions}
 use Rattle.flat_form.specs.WellTyped.{chart_places, latch_places, AreSteps}
 use Rattle.typed_programs.specs.Statements.{AreTypedTransitions, AreTypedActions, IsTypedChart}
@@ -42,7 +42,7 @@ module _ (s : Standing) (steps : List StepCells) (each : StepsAreTests s.places 
 
   module _ (k : ℕ) (flags : FlagsStand s.places k (length steps)) where
     term-is : (i : ℕ) → i < length steps → IsTest s.places (ready_term s.owner s.base steps k i)
-    term-is i low = ((each i low).0, (refl, refl, (refl, flag-is s.places (left_flag k i) (flags i low).0), refl))
+    term-is i low = ((each i low).0, (refl, refl, (refl, flag-is s.places (exited_flag k i) (flags i low).0), refl))
 
     terms-are : (is : List ℕ) → AreSteps (length steps) is → AreTests s.places (map (ready_term s.owner s.base steps k) is)
     terms-are [] h = tt
@@ -52,13 +52,13 @@ module _ (s : Standing) (steps : List StepCells) (each : StepsAreTests s.places 
     ready-is [] h = refl
     ready-is (f ∷ fs) h = and-is s.places (ready_term s.owner s.base steps k f) (map (ready_term s.owner s.base steps k) fs) (term-is f h.0) (terms-are fs h.1)
 
-    come-typed : (to : List ℕ) → AreSteps (length steps) to → Lists s (map (come_set k) to)
-    come-typed [] h = tt
-    come-typed (i ∷ to) h = (flag-set s.places s.typed (come_flag k i) (number (pos 1)) (flags i h.0).1 refl, come-typed to h.1)
+    entered-typed : (to : List ℕ) → AreSteps (length steps) to → Lists s (map (entered_set k) to)
+    entered-typed [] h = tt
+    entered-typed (i ∷ to) h = (flag-set s.places s.typed (entered_flag k i) (number (pos 1)) (flags i h.0).1 refl, entered-typed to h.1)
 
     fired-typed : (from to : List ℕ) → AreSteps (length steps) from → AreSteps (length steps) to → Lists s (fired_list k from to)
-    fired-typed [] to h g = come-typed to g
-    fired-typed (i ∷ from) to h g = (flag-set s.places s.typed (left_flag k i) (number (pos 1)) (flags i h.0).0 refl, fired-typed from to h.1 g)
+    fired-typed [] to h g = entered-typed to g
+    fired-typed (i ∷ from) to h g = (flag-set s.places s.typed (exited_flag k i) (number (pos 1)) (flags i h.0).0 refl, fired-typed from to h.1 g)
 
     transitions-typed : (ts : List TransitionData) (j : ℕ) → AreTypedTransitions (pous_of s) s.scope (length steps) ts → Stand s j (scratch_of_transitions s.bodies ts) → Lists s (flat_transitions s.bodies s.owner s.base steps k ts j)
     transitions-typed [] j h stands = tt
@@ -86,14 +86,14 @@ module _ (s : Standing) where
   marks-typed [] all k own flags = tt
   marks-typed (p ∷ steps) all k own flags =
       let a = s.owner (s.base + p.active) in
-      let e : left_flag k 0 ≡ k = omega arith in
-      let f : come_flag k 0 ≡ k + 1 = omega arith in
+      let e : exited_flag k 0 ≡ k = omega arith in
+      let f : entered_flag k 0 ≡ k + 1 = omega arith in
       let its = flags 0 (omega arith) in
       let was = flag-is s.places a own.0 in
       let out = flag-is s.places k (subst (IsFlagAt s.places) e its.0) in
-      let come = flag-is s.places (k + 1) (subst (IsFlagAt s.places) f its.1) in (
+      let entered = flag-is s.places (k + 1) (subst (IsFlagAt s.places) f its.1) in (
         flag-set s.places s.typed (s.owner (s.base + p.before)) (cell a) own.1.0 was,
-        (flag-set s.places s.typed a (chain (both (cell a) (negated (cell k))) (operand Or types.Bool (cell (k + 1)) no_operands)) own.0 ((was, (refl, refl, (refl, out), refl)), (refl, refl, come, refl)), marks-typed steps all (k + 2) own.1.1 (flags-rest s.places k (length steps) flags)),
+        (flag-set s.places s.typed a (chain (both (cell a) (negated (cell k))) (operand Or types.Bool (cell (k + 1)) no_operands)) own.0 ((was, (refl, refl, (refl, out), refl)), (refl, refl, entered, refl)), marks-typed steps all (k + 2) own.1.1 (flags-rest s.places k (length steps) flags)),
       )
 
   moves-typed : (steps : List StepCells) (all : Actions) → OwnFlags s (chart_places steps all) → (ts : List TransitionData) → AreTypedTransitions (pous_of s) s.scope (length steps) ts → (k : ℕ) → Stand s k (scratch_of_moves s.bodies steps ts)

@@ -4,7 +4,7 @@ use Rattle.std.specs.Prelude.{All, None, Some}
 use Rattle.std.proofs.lemmas.List.Elements.{All-head, All-tail}
 use Rattle.plc_types.specs.declared.elementary.Elementary.{Elementary}
 use Rattle.program_tree.specs.declared.typed.StepCells.{StepCells}
-use Rattle.program_tree.specs.Tree.{Statement, assign, run, choice, cases, repeat, chart, Statements, no_statements, statement, Choices, no_choices, choose, Entries, no_entries, entry, Actions, no_actions, action}
+use Rattle.program_tree.specs.Tree.{Statement, assign, call_block, choice, cases, repeat, chart, Statements, no_statements, statement, Choices, no_choices, choose, Entries, no_entries, entry, Actions, no_actions, action}
 use Rattle.flat_form.specs.WellTyped.{extent_of_steps, extent_of, extent_of_all, extent_of_choices, extent_of_entries, extent_of_actions, chart_places, latch_places, AreRisingFrom, extent_of_bodies}
 use Rattle.typed_programs.specs.Scopes.{Pous, BodyScope}
 use Rattle.typed_programs.specs.Statements.{IsFlagOf, IsTyped, AreTyped, AreTypedChoices, AreTypedEntries, AreTypedActions, IsTypedPart, AreTypedParts}
@@ -17,7 +17,7 @@ module _ (pous : Pous) (b : BodyScope) (extents : ℕ → ℕ) (each : (block : 
   mutual
     statement-extent : (t : Statement) → IsTyped pous b t → extent_of extents t ≤ b.settable
     statement-extent (assign target e) h = let low = h.0.1 in omega arith
-    statement-extent (run block offset) h = let room = h.2 in let its = each block h.0 in omega arith
+    statement-extent (call_block block offset) h = let room = h.2 in let its = each block h.0 in omega arith
     statement-extent (choice arms other) h = let first = choices-extent arms h.0 in let rest = list-extent other h.1 in omega arith
     statement-extent (cases kind e es other) h = let first = entries-extent kind es h.1 in let rest = list-extent other h.2 in omega arith
     statement-extent (repeat turns body) h = let low = h.0.1 in let rest = list-extent body h.2 in omega arith
@@ -77,7 +77,7 @@ module _ (pous : Pous) (b : BodyScope) (extents : ℕ → ℕ) (each : (block : 
 
     part-extent : (t : Statement) → IsTypedPart pous b t → extent_of extents t ≤ length b.places
     part-extent (assign target e) h = list-within (assign target e) (statement-extent (assign target e) h)
-    part-extent (run block offset) h = list-within (run block offset) (statement-extent (run block offset) h)
+    part-extent (call_block block offset) h = list-within (call_block block offset) (statement-extent (call_block block offset) h)
     part-extent (choice arms other) h = list-within (choice arms other) (statement-extent (choice arms other) h)
     part-extent (cases kind e es other) h = list-within (cases kind e es other) (statement-extent (cases kind e es other) h)
     part-extent (repeat turns body) h = list-within (repeat turns body) (statement-extent (repeat turns body) h)

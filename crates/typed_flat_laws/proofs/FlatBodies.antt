@@ -1,7 +1,7 @@
 -- The bodies of typed POUs become typed lists, where each POU runs and calls only those before it.
 use Rattle.std.proofs.Common.{◌≡◌, ℕ, suc, zero, ◌+◌, ◌<◌, ◌≤◌, Bool, true, false, List, ◌∷◌, length, refl, sym, ap, subst, ◌∙◌, arith, rules, tests}
 use Rattle.std.specs.Prelude.{◌==◌, slice_index_or, All, if◌then◌else◌}
-use Rattle.program_tree.specs.Tree.{Statement, assign, run, choice, cases, repeat, chart, Statements, no_statements, statement, CalledData, block, function}
+use Rattle.program_tree.specs.Tree.{Statement, assign, call_block, choice, cases, repeat, chart, Statements, no_statements, statement, CalledData, block, function}
 use Rattle.meaning.specs.Calls.{nothing}
 use Rattle.flat_core.specs.declared.flat_tree.Scratch.{Scratch}
 use Rattle.flat_form.specs.Frames.{FrameData, frame_of, frames_of, function_body, scratch_at}
@@ -27,7 +27,7 @@ use Rattle.typed_flat_laws.proofs.ChartLists.{chart-typed}
 module _ (s : Standing) where
   part-typed : (t : Statement) (k : ℕ) → IsTypedPart (pous_of s) s.scope t → Stand s k (scratch_of s.bodies t) → Lists s (flat_of s.bodies s.owner s.base t k)
   part-typed (assign target e) k h stands = statement-typed s (assign target e) k h stands
-  part-typed (run b offset) k h stands = statement-typed s (run b offset) k h stands
+  part-typed (call_block b offset) k h stands = statement-typed s (call_block b offset) k h stands
   part-typed (choice arms other) k h stands = statement-typed s (choice arms other) k h stands
   part-typed (cases kind e es other) k h stands = statement-typed s (cases kind e es other) k h stands
   part-typed (repeat turns body) k h stands = statement-typed s (repeat turns body) k h stands

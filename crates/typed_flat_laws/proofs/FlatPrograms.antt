@@ -69,7 +69,7 @@ flat_program-typed p typed is_flat =
     record {
       flat = is_flat;
       begins_with_fault = typed.fault;
-      whole_fault = ap (λ (c : Scratch). c.limited) (first-same p.cells made typed.fault) ∙ typed.whole_fault;
+      whole_fault = ap (λ (c : Scratch). c.is_subrange) (first-same p.cells made typed.fault) ∙ typed.whole_fault;
       places = whole;
       statements = (
         number_taken (cells ++ made) whole 0 (pos 0) (ap (λ (r : Range). in_range (pos 0) r) (fault-range p.cells made typed.fault)),

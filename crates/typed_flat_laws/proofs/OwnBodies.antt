@@ -35,7 +35,7 @@ frame-cell frame typed i first low =
     let long = typed.ranges in
     let many = frame-length frame in
     let e : i ≡ 0 + i = omega arith in
-    let its : IsCellFor frame.ranges (tested_in frame) i (scratch_at frame i) = record { room = omega arith; range = refl; limited = λ is. is } in
+    let its : IsCellFor frame.ranges (tested_in frame) i (scratch_at frame i) = record { room = omega arith; range = refl; is_subrange = λ is. is } in
     subst (λ j. IsCellFor frame.ranges (tested_in frame) j (place_at (frame_places frame) i)) e (subst (λ (p : Scratch). IsCellFor frame.ranges (tested_in frame) i p) (sym (frame-place frame i (omega arith))) its)
 
 module _ (called : List CalledData) (instances : ℕ → List Scratch) where

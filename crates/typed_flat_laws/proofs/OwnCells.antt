@@ -5,7 +5,7 @@ use Rattle.plc_types.specs.declared.function.Function.{Function}
 use Rattle.plc_types.specs.declared.function.Function.TheVariants as functions
 use Rattle.plc_types.specs.declared.range.Range.{Range}
 use Rattle.plc_types.specs.Types.{range_of}
-use Rattle.program_tree.specs.Tree.{Expression, number, cell, unary, chain, call, answer, Operands, no_operands, operand, Expressions, no_expressions, expression}
+use Rattle.program_tree.specs.Tree.{Expression, number, cell, unary, chain, call_standard, call_function, Operands, no_operands, operand, Expressions, no_expressions, expression}
 use Rattle.meaning.specs.Values.{result_type}
 use Rattle.meaning.specs.Effects.{range_at}
 use Rattle.flat_core.specs.declared.flat_tree.Scratch.{Scratch}
@@ -21,7 +21,7 @@ use Rattle.typed_programs.specs.Expressions.{IsOf, AreOf, stays_in, each_stays}
 pub record IsCellFor (ranges : List Range) (tested : ℕ → Bool) (place : ℕ) (p : Scratch) : Type 0 where
   pub room : place < length ranges
   pub range : range_at ranges place ≡ p.range
-  pub limited : p.limited ≡ true → tested place ≡ true
+  pub is_subrange : p.is_subrange ≡ true → tested place ≡ true
 
 -- A body whose named cells are an owner's, from a base on; FAULT is none of them.
 pub record OwnCells : Type 0 where
@@ -64,10 +64,10 @@ module _ (w : OwnCells) where
     stays-same t (cell place) r h = ap (λ (x : Range). covers r x) (w.owns place h.0.0 h.0.1).range
     stays-same t (unary o q e) r h = refl
     stays-same t (chain e os) r h = last-same os r _ _ (stays-same (first_kind t os) e r h.0)
-    stays-same t (call f q es) r h =
+    stays-same t (call_standard f q es) r h =
         ap (λ (x : Bool). covers r (range_of q) || (covers (range_of q) r && x))
         (chosen-same f (well.each_stays w.frames w.ranges w.base es r) ∙ ap (λ (l : List Bool). chosen_stay f l) (each-same (first_operand_kind f q) q es r h.2))
-    stays-same t (answer f es) r h = refl
+    stays-same t (call_function f es) r h = refl
 
     each-same : (first others : Elementary) (es : Expressions) (r : Range) → AreOf (pous_for w) w.scope first others es → well.each_stays w.frames w.ranges w.base es r ≡ each_stays (pous_for w) w.scope.places es r
     each-same first others no_expressions r h = refl

@@ -7,7 +7,7 @@ use Rattle.plc_types.specs.declared.elementary.Elementary.{Elementary}
 use Rattle.plc_types.specs.declared.elementary.Elementary.TheVariants as types
 use Rattle.plc_types.specs.declared.range.Range.{Range}
 use Rattle.program_tree.specs.declared.typed.Association.{Association}
-use Rattle.program_tree.specs.Tree.{Expression, TransitionData, Statement, assign, run, choice, cases, repeat, chart, Statements, no_statements, statement, Choices, no_choices, choose, Entries, no_entries, entry, Actions, no_actions, action}
+use Rattle.program_tree.specs.Tree.{Expression, TransitionData, Statement, assign, call_block, choice, cases, repeat, chart, Statements, no_statements, statement, Choices, no_choices, choose, Entries, no_entries, entry, Actions, no_actions, action}
 use Rattle.meaning.specs.Effects.{range_at}
 use Rattle.flat_core.specs.declared.flat_tree.Scratch.{Scratch}
 use Rattle.flat_form.specs.WellTyped as well
@@ -22,7 +22,7 @@ use Rattle.typed_flat_laws.proofs.OwnValues.{own-place, EachMayBeCalled, value-t
 use Rattle.typed_flat_laws.proofs.Extents.{rising-lower, bodies-extent}
 
 -- what a place takes is tested, or fits
-tested-or : (limited tested fits : Bool) → (limited ≡ true → tested ≡ true) → (limited || fits) ≡ true → (tested || fits) ≡ true
+tested-or : (is_subrange tested fits : Bool) → (is_subrange ≡ true → tested ≡ true) → (is_subrange || fits) ≡ true → (tested || fits) ≡ true
 tested-or true tested fits known h = rw (known refl) refl
 tested-or false tested fits known h = or_right tested fits h
 
@@ -55,10 +55,10 @@ module _ (w : OwnCells) (MayCall : ℕ → ℕ → Type 0) (each_call : EachMayB
       let its = settable-cell target h.0 in
       let same : well.stays_in w.frames w.ranges w.base e (range_at w.ranges (w.base + target)) ≡ stays_in (pous_for w) w.scope.places e p.range
       = ap (λ (r : Range). well.stays_in w.frames w.ranges w.base e r) its.range ∙ stays-same w p.kind e p.range h.1.0 in
-      (settable-own target h.0, value-typed w MayCall each_call p.kind e h.1.0, tested-or p.limited (w.tested (w.base + target)) _ its.limited (ap (λ (x : Bool). p.limited || x) same ∙ h.1.1))
+      (settable-own target h.0, value-typed w MayCall each_call p.kind e h.1.0, tested-or p.is_subrange (w.tested (w.base + target)) _ its.is_subrange (ap (λ (x : Bool). p.is_subrange || x) same ∙ h.1.1))
 
-  run-own : (block offset : ℕ) → IsTyped (pous_for w) w.scope (run block offset) → One (run block offset)
-  run-own block offset h =
+  call_block-own : (block offset : ℕ) → IsTyped (pous_for w) w.scope (call_block block offset) → One (call_block block offset)
+  call_block-own block offset h =
       let first = h.1 in
       let room = h.2 in
       let most = w.within in
@@ -72,7 +72,7 @@ module _ (w : OwnCells) (MayCall : ℕ → ℕ → Type 0) (each_call : EachMayB
   mutual
     statement-own : (t : Statement) → IsTyped (pous_for w) w.scope t → One t
     statement-own (assign target e) h = assign-own target e h
-    statement-own (run block offset) h = run-own block offset h
+    statement-own (call_block block offset) h = call_block-own block offset h
     statement-own (choice arms other) h = (choices-own arms h.0, list-own other h.1)
     statement-own (cases kind e es other) h = (value-typed w MayCall each_call kind e h.0, entries-own kind es h.1, list-own other h.2)
     statement-own (repeat turns body) h =
@@ -118,7 +118,7 @@ module _ (w : OwnCells) (MayCall : ℕ → ℕ → Type 0) (each_call : EachMayB
 
   part-own : (t : Statement) → IsTypedPart (pous_for w) w.scope t → One t
   part-own (assign target e) h = assign-own target e h
-  part-own (run block offset) h = run-own block offset h
+  part-own (call_block block offset) h = call_block-own block offset h
   part-own (choice arms other) h = statement-own (choice arms other) h
   part-own (cases kind e es other) h = statement-own (cases kind e es other) h
   part-own (repeat turns body) h = statement-own (repeat turns body) h

@@ -1,7 +1,7 @@
 -- Typed expressions name cells of their owner, and call FUNCTIONs with all their inputs.
 use Rattle.std.proofs.Common.{ℕ, ◌+◌, ◌<◌, ◌≤◌, Bool, ◌||◌, length, ap, ◌∙◌, arith}
 use Rattle.plc_types.specs.declared.elementary.Elementary.{Elementary}
-use Rattle.program_tree.specs.Tree.{Expression, number, cell, unary, chain, call, answer, Operands, no_operands, operand, Expressions, no_expressions, expression}
+use Rattle.program_tree.specs.Tree.{Expression, number, cell, unary, chain, call_standard, call_function, Operands, no_operands, operand, Expressions, no_expressions, expression}
 use Rattle.meaning.specs.Values.{result_type}
 use Rattle.flat_form.specs.Frames.{FrameData, scratch_at}
 use Rattle.flat_form.specs.Calls.{arity}
@@ -26,8 +26,8 @@ module _ (w : OwnCells) where
       value-typed t (cell place) h = own-place place h.0.0 h.0.1
       value-typed t (unary o q e) h = value-typed q e h.1
       value-typed t (chain e os) h = (value-typed (first_kind t os) e h.0, operands-typed (first_kind t os) t os h.1)
-      value-typed t (call f q es) h = values-typed (first_operand_kind f q) q es h.2
-      value-typed t (answer f es) h = (each_call f (arity es) h.0 h.1, inputs-typed (w.frames f) 2 es h.3)
+      value-typed t (call_standard f q es) h = values-typed (first_operand_kind f q) q es h.2
+      value-typed t (call_function f es) h = (each_call f (arity es) h.0 h.1, inputs-typed (w.frames f) 2 es h.3)
 
       operands-typed : (before t : Elementary) (os : Operands) → Join (pous_for w) w.scope before t os → AreTypedOperands w.frames MayCall w.ranges w.base os
       operands-typed before t no_operands h = tt
@@ -41,4 +41,4 @@ module _ (w : OwnCells) where
       inputs-typed frame n no_expressions h = tt
       inputs-typed frame n (expression e es) h =
           let p = scratch_at frame n in
-          (value-typed p.kind e h.0, ap (λ (x : Bool). p.limited || x) (stays-same w p.kind e p.range h.0) ∙ h.1, inputs-typed frame (n + 1) es h.2)
+          (value-typed p.kind e h.0, ap (λ (x : Bool). p.is_subrange || x) (stays-same w p.kind e p.range h.0) ∙ h.1, inputs-typed frame (n + 1) es h.2)

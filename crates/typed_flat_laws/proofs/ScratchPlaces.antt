@@ -6,7 +6,7 @@ use Rattle.plc_types.specs.declared.elementary.Elementary.{Elementary}
 use Rattle.plc_types.specs.declared.elementary.Elementary.TheVariants as types
 use Rattle.program_tree.specs.declared.typed.StepCells.{StepCells}
 use Rattle.program_tree.specs.declared.typed.Association.{Association}
-use Rattle.program_tree.specs.Tree.{Expression, number, cell, unary, chain, call, answer, Operands, no_operands, operand, Expressions, no_expressions, expression, TransitionData, Statement, assign, run, choice, cases, repeat, chart, Statements, no_statements, statement, Choices, no_choices, choose, Entries, no_entries, entry, Actions, no_actions, action}
+use Rattle.program_tree.specs.Tree.{Expression, number, cell, unary, chain, call_standard, call_function, Operands, no_operands, operand, Expressions, no_expressions, expression, TransitionData, Statement, assign, call_block, choice, cases, repeat, chart, Statements, no_statements, statement, Choices, no_choices, choose, Entries, no_entries, entry, Actions, no_actions, action}
 use Rattle.meaning.specs.Values.{result_type}
 use Rattle.flat_core.specs.declared.flat_tree.Scratch.{Scratch}
 use Rattle.flat_form.specs.Frames.{FrameData, whole_cell, scratch_at, others_behind, other_scratch}
@@ -81,8 +81,8 @@ module _ (bodies : Bodies) (instances : ℕ → List Scratch) (b : BodyScope) (k
     in-whole t (cell place) h = none
     in-whole t (unary o q e) h = in-whole q e h.1
     in-whole t (chain e os) h = both (scratch_in bodies e) (operand_scratch bodies os) (in-whole (first_kind t os) e h.0) (operands-whole (first_kind t os) t os h.1)
-    in-whole t (call f q es) h = all-whole (first_operand_kind f q) q es h.2
-    in-whole t (answer f es) h =
+    in-whole t (call_standard f q es) h = all-whole (first_operand_kind f q) q es h.2
+    in-whole t (call_function f es) h =
         let frame = bodies.frame f in
         let room = h.1 in
         let whole = known.frames f h.0 (omega arith) in
@@ -108,7 +108,7 @@ module _ (bodies : Bodies) (instances : ℕ → List Scratch) (b : BodyScope) (k
   mutual
     statement-whole : (t : Statement) → IsTyped pous b t → Whole (scratch_of bodies t)
     statement-whole (assign target e) h = in-whole (place_at b.places target).kind e h.1.0
-    statement-whole (run block offset) h = known.runs block h.0
+    statement-whole (call_block block offset) h = known.runs block h.0
     statement-whole (choice arms other) h = both (scratch_of_choices bodies arms) (scratch_of_all bodies other) (choices-whole arms h.0) (list-whole other h.1)
     statement-whole (cases kind e es other) h =
         let entries = scratch_of_entries bodies es in
@@ -146,7 +146,7 @@ module _ (bodies : Bodies) (instances : ℕ → List Scratch) (b : BodyScope) (k
 
   part-whole : (t : Statement) → IsTypedPart pous b t → Whole (scratch_of bodies t)
   part-whole (assign target e) h = statement-whole (assign target e) h
-  part-whole (run block offset) h = statement-whole (run block offset) h
+  part-whole (call_block block offset) h = statement-whole (call_block block offset) h
   part-whole (choice arms other) h = statement-whole (choice arms other) h
   part-whole (cases kind e es other) h = statement-whole (cases kind e es other) h
   part-whole (repeat turns body) h = statement-whole (repeat turns body) h

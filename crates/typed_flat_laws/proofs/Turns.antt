@@ -19,7 +19,7 @@ module _ (ps : List Scratch) (typed : All IsTypedPlace ps) where
   number_taken place v h =
       let p = place_at ps place in
       let its = typed_at ps place typed in
-      (between_in (range_of p.kind) p.range v its.0 its.1 h, or_right p.limited (in_range v p.range) h)
+      (between_in (range_of p.kind) p.range v its.0 its.1 h, or_right p.is_subrange (in_range v p.range) h)
 
   pub turns-typed : (control : ℕ) (n : ℕ) (v step : ℤ) (made : List Scratch) (body : ℕ → List FlatStatement) → stay_from n v step (place_at ps control).range ≡ true
       → ((k : ℕ) → StandFrom ps k made → Typed ps (body k)) → (k : ℕ) → StandFrom ps k (repeated n made) → Typed ps (unrolled n control v step (length made) body k)

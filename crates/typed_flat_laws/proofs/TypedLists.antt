@@ -8,7 +8,7 @@ use Rattle.std.proofs.lemmas.Int.{ints}
 use Rattle.plc_types.specs.declared.elementary.Elementary.{Elementary}
 use Rattle.plc_types.specs.declared.range.Range.{Range}
 use Rattle.plc_types.specs.Types.{range_of, in_range}
-use Rattle.program_tree.specs.Tree.{Expression, number, cell, unary, chain, call, answer, Operands, no_operands, operand}
+use Rattle.program_tree.specs.Tree.{Expression, number, cell, unary, chain, call_standard, call_function, Operands, no_operands, operand}
 use Rattle.meaning.specs.Values.{result_type}
 use Rattle.flat_core.specs.declared.flat_tree.Scratch.{Scratch}
 use Rattle.flat_core.specs.FlatTree.{FlatStatement}
@@ -73,10 +73,10 @@ module _ (ps : List Scratch) where
   of_stays typed t (unary o k e) h = ap (λ q. covers (range_of t) (range_of q)) h.0 ∙ covers_itself (range_of t)
   of_stays typed t (chain e os) h =
       join_stays (first_kind t os) t os (stays_in ps e (range_of t)) h.1 (λ is. of_stays typed t e (subst (λ q. IsOf ps q e) is h.0))
-  of_stays typed t (call f k es) h =
+  of_stays typed t (call_standard f k es) h =
       or_left (covers (range_of t) (range_of k)) (covers (range_of k) (range_of t) && chosen_stay f (each_stays ps es (range_of t))) (ap (λ q. covers (range_of t) (range_of q)) h.0 ∙ covers_itself (range_of t))
-  of_stays typed t (answer f es) h = absurd h
+  of_stays typed t (call_function f es) h = absurd h
 
   -- a place of a whole type takes each expression of its type
   pub whole_takes : All IsTypedPlace ps → (p : Scratch) (e : Expression) → p.range ≡ range_of p.kind → IsOf ps p.kind e → Takes ps p e
-  whole_takes typed p e whole h = (h, or_right p.limited (stays_in ps e p.range) (ap (λ r. stays_in ps e r) whole ∙ of_stays typed p.kind e h))
+  whole_takes typed p e whole h = (h, or_right p.is_subrange (stays_in ps e p.range) (ap (λ r. stays_in ps e r) whole ∙ of_stays typed p.kind e h))

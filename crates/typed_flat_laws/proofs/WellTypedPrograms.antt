@@ -11,11 +11,11 @@ use Rattle.typed_flat_laws.proofs.OwnBodies.{body-own, own-before}
 
 cell-own : (cells : List CellData) (i : ℕ) → i < length (map of_cell cells) → IsCellFor (ranges_of cells) each_tested i (place_at (map of_cell cells) i)
 cell-own [] i low = absurd (omega arith)
-cell-own (c ∷ cells) zero low = record { room = omega arith; range = refl; limited = λ is. refl }
+cell-own (c ∷ cells) zero low = record { room = omega arith; range = refl; is_subrange = λ is. refl }
 cell-own (c ∷ cells) (suc i) low =
     let more = cell-own cells i (omega arith) in
     let room = more.room in
-    record { room = omega arith; range = more.range; limited = λ is. refl }
+    record { room = omega arith; range = more.range; is_subrange = λ is. refl }
 
 pub typed-well_typed : (p : ProgramData) → IsTypedProgram p → IsWellTyped p
 typed-well_typed p typed =

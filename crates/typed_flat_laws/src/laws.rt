@@ -1,6 +1,6 @@
 // The functions do nothing: their clauses are the laws.
 ghost use Rattle.program_tree.specs.Tree.{ProgramData};
-ghost use Rattle.scan_model.specs.InRange.{IsProgram};
+ghost use Rattle.scan_model.specs.InRange.{IsFitToRun};
 ghost use Rattle.flat_form.specs.FlatPrograms.{flat_program};
 ghost use Rattle.flat_form.specs.WellTyped.{IsWellTyped};
 ghost use Rattle.node_core.specs.TypedFlats.{IsTypedFlat};
@@ -13,5 +13,5 @@ pub fn law_well_typed()
 
 /// Its flat form is typed.
 pub fn law_typed_flat()
-    ensures { (p : ProgramData) → IsProgram p → IsTypedProgram p → IsTypedFlat (flat_program p) }
+    ensures { (p : ProgramData) → IsFitToRun p → IsTypedProgram p → IsTypedFlat (flat_program p) }
 {}

@@ -4,7 +4,7 @@ use Rattle.std.specs.Prelude.{◌≡◌, ◌≤◌, ◌<◌, ◌+◌, ℕ, Bool,
 use Rattle.plc_types.specs.declared.elementary.Elementary.{Elementary}
 use Rattle.plc_types.specs.declared.range.Range.{Range}
 use Rattle.plc_types.specs.Types.{range_of, in_range}
-use Rattle.program_tree.specs.Tree.{Expression, number, cell, unary, chain, call, answer, Operands, no_operands, operand, Expressions, no_expressions, expression}
+use Rattle.program_tree.specs.Tree.{Expression, number, cell, unary, chain, call_standard, call_function, Operands, no_operands, operand, Expressions, no_expressions, expression}
 use Rattle.meaning.specs.Values.{result_type}
 use Rattle.flat_core.specs.declared.flat_tree.Scratch.{Scratch}
 use Rattle.flat_form.specs.Frames.{FrameData, scratch_at}
@@ -23,8 +23,8 @@ module _ (pous : Pous) (places : List Scratch) where
     stays_in (cell place) r = covers r (place_at places place).range
     stays_in (unary o t e) r = covers r (range_of t)
     stays_in (chain e os) r = last_stays (stays_in e r) os r
-    stays_in (call f t es) r = covers r (range_of t) || (covers (range_of t) r && chosen_stay f (each_stays es r))
-    stays_in (answer f es) r = covers r (scratch_at (pous.frames f) 1).range
+    stays_in (call_standard f t es) r = covers r (range_of t) || (covers (range_of t) r && chosen_stay f (each_stays es r))
+    stays_in (call_function f es) r = covers r (scratch_at (pous.frames f) 1).range
 
     pub each_stays : Expressions → Range → List Bool
     each_stays no_expressions r = []
@@ -39,8 +39,8 @@ module _ (pous : Pous) (b : BodyScope) where
     IsOf t (cell place) = IsNamed b place × ((place_at b.places place).kind ≡ t)
     IsOf t (unary o k e) = (k ≡ t) × IsOf k e
     IsOf t (chain e os) = IsOf (first_kind t os) e × Join (first_kind t os) t os
-    IsOf t (call f k es) = (k ≡ t) × (is_function_for f k ≡ true) × AreOf (first_operand_kind f k) k es
-    IsOf t (answer f es) =
+    IsOf t (call_standard f k es) = (k ≡ t) × (is_function_for f k ≡ true) × AreOf (first_operand_kind f k) k es
+    IsOf t (call_function f es) =
         (f < b.pous) × (2 + arity es ≤ length (pous.frames f).types) × ((scratch_at (pous.frames f) 1).kind ≡ t) × AreInputs (pous.frames f) 2 es
 
     pub Join : Elementary → Elementary → Operands → Type 0
@@ -54,9 +54,9 @@ module _ (pous : Pous) (b : BodyScope) where
     pub AreInputs : FrameData → ℕ → Expressions → Type 0
     AreInputs frame place no_expressions = Unit {0}
     AreInputs frame place (expression e es) =
-        IsOf (scratch_at frame place).kind e × (((scratch_at frame place).limited || stays_in pous b.places e (scratch_at frame place).range) ≡ true)
+        IsOf (scratch_at frame place).kind e × (((scratch_at frame place).is_subrange || stays_in pous b.places e (scratch_at frame place).range) ≡ true)
         × AreInputs frame (place + 1) es
 
   -- A place takes an expression of its type; one that is no subrange takes each of its values.
   abbrev pub Takes : Scratch → Expression → Type 0
-  Takes p e = IsOf p.kind e × ((p.limited || stays_in pous b.places e p.range) ≡ true)
+  Takes p e = IsOf p.kind e × ((p.is_subrange || stays_in pous b.places e p.range) ≡ true)

@@ -16,8 +16,8 @@ use Rattle.typed_programs.specs.Statements.{AreTypedParts}
 
 -- A cell's range is one of numbers of its type. A cell of an elementary type that is no subrange takes all numbers of its type.
 abbrev pub HasWholeRange : CellData → DataType → Type 0
-HasWholeRange c (kinds.Elementary k) = c.limited ≡ false → c.range ≡ range_of k
-HasWholeRange c (kinds.Enumeration n) = c.limited ≡ false
+HasWholeRange c (kinds.Elementary k) = c.is_subrange ≡ false → c.range ≡ range_of k
+HasWholeRange c (kinds.Enumeration n) = c.is_subrange ≡ false
 HasWholeRange c kinds.Unknown = ⊥
 
 pub record IsTypedCell (c : CellData) : Type 0 where
@@ -52,7 +52,7 @@ IsTypedPou pous n (function types ranges start body) = IsTypedFrame (pous.frames
 pub record IsTypedProgram (p : ProgramData) : Type 0 where
   pub instances : ℕ → List Scratch
   pub fault : BeginsWithFault p.cells
-  pub whole_fault : (place_at (map of_cell p.cells) 0).limited ≡ false
+  pub whole_fault : (place_at (map of_cell p.cells) 0).is_subrange ≡ false
   pub cells : All IsTypedCell p.cells
   pub called : (n : ℕ) → n < length p.called → IsTypedPou (record { frames = frames_of p.called; instances = instances }) n (slice_index_or p.called n nothing)
   pub body : IsTypedBody (record { frames = frames_of p.called; instances = instances }) 1 (map of_cell p.cells) (length p.called) p.body

@@ -7,7 +7,7 @@ use Rattle.plc_types.specs.Types.{range_of, in_range}
 use Rattle.program_tree.specs.declared.typed.TypedLabel.{TypedLabel}
 use Rattle.program_tree.specs.declared.typed.TypedLabel.TheVariants.{Single, Span}
 use Rattle.program_tree.specs.declared.typed.StepCells.{StepCells}
-use Rattle.program_tree.specs.Tree.{TransitionData, Statement, assign, run, choice, cases, repeat, chart, Statements, no_statements, statement, Choices, no_choices, choose, Entries, no_entries, entry, Actions, no_actions, action}
+use Rattle.program_tree.specs.Tree.{TransitionData, Statement, assign, call_block, choice, cases, repeat, chart, Statements, no_statements, statement, Choices, no_choices, choose, Entries, no_entries, entry, Actions, no_actions, action}
 use Rattle.flat_core.specs.declared.flat_tree.Scratch.{Scratch}
 use Rattle.flat_form.specs.Frames.{whole_cell}
 use Rattle.flat_form.specs.WellTyped.{turns_stay, chart_places, AreRisingFrom, AreSteps, NameSteps, IsAssociated}
@@ -37,7 +37,7 @@ module _ (pous : Pous) (b : BodyScope) where
   abbrev mutual
     pub IsTyped : Statement → Type 0
     IsTyped (assign target e) = IsSettable b target × Takes pous b (place_at b.places target) e
-    IsTyped (run block offset) =
+    IsTyped (call_block block offset) =
         (block < b.pous) × (b.first ≤ offset) × (offset + length (pous.instances block) ≤ b.settable) × StandAt (pous.instances block) b.places offset
     IsTyped (choice arms other) = AreTypedChoices arms × AreTyped other
     IsTyped (cases kind e es other) = IsOf pous b kind e × AreTypedEntries kind es × AreTyped other
@@ -69,7 +69,7 @@ module _ (pous : Pous) (b : BodyScope) where
   -- the body of a POU: statements and charts
   abbrev pub IsTypedPart : Statement → Type 0
   IsTypedPart (assign target e) = IsTyped (assign target e)
-  IsTypedPart (run block offset) = IsTyped (run block offset)
+  IsTypedPart (call_block block offset) = IsTyped (call_block block offset)
   IsTypedPart (choice arms other) = IsTyped (choice arms other)
   IsTypedPart (cases kind e es other) = IsTyped (cases kind e es other)
   IsTypedPart (repeat turns body) = IsTyped (repeat turns body)

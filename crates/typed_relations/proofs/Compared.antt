@@ -45,7 +45,7 @@ names_alike old new (Both range p q) h =
     let a = h.of_old in
     let b = h.of_new in
     let kinds = is_same_type a.kind (paired_type old.types new.types b.kind) in
-    let flags = is_same_flag a.limited b.limited in
+    let flags = is_same_flag a.is_subrange b.is_subrange in
     let parts = and_parts (kinds && flags) (is_same_range a.range b.range) h.alike in
     let one = and_parts kinds flags parts.0 in
     carrier_there old.cells p a h.at_old ∙ same_carrier old.types new.types a.kind b.kind one.0 ∙ sym (carrier_there new.cells q b h.at_new)

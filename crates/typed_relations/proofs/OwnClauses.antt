@@ -8,7 +8,7 @@ use Rattle.plc_types.specs.DataTypes.{is_same_type}
 use Rattle.rules.specs.declared.rule.Rule.TheVariants.{NotBool}
 use Rattle.source_tree.specs.Syntax.{Tree}
 use Rattle.source_tree.specs.Levels.{IsLevelled}
-use Rattle.program_tree.specs.Tree.{Expression, number, cell, unary, chain, call, answer, Operands, no_operands, operand, Expressions, no_expressions, expression}
+use Rattle.program_tree.specs.Tree.{Expression, number, cell, unary, chain, call_standard, call_function, Operands, no_operands, operand, Expressions, no_expressions, expression}
 use Rattle.meaning.specs.Values.{result_type}
 use Rattle.queries.specs.Comparisons.{Comparison}
 use Rattle.typing.specs.Typing.{bool_type, type_of, place_of}
@@ -47,8 +47,8 @@ module _ (ps : List Scratch) where
     value_of t (cell place) h = h.1
     value_of t (unary o k e) h = (h.0, value_of k e h.1)
     value_of t (chain e os) h = (value_of (first_kind t os) e h.0, operands_of (first_kind t os) t os h.1)
-    value_of t (call f k es) h = (h.0, h.1, values_of (first_operand_kind f k) k es h.2)
-    value_of t (answer f es) h = let low = h.0 in absurd (omega (arith, low))
+    value_of t (call_standard f k es) h = (h.0, h.1, values_of (first_operand_kind f k) k es h.2)
+    value_of t (call_function f es) h = let low = h.0 in absurd (omega (arith, low))
 
     operands_of : (left t : Elementary) (os : Operands) → Join no_pous (over ps) left t os → flats.Join ps left t os
     operands_of left t no_operands h = h
@@ -64,8 +64,8 @@ module _ (ps : List Scratch) where
     reads_of t (cell place) h = h.0.1
     reads_of t (unary o k e) h = reads_of k e h.1
     reads_of t (chain e os) h = (reads_of (first_kind t os) e h.0, operands_read (first_kind t os) t os h.1)
-    reads_of t (call f k es) h = values_read (first_operand_kind f k) k es h.2
-    reads_of t (answer f es) h = let low = h.0 in absurd (omega (arith, low))
+    reads_of t (call_standard f k es) h = values_read (first_operand_kind f k) k es h.2
+    reads_of t (call_function f es) h = let low = h.0 in absurd (omega (arith, low))
 
     operands_read : (left t : Elementary) (os : Operands) → Join no_pous (over ps) left t os → AllRead (λ place. place < length ps) os
     operands_read left t no_operands h = tt

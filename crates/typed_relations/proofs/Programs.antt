@@ -24,9 +24,9 @@ unlimited : (b : Bool) → (b || false) ≡ false → b ≡ false
 unlimited true h = h
 unlimited false h = refl
 
-whole_by : (c : CellData) (t : DataType) → HasWholeRange c t → (c.limited || is_enumeration t) ≡ false → c.range ≡ range_of (carrier t)
-whole_by c (kinds.Elementary k) whole out = whole (unlimited c.limited out)
-whole_by c (kinds.Enumeration n) whole out = absurd (open_too c.limited out)
+whole_by : (c : CellData) (t : DataType) → HasWholeRange c t → (c.is_subrange || is_enumeration t) ≡ false → c.range ≡ range_of (carrier t)
+whole_by c (kinds.Elementary k) whole out = whole (unlimited c.is_subrange out)
+whole_by c (kinds.Enumeration n) whole out = absurd (open_too c.is_subrange out)
   where
     open_too : (b : Bool) → (b || true) ≡ false → ⊥
     open_too true h = let e : ⊥ = cc in e

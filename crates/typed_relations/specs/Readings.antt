@@ -2,7 +2,7 @@
 use Rattle.std.specs.Prelude.{◌≡◌, ℕ, List, true}
 use Rattle.source_tree.specs.declared.token.Tok.{Tok}
 use Rattle.program_tree.specs.Tree.{ProgramData}
-use Rattle.scan_model.specs.InRange.{IsProgram}
+use Rattle.scan_model.specs.InRange.{IsFitToRun}
 use Rattle.scan_model.specs.Pairs.{BelongsTo, RelationData}
 use Rattle.queries.specs.Comparisons.{Comparison}
 use Rattle.query_formula_laws.specs.TypedComparisons.{IsTypedComparison}
@@ -13,7 +13,7 @@ use Rattle.stated_cells.specs.StatedCells.{HasStatedCells}
 
 -- scans can be run of a program, it is typed, and its cells are those of its types
 pub record IsReadProgram (p : ProgramData) : Type 0 where
-  pub is_program : IsProgram p
+  pub is_program : IsFitToRun p
   pub typed : IsTypedProgram p
   pub cells : HasStatedCells p
 
@@ -32,8 +32,8 @@ pub record AreRead (c : Comparison) : Type 0 where
 
 -- what circuits, a judge and a search need of that: they are typed, and each INPUT line names cells
 pub record IsRead (c : Comparison) : Type 0 where
-  pub old_is_program : IsProgram c.old
-  pub new_is_program : IsProgram c.new
+  pub old_is_program : IsFitToRun c.old
+  pub new_is_program : IsFitToRun c.new
   pub belongs : BelongsTo c.old c.new c.relation
   pub well_formed : IsWellFormed c.old c.new c.relation
   pub few : has_few_candidates c.relation ≡ true

@@ -7,7 +7,7 @@ use Rattle.std.proofs.lemmas.Bool.Decides.{nat_tests}
 use Rattle.std.proofs.lemmas.List.{length-set, length-replicate, get_or-set_same, get_or-set_other}
 use Rattle.std.proofs.lemmas.List.Elements.{All-nil, All-cons, All-head, All-tail}
 use Rattle.plc_types.specs.declared.data_type.DataType.{DataType}
-use Rattle.program_tree.specs.Tree.{Expression, number, answer}
+use Rattle.program_tree.specs.Tree.{Expression, number, call_function}
 use Rattle.program_tree.specs.View.{expressions_of}
 use Rattle.source_tree.specs.Syntax.{Arguments}
 use Rattle.flat_form.specs.Frames.{FrameData, scratch_at}
@@ -21,7 +21,7 @@ use Rattle.typing.specs.Typed.{PlacedData, placed, typed_given}
 use Rattle.typed_programs.specs.Scopes.{Pous, BodyScope}
 use Rattle.typed_programs.specs.Expressions.{AreInputs, Takes}
 use Rattle.typed_scopes.specs.Fitting.{SignatureFits}
-use Rattle.typed_scopes.proofs.Wholes.{whole_require, whole_also, whole_said}
+use Rattle.typed_scopes.proofs.Wholes.{whole_require, whole_and, whole_said}
 use Rattle.typed_scopes.proofs.TypedValues.{IsValueIf, known_type, taken}
 use Rattle.typed_scopes.proofs.GivenInputs.{whole_port, AreGivenValues, FitsItsInput, all_fit, places_given}
 
@@ -122,11 +122,11 @@ module _ (pous : Pous) (b : BodyScope) (last : ℕ → ℤ) (scope : Scope) (s :
 
   pub answer_is : (at : ℕ) (args : Arguments) → ((judged_given scope s 0 args).whole ≡ true → AreGivenValues pous b last scope s 0 args)
       → (judged_answer scope at s args (judged_given scope s 0 args)).whole ≡ true
-      → IsValueIf pous b last (port_type s.result) (answer s.number (expressions_of (given_values (typed_given scope s 0 args))))
+      → IsValueIf pous b last (port_type s.result) (call_function s.number (expressions_of (given_values (typed_given scope s 0 args))))
   answer_is at args values whole =
       let parts = judged_given scope s 0 args in
       let counted = require parts (gives_all scope s args) ArgumentCount at in
-      let both = whole_also (require counted (fit_placed scope s 0 args) OperandType at) (judged_port (Some s.result)) whole in
+      let both = whole_and (require counted (fit_placed scope s 0 args) OperandType at) (judged_port (Some s.result)) whole in
       let result = whole_said s.result.whole both.1 in
       let placed_fit = whole_require counted (fit_placed scope s 0 args) OperandType at both.0 in
       let all_given = whole_require parts (gives_all scope s args) ArgumentCount at placed_fit.0 in
@@ -134,5 +134,5 @@ module _ (pous : Pous) (b : BodyScope) (last : ℕ → ℤ) (scope : Scope) (s :
       let all = all_fit pous b last scope s 0 args (values all_given.0) all_given.0 placed_fit.1 in
       let room = subst (λ (n : ℕ). 2 + n ≤ length (pous.frames s.number).types) (sym (arity-list given ∙ length-given (typed_given scope s 0 args))) fits.room in
       let inputs = inputs_from pous b (pous.frames s.number) 2 (number (pos 0)) given (λ k below. each_taken args all_given.1 all k (subst (λ (n : ℕ). k < n) (length-given (typed_given scope s 0 args)) below)) in
-      subst (λ (t : DataType). IsValueIf pous b last t (answer s.number (expressions_of given))) (sym (whole_port s.result result))
-      (λ known. let place = fits.answer result known in record { known = place.known; typed = (fits.before, room, place.kind, inputs); stays = place.within })
+      subst (λ (t : DataType). IsValueIf pous b last t (call_function s.number (expressions_of given))) (sym (whole_port s.result result))
+      (λ known. let place = fits.call_function result known in record { known = place.known; typed = (fits.before, room, place.kind, inputs); stays = place.within })

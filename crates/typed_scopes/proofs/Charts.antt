@@ -20,7 +20,7 @@ use Rattle.typed_programs.specs.Statements.{IsTypedPart, AreTyped, AreTypedTrans
 use Rattle.typed_scopes.specs.Uses.{Usable, ArePartsWithin}
 use Rattle.typed_scopes.specs.Fitting.{ScopeFits}
 use Rattle.typed_scopes.specs.Charts.{NamesSteps, IsNamedBySteps, ChartFits}
-use Rattle.typed_scopes.proofs.Wholes.{whole_also}
+use Rattle.typed_scopes.proofs.Wholes.{whole_and}
 use Rattle.typed_scopes.proofs.Statements.{condition_is, stmts_are}
 
 -- ---- transitions in firing order
@@ -47,19 +47,19 @@ module _ (pous : Pous) (b : BodyScope) (last : ℕ → ℤ) (scope : Scope) (use
   conditions_are : (ps : List PartData) → ArePartsWithin uses ps → ArePartsLevelled ps → (judged_parts scope ps).whole ≡ true → All HasCondition (transitions_of ps)
   unfolding HasCondition
   conditions_are [] within levels whole = All-nil HasCondition
-  conditions_are (step_part s ∷ ps) within levels whole = conditions_are ps within levels.1 (whole_also (judged_part scope (step_part s)) (judged_parts scope ps) whole).1
+  conditions_are (step_part s ∷ ps) within levels whole = conditions_are ps within levels.1 (whole_and (judged_part scope (step_part s)) (judged_parts scope ps) whole).1
   conditions_are (transition_part t ∷ ps) within levels whole =
-      let both = whole_also (judged_part scope (transition_part t)) (judged_parts scope ps) whole in
+      let both = whole_and (judged_part scope (transition_part t)) (judged_parts scope ps) whole in
       All-cons HasCondition t (transitions_of ps) (condition_is pous b last scope uses fits OperandType t.condition within.0 levels.0 both.0) (conditions_are ps within.1 levels.1 both.1)
-  conditions_are (action_part a ∷ ps) within levels whole = conditions_are ps within.1 levels.1 (whole_also (judged_part scope (action_part a)) (judged_parts scope ps) whole).1
+  conditions_are (action_part a ∷ ps) within levels whole = conditions_are ps within.1 levels.1 (whole_and (judged_part scope (action_part a)) (judged_parts scope ps) whole).1
 
   bodies_are : (ps : List PartData) → ArePartsWithin uses ps → ArePartsLevelled ps → (judged_parts scope ps).whole ≡ true → All HasBody (actions_of ps)
   unfolding HasBody
   bodies_are [] within levels whole = All-nil HasBody
-  bodies_are (step_part s ∷ ps) within levels whole = bodies_are ps within levels.1 (whole_also (judged_part scope (step_part s)) (judged_parts scope ps) whole).1
-  bodies_are (transition_part t ∷ ps) within levels whole = bodies_are ps within.1 levels.1 (whole_also (judged_part scope (transition_part t)) (judged_parts scope ps) whole).1
+  bodies_are (step_part s ∷ ps) within levels whole = bodies_are ps within levels.1 (whole_and (judged_part scope (step_part s)) (judged_parts scope ps) whole).1
+  bodies_are (transition_part t ∷ ps) within levels whole = bodies_are ps within.1 levels.1 (whole_and (judged_part scope (transition_part t)) (judged_parts scope ps) whole).1
   bodies_are (action_part a ∷ ps) within levels whole =
-      let both = whole_also (judged_part scope (action_part a)) (judged_parts scope ps) whole in
+      let both = whole_and (judged_part scope (action_part a)) (judged_parts scope ps) whole in
       All-cons HasBody a (actions_of ps) (stmts_are pous b last scope uses fits [] a.body within.0 levels.0 both.0) (bodies_are ps within.1 levels.1 both.1)
 
   transitions_are : (ps : List PartData) (ts : List ChartTransitionData) → All HasCondition ts → All (NamesSteps ps) ts

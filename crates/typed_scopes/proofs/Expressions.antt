@@ -8,7 +8,7 @@ use Rattle.naming.specs.Library.{standard_function}
 use Rattle.source_tree.specs.Syntax.{Tree, literal, path, enumerator, paren, unary, chain, call, Links, no_links, link, Arguments, no_arguments, argument}
 use Rattle.source_tree.specs.Levels.{level_of, are_named, IsLevelled, AreOfLevel, AreOfForm}
 use Rattle.rules.specs.declared.rule.Rule.TheVariants.{OperandType, OutsideType}
-use Rattle.rules.specs.Judgements.{Judgement, also, require}
+use Rattle.rules.specs.Judgements.{Judgement, and, require}
 use Rattle.typing.specs.declared.scope.Signature.{Signature}
 use Rattle.typing.specs.Typing.{Scope, by_path, by_value, place_of_literal, place_of, type_of, operand_type, next_type, takes, Parameter, fixed, common, amount, parameter_of, is_amount}
 use Rattle.typing.specs.Judged.{expected_at, expected_by, place_for, judged_amount, judged_port, judged_named, fits_port, judged, judged_links, judged_arguments, judged_given}
@@ -16,7 +16,7 @@ use Rattle.typing.specs.Typed.{typed}
 use Rattle.typed_programs.specs.Scopes.{Pous, BodyScope}
 use Rattle.typed_scopes.specs.Uses.{Usable, IsWithin, AreLinksWithin, AreArgumentsWithin}
 use Rattle.typed_scopes.specs.Fitting.{ScopeFits}
-use Rattle.typed_scopes.proofs.Wholes.{whole_require, whole_also}
+use Rattle.typed_scopes.proofs.Wholes.{whole_require, whole_and}
 use Rattle.typed_scopes.proofs.TypedValues.{IsValueIf, fitted}
 use Rattle.typed_scopes.proofs.Literals.{literal_is}
 use Rattle.typed_scopes.proofs.Names.{name_is}
@@ -30,9 +30,9 @@ use Rattle.typed_scopes.proofs.Calls.{call_is}
 left_whole : (scope : Scope) (t : DataType) (left : Judgement) (ls : Links) → (judged_links scope t left ls).whole ≡ true → left.whole ≡ true
 left_whole scope t left no_links whole = whole
 left_whole scope t left (link o at e ls) whole =
-    let both = also left (judged scope (Some t) e) in
+    let both = and left (judged scope (Some t) e) in
     let holds = takes o t && is_same_type (type_of scope (Some t) e) t in
-    (whole_also left (judged scope (Some t) e) (whole_require both holds OperandType at (left_whole scope (next_type o t) (require both holds OperandType at) ls whole)).0).0
+    (whole_and left (judged scope (Some t) e) (whole_require both holds OperandType at (left_whole scope (next_type o t) (require both holds OperandType at) ls whole)).0).0
 
 -- the value of an argument
 amount_whole : (scope : Scope) (p : Parameter) (e : Tree) (j : Judgement) → (judged_amount scope p e j).whole ≡ true → j.whole ≡ true
@@ -61,11 +61,11 @@ module _ (pous : Pous) (b : BodyScope) (last : ℕ → ℤ) (scope : Scope) (use
     links_are : (n : ℕ) (t : DataType) (left : Judgement) (ls : Links) → AreLinksWithin uses ls → AreOfLevel n ls → (judged_links scope t left ls).whole ≡ true → AreLinkValues pous b last scope t ls
     links_are n t left no_links within levels whole = tt
     links_are n t left (link o at f ls) within levels whole =
-        let both = also left (judged scope (Some t) f) in
+        let both = and left (judged scope (Some t) f) in
         let holds = takes o t && is_same_type (type_of scope (Some t) f) t in
         let parts = whole_require both holds OperandType at (left_whole scope (next_type o t) (require both holds OperandType at) ls whole) in
         let tests = and_parts (takes o t) (is_same_type (type_of scope (Some t) f) t) parts.1 in
-        let value = value_is (Some t) f within.0 levels.2 (whole_also left (judged scope (Some t) f) parts.0).1 in
+        let value = value_is (Some t) f within.0 levels.2 (whole_and left (judged scope (Some t) f) parts.0).1 in
         (tests.0, fitted pous b last (type_of scope (Some t) f) t (typed scope (Some t) f) tests.1 value, links_are n (next_type o t) (require both holds OperandType at) ls within.1 levels.3 whole)
 
     operands_are : (f : StandardFunction) (t : DataType) (place : ℕ) (named : Bool) (args : Arguments) → AreArgumentsWithin uses args → AreOfForm named args → (judged_arguments scope f t place args).whole ≡ true → AreOperandValues pous b last scope f t place args
@@ -73,14 +73,14 @@ module _ (pous : Pous) (b : BodyScope) (last : ℕ → ℤ) (scope : Scope) (use
     operands_are f t place named (argument n e args) within levels whole =
         let p = parameter_of f place in
         let j = judged scope (expected_at p t) e in
-        let parts = whole_also (judged_amount scope p e j) (judged_arguments scope f t (place + 1) args) whole in
+        let parts = whole_and (judged_amount scope p e j) (judged_arguments scope f t (place + 1) args) whole in
         (value_is (expected_at p t) e within.0 levels.1 (amount_whole scope p e j parts.0), operands_are f t (place + 1) named args within.1 levels.2 parts.1)
 
     given_are : (s : Signature) (place : ℕ) (named : Bool) (args : Arguments) → AreArgumentsWithin uses args → AreOfForm named args → (judged_given scope s place args).whole ≡ true → AreGivenValues pous b last scope s place args
     given_are s place named no_arguments within levels whole = tt
     given_are s place named (argument n e args) within levels whole =
         let found = scope.port s.function (place_for scope s place n) in
-        let inner = also (judged scope (expected_by found) e) (judged_port found) in
-        let parts = whole_also (judged_named n (fits_port scope found e) inner) (judged_given scope s (place + 1) args) whole in
-        let own = whole_also (judged scope (expected_by found) e) (judged_port found) (judged_parts_of pous b last scope s place n e inner (fits_port scope found e) parts.0) in
+        let inner = and (judged scope (expected_by found) e) (judged_port found) in
+        let parts = whole_and (judged_named n (fits_port scope found e) inner) (judged_given scope s (place + 1) args) whole in
+        let own = whole_and (judged scope (expected_by found) e) (judged_port found) (judged_parts_of pous b last scope s place n e inner (fits_port scope found e) parts.0) in
         (value_is (expected_by found) e within.0 levels.1 own.0, given_are s (place + 1) named args within.1 levels.2 parts.1)

@@ -8,14 +8,14 @@ use Rattle.plc_types.specs.declared.data_type.DataType.TheVariants as kinds
 use Rattle.source_tree.specs.Syntax.{Named, Tree, Arguments, no_arguments, argument}
 use Rattle.program_tree.specs.Tree.{Expression}
 use Rattle.rules.specs.declared.rule.Rule.TheVariants.{ValueType}
-use Rattle.rules.specs.Judgements.{Judgement, also}
+use Rattle.rules.specs.Judgements.{Judgement, and}
 use Rattle.typing.specs.declared.scope.Port.{Port}
 use Rattle.typing.specs.declared.scope.Signature.{Signature}
 use Rattle.typing.specs.Typing.{Scope, port_type, type_of}
 use Rattle.typing.specs.Judged.{judged, place_for, places_for, expected_by, judged_port, fits_port, judged_named, fits_placed, fit_placed, judged_given}
 use Rattle.typing.specs.Typed.{PlacedData, typed, typed_given}
 use Rattle.typed_programs.specs.Scopes.{Pous, BodyScope}
-use Rattle.typed_scopes.proofs.Wholes.{whole_require, whole_also, whole_said}
+use Rattle.typed_scopes.proofs.Wholes.{whole_require, whole_and, whole_said}
 use Rattle.typed_scopes.proofs.TypedValues.{IsValueOf, IsValueIf, fitted}
 
 -- a whole input has its type
@@ -66,11 +66,11 @@ module _ (pous : Pous) (b : BodyScope) (last : ℕ → ℤ) (scope : Scope) (s :
   all_fit place no_arguments values whole fits = All-nil FitsItsInput
   all_fit place (argument n e args) values whole fits =
       let found = scope.port s.function (place_for scope s place n) in
-      let inner = also (judged scope (expected_by found) e) (judged_port found) in
-      let parts = whole_also (judged_named n (fits_port scope found e) inner) (judged_given scope s (place + 1) args) whole in
+      let inner = and (judged scope (expected_by found) e) (judged_port found) in
+      let parts = whole_and (judged_named n (fits_port scope found e) inner) (judged_given scope s (place + 1) args) whole in
       let tests = and_parts (fits_placed scope s place n e) (fit_placed scope s (place + 1) args) fits in
       let one = argument_fits place n e inner tests.0 parts.0 in
-      let port = (whole_also (judged scope (expected_by found) e) (judged_port found) one.0).1 in
+      let port = (whole_and (judged scope (expected_by found) e) (judged_port found) one.0).1 in
       All-cons FitsItsInput _ _ (fits_input found e values.0 one.1 port) (all_fit (place + 1) args values.1 parts.1 tests.1)
 
   -- the places of arguments

@@ -11,7 +11,7 @@ use Rattle.plc_types.specs.declared.operator.UnaryOperator.TheVariants as signs
 use Rattle.source_tree.specs.Syntax.{Tree, literal, path, enumerator, paren, unary, chain, call, LabelData}
 use Rattle.source_tree.specs.Levels.{IsLevelled, IsConstant, IsInitialFormed, IsLabelFormed, AreLabelsFormed}
 use Rattle.rules.specs.declared.rule.Rule.TheVariants.{OperandType, OutsideType, Overlap}
-use Rattle.rules.specs.Judgements.{also, require}
+use Rattle.rules.specs.Judgements.{and, require}
 use Rattle.typing.specs.Typing.{Scope, type_of, place_of}
 use Rattle.typing.specs.Judged.{judged}
 use Rattle.typing.specs.Typed.{typed, constant_of}
@@ -20,7 +20,7 @@ use Rattle.typed_programs.specs.Scopes.{Pous, BodyScope}
 use Rattle.typed_programs.specs.Statements.{IsLabelOf}
 use Rattle.typed_scopes.specs.Uses.{Usable, IsWithin, IsOptionWithin, AreLabelsWithin}
 use Rattle.typed_scopes.specs.Fitting.{ScopeFits}
-use Rattle.typed_scopes.proofs.Wholes.{whole_require, whole_also}
+use Rattle.typed_scopes.proofs.Wholes.{whole_require, whole_and}
 use Rattle.typed_scopes.proofs.TypedValues.{fitted, number_in}
 use Rattle.typed_scopes.proofs.Expressions.{value_is}
 
@@ -40,19 +40,19 @@ module _ (pous : Pous) (b : BodyScope) (last : ℕ → ℤ) (scope : Scope) (use
   constant_in t e within formed whole same =
       number_in pous b last (carrier t) (typed scope (Some t) e) (fitted pous b last (type_of scope (Some t) e) t (typed scope (Some t) e) same (value_is pous b last scope uses fits (Some t) e within (constant_levelled e formed) whole)).typed
 
-  label_by : (t : DataType) (low : Tree) (high : Option Tree) → IsWithin uses low → IsOptionWithin uses high → IsConstant low → IsInitialFormed high → (also (judged scope (Some t) low) (judged_high scope t high)).whole ≡ true
+  label_by : (t : DataType) (low : Tree) (high : Option Tree) → IsWithin uses low → IsOptionWithin uses high → IsConstant low → IsInitialFormed high → (and (judged scope (Some t) low) (judged_high scope t high)).whole ≡ true
       → is_of_type scope t low && high_is_of_type scope t high ≡ true → IsLabelOf (carrier t) (labelled_by (record { low = constant_of scope t low; high = high_value scope t low high }) high)
   label_by t low None within high_within formed none whole same =
-      constant_in t low within formed (whole_also (judged scope (Some t) low) (judged_high scope t None) whole).0 (and_parts (is_of_type scope t low) (high_is_of_type scope t None) same).0
+      constant_in t low within formed (whole_and (judged scope (Some t) low) (judged_high scope t None) whole).0 (and_parts (is_of_type scope t low) (high_is_of_type scope t None) same).0
   label_by t low (Some e) within high_within formed high whole same =
-      let wholes = whole_also (judged scope (Some t) low) (judged_high scope t (Some e)) whole in
+      let wholes = whole_and (judged scope (Some t) low) (judged_high scope t (Some e)) whole in
       let tests = and_parts (is_of_type scope t low) (high_is_of_type scope t (Some e)) same in
       (constant_in t low within formed wholes.0 tests.0, constant_in t e high_within high wholes.1 tests.1)
 
   label_is : (t : DataType) (seen : List Range) (l : LabelData) → IsWithin uses l.low → IsOptionWithin uses l.high → IsLabelFormed l → (judged_label scope t seen l).whole ≡ true → IsLabelOf (carrier t) (typed_label scope t l)
   label_is t seen l within high_within formed whole =
       let at = place_of l.low in
-      let parts = also (judged scope (Some t) l.low) (judged_high scope t l.high) in
+      let parts = and (judged scope (Some t) l.low) (judged_high scope t l.high) in
       let same = is_of_type scope t l.low && high_is_of_type scope t l.high in
       let typed_parts = require parts same OperandType at in
       let order = int_le (label_range scope t l).low (label_range scope t l).high in
@@ -64,5 +64,5 @@ module _ (pous : Pous) (b : BodyScope) (last : ℕ → ℤ) (scope : Scope) (use
   pub labels_are : (t : DataType) (seen : List Range) (ls : List LabelData) → AreLabelsWithin uses ls → AreLabelsFormed ls → (judged_labels scope t seen ls).whole ≡ true → All (IsLabelOf (carrier t)) (map (typed_label scope t) ls)
   labels_are t seen [] within formed whole = All-nil (IsLabelOf (carrier t))
   labels_are t seen (l ∷ ls) within formed whole =
-      let both = whole_also (judged_label scope t seen l) (judged_labels scope t (seen_with scope t seen l) ls) whole in
+      let both = whole_and (judged_label scope t seen l) (judged_labels scope t (seen_with scope t seen l) ls) whole in
       All-cons (IsLabelOf (carrier t)) (typed_label scope t l) (map (typed_label scope t) ls) (label_is t seen l within.0 within.1 formed.0 both.0) (labels_are t (seen_with scope t seen l) ls within.2 formed.1 both.1)

@@ -14,7 +14,7 @@ use Rattle.plc_types.specs.declared.function.Shift.{Shift}
 use Rattle.plc_types.specs.declared.function.StandardFunction.{StandardFunction}
 use Rattle.plc_types.specs.declared.function.StandardFunction.TheVariants as functions
 use Rattle.source_tree.specs.Syntax.{Tree, Arguments, no_arguments, argument}
-use Rattle.program_tree.specs.Tree.{call as typed_call, Expressions}
+use Rattle.program_tree.specs.Tree.{call_standard, Expressions}
 use Rattle.node_core.specs.TypedFlats.{is_function_for}
 use Rattle.node_core.specs.Words.{first_operand_kind}
 use Rattle.typing.specs.Typing.{Scope, type_of, or_else, or_dint, Parameter, fixed, common, amount, parameter_of, result_of, takes_operands, takes_count, count_of}
@@ -64,13 +64,13 @@ module _ (pous : Pous) (b : BodyScope) (last : ℕ → ℤ) (scope : Scope) wher
 
   -- a function of operands of its own elementary type
   own_call : (f : Function) (t : DataType) (es : Expressions) → IsElementary t → is_function_for f (carrier t) ≡ true → AreOf pous b (first_operand_kind f (carrier t)) (carrier t) es
-      → IsValueOf pous b last t (typed_call f (carrier t) es)
+      → IsValueOf pous b last t (call_standard f (carrier t) es)
   own_call f t es elementary for operands =
-      elementary_value pous b last t (typed_call f (carrier t) es) elementary (refl, for, operands) (or_left _ _ (covers-self (range_of (carrier t))))
+      elementary_value pous b last t (call_standard f (carrier t) es) elementary (refl, for, operands) (or_left _ _ (covers-self (range_of (carrier t))))
 
   abbrev IsCallValue : StandardFunction → DataType → Arguments → Type 0
   IsCallValue f t args =
-      IsValueOf pous b last (or_dint (or_else (result_of f) (Some t))) (typed_call (function_of f args) (carrier (or_dint (or_else (result_of f) (Some t)))) (typed_operands scope f t 0 args))
+      IsValueOf pous b last (or_dint (or_else (result_of f) (Some t))) (call_standard (function_of f args) (carrier (or_dint (or_else (result_of f) (Some t)))) (typed_operands scope f t 0 args))
 
   conversion : (from to : Elementary) (t : DataType) (args : Arguments) → AreOperandValues (functions.Conversion from to) t 0 args → takes_count (functions.Conversion from to) (count_of args) ≡ true
       → fit_from scope (functions.Conversion from to) t 0 args ≡ true → IsCallValue (functions.Conversion from to) t args

@@ -6,7 +6,7 @@ use Rattle.plc_types.specs.declared.data_type.DataType.{DataType}
 use Rattle.plc_types.specs.declared.data_type.DataType.TheVariants as kinds
 use Rattle.plc_types.specs.DataTypes.{carrier, is_same_type}
 use Rattle.plc_types.specs.Types.{range_of, in_range}
-use Rattle.program_tree.specs.Tree.{Expression, number, cell, unary, chain, call, answer}
+use Rattle.program_tree.specs.Tree.{Expression, number, cell, unary, chain, call_standard, call_function}
 use Rattle.flat_core.specs.declared.flat_tree.Scratch.{Scratch}
 use Rattle.node_core.specs.Stores.{place_at}
 use Rattle.node_core.specs.TypedFlats.{covers}
@@ -49,11 +49,11 @@ module _ (pous : Pous) (b : BodyScope) (last : ℕ → ℤ) where
 
   -- a place of a type takes the type's values
   pub taken : (t : DataType) (p : Scratch) (e : Expression) → IsPlaceOf last t p → IsValueOf pous b last t e → Takes pous b p e
-  taken t p e place v = (subst (λ (k : Elementary). IsOf pous b k e) (sym place.kind) v.typed, by p.limited refl)
+  taken t p e place v = (subst (λ (k : Elementary). IsOf pous b k e) (sym place.kind) v.typed, by p.is_subrange refl)
     where
-      by : (l : Bool) → p.limited ≡ l → (p.limited || stays_in pous b.places e p.range) ≡ true
-      by true limited = or_left p.limited _ limited
-      by false whole = or_right p.limited _ (subst (λ r. stays_in pous b.places e r ≡ true) (sym (place.whole whole)) v.stays)
+      by : (l : Bool) → p.is_subrange ≡ l → (p.is_subrange || stays_in pous b.places e p.range) ≡ true
+      by true is_subrange = or_left p.is_subrange _ is_subrange
+      by false whole = or_right p.is_subrange _ (subst (λ r. stays_in pous b.places e r ≡ true) (sym (place.whole whole)) v.stays)
 
   pub number_value : (t : DataType) (v : ℤ) → IsKnown last t → in_range v (range_of_type last t) ≡ true → IsValueOf pous b last t (number v)
   number_value t v known h = record { known = known; typed = covers-in (range_of (carrier t)) (range_of_type last t) v (carrier-covers last t known) h; stays = h }
@@ -72,5 +72,5 @@ module _ (pous : Pous) (b : BodyScope) (last : ℕ → ℤ) where
   number_in k (cell place) is = zero-in k
   number_in k (unary o t e) is = zero-in k
   number_in k (chain e os) is = zero-in k
-  number_in k (call f t es) is = zero-in k
-  number_in k (answer f es) is = zero-in k
+  number_in k (call_standard f t es) is = zero-in k
+  number_in k (call_function f es) is = zero-in k

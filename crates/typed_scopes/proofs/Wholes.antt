@@ -2,7 +2,7 @@
 use Rattle.std.proofs.Common.{◌≡◌, ℕ, Bool, true, false, if◌then◌else◌, refl}
 use Rattle.std.proofs.lemmas.Bool.{and_parts, false≢true}
 use Rattle.rules.specs.declared.rule.Rule.{Rule}
-use Rattle.rules.specs.Judgements.{Judgement, ok, suppressed, also, breaks, require}
+use Rattle.rules.specs.Judgements.{Judgement, ok, suppressed, and, breaks, require}
 
 tested_by : (j : Judgement) (w h : Bool) (rule : Rule) (at : ℕ) → j.whole ≡ w → (require j h rule at).whole ≡ true → (j.whole ≡ true) × (h ≡ true)
 tested_by j true true rule at e whole = (e, refl)
@@ -12,8 +12,8 @@ tested_by j false h rule at e whole = absurd (let k : false ≡ true = rw e at w
 pub whole_require : (j : Judgement) (h : Bool) (rule : Rule) (at : ℕ) → (require j h rule at).whole ≡ true → (j.whole ≡ true) × (h ≡ true)
 whole_require j h rule at whole = tested_by j j.whole h rule at refl whole
 
-pub whole_also : (j k : Judgement) → (also j k).whole ≡ true → (j.whole ≡ true) × (k.whole ≡ true)
-whole_also j k whole = and_parts j.whole k.whole whole
+pub whole_and : (j k : Judgement) → (and j k).whole ≡ true → (j.whole ≡ true) × (k.whole ≡ true)
+whole_and j k whole = and_parts j.whole k.whole whole
 
 -- what is whole where a test holds, or breaks a rule where it does not
 pub whole_test : (h : Bool) (rule : Rule) (at : ℕ) → (if h then ok else breaks rule at).whole ≡ true → h ≡ true

@@ -35,4 +35,4 @@ pub record IsPlaceOf (last : ℕ → ℤ) (t : DataType) (p : Scratch) : Type 0 
   pub known : IsKnown last t
   pub kind : p.kind ≡ carrier t
   pub within : covers (range_of_type last t) p.range ≡ true
-  pub whole : p.limited ≡ false → p.range ≡ range_of_type last t
+  pub whole : p.is_subrange ≡ false → p.range ≡ range_of_type last t

@@ -15,7 +15,7 @@ use Rattle.naming.specs.Types.{specification_at, end_of, end_specification}
 use Rattle.typing.specs.declared.scope.Place.TheVariants as places
 use Rattle.typing.specs.declared.scope.Meaning.{Meaning}
 use Rattle.typing.specs.Typing.{Reference, Scope, without_calls, by_path, by_value, type_of, place_of}
-use Rattle.rules.specs.Judgements.{Judgement, ok, suppressed, also, breaks, require}
+use Rattle.rules.specs.Judgements.{Judgement, ok, suppressed, and, breaks, require}
 use Rattle.typing.specs.Judged.{judged}
 use Rattle.typing.specs.Typed.{constant_of}
 use Rattle.typing.specs.declared.domain.Domain.{Domain}
@@ -61,24 +61,24 @@ judged_bound_of f k e =
 abbrev pub judged_subrange : FileData → ElementaryType → ℕ → BoundsData → Judgement
 judged_subrange f k at b =
     require
-    (require (also (judged_bound_of f k b.low) (judged_bound_of f k b.high)) (is_integer k) OperandType at)
+    (require (and (judged_bound_of f k b.low) (judged_bound_of f k b.high)) (is_integer k) OperandType at)
     (int_le (bounds_of f k b).low (bounds_of f k b).high) OutsideType (place_of b.low)
 
 -- what leads to no type, or to one whose declaration breaks a rule
 abbrev pub no_domain : Domain
-no_domain = record { kind = Unknown; range = range_of types.Bool; limited = false; start = pos 0; whole = false }
+no_domain = record { kind = Unknown; range = range_of types.Bool; is_subrange = false; start = pos 0; whole = false }
 
 -- a variable begins at 0, of a subrange at its lower bound, and of an enumeration at its first value
 abbrev pub elementary_domain : ElementaryType → Domain
-elementary_domain k = record { kind = Elementary k; range = range_of k; limited = false; start = pos 0; whole = true }
+elementary_domain k = record { kind = Elementary k; range = range_of k; is_subrange = false; start = pos 0; whole = true }
 
 abbrev pub subrange_domain : FileData → ElementaryType → ℕ → BoundsData → Domain
 subrange_domain f k at b =
-    if (judged_subrange f k at b).whole then record { kind = Elementary k; range = bounds_of f k b; limited = true; start = (bounds_of f k b).low; whole = true } else no_domain
+    if (judged_subrange f k at b).whole then record { kind = Elementary k; range = bounds_of f k b; is_subrange = true; start = (bounds_of f k b).low; whole = true } else no_domain
 
 abbrev pub enumeration_domain : ℕ → List Named → Domain
 enumeration_domain t others =
-    if has_few others then record { kind = Enumeration t; range = record { low = pos 0; high = pos (length others) }; limited = false; start = pos 0; whole = true } else no_domain
+    if has_few others then record { kind = Enumeration t; range = record { low = pos 0; high = pos (length others) }; is_subrange = false; start = pos 0; whole = true } else no_domain
 
 -- the domain of the type of a number, at the end of its way
 abbrev pub end_domain : FileData → ℕ → Option SpecificationData → Domain
@@ -111,4 +111,4 @@ judged_specification f n (of_values at first others) = if has_few others then ok
 
 abbrev pub judged_types : FileData → List TypeDeclarationData → Judgement
 judged_types f [] = ok
-judged_types f (d ∷ ds) = also (judged_specification f d.name d.specification) (judged_types f ds)
+judged_types f (d ∷ ds) = and (judged_specification f d.name d.specification) (judged_types f ds)

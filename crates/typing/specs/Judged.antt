@@ -13,7 +13,7 @@ use Rattle.source_tree.specs.declared.syntax.Literal.{Literal}
 use Rattle.plc_types.specs.declared.operator.UnaryOperator.{UnaryOperator}
 use Rattle.plc_types.specs.declared.operator.UnaryOperator.TheVariants as signs
 use Rattle.source_tree.specs.Syntax.{Named, Tree, literal, path, enumerator, paren, unary, chain, call, Links, no_links, link, Arguments, no_arguments, argument}
-use Rattle.rules.specs.Judgements.{Judgement, ok, suppressed, also, breaks, require}
+use Rattle.rules.specs.Judgements.{Judgement, ok, suppressed, and, breaks, require}
 use Rattle.typing.specs.declared.scope.Meaning.{Meaning}
 use Rattle.typing.specs.declared.scope.Port.{Port}
 use Rattle.typing.specs.declared.scope.Signature.{Signature}
@@ -116,7 +116,7 @@ fit_placed scope s place (argument n e args) = fits_placed scope s place n e && 
 -- the type of its result breaks a rule it says nothing more.
 abbrev pub judged_answer : Scope → ℕ → Signature → Arguments → Judgement → Judgement
 judged_answer scope at s args parts =
-    also (require (require parts (gives_all scope s args) ArgumentCount at) (fit_placed scope s 0 args) OperandType at) (judged_port (Some s.result))
+    and (require (require parts (gives_all scope s args) ArgumentCount at) (fit_placed scope s 0 args) OperandType at) (judged_port (Some s.result))
 
 abbrev pub judged_user_call : Scope → ℕ → Option Signature → Arguments → (Signature → Judgement) → Judgement
 judged_user_call scope at None args of_inputs = suppressed
@@ -150,25 +150,25 @@ abbrev mutual
   pub judged_links : Scope → DataType → Judgement → Links → Judgement
   judged_links scope t left no_links = left
   judged_links scope t left (link o at e ls) =
-      judged_links scope (next_type o t) (require (also left (judged scope (Some t) e)) (takes o t && is_same_type (type_of scope (Some t) e) t) OperandType at) ls
+      judged_links scope (next_type o t) (require (and left (judged scope (Some t) e)) (takes o t && is_same_type (type_of scope (Some t) e) t) OperandType at) ls
 
   -- arguments from a place on, where the operands are of a type
   pub judged_arguments : Scope → StandardFunction → DataType → ℕ → Arguments → Judgement
   judged_arguments scope f t place no_arguments = ok
   judged_arguments scope f t place (argument n e args) =
-      also (judged_amount scope (parameter_of f place) e (judged scope (expected_at (parameter_of f place) t) e)) (judged_arguments scope f t (place + 1) args)
+      and (judged_amount scope (parameter_of f place) e (judged scope (expected_at (parameter_of f place) t) e)) (judged_arguments scope f t (place + 1) args)
 
   -- arguments of a FUNCTION from a place on, each where the type of its input is expected
   pub judged_given : Scope → Signature → ℕ → Arguments → Judgement
   judged_given scope s place no_arguments = ok
   judged_given scope s place (argument n e args) =
       let p = scope.port s.function (place_for scope s place n) in
-      also (judged_named n (fits_port scope p e) (also (judged scope (expected_by p) e) (judged_port p))) (judged_given scope s (place + 1) args)
+      and (judged_named n (fits_port scope p e) (and (judged scope (expected_by p) e) (judged_port p))) (judged_given scope s (place + 1) args)
 
   -- arguments each alone
   pub judged_alone : Scope → Arguments → Judgement
   judged_alone scope no_arguments = ok
-  judged_alone scope (argument n e args) = also (judged scope None e) (judged_alone scope args)
+  judged_alone scope (argument n e args) = and (judged scope None e) (judged_alone scope args)
 
 -- a condition is BOOL
 abbrev pub judged_condition : Scope → Rule → Tree → Judgement

@@ -3,7 +3,7 @@ use Rattle.std.specs.Prelude.{List, [], ◌∷◌}
 use Rattle.rules.specs.declared.rule.Rule.TheVariants.{OperandType}
 use Rattle.source_tree.specs.Syntax.{PartData, step_part, transition_part, action_part}
 use Rattle.typing.specs.Typing.{Scope}
-use Rattle.rules.specs.Judgements.{Judgement, ok, also}
+use Rattle.rules.specs.Judgements.{Judgement, ok, and}
 use Rattle.typing.specs.Judged.{judged_condition}
 use Rattle.typing.specs.JudgedStatements.{judged_stmts}
 
@@ -14,4 +14,4 @@ judged_part scope (action_part a) = judged_stmts scope [] a.body
 
 abbrev pub judged_parts : Scope → List PartData → Judgement
 judged_parts scope [] = ok
-judged_parts scope (p ∷ ps) = also (judged_part scope p) (judged_parts scope ps)
+judged_parts scope (p ∷ ps) = and (judged_part scope p) (judged_parts scope ps)

@@ -16,7 +16,7 @@ use Rattle.typing.specs.declared.scope.Place.{Place}
 use Rattle.typing.specs.declared.scope.Place.TheVariants as places
 use Rattle.typing.specs.declared.scope.Meaning.{Meaning}
 use Rattle.typing.specs.Typing.{Scope, by_path, kind_at, or_dint, type_of, place_of}
-use Rattle.rules.specs.Judgements.{Judgement, ok, also, require}
+use Rattle.rules.specs.Judgements.{Judgement, ok, and, require}
 use Rattle.typing.specs.Judged.{judged, judged_meaning, judged_condition}
 use Rattle.typing.specs.Constants.{constant_value, broken_by_turns}
 use Rattle.typing.specs.Labels.{judged_labels, seen_behind}
@@ -38,7 +38,7 @@ judged_target controls m at = require (judged_meaning m) (is_assignable controls
 abbrev pub judged_assign : Scope → List ℕ → PathData → Tree → Judgement
 judged_assign scope controls p e =
     let expected = kind_at (scope.means (by_path p)) in
-    require (also (judged_target controls (scope.means (by_path p)) p.first.at) (judged scope expected e)) (is_same_type (type_of scope expected e) (or_dint expected)) ValueType p.first.at
+    require (and (judged_target controls (scope.means (by_path p)) p.first.at) (judged scope expected e)) (is_same_type (type_of scope expected e) (or_dint expected)) ValueType p.first.at
 
 -- what a FUNCTION answers may not control a FOR
 abbrev pub is_control : Option Meaning → Bool
@@ -52,12 +52,12 @@ member n x = record { first = n; members = x ∷ [] }
 -- the value of an input is of its type
 abbrev pub judged_input : Scope → Option Meaning → Named → Tree → Judgement
 judged_input scope m x e =
-    require (also (judged_meaning m) (judged scope (kind_at m) e)) (is_same_type (type_of scope (kind_at m) e) (or_dint (kind_at m))) ValueType x.at
+    require (and (judged_meaning m) (judged scope (kind_at m) e)) (is_same_type (type_of scope (kind_at m) e) (or_dint (kind_at m))) ValueType x.at
 
 -- an output is of the type of the target that it is copied to, whose first name stands at a place
 abbrev pub judged_output : List ℕ → Option Meaning → Option Meaning → ℕ → Judgement
 judged_output controls m target at =
-    require (also (judged_meaning m) (judged_target controls target at)) (is_same_type (or_dint (kind_at target)) (or_dint (kind_at m))) ValueType at
+    require (and (judged_meaning m) (judged_target controls target at)) (is_same_type (or_dint (kind_at target)) (or_dint (kind_at m))) ValueType at
 
 abbrev pub judged_connection : Scope → List ℕ → Named → ConnectionData → Judgement
 judged_connection scope controls n (input x e) = judged_input scope (scope.means (by_path (member n x))) x e
@@ -65,7 +65,7 @@ judged_connection scope controls n (output y p) = judged_output controls (scope.
 
 abbrev pub judged_connections : Scope → List ℕ → Named → List ConnectionData → Judgement
 judged_connections scope controls n [] = ok
-judged_connections scope controls n (c ∷ cs) = also (judged_connection scope controls n c) (judged_connections scope controls n cs)
+judged_connections scope controls n (c ∷ cs) = and (judged_connection scope controls n c) (judged_connections scope controls n cs)
 
 abbrev pub connected : ConnectionData → Named
 connected (input x e) = x
@@ -119,7 +119,7 @@ judged_iteration scope controls i =
     let m = scope.means (by_path (alone i.control)) in
     let t = or_dint (kind_at m) in
     require
-    (also (judged_control controls m i.control.at) (also (judged_bound scope t i.first) (also (judged_bound scope t i.last) (judged_step scope t i.step))))
+    (and (judged_control controls m i.control.at) (and (judged_bound scope t i.first) (and (judged_bound scope t i.last) (judged_step scope t i.step))))
     (is_typed scope t i.first && is_typed scope t i.last && step_is_typed scope t i.step) ValueType i.control.at
 
 abbrev pub value_or_zero : Option ℤ → ℤ
@@ -178,27 +178,27 @@ abbrev mutual
   judged_stmt scope controls empty = ok
   judged_stmt scope controls (assign p e) = judged_assign scope controls p e
   judged_stmt scope controls (invoke n at cs) = judged_invoke scope controls n cs
-  judged_stmt scope controls (branch arms other) = also (judged_arms scope controls arms) (judged_else scope controls other)
+  judged_stmt scope controls (branch arms other) = and (judged_arms scope controls arms) (judged_else scope controls other)
   judged_stmt scope controls (cases e es other) =
-      also (judged_selector scope e)
-      (also (judged_entries scope controls (judged_selector scope e).whole (type_of scope None e) [] es) (judged_else scope controls other))
+      and (judged_selector scope e)
+      (and (judged_entries scope controls (judged_selector scope e).whole (type_of scope None e) [] es) (judged_else scope controls other))
   judged_stmt scope controls (iterate i ss) =
-      broken_by (also (judged_iteration scope controls i) (judged_stmts scope (with_control controls (scope.means (by_path (alone i.control)))) ss)) (turns_rule scope i) i.at
+      broken_by (and (judged_iteration scope controls i) (judged_stmts scope (with_control controls (scope.means (by_path (alone i.control)))) ss)) (turns_rule scope i) i.at
 
   pub judged_stmts : Scope → List ℕ → Stmts → Judgement
   judged_stmts scope controls no_stmts = ok
-  judged_stmts scope controls (stmt s ss) = also (judged_stmt scope controls s) (judged_stmts scope controls ss)
+  judged_stmts scope controls (stmt s ss) = and (judged_stmt scope controls s) (judged_stmts scope controls ss)
 
   pub judged_arms : Scope → List ℕ → Arms → Judgement
   judged_arms scope controls no_arms = ok
   judged_arms scope controls (arm e ss arms) =
-      also (judged_condition scope OperandType e) (also (judged_stmts scope controls ss) (judged_arms scope controls arms))
+      and (judged_condition scope OperandType e) (and (judged_stmts scope controls ss) (judged_arms scope controls arms))
 
   -- the entries of a CASE whose selector is whole or not, of a type, behind labels that were seen
   pub judged_entries : Scope → List ℕ → Bool → DataType → List Range → Entries → Judgement
   judged_entries scope controls whole t seen no_entries = ok
   judged_entries scope controls whole t seen (entry ls ss es) =
-      also (judged_labels_if scope whole t seen ls) (also (judged_stmts scope controls ss) (judged_entries scope controls whole t (seen_behind scope t seen ls) es))
+      and (judged_labels_if scope whole t seen ls) (and (judged_stmts scope controls ss) (judged_entries scope controls whole t (seen_behind scope t seen ls) es))
 
   pub judged_else : Scope → List ℕ → Otherwise → Judgement
   judged_else scope controls no_else = ok

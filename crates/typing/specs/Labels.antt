@@ -9,7 +9,7 @@ use Rattle.program_tree.specs.declared.typed.TypedLabel.{TypedLabel}
 use Rattle.program_tree.specs.declared.typed.TypedLabel.TheVariants.{Single, Span}
 use Rattle.source_tree.specs.Syntax.{Tree, LabelData}
 use Rattle.typing.specs.Typing.{Scope, type_of, place_of}
-use Rattle.rules.specs.Judgements.{Judgement, ok, also, require}
+use Rattle.rules.specs.Judgements.{Judgement, ok, and, require}
 use Rattle.typing.specs.Judged.{judged}
 use Rattle.typing.specs.Typed.{constant_of}
 
@@ -51,7 +51,7 @@ abbrev pub judged_label : Scope → DataType → List Range → LabelData → Ju
 judged_label scope t seen l =
     require
     (require
-    (require (also (judged scope (Some t) l.low) (judged_high scope t l.high)) (is_of_type scope t l.low && high_is_of_type scope t l.high) OperandType (place_of l.low))
+    (require (and (judged scope (Some t) l.low) (judged_high scope t l.high)) (is_of_type scope t l.low && high_is_of_type scope t l.high) OperandType (place_of l.low))
     (int_le (label_range scope t l).low (label_range scope t l).high) OutsideType (place_of l.low))
     (not (overlaps seen (label_range scope t l))) Overlap (place_of l.low)
 
@@ -65,4 +65,4 @@ seen_behind scope t seen (l ∷ ls) = seen_behind scope t (seen_with scope t see
 
 abbrev pub judged_labels : Scope → DataType → List Range → List LabelData → Judgement
 judged_labels scope t seen [] = ok
-judged_labels scope t seen (l ∷ ls) = also (judged_label scope t seen l) (judged_labels scope t (seen_with scope t seen l) ls)
+judged_labels scope t seen (l ∷ ls) = and (judged_label scope t seen l) (judged_labels scope t (seen_with scope t seen l) ls)

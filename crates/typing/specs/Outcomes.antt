@@ -13,7 +13,7 @@ use Rattle.source_tree.specs.Syntax.{Named, Tree, Links, no_links, link, Argumen
 use Rattle.typing.specs.declared.scope.Meaning.{Meaning}
 use Rattle.typing.specs.declared.scope.Signature.{Signature}
 use Rattle.typing.specs.Typing.{Scope, by_path, kind_at, or_dint, type_of, takes, next_type, Parameter, fixed, common, amount, parameter_of, is_amount, place_of}
-use Rattle.rules.specs.Judgements.{Judgement, also, require}
+use Rattle.rules.specs.Judgements.{Judgement, and, require}
 use Rattle.typing.specs.Judged.{expected_at, place_for, gives_all, expected_by, judged_port, fits_port, fit_placed, judged, judged_condition}
 use Rattle.typing.specs.Labels.{judged_label, seen_with}
 use Rattle.typing.specs.JudgedStatements.{judged_assign, judged_connection, judged_invoke, judged_control, judged_bound, judged_step, is_typed, step_is_typed, turns_rule, with_control, judged_selector, judged_labels_if}
@@ -73,14 +73,14 @@ all_labels (entry ls ss es) = ls ++ all_labels es
 -- a selector, and the labels of a CASE
 abbrev pub judged_selection : Scope → Tree → Entries → Judgement
 judged_selection scope e es =
-    also (judged_selector scope e) (judged_labels_if scope (judged_selector scope e).whole (type_of scope None e) [] (all_labels es))
+    and (judged_selector scope e) (judged_labels_if scope (judged_selector scope e).whole (type_of scope None e) [] (all_labels es))
 
 -- what stands between FOR and DO, by what the control variable's name stands for
 abbrev pub judged_turns : Scope → List ℕ → Option Meaning → IterationData → Judgement
 judged_turns scope controls m i =
     let t = or_dint (kind_at m) in
     require
-    (also (judged_control controls m i.control.at) (also (judged_bound scope t i.first) (also (judged_bound scope t i.last) (judged_step scope t i.step))))
+    (and (judged_control controls m i.control.at) (and (judged_bound scope t i.first) (and (judged_bound scope t i.last) (judged_step scope t i.step))))
     (is_typed scope t i.first && is_typed scope t i.last && step_is_typed scope t i.step) ValueType i.control.at
 
 -- of connections behind what was judged so far

@@ -5,7 +5,7 @@ use Rattle.source_tree.specs.Syntax.{BodyData, statements, chart as chart_body, 
 use Rattle.naming.specs.FileScope.{types_of, pous_of}
 use Rattle.naming.specs.Scopes.{variables_in_pou}
 use Rattle.typing.specs.Typing.{Scope}
-use Rattle.rules.specs.Judgements.{Judgement, ok, also}
+use Rattle.rules.specs.Judgements.{Judgement, ok, and}
 use Rattle.typing.specs.Domains.{judged_types}
 use Rattle.typing.specs.JudgedStatements.{judged_stmts}
 use Rattle.typing.specs.JudgedCharts.{judged_parts}
@@ -20,16 +20,16 @@ judged_body scope (chart_body ps) = judged_parts scope ps
 -- The POU of a number: its variables, its result among them, and its body. The rules on types ask for no places, so that no size of a
 -- block is told, and each counts as one without cells.
 abbrev pub judged_pou : FileData → ℕ → PouData → Judgement
-judged_pou f number p = also (judged_variables f (variables_in_pou p)) (judged_body (scope_of f [] number) p.body)
+judged_pou f number p = and (judged_variables f (variables_in_pou p)) (judged_body (scope_of f [] number) p.body)
 
 -- POUs that are counted from a number on
 abbrev pub judged_pous : FileData → ℕ → List PouData → Judgement
 judged_pous f number [] = ok
-judged_pous f number (p ∷ ps) = also (judged_pou f number p) (judged_pous f (number + 1) ps)
+judged_pous f number (p ∷ ps) = and (judged_pou f number p) (judged_pous f (number + 1) ps)
 
 -- all that a file breaks of the rules on types
 abbrev pub broken_types : FileData → List Refusal
-broken_types f = (also (judged_types f (types_of f)) (judged_pous f 0 (pous_of f))).broken
+broken_types f = (and (judged_types f (types_of f)) (judged_pous f 0 (pous_of f))).broken
 
 -- how many cells a PROGRAM has, FAULT and those of its instances among them
 abbrev pub cell_count : FileData → ℕ → ℕ

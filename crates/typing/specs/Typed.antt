@@ -10,8 +10,8 @@ use Rattle.naming.specs.Library.{standard_function}
 use Rattle.source_tree.specs.declared.syntax.Literal.{Literal}
 use Rattle.plc_types.specs.declared.operator.UnaryOperator.{UnaryOperator}
 use Rattle.plc_types.specs.Types.{wrap_to}
-use Rattle.source_tree.specs.Syntax.{Tree, literal, path, enumerator, paren, unary, chain, call, Links, no_links, link, Arguments, no_arguments, argument}
-use Rattle.program_tree.specs.Tree.{Expression, number, cell, unary as typed_unary, chain as typed_chain, call as typed_call, answer, Operands, no_operands, operand, Expressions, no_expressions, expression}
+use Rattle.source_tree.specs.Syntax.{Tree, literal, path, enumerator, paren, unary, chain, call_standard, Links, no_links, link, Arguments, no_arguments, argument}
+use Rattle.program_tree.specs.Tree.{Expression, number, cell, unary as typed_unary, chain as typed_chain, call_standard, call_function, Operands, no_operands, operand, Expressions, no_expressions, expression}
 use Rattle.program_tree.specs.View.{expressions_of}
 use Rattle.typing.specs.declared.scope.Meaning.{Meaning}
 use Rattle.typing.specs.declared.scope.Signature.{Signature}
@@ -71,14 +71,14 @@ placed es (g ∷ gs) = placed (slice_set es g.0 g.1) gs
 -- an answer, for values of all inputs in declared order; an input that is not given has 0
 abbrev pub typed_answer : Option Signature → (Signature → List PlacedData) → Expression
 typed_answer None given = number (pos 0)
-typed_answer (Some s) given = answer s.number (expressions_of (placed (replicate s.count (number (pos 0))) (given s)))
+typed_answer (Some s) given = call_function s.number (expressions_of (placed (replicate s.count (number (pos 0))) (given s)))
 
 -- a call, where its operands are known by its function and their type
 abbrev pub typed_result : Scope → Option DataType → Option StandardFunction → Option Signature → Arguments → (StandardFunction → DataType → Expressions) → (Signature → List PlacedData) → Expression
 typed_result scope expected None s args operands given = typed_answer s given
 typed_result scope expected (Some f) s args operands given =
     let t = common_type scope expected f args in
-    typed_call (function_of f args) (carrier (or_dint (or_else (result_of f) (Some t)))) (operands f t)
+    call_standard (function_of f args) (carrier (or_dint (or_else (result_of f) (Some t)))) (operands f t)
 
 abbrev mutual
   pub typed : Scope → Option DataType → Tree → Expression
@@ -90,7 +90,7 @@ abbrev mutual
   typed scope expected (chain e ls) =
       let t = operand_type scope expected e ls in
       typed_chain (typed scope (Some t) e) (typed_links scope t ls)
-  typed scope expected (call n at args) =
+  typed scope expected (call_standard n at args) =
       typed_result scope expected (standard_function n.text) (scope.signature n.text) args (λ f t. typed_operands scope f t 0 args) (λ s. typed_given scope s 0 args)
 
   pub typed_links : Scope → DataType → Links → Operands
@@ -114,8 +114,8 @@ value_of_number (number v) = v
 value_of_number (cell place) = pos 0
 value_of_number (typed_unary o t e) = pos 0
 value_of_number (typed_chain e os) = pos 0
-value_of_number (typed_call f t es) = pos 0
-value_of_number (answer f es) = pos 0
+value_of_number (call_standard f t es) = pos 0
+value_of_number (call_function f es) = pos 0
 
 -- the value of a constant where a type is expected
 abbrev pub constant_of : Scope → DataType → Tree → ℤ

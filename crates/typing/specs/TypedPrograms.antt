@@ -52,13 +52,13 @@ cell_for f inside before v = record {
   part = part_in inside v.role;
   kind = (domain_of_variable f v).kind;
   range = (domain_of_variable f v).range;
-  limited = (domain_of_variable f v).limited;
+  is_subrange = (domain_of_variable f v).is_subrange;
   initial = initial_of f v;
 }
 
 -- FAULT is a BOOL that begins FALSE
 abbrev pub fault_cell : CellData
-fault_cell = record { path = codes "FAULT"; part = parts.Fault; kind = bool_type; range = range_of types.Bool; limited = false; initial = pos 0 }
+fault_cell = record { path = codes "FAULT"; part = parts.Fault; kind = bool_type; range = range_of types.Bool; is_subrange = false; initial = pos 0 }
 
 -- a cell of a chart, by the name of a step or an action and what it tells of it: a BOOL
 abbrev pub flag_cell : Option (List ℕ) → Named → List ℕ → ℤ → CellData
@@ -67,7 +67,7 @@ flag_cell before n text initial = record {
   part = parts.Local;
   kind = bool_type;
   range = range_of types.Bool;
-  limited = false;
+  is_subrange = false;
   initial = initial;
 }
 
@@ -165,7 +165,7 @@ abbrev pub frame_cells : FileData → PouData → List CellData
 frame_cells f p = fault_cell ∷ cells_in f None true (variables_in_pou p)
 
 abbrev pub type_of_cell : CellData → CellType
-type_of_cell c = record { kind = c.kind; limited = c.limited }
+type_of_cell c = record { kind = c.kind; is_subrange = c.is_subrange }
 
 abbrev pub called_of : FileData → ℕ → PouKindData → PouData → CalledData
 called_of f k (function t) p =

@@ -4,7 +4,7 @@ use Rattle.plc_types.specs.declared.data_type.DataType.{DataType}
 use Rattle.plc_types.specs.DataTypes.{carrier}
 use Rattle.program_tree.specs.declared.typed.Turns.{Turns}
 use Rattle.source_tree.specs.Syntax.{Named, ConnectionData, input, output, empty, assign, invoke, branch, cases, iterate, Stmts, no_stmts, stmt, Arms, no_arms, arm, Entries, no_entries, entry, Otherwise, no_else, else_stmts, IterationData}
-use Rattle.program_tree.specs.Tree.{Statement, assign as typed_assign, run, choice, cases as typed_cases, repeat, Statements, no_statements, statement, Choices, no_choices, choose, Entries as TypedEntries, no_entries as no_typed_entries, entry as typed_entry}
+use Rattle.program_tree.specs.Tree.{Statement, assign as typed_assign, call_block, choice, cases as typed_cases, repeat, Statements, no_statements, statement, Choices, no_choices, choose, Entries as TypedEntries, no_entries as no_typed_entries, entry as typed_entry}
 use Rattle.naming.specs.Broken.{alone}
 use Rattle.typing.specs.declared.scope.Place.{Place}
 use Rattle.typing.specs.declared.scope.Place.TheVariants as places
@@ -51,7 +51,7 @@ typed_outputs scope n (output y p ∷ cs) =
 
 abbrev pub typed_run : Option Instance → List Statement
 typed_run None = []
-typed_run (Some i) = run i.block i.offset ∷ []
+typed_run (Some i) = call_block i.block i.offset ∷ []
 
 -- a call of an instance assigns its inputs, runs its block's body, and copies its outputs
 abbrev pub typed_invoke : Scope → Named → List ConnectionData → List Statement

@@ -7,7 +7,7 @@ use Rattle.plc_types.specs.Types.{in_range}
 use Rattle.source_tree.specs.Syntax.{Tree, TypeData, FileData}
 use Rattle.naming.specs.Scopes.{Variable, block_of}
 use Rattle.typing.specs.Typing.{type_of, place_of}
-use Rattle.rules.specs.Judgements.{Judgement, ok, suppressed, require, also}
+use Rattle.rules.specs.Judgements.{Judgement, ok, suppressed, require, and}
 use Rattle.typing.specs.Judged.{judged}
 use Rattle.typing.specs.Typed.{constant_of}
 use Rattle.typing.specs.declared.domain.Domain.{Domain}
@@ -44,7 +44,7 @@ judged_instance f at (Some e) = require (judged (values_scope f) None e) false V
 
 -- a variable, of which it is known whether it is an instance of a block
 abbrev pub judged_by_block : FileData → Variable → Option ℕ → Judgement
-judged_by_block f v None = also (judged_type_if f v.kind) (judged_value f (domain_of_variable f v) v.name.at v.initial)
+judged_by_block f v None = and (judged_type_if f v.kind) (judged_value f (domain_of_variable f v) v.name.at v.initial)
 judged_by_block f v (Some b) = judged_instance f v.name.at v.initial
 
 abbrev pub judged_variable : FileData → Variable → Judgement
@@ -52,7 +52,7 @@ judged_variable f v = judged_by_block f v (block_of f v)
 
 abbrev pub judged_variables : FileData → List Variable → Judgement
 judged_variables f [] = ok
-judged_variables f (v ∷ vs) = also (judged_variable f v) (judged_variables f vs)
+judged_variables f (v ∷ vs) = and (judged_variable f v) (judged_variables f vs)
 
 -- the initial value that is written, or that of the type
 abbrev pub given_value : FileData → Domain → Option Tree → ℤ

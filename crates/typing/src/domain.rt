@@ -7,7 +7,7 @@ use plc_types::{DataType, Range};
 pub struct Domain {
     pub kind: DataType,
     pub range: Range,
-    pub limited: bool,
+    pub is_subrange: bool,
     pub start: i64,
     pub whole: bool,
 }

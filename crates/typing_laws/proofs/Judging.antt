@@ -22,12 +22,12 @@ use Rattle.typing.specs.declared.scope.Meaning.{Meaning}
 use Rattle.typing.specs.declared.scope.Port.{Port}
 use Rattle.typing.specs.declared.scope.Signature.{Signature}
 use Rattle.typing.specs.Typing.{Scope, by_path, kind_at, or_dint, type_of, operand_type, takes, next_type, Parameter, fixed, common, amount, parameter_of, common_type, takes_operands, takes_count, count_of, is_amount, place_of}
-use Rattle.rules.specs.Judgements.{Judgement, ok, also, breaks, require}
+use Rattle.rules.specs.Judgements.{Judgement, ok, and, breaks, require}
 use Rattle.typing.specs.Judged.{judged_meaning, takes_sign, negative_literal, judged_unary, expected_at, fit_from, judged_amount, judged_call, place_for, gives_all, expected_by, judged_port, fits_port, judged_named, fit_placed, judged_answer, judged_user_call, judged, judged_links, judged_arguments, judged_given, judged_alone, judged_condition}
 use Rattle.typing.specs.Labels.{judged_label, judged_labels, seen_with, seen_behind}
 use Rattle.typing.specs.JudgedStatements.{judged_input, judged_target, judged_assign, judged_connection, judged_connections, judged_control, judged_bound, judged_step, is_typed, step_is_typed, judged_iteration, turns_rule, broken_by, with_control, judged_selector, judged_labels_if, judged_stmt, judged_stmts, judged_arms, judged_entries, judged_else}
 use Rattle.rules.specs.Outcomes.{outcome_of, both, tried, ruled}
-use Rattle.rules.proofs.Outcomes.{outcome_also, both_ok, ok_both}
+use Rattle.rules.proofs.Outcomes.{outcome_and, both_ok, ok_both}
 use Rattle.typing.specs.Outcomes.{links_outcome, labels_outcome, all_labels, judged_selection, judged_turns, amount_outcome, arguments_outcome, named_outcome, given_outcome, answer_outcome, connections_outcome, alone_outcome, stmt_outcome, stmts_outcome, arms_outcome, bodies_outcome, else_outcome}
 
 tested_by : (j : Judgement) (w holds : Bool) (rule : Rule) (at : ℕ) → j.whole ≡ w → outcome_of (require j holds rule at) ≡ tried (outcome_of j) holds rule at
@@ -45,8 +45,8 @@ outcome_of-links scope t left no_links = refl
 outcome_of-links scope t left (link o at e ls) =
     let right = judged scope (Some t) e in
     let holds = takes o t && is_same_type (type_of scope (Some t) e) t in
-    outcome_of-links scope (next_type o t) (require (also left right) holds OperandType at) ls
-    ∙ ap (λ (x : Outcome). links_outcome scope (next_type o t) x ls) (outcome_of-require (also left right) holds OperandType at ∙ ap (λ (x : Outcome). tried x holds OperandType at) (sym (outcome_also left right)))
+    outcome_of-links scope (next_type o t) (require (and left right) holds OperandType at) ls
+    ∙ ap (λ (x : Outcome). links_outcome scope (next_type o t) x ls) (outcome_of-require (and left right) holds OperandType at ∙ ap (λ (x : Outcome). tried x holds OperandType at) (sym (outcome_and left right)))
 
 -- parts one after the other
 pub both-assoc : (o p q : Outcome) → both (both o p) q ≡ both o (both p q)
@@ -69,7 +69,7 @@ arguments_outcome-is scope f t place o (argument n e args) =
     arguments_outcome-is scope f t (place + 1) (both o (amount_outcome scope p e (outcome_of value))) args
     ∙ ap (λ (x : Outcome). both (both o x) (outcome_of rest)) (outcome_of-amount scope p e value)
     ∙ both-assoc o (outcome_of own) (outcome_of rest)
-    ∙ ap (both o) (outcome_also own rest)
+    ∙ ap (both o) (outcome_and own rest)
 
 outcome_of-named : (n : Option Named) (fits : Bool) (j : Judgement) → outcome_of (judged_named n fits j) ≡ named_outcome n fits (outcome_of j)
 outcome_of-named None fits j = refl
@@ -81,13 +81,13 @@ given_outcome-is scope s place o (argument n e args) =
     let p : Option Port = scope.port s.function (place_for scope s place n) in
     let value = judged scope (expected_by p) e in
     let fits = fits_port scope p e in
-    let inner = also value (judged_port p) in
+    let inner = and value (judged_port p) in
     let own = judged_named n fits inner in
     let rest = judged_given scope s (place + 1) args in
     given_outcome-is scope s (place + 1) (both o (named_outcome n fits (both (outcome_of value) (outcome_of (judged_port p))))) args
-    ∙ ap (λ (x : Outcome). both (both o x) (outcome_of rest)) (ap (named_outcome n fits) (outcome_also value (judged_port p)) ∙ sym (outcome_of-named n fits inner))
+    ∙ ap (λ (x : Outcome). both (both o x) (outcome_of rest)) (ap (named_outcome n fits) (outcome_and value (judged_port p)) ∙ sym (outcome_of-named n fits inner))
     ∙ both-assoc o (outcome_of own) (outcome_of rest)
-    ∙ ap (both o) (outcome_also own rest)
+    ∙ ap (both o) (outcome_and own rest)
 
 -- a call of a FUNCTION whose arguments were judged
 outcome_of-answer : (scope : Scope) (at : ℕ) (s : Signature) (args : Arguments) (j : Judgement) → outcome_of (judged_answer scope at s args j) ≡ answer_outcome scope at s args (outcome_of j)
@@ -96,7 +96,7 @@ outcome_of-answer scope at s args j =
     let fit = fit_placed scope s 0 args in
     let counted = require j all ArgumentCount at in
     let port = judged_port (Some s.result) in
-    sym (outcome_also (require counted fit OperandType at) port)
+    sym (outcome_and (require counted fit OperandType at) port)
     ∙ ap (λ (x : Outcome). both x (outcome_of port)) (outcome_of-require counted fit OperandType at ∙ ap (λ (x : Outcome). tried x fit OperandType at) (outcome_of-require j all ArgumentCount at))
 
 pub outcome_of-user_call : (scope : Scope) (at : ℕ) (s : Signature) (args : Arguments) (parts r : Outcome) → parts ≡ given_outcome scope s 0 (outcome_of ok) args → r ≡ answer_outcome scope at s args parts
@@ -112,7 +112,7 @@ connections_outcome-is scope controls n o [] = sym (both_ok o)
 connections_outcome-is scope controls n o (c ∷ cs) =
     let j = judged_connection scope controls n c in
     let k = judged_connections scope controls n cs in
-    connections_outcome-is scope controls n (both o (outcome_of j)) cs ∙ both-assoc o (outcome_of j) (outcome_of k) ∙ ap (both o) (outcome_also j k)
+    connections_outcome-is scope controls n (both o (outcome_of j)) cs ∙ both-assoc o (outcome_of j) (outcome_of k) ∙ ap (both o) (outcome_and j k)
 
 pub connections_outcome-all : (scope : Scope) (controls : List ℕ) (n : Named) (cs : List ConnectionData) → connections_outcome scope controls n (outcome_of ok) cs ≡ outcome_of (judged_connections scope controls n cs)
 connections_outcome-all scope controls n cs = connections_outcome-is scope controls n (outcome_of ok) cs ∙ ok_both (outcome_of (judged_connections scope controls n cs))
@@ -122,7 +122,7 @@ alone_outcome-is scope o no_arguments = sym (both_ok o)
 alone_outcome-is scope o (argument n e args) =
     let own = judged scope None e in
     let rest = judged_alone scope args in
-    alone_outcome-is scope (both o (outcome_of own)) args ∙ both-assoc o (outcome_of own) (outcome_of rest) ∙ ap (both o) (outcome_also own rest)
+    alone_outcome-is scope (both o (outcome_of own)) args ∙ both-assoc o (outcome_of own) (outcome_of rest) ∙ ap (both o) (outcome_and own rest)
 
 both-swap : (o p : Outcome) → both o p ≡ both p o
 unfolding both
@@ -136,7 +136,7 @@ labels_outcome-is scope t seen o [] = sym (both_ok o)
 labels_outcome-is scope t seen o (l ∷ ls) =
     let j = judged_label scope t seen l in
     let k = judged_labels scope t (seen_with scope t seen l) ls in
-    labels_outcome-is scope t (seen_with scope t seen l) (both o (outcome_of j)) ls ∙ both-assoc o (outcome_of j) (outcome_of k) ∙ ap (both o) (outcome_also j k)
+    labels_outcome-is scope t (seen_with scope t seen l) (both o (outcome_of j)) ls ∙ both-assoc o (outcome_of j) (outcome_of k) ∙ ap (both o) (outcome_and j k)
 
 pub labels_outcome-all : (scope : Scope) (t : DataType) (ls : List LabelData) → labels_outcome scope t [] (outcome_of ok) ls ≡ outcome_of (judged_labels scope t [] ls)
 labels_outcome-all scope t ls = labels_outcome-is scope t [] (outcome_of ok) ls ∙ ok_both (outcome_of (judged_labels scope t [] ls))
@@ -149,8 +149,8 @@ judged_labels-append scope t seen (l ∷ ls) ms =
     let s = seen_with scope t seen l in
     let x = outcome_of (judged_labels scope t s ls) in
     let y = outcome_of (judged_labels scope t (seen_behind scope t s ls) ms) in
-    sym (outcome_also j (judged_labels scope t s (ls ++ ms))) ∙ ap (both (outcome_of j)) (judged_labels-append scope t s ls ms) ∙ sym (both-assoc (outcome_of j) x y)
-    ∙ ap (λ (z : Outcome). both z y) (outcome_also j (judged_labels scope t s ls))
+    sym (outcome_and j (judged_labels scope t s (ls ++ ms))) ∙ ap (both (outcome_of j)) (judged_labels-append scope t s ls ms) ∙ sym (both-assoc (outcome_of j) x y)
+    ∙ ap (λ (z : Outcome). both z y) (outcome_and j (judged_labels scope t s ls))
 
 labels_if-append : (scope : Scope) (whole : Bool) (t : DataType) (seen : List Range) (ls ms : List LabelData)
     → outcome_of (judged_labels_if scope whole t seen (ls ++ ms)) ≡ both (outcome_of (judged_labels_if scope whole t seen ls)) (outcome_of (judged_labels_if scope whole t (seen_behind scope t seen ls) ms))
@@ -164,7 +164,7 @@ labels_if-none scope false t seen = refl
 -- the statements of entries alone
 abbrev judged_bodies : Scope → List ℕ → Entries → Judgement
 judged_bodies scope controls no_entries = ok
-judged_bodies scope controls (entry ls ss es) = also (judged_stmts scope controls ss) (judged_bodies scope controls es)
+judged_bodies scope controls (entry ls ss es) = and (judged_stmts scope controls ss) (judged_bodies scope controls es)
 
 interleave : (l b m c : Outcome) → both l (both b (both m c)) ≡ both (both l m) (both b c)
 interleave l b m c =
@@ -182,16 +182,16 @@ entries_apart scope controls whole t seen (entry ls ss es) =
     let e = judged_entries scope controls whole t behind es in
     let m = outcome_of (judged_labels_if scope whole t behind (all_labels es)) in
     let c = judged_bodies scope controls es in
-    sym (outcome_also l (also b e)) ∙ ap (both (outcome_of l)) (sym (outcome_also b e) ∙ ap (both (outcome_of b)) (entries_apart scope controls whole t behind es))
+    sym (outcome_and l (and b e)) ∙ ap (both (outcome_of l)) (sym (outcome_and b e) ∙ ap (both (outcome_of b)) (entries_apart scope controls whole t behind es))
     ∙ interleave (outcome_of l) (outcome_of b) m (outcome_of c)
     ∙ ap (λ (x : Outcome). both x (both (outcome_of b) (outcome_of c))) (sym (labels_if-append scope whole t seen ls (all_labels es)))
-    ∙ ap (both (outcome_of (judged_labels_if scope whole t seen (ls ++ all_labels es)))) (outcome_also b c)
+    ∙ ap (both (outcome_of (judged_labels_if scope whole t seen (ls ++ all_labels es)))) (outcome_and b c)
 
 -- a selector that is not whole has no labels judged
 selected_by : (scope : Scope) (e : Tree) (es : Entries) (w : Bool) → (judged_selector scope e).whole ≡ w
     → outcome_of (judged_selection scope e es) ≡ both (outcome_of (judged_selector scope e)) (outcome_of (judged_labels_if scope w (type_of scope None e) [] (all_labels es)))
 selected_by scope e es w is =
-    sym (outcome_also (judged_selector scope e) (judged_labels_if scope (judged_selector scope e).whole (type_of scope None e) [] (all_labels es)))
+    sym (outcome_and (judged_selector scope e) (judged_labels_if scope (judged_selector scope e).whole (type_of scope None e) [] (all_labels es)))
     ∙ ap (λ (b : Bool). both (outcome_of (judged_selector scope e)) (outcome_of (judged_labels_if scope b (type_of scope None e) [] (all_labels es)))) is
 
 pub outcome_of-selection : (scope : Scope) (e : Tree) (es : Entries) (s l r : Outcome) → s ≡ outcome_of (judged_selector scope e) → s.whole ≡ true
@@ -224,11 +224,11 @@ outcome_of-turns scope controls m i t fits first last step tail bounds control p
     let last_told : last ≡ outcome_of l = last_is ∙ ap (λ (x : DataType). outcome_of (judged_bound scope x i.last)) kind in
     let step_told : step ≡ outcome_of s = step_is ∙ ap (λ (x : DataType). outcome_of (judged_step scope x i.step)) kind in
     let fits_told : fits ≡ h = fits_is ∙ ap (λ (x : DataType). is_typed scope x i.first && is_typed scope x i.last && step_is_typed scope x i.step) kind in
-    let tail_told : tail ≡ outcome_of (also l s) = tail_is ∙ ap (λ (x : Outcome). both x step) last_told ∙ ap (both (outcome_of l)) step_told ∙ outcome_also l s in
-    let bounds_told : bounds ≡ outcome_of (also f (also l s)) = bounds_is ∙ ap (λ (x : Outcome). both x tail) first_told ∙ ap (both (outcome_of f)) tail_told ∙ outcome_also f (also l s) in
-    let parts_told : parts ≡ outcome_of (also c (also f (also l s))) = parts_is ∙ ap (λ (x : Outcome). both x bounds) control_is ∙ ap (both (outcome_of c)) bounds_told ∙ outcome_also c (also f (also l s)) in
-    is ∙ ap (λ (x : Outcome). tried x fits ValueType i.control.at) parts_told ∙ ap (λ (b : Bool). tried (outcome_of (also c (also f (also l s)))) b ValueType i.control.at) fits_told
-    ∙ sym (outcome_of-require (also c (also f (also l s))) h ValueType i.control.at)
+    let tail_told : tail ≡ outcome_of (and l s) = tail_is ∙ ap (λ (x : Outcome). both x step) last_told ∙ ap (both (outcome_of l)) step_told ∙ outcome_and l s in
+    let bounds_told : bounds ≡ outcome_of (and f (and l s)) = bounds_is ∙ ap (λ (x : Outcome). both x tail) first_told ∙ ap (both (outcome_of f)) tail_told ∙ outcome_and f (and l s) in
+    let parts_told : parts ≡ outcome_of (and c (and f (and l s))) = parts_is ∙ ap (λ (x : Outcome). both x bounds) control_is ∙ ap (both (outcome_of c)) bounds_told ∙ outcome_and c (and f (and l s)) in
+    is ∙ ap (λ (x : Outcome). tried x fits ValueType i.control.at) parts_told ∙ ap (λ (b : Bool). tried (outcome_of (and c (and f (and l s)))) b ValueType i.control.at) fits_told
+    ∙ sym (outcome_of-require (and c (and f (and l s))) h ValueType i.control.at)
 
 -- ---- statements
 
@@ -241,9 +241,9 @@ regroup o s l b e =
     both-assoc (both o (both s l)) b e ∙ both-assoc o (both s l) (both b e) ∙ ap (both o) (both-assoc s l (both b e)) ∙ ap (λ (x : Outcome). both o (both s x)) (sym (both-assoc l b e))
 
 -- statements behind what was judged so far
-after_both : (o : Outcome) (j k : Judgement) (p q : Outcome) → p ≡ both o (outcome_of j) → q ≡ both p (outcome_of k) → q ≡ both o (outcome_of (also j k))
+after_both : (o : Outcome) (j k : Judgement) (p q : Outcome) → p ≡ both o (outcome_of j) → q ≡ both p (outcome_of k) → q ≡ both o (outcome_of (and j k))
 after_both o j k p q first second =
-    second ∙ ap (λ (x : Outcome). both x (outcome_of k)) first ∙ both-assoc o (outcome_of j) (outcome_of k) ∙ ap (both o) (outcome_also j k)
+    second ∙ ap (λ (x : Outcome). both x (outcome_of k)) first ∙ both-assoc o (outcome_of j) (outcome_of k) ∙ ap (both o) (outcome_and j k)
 
 mutual
   pub stmt_outcome-is : (scope : Scope) (controls : List ℕ) (o : Outcome) (s : Stmt) → stmt_outcome scope controls o s ≡ both o (outcome_of (judged_stmt scope controls s))
@@ -266,14 +266,14 @@ mutual
       ∙ ap (λ (x : Outcome). both (both (both o x) b) (outcome_of f)) (selected_by scope e es w refl)
       ∙ regroup o (outcome_of s) l b (outcome_of f)
       ∙ ap (λ (x : Outcome). both o (both (outcome_of s) (both x (outcome_of f)))) (sym (entries_apart scope controls w t [] es))
-      ∙ ap (λ (x : Outcome). both o (both (outcome_of s) x)) (outcome_also j f)
-      ∙ ap (both o) (outcome_also s (also j f))
+      ∙ ap (λ (x : Outcome). both o (both (outcome_of s) x)) (outcome_and j f)
+      ∙ ap (both o) (outcome_and s (and j f))
   stmt_outcome-is scope controls o (iterate i ss) =
       let inner = with_control controls (scope.means (by_path (alone i.control))) in
       let head = judged_iteration scope controls i in
       let body = judged_stmts scope inner ss in
-      ap (λ (x : Outcome). both o (ruled x (turns_rule scope i) i.at)) (stmts_outcome-is scope inner (outcome_of head) ss ∙ outcome_also head body)
-      ∙ ap (both o) (sym (outcome_of-broken_by (also head body) (turns_rule scope i) i.at))
+      ap (λ (x : Outcome). both o (ruled x (turns_rule scope i) i.at)) (stmts_outcome-is scope inner (outcome_of head) ss ∙ outcome_and head body)
+      ∙ ap (both o) (sym (outcome_of-broken_by (and head body) (turns_rule scope i) i.at))
 
   pub stmts_outcome-is : (scope : Scope) (controls : List ℕ) (o : Outcome) (ss : Stmts) → stmts_outcome scope controls o ss ≡ both o (outcome_of (judged_stmts scope controls ss))
   stmts_outcome-is scope controls o no_stmts = sym (both_ok o)
@@ -289,9 +289,9 @@ mutual
       arms_outcome-is scope controls q arms
       ∙ ap (λ (x : Outcome). both x (outcome_of (judged_arms scope controls arms))) (stmts_outcome-is scope controls p ss)
       ∙ both-assoc p (outcome_of (judged_stmts scope controls ss)) (outcome_of (judged_arms scope controls arms))
-      ∙ ap (both p) (outcome_also (judged_stmts scope controls ss) (judged_arms scope controls arms))
-      ∙ both-assoc o (outcome_of condition) (outcome_of (also (judged_stmts scope controls ss) (judged_arms scope controls arms)))
-      ∙ ap (both o) (outcome_also condition (also (judged_stmts scope controls ss) (judged_arms scope controls arms)))
+      ∙ ap (both p) (outcome_and (judged_stmts scope controls ss) (judged_arms scope controls arms))
+      ∙ both-assoc o (outcome_of condition) (outcome_of (and (judged_stmts scope controls ss) (judged_arms scope controls arms)))
+      ∙ ap (both o) (outcome_and condition (and (judged_stmts scope controls ss) (judged_arms scope controls arms)))
 
   pub bodies_outcome-is : (scope : Scope) (controls : List ℕ) (o : Outcome) (es : Entries) → bodies_outcome scope controls o es ≡ both o (outcome_of (judged_bodies scope controls es))
   bodies_outcome-is scope controls o no_entries = sym (both_ok o)
@@ -302,7 +302,7 @@ mutual
   else_outcome-is scope controls o no_else = sym (both_ok o)
   else_outcome-is scope controls o (else_stmts ss) = stmts_outcome-is scope controls o ss
 
-pub ruleset judging = (outcome_also, outcome_of-require, ok_both, stmts_outcome-is, connections_outcome-all)
+pub ruleset judging = (outcome_and, outcome_of-require, ok_both, stmts_outcome-is, connections_outcome-all)
 
 -- a unary operator without a literal behind it
 pub outcome_of-unary : (scope : Scope) (expected : Option DataType) (o : UnaryOperator) (at : ℕ) (e : Tree) (t : DataType) (l r : Outcome) → t ≡ type_of scope expected e → negative_literal o e ≡ None → l ≡ outcome_of (judged scope (Some t) e) → r ≡ tried l (takes_sign o t) OperandType at → r ≡ outcome_of (judged scope expected (unary o at e))
@@ -356,18 +356,18 @@ outcome_of-chain scope expected e ls t l r is left links =
 -- an assignment
 pub outcome_of-assign : (scope : Scope) (controls : List ℕ) (p : PathData) (e : Tree) (m : Option Meaning) (w : Option DataType) (l k b r : Outcome) (fits : Bool) → m ≡ scope.means (by_path p) → w ≡ kind_at m → l ≡ outcome_of (judged_target controls m p.first.at) → k ≡ outcome_of (judged scope w e) → b ≡ both l k → fits ≡ is_same_type (type_of scope w e) (or_dint w) → r ≡ tried b fits ValueType p.first.at → r ≡ outcome_of (judged_assign scope controls p e)
 outcome_of-assign scope controls p e m w l k b r fits means expected target value parts same is =
-    let whole : (n : Option Meaning) → scope.means (by_path p) ≡ n → r ≡ outcome_of (require (also (judged_target controls n p.first.at) (judged scope (kind_at n) e)) (is_same_type (type_of scope (kind_at n) e) (or_dint (kind_at n))) ValueType p.first.at) = λ n f.
+    let whole : (n : Option Meaning) → scope.means (by_path p) ≡ n → r ≡ outcome_of (require (and (judged_target controls n p.first.at) (judged scope (kind_at n) e)) (is_same_type (type_of scope (kind_at n) e) (or_dint (kind_at n))) ValueType p.first.at) = λ n f.
     let h : m ≡ n = means ∙ f in
     is
-    ∙ rw (same, parts, target, value, expected, h) (sym (outcome_of-require (also (judged_target controls n p.first.at) (judged scope (kind_at n) e)) (is_same_type (type_of scope (kind_at n) e) (or_dint (kind_at n))) ValueType p.first.at ∙ ap (λ (x : Outcome). tried x (is_same_type (type_of scope (kind_at n) e) (or_dint (kind_at n))) ValueType p.first.at) (sym (outcome_also (judged_target controls n p.first.at) (judged scope (kind_at n) e))))) in
+    ∙ rw (same, parts, target, value, expected, h) (sym (outcome_of-require (and (judged_target controls n p.first.at) (judged scope (kind_at n) e)) (is_same_type (type_of scope (kind_at n) e) (or_dint (kind_at n))) ValueType p.first.at ∙ ap (λ (x : Outcome). tried x (is_same_type (type_of scope (kind_at n) e) (or_dint (kind_at n))) ValueType p.first.at) (sym (outcome_and (judged_target controls n p.first.at) (judged scope (kind_at n) e))))) in
     whole (scope.means (by_path p)) refl
 
 -- two parts and a test
 pub outcome_of-parts : (j k : Judgement) (o p q r : Outcome) (b fits : Bool) (rule : Rule) (at : ℕ) → o ≡ outcome_of j → p ≡ outcome_of k → q ≡ both o p → fits ≡ b → r ≡ tried q fits rule at
-    → r ≡ outcome_of (require (also j k) b rule at)
+    → r ≡ outcome_of (require (and j k) b rule at)
 outcome_of-parts j k o p q r b fits rule at of_j of_k parts same is =
-    let whole : q ≡ outcome_of (also j k) = parts ∙ ap (λ (x : Outcome). both x p) of_j ∙ ap (both (outcome_of j)) of_k ∙ outcome_also j k in
-    is ∙ ap (λ (x : Outcome). tried x fits rule at) whole ∙ ap (λ (c : Bool). tried (outcome_of (also j k)) c rule at) same ∙ sym (outcome_of-require (also j k) b rule at)
+    let whole : q ≡ outcome_of (and j k) = parts ∙ ap (λ (x : Outcome). both x p) of_j ∙ ap (both (outcome_of j)) of_k ∙ outcome_and j k in
+    is ∙ ap (λ (x : Outcome). tried x fits rule at) whole ∙ ap (λ (c : Bool). tried (outcome_of (and j k)) c rule at) same ∙ sym (outcome_of-require (and j k) b rule at)
 
 -- the value of an input
 pub outcome_of-input : (scope : Scope) (m : Option Meaning) (x : Named) (e : Tree) (w : Option DataType) (o p q r : Outcome) (fits : Bool) → w ≡ kind_at m → o ≡ outcome_of (judged_meaning m) → p ≡ outcome_of (judged scope w e)

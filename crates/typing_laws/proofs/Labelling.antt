@@ -15,7 +15,7 @@ use Rattle.source_tree.specs.SyntaxView.{ArmData, EntryData, stmt_step, arm_step
 use Rattle.source_tree.specs.Syntax.{Stmt, LabelData, Stmts, Entries, entry}
 use Rattle.rules.specs.declared.outcome.Outcome.{Outcome}
 use Rattle.typing.specs.Typing.{Scope, place_of}
-use Rattle.rules.specs.Judgements.{Judgement, also, require}
+use Rattle.rules.specs.Judgements.{Judgement, and, require}
 use Rattle.typing.specs.Judged.{judged}
 use Rattle.typing.specs.Labels.{label_range, judged_high, is_of_type, high_is_of_type, overlaps, judged_label, seen_with, seen_behind}
 use Rattle.rules.specs.Outcomes.{outcome_of, both, tried}
@@ -26,7 +26,7 @@ use Rattle.typing_laws.proofs.Apart.{keeps_one_more, le_true}
 
 -- the parts of a label
 parts : Scope → DataType → LabelData → Judgement
-parts scope t l = also (judged scope (Some t) l.low) (judged_high scope t l.high)
+parts scope t l = and (judged scope (Some t) l.low) (judged_high scope t l.high)
 
 formed : Scope → DataType → LabelData → Judgement
 formed scope t l = require (parts scope t l) (is_of_type scope t l.low && high_is_of_type scope t l.high) OperandType (place_of l.low)
@@ -37,7 +37,7 @@ ordered scope t l = require (formed scope t l) (int_le (label_range scope t l).l
 -- what a label tells, from what its parts tell
 pub outcome_of-label : (scope : Scope) (t : DataType) (seen : List Range) (l : LabelData) (fits order new : Bool) (b x y z : Outcome)
     → fits ≡ (is_of_type scope t l.low && high_is_of_type scope t l.high) → order ≡ int_le (label_range scope t l).low (label_range scope t l).high → new ≡ not (overlaps seen (label_range scope t l))
-    → b ≡ outcome_of (also (judged scope (Some t) l.low) (judged_high scope t l.high))
+    → b ≡ outcome_of (and (judged scope (Some t) l.low) (judged_high scope t l.high))
     → x ≡ tried b fits OperandType (place_of l.low) → y ≡ tried x order OutsideType (place_of l.low) → z ≡ tried y new Overlap (place_of l.low)
     → z ≡ outcome_of (judged_label scope t seen l)
 unfolding parts formed ordered

@@ -24,7 +24,7 @@ use Rattle.naming.specs.declared.role.Role.{Role}
 use Rattle.naming.specs.declared.role.Role.TheVariants as roles
 use Rattle.naming.specs.Scopes.{Variable, variables_in_pou, is_step, block_of}
 use Rattle.typing.specs.Typing.{type_of, place_of}
-use Rattle.rules.specs.Judgements.{Judgement, also, breaks, require}
+use Rattle.rules.specs.Judgements.{Judgement, and, breaks, require}
 use Rattle.typing.specs.Judged.{judged}
 use Rattle.typing.specs.Typed.{constant_of}
 use Rattle.typing.specs.declared.domain.Domain.{Domain}
@@ -55,7 +55,7 @@ by_parts true false j k parts none e = absurd (let n : ⊥ = cc in n)
 by_parts false b j k parts none e = absurd (let n : ⊥ = cc in n)
 
 test_of : (j : Judgement) (b : Bool) (rule : Rule) (at : ℕ) → (require j b rule at).whole ≡ true → b ≡ true
-test_of j b rule at e = by_parts j.whole b j (also j (breaks rule at)) refl (and-false j.whole) e
+test_of j b rule at e = by_parts j.whole b j (and j (breaks rule at)) refl (and-false j.whole) e
 
 -- ---- what a variable of a domain begins with
 
@@ -77,7 +77,7 @@ subrange_by : (b : Bool) (f : FileData) (k : ElementaryType) (at : ℕ) (bounds 
 unfolding StartFits
 subrange_by true f k at bounds e =
     rw e (in_order-fits (bounds_of f k bounds).low (bounds_of f k bounds).high
-    (test_of (require (also (judged_bound_of f k bounds.low) (judged_bound_of f k bounds.high)) (is_integer k) OperandType at) (int_le (bounds_of f k bounds).low (bounds_of f k bounds).high) OutsideType (place_of bounds.low) e))
+    (test_of (require (and (judged_bound_of f k bounds.low) (judged_bound_of f k bounds.high)) (is_integer k) OperandType at) (int_le (bounds_of f k bounds).low (bounds_of f k bounds).high) OutsideType (place_of bounds.low) e))
 subrange_by false f k at bounds e = rw e (zero_fits types.Bool)
 
 enumeration_by : (b : Bool) (t : ℕ) (others : List Named) → has_few others ≡ b → StartFits (enumeration_domain t others)

@@ -9,7 +9,7 @@ use Rattle.std.proofs.lemmas.List.Elements.{All-nil, All-cons}
 use Rattle.program_tree.specs.declared.typed.Qualifier.{Qualifier}
 use Rattle.program_tree.specs.declared.typed.Association.{Association}
 use Rattle.rules.specs.declared.rule.Rule.TheVariants.{UnknownStep, StepTwice, NotOneInitialStep}
-use Rattle.rules.specs.Judgements.{ok, suppressed, also, breaks}
+use Rattle.rules.specs.Judgements.{ok, suppressed, and, breaks}
 use Rattle.source_tree.specs.declared.syntax.Section.{Section}
 use Rattle.source_tree.specs.declared.syntax.Section.TheVariants as sections
 use Rattle.source_tree.specs.Syntax.{Named, DeclarationData, VariablesData, StepActionData, ChartStepData, PartData, step_part, transition_part, action_part, BodyData, statements, chart as chart_body, PouKindData, function, function_block, program, PouData, FileData}
@@ -29,7 +29,7 @@ use Rattle.typing.specs.Places.{has_cell, first_places}
 use Rattle.typing.specs.Members.{place_at, member_in, variable_or_value, scope_of}
 use Rattle.typing.specs.TypedCharts.{latch_place, latch_of}
 use Rattle.typed_scopes.specs.Charts.{NamesSteps, IsNamedBySteps}
-use Rattle.typed_scopes.proofs.Wholes.{whole_also}
+use Rattle.typed_scopes.proofs.Wholes.{whole_and}
 use Rattle.whole_files.specs.WholePous.{IsNamedChart, IsNamedBody}
 use Rattle.bound_names.proofs.NameParts.{never, holds_by, fails_by}
 use Rattle.bound_names.proofs.SingleNames.{single_named}
@@ -230,20 +230,20 @@ module _ (f : FileData) (k : ℕ) (d : PouData) (at : pou_at f k ≡ Some d) (ps
   listed_numbers : (before : List (List ℕ)) (ns : List Named) → (in_listed_from f (names_of d) before ns).whole ≡ true → AreSteps (length (steps_of ps)) (map (λ n. step_number 0 (steps_of ps) n.text) ns)
   listed_numbers before [] h = tt
   listed_numbers before (n ∷ ns) h =
-      let two = whole_also (in_listed f (names_of d) before n) (in_listed_from f (names_of d) (before ++ n.text ∷ []) ns) h in
+      let two = whole_and (in_listed f (names_of d) before n) (in_listed_from f (names_of d) (before ++ n.text ∷ []) ns) h in
       (listed_number before n two.0, listed_numbers (before ++ n.text ∷ []) ns two.1)
 
   transitions_named : (qs : List PartData) → (in_chart_parts f (names_of d) qs).whole ≡ true → All (NamesSteps ps) (transitions_of qs)
   transitions_named [] h = All-nil (NamesSteps ps)
-  transitions_named (step_part s ∷ qs) h = transitions_named qs (whole_also (in_part f (names_of d) (step_part s)) (in_chart_parts f (names_of d) qs) h).1
+  transitions_named (step_part s ∷ qs) h = transitions_named qs (whole_and (in_part f (names_of d) (step_part s)) (in_chart_parts f (names_of d) qs) h).1
   transitions_named (transition_part t ∷ qs) h =
       let p = names_of d in
-      let two = whole_also (in_part f p (transition_part t)) (in_chart_parts f p qs) h in
-      let own = whole_also (in_own_name_if p t.name) (also (in_steps f p t.from) (also (in_steps f p t.to) (in_tree f p t.condition))) two.0 in
-      let from = whole_also (in_steps f p t.from) (also (in_steps f p t.to) (in_tree f p t.condition)) own.1 in
-      let to = whole_also (in_steps f p t.to) (in_tree f p t.condition) from.1 in
+      let two = whole_and (in_part f p (transition_part t)) (in_chart_parts f p qs) h in
+      let own = whole_and (in_own_name_if p t.name) (and (in_steps f p t.from) (and (in_steps f p t.to) (in_tree f p t.condition))) two.0 in
+      let from = whole_and (in_steps f p t.from) (and (in_steps f p t.to) (in_tree f p t.condition)) own.1 in
+      let to = whole_and (in_steps f p t.to) (in_tree f p t.condition) from.1 in
       All-cons (NamesSteps ps) t (transitions_of qs) (listed_numbers [] (steps_in t.from) from.0, listed_numbers [] (steps_in t.to) to.0) (transitions_named qs two.1)
-  transitions_named (action_part a ∷ qs) h = transitions_named qs (whole_also (in_part f (names_of d) (action_part a)) (in_chart_parts f (names_of d) qs) h).1
+  transitions_named (action_part a ∷ qs) h = transitions_named qs (whole_and (in_part f (names_of d) (action_part a)) (in_chart_parts f (names_of d) qs) h).1
 
   -- ---- actions
 
@@ -269,17 +269,17 @@ module _ (f : FileData) (k : ℕ) (d : PouData) (at : pou_at f k ≡ Some d) (ps
   actions_named before [] all h = All-nil (IsNamedBySteps (scope_of f sizes k) ps)
   actions_named before (step_part s ∷ qs) all h =
       let own = declared_by_part (is_stored ps) (step_part s) in
-      actions_named (before ++ own) qs (all ∙ sym (append_assoc before own (declared_by_parts (is_stored ps) qs))) (whole_also (in_part f (names_of d) (step_part s)) (in_chart_parts f (names_of d) qs) h).1
+      actions_named (before ++ own) qs (all ∙ sym (append_assoc before own (declared_by_parts (is_stored ps) qs))) (whole_and (in_part f (names_of d) (step_part s)) (in_chart_parts f (names_of d) qs) h).1
   actions_named before (transition_part t ∷ qs) all h =
       let own = declared_by_part (is_stored ps) (transition_part t) in
-      actions_named (before ++ own) qs (all ∙ sym (append_assoc before own (declared_by_parts (is_stored ps) qs))) (whole_also (in_part f (names_of d) (transition_part t)) (in_chart_parts f (names_of d) qs) h).1
+      actions_named (before ++ own) qs (all ∙ sym (append_assoc before own (declared_by_parts (is_stored ps) qs))) (whole_and (in_part f (names_of d) (transition_part t)) (in_chart_parts f (names_of d) qs) h).1
   actions_named before (action_part a ∷ qs) all h =
       let p = names_of d in
       let own = declared_by_part (is_stored ps) (action_part a) in
       let v = of_chart (action_role (is_stored ps a.name.text)) a.name in
       let rest = declared_by_parts (is_stored ps) qs in
-      let two = whole_also (in_part f p (action_part a)) (in_chart_parts f p qs) h in
-      let single = not-true (is_doubled p a.name.text) (whole_also (in_own_name p a.name) (in_stmts f p a.body) two.0).0 in
+      let two = whole_and (in_part f p (action_part a)) (in_chart_parts f p qs) h in
+      let single = not-true (is_doubled p a.name.text) (whole_and (in_own_name p a.name) (in_stmts f p a.body) two.0).0 in
       let named = single_named p before rest v all single in
       All-cons (IsNamedBySteps (scope_of f sizes k) ps) a (actions_of qs) (action_associated a.name named, names_from a.name.text (length (steps_of ps)) 0 (steps_of ps) (omega arith))
       (actions_named (before ++ own) qs (all ∙ sym (append_assoc before own rest)) two.1)

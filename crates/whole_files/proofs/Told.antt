@@ -3,7 +3,7 @@ use Rattle.std.proofs.Common.{◌≡◌, ℕ, List, [], ◌∷◌, ◌++◌, Boo
 use Rattle.std.proofs.lemmas.Bool.{and_from}
 use Rattle.rules.specs.declared.rule.Rule.{Rule}
 use Rattle.rules.specs.declared.rule.Refusal.{Refusal}
-use Rattle.rules.specs.Judgements.{Judgement, ok, suppressed, also, breaks, require}
+use Rattle.rules.specs.Judgements.{Judgement, ok, suppressed, and, breaks, require}
 use Rattle.typing.specs.JudgedStatements.{broken_by}
 
 -- what breaks nothing is whole
@@ -24,8 +24,8 @@ told_ok none = refl
 pub told_breaks : (rule : Rule) (at : ℕ) → IsTold (breaks rule at)
 told_breaks rule at none = absurd (let e : ⊥ = cc in e)
 
-pub told_also : (j k : Judgement) → IsTold j → IsTold k → IsTold (also j k)
-told_also j k a b none = and_from j.whole k.whole (a (nil_front j.broken k.broken none)) (b (nil_behind j.broken k.broken none))
+pub told_and : (j k : Judgement) → IsTold j → IsTold k → IsTold (and j k)
+told_and j k a b none = and_from j.whole k.whole (a (nil_front j.broken k.broken none)) (b (nil_behind j.broken k.broken none))
 
 pub told_if : (b : Bool) (j k : Judgement) → IsTold j → IsTold k → IsTold (if b then j else k)
 told_if true j k a c = a
@@ -36,7 +36,7 @@ pub told_said : (b : Bool) (j : Judgement) → b ≡ true → IsTold j → IsTol
 told_said true j e a = a
 told_said false j e a = absurd (true≢false (sym e))
 
-required : (j : Judgement) (rule : Rule) (at : ℕ) → IsTold j → (w h : Bool) → j.whole ≡ w → IsTold (if w then (if h then j else also j (breaks rule at)) else j)
+required : (j : Judgement) (rule : Rule) (at : ℕ) → IsTold j → (w h : Bool) → j.whole ≡ w → IsTold (if w then (if h then j else and j (breaks rule at)) else j)
 required j rule at told true true e none = e
 required j rule at told true false e none = absurd (let r = nil_behind j.broken (breaks rule at).broken none in let n : ⊥ = cc in n)
 required j rule at told false h e none = told none

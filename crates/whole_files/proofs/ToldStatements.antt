@@ -5,7 +5,7 @@ use Rattle.plc_types.specs.declared.data_type.DataType.{DataType}
 use Rattle.plc_types.specs.declared.range.Range.{Range}
 use Rattle.plc_types.specs.DataTypes.{is_same_type}
 use Rattle.rules.specs.declared.rule.Rule.TheVariants.{OperandType, ValueType, ArgumentCount, NotAssignable, NotConstant, OutsideType, Overlap}
-use Rattle.rules.specs.Judgements.{also, require}
+use Rattle.rules.specs.Judgements.{and, require}
 use Rattle.source_tree.specs.Syntax.{Named, PathData, Tree, ConnectionData, input, output, Stmt, empty, assign, invoke, branch, cases, iterate, Stmts, no_stmts, stmt, Arms, no_arms, arm, Entries, no_entries, entry, Otherwise, no_else, else_stmts, LabelData, IterationData, PartData, step_part, transition_part, action_part}
 use Rattle.naming.specs.Broken.{alone}
 use Rattle.typing.specs.declared.scope.Meaning.{Meaning}
@@ -18,7 +18,7 @@ use Rattle.typing.specs.JudgedStatements.{is_assignable, judged_target, judged_a
 use Rattle.typing.specs.JudgedCharts.{judged_part, judged_parts}
 use Rattle.typed_scopes.specs.Uses.{Usable, IsWithin, IsOptionWithin, AreConnectionsWithin, AreLabelsWithin, IsIterationWithin, IsStmtWithin, AreStmtsWithin, AreArmsWithin, AreEntriesWithin, IsElseWithin, ArePartsWithin}
 use Rattle.whole_files.specs.WholeScopes.{is_whole_meaning, IsWholeScope}
-use Rattle.whole_files.proofs.Told.{IsTold, told_ok, told_also, told_require, told_broken_by}
+use Rattle.whole_files.proofs.Told.{IsTold, told_ok, told_and, told_require, told_broken_by}
 use Rattle.whole_files.proofs.KnownTypes.{kind_known, dint_known, type_known}
 use Rattle.whole_files.proofs.ToldTrees.{meaning_told, tree_told, condition_told}
 
@@ -32,31 +32,31 @@ module _ (scope : Scope) (uses : Usable) (whole : IsWholeScope scope uses) where
       let w = whole.names (by_path p) named in
       let target = judged_target controls m p.first.at in
       let value = judged scope (kind_at m) e in
-      told_require (also target value) (is_same_type (type_of scope (kind_at m) e) (or_dint (kind_at m))) ValueType p.first.at
-      (told_also target value (target_told controls m p.first.at w) (tree_told scope uses whole (kind_at m) (kind_known m w) e within))
+      told_require (and target value) (is_same_type (type_of scope (kind_at m) e) (or_dint (kind_at m))) ValueType p.first.at
+      (told_and target value (target_told controls m p.first.at w) (tree_told scope uses whole (kind_at m) (kind_known m w) e within))
 
   -- ---- calls of instances
 
   input_told : (m : Option Meaning) → is_whole_meaning m ≡ true → (x : Named) (e : Tree) → IsWithin uses e → IsTold (judged_input scope m x e)
   input_told m w x e within =
       let value = judged scope (kind_at m) e in
-      told_require (also (judged_meaning m) value) (is_same_type (type_of scope (kind_at m) e) (or_dint (kind_at m))) ValueType x.at
-      (told_also (judged_meaning m) value (meaning_told m w) (tree_told scope uses whole (kind_at m) (kind_known m w) e within))
+      told_require (and (judged_meaning m) value) (is_same_type (type_of scope (kind_at m) e) (or_dint (kind_at m))) ValueType x.at
+      (told_and (judged_meaning m) value (meaning_told m w) (tree_told scope uses whole (kind_at m) (kind_known m w) e within))
 
   output_told : (controls : List ℕ) (m target : Option Meaning) (at : ℕ) → is_whole_meaning m ≡ true → is_whole_meaning target ≡ true → IsTold (judged_output controls m target at)
   output_told controls m target at w v =
-      told_require (also (judged_meaning m) (judged_target controls target at)) (is_same_type (or_dint (kind_at target)) (or_dint (kind_at m))) ValueType at
-      (told_also (judged_meaning m) (judged_target controls target at) (meaning_told m w) (target_told controls target at v))
+      told_require (and (judged_meaning m) (judged_target controls target at)) (is_same_type (or_dint (kind_at target)) (or_dint (kind_at m))) ValueType at
+      (told_and (judged_meaning m) (judged_target controls target at) (meaning_told m w) (target_told controls target at v))
 
   connections_told : (controls : List ℕ) (n : Named) (cs : List ConnectionData) → AreConnectionsWithin uses n cs → IsTold (judged_connections scope controls n cs)
   connections_told controls n [] within = told_ok
   connections_told controls n (input x e ∷ cs) within =
       let p = by_path (member n x) in
-      told_also (judged_input scope (scope.means p) x e) (judged_connections scope controls n cs) (input_told (scope.means p) (whole.names p within.0) x e within.1) (connections_told controls n cs within.2)
+      told_and (judged_input scope (scope.means p) x e) (judged_connections scope controls n cs) (input_told (scope.means p) (whole.names p within.0) x e within.1) (connections_told controls n cs within.2)
   connections_told controls n (output y q ∷ cs) within =
       let p = by_path (member n y) in
       let target = scope.means (by_path q) in
-      told_also (judged_output controls (scope.means p) target q.first.at) (judged_connections scope controls n cs)
+      told_and (judged_output controls (scope.means p) target q.first.at) (judged_connections scope controls n cs)
       (output_told controls (scope.means p) target q.first.at (whole.names p within.0) (whole.names (by_path q) within.1)) (connections_told controls n cs within.2)
 
   invoke_told : (controls : List ℕ) (n : Named) (cs : List ConnectionData) → AreConnectionsWithin uses n cs → IsTold (judged_invoke scope controls n cs)
@@ -82,9 +82,9 @@ module _ (scope : Scope) (uses : Usable) (whole : IsWholeScope scope uses) where
       let first = judged_bound scope t i.first in
       let last = judged_bound scope t i.last in
       let step = judged_step scope t i.step in
-      told_require (also control (also first (also last step))) (is_typed scope t i.first && is_typed scope t i.last && step_is_typed scope t i.step) ValueType i.control.at
-      (told_also control (also first (also last step)) (told_require (judged_meaning m) (may_control controls m) NotAssignable i.control.at (meaning_told m w))
-      (told_also first (also last step) (bound_told t k i.first within.1) (told_also last step (bound_told t k i.last within.2) (step_told t k i.step within.3))))
+      told_require (and control (and first (and last step))) (is_typed scope t i.first && is_typed scope t i.last && step_is_typed scope t i.step) ValueType i.control.at
+      (told_and control (and first (and last step)) (told_require (judged_meaning m) (may_control controls m) NotAssignable i.control.at (meaning_told m w))
+      (told_and first (and last step) (bound_told t k i.first within.1) (told_and last step (bound_told t k i.last within.2) (step_told t k i.step within.3))))
 
   -- ---- CASE
 
@@ -97,19 +97,19 @@ module _ (scope : Scope) (uses : Usable) (whole : IsWholeScope scope uses) where
 
   label_told : (t : DataType) → is_unknown t ≡ false → (seen : List Range) (l : LabelData) → IsWithin uses l.low → IsOptionWithin uses l.high → IsTold (judged_label scope t seen l)
   label_told t known seen l low high =
-      let values = also (judged scope (Some t) l.low) (judged_high scope t l.high) in
+      let values = and (judged scope (Some t) l.low) (judged_high scope t l.high) in
       let fits = is_of_type scope t l.low && high_is_of_type scope t l.high in
       let typed = require values fits OperandType (place_of l.low) in
       let ordered = int_le (label_range scope t l).low (label_range scope t l).high in
       let bounded = require typed ordered OutsideType (place_of l.low) in
       told_require bounded (not (overlaps seen (label_range scope t l))) Overlap (place_of l.low)
       (told_require typed ordered OutsideType (place_of l.low)
-      (told_require values fits OperandType (place_of l.low) (told_also (judged scope (Some t) l.low) (judged_high scope t l.high) (tree_told scope uses whole (Some t) known l.low low) (high_told t known l.high high))))
+      (told_require values fits OperandType (place_of l.low) (told_and (judged scope (Some t) l.low) (judged_high scope t l.high) (tree_told scope uses whole (Some t) known l.low low) (high_told t known l.high high))))
 
   labels_told : (t : DataType) → is_unknown t ≡ false → (seen : List Range) (ls : List LabelData) → AreLabelsWithin uses ls → IsTold (judged_labels scope t seen ls)
   labels_told t known seen [] within = told_ok
   labels_told t known seen (l ∷ ls) within =
-      told_also (judged_label scope t seen l) (judged_labels scope t (seen_with scope t seen l) ls) (label_told t known seen l within.0 within.1) (labels_told t known (seen_with scope t seen l) ls within.2)
+      told_and (judged_label scope t seen l) (judged_labels scope t (seen_with scope t seen l) ls) (label_told t known seen l within.0 within.1) (labels_told t known (seen_with scope t seen l) ls within.2)
 
   labels_if_told : (w : Bool) (t : DataType) → is_unknown t ≡ false → (seen : List Range) (ls : List LabelData) → AreLabelsWithin uses ls → IsTold (judged_labels_if scope w t seen ls)
   labels_if_told true t known seen ls within = labels_told t known seen ls within
@@ -120,35 +120,35 @@ module _ (scope : Scope) (uses : Usable) (whole : IsWholeScope scope uses) where
     stmt_told controls empty within = told_ok
     stmt_told controls (assign p e) within = assign_told controls p e within.0 within.1
     stmt_told controls (invoke n at cs) within = invoke_told controls n cs within
-    stmt_told controls (branch arms other) within = told_also (judged_arms scope controls arms) (judged_else scope controls other) (arms_told controls arms within.0) (else_told controls other within.1)
+    stmt_told controls (branch arms other) within = told_and (judged_arms scope controls arms) (judged_else scope controls other) (arms_told controls arms within.0) (else_told controls other within.1)
     stmt_told controls (cases e es other) within =
         let selector = judged_selector scope e in
         let t = type_of scope None e in
         let entries = judged_entries scope controls selector.whole t [] es in
-        told_also selector (also entries (judged_else scope controls other)) (selector_told e within.0)
-        (told_also entries (judged_else scope controls other) (entries_told controls selector.whole t (type_known scope uses whole None tt e within.0) [] es within.1) (else_told controls other within.2))
+        told_and selector (and entries (judged_else scope controls other)) (selector_told e within.0)
+        (told_and entries (judged_else scope controls other) (entries_told controls selector.whole t (type_known scope uses whole None tt e within.0) [] es within.1) (else_told controls other within.2))
     stmt_told controls (iterate i ss) within =
         let inner = with_control controls (scope.means (by_path (alone i.control))) in
-        let parts = also (judged_iteration scope controls i) (judged_stmts scope inner ss) in
-        told_broken_by parts (turns_rule scope i) i.at (told_also (judged_iteration scope controls i) (judged_stmts scope inner ss) (iteration_told controls i within.0) (stmts_told inner ss within.1))
+        let parts = and (judged_iteration scope controls i) (judged_stmts scope inner ss) in
+        told_broken_by parts (turns_rule scope i) i.at (told_and (judged_iteration scope controls i) (judged_stmts scope inner ss) (iteration_told controls i within.0) (stmts_told inner ss within.1))
 
     pub stmts_told : (controls : List ℕ) (ss : Stmts) → AreStmtsWithin uses ss → IsTold (judged_stmts scope controls ss)
     stmts_told controls no_stmts within = told_ok
-    stmts_told controls (stmt s ss) within = told_also (judged_stmt scope controls s) (judged_stmts scope controls ss) (stmt_told controls s within.0) (stmts_told controls ss within.1)
+    stmts_told controls (stmt s ss) within = told_and (judged_stmt scope controls s) (judged_stmts scope controls ss) (stmt_told controls s within.0) (stmts_told controls ss within.1)
 
     arms_told : (controls : List ℕ) (arms : Arms) → AreArmsWithin uses arms → IsTold (judged_arms scope controls arms)
     arms_told controls no_arms within = told_ok
     arms_told controls (arm e ss arms) within =
-        let rest = also (judged_stmts scope controls ss) (judged_arms scope controls arms) in
-        told_also (judged_condition scope OperandType e) rest (condition_told scope uses whole OperandType e within.0)
-        (told_also (judged_stmts scope controls ss) (judged_arms scope controls arms) (stmts_told controls ss within.1) (arms_told controls arms within.2))
+        let rest = and (judged_stmts scope controls ss) (judged_arms scope controls arms) in
+        told_and (judged_condition scope OperandType e) rest (condition_told scope uses whole OperandType e within.0)
+        (told_and (judged_stmts scope controls ss) (judged_arms scope controls arms) (stmts_told controls ss within.1) (arms_told controls arms within.2))
 
     entries_told : (controls : List ℕ) (w : Bool) (t : DataType) → is_unknown t ≡ false → (seen : List Range) (es : Entries) → AreEntriesWithin uses es → IsTold (judged_entries scope controls w t seen es)
     entries_told controls w t known seen no_entries within = told_ok
     entries_told controls w t known seen (entry ls ss es) within =
         let rest = judged_entries scope controls w t (seen_behind scope t seen ls) es in
-        told_also (judged_labels_if scope w t seen ls) (also (judged_stmts scope controls ss) rest) (labels_if_told w t known seen ls within.0)
-        (told_also (judged_stmts scope controls ss) rest (stmts_told controls ss within.1) (entries_told controls w t known (seen_behind scope t seen ls) es within.2))
+        told_and (judged_labels_if scope w t seen ls) (and (judged_stmts scope controls ss) rest) (labels_if_told w t known seen ls within.0)
+        (told_and (judged_stmts scope controls ss) rest (stmts_told controls ss within.1) (entries_told controls w t known (seen_behind scope t seen ls) es within.2))
 
     else_told : (controls : List ℕ) (other : Otherwise) → IsElseWithin uses other → IsTold (judged_else scope controls other)
     else_told controls no_else within = told_ok
@@ -156,7 +156,7 @@ module _ (scope : Scope) (uses : Usable) (whole : IsWholeScope scope uses) where
 
   pub parts_told : (ps : List PartData) → ArePartsWithin uses ps → IsTold (judged_parts scope ps)
   parts_told [] within = told_ok
-  parts_told (step_part s ∷ ps) within = told_also (judged_part scope (step_part s)) (judged_parts scope ps) told_ok (parts_told ps within)
+  parts_told (step_part s ∷ ps) within = told_and (judged_part scope (step_part s)) (judged_parts scope ps) told_ok (parts_told ps within)
   parts_told (transition_part t ∷ ps) within =
-      told_also (judged_part scope (transition_part t)) (judged_parts scope ps) (condition_told scope uses whole OperandType t.condition within.0) (parts_told ps within.1)
-  parts_told (action_part a ∷ ps) within = told_also (judged_part scope (action_part a)) (judged_parts scope ps) (stmts_told [] a.body within.0) (parts_told ps within.1)
+      told_and (judged_part scope (transition_part t)) (judged_parts scope ps) (condition_told scope uses whole OperandType t.condition within.0) (parts_told ps within.1)
+  parts_told (action_part a ∷ ps) within = told_and (judged_part scope (action_part a)) (judged_parts scope ps) (stmts_told [] a.body within.0) (parts_told ps within.1)

@@ -7,7 +7,7 @@ use Rattle.plc_types.specs.declared.operator.UnaryOperator.{UnaryOperator}
 use Rattle.plc_types.specs.declared.function.StandardFunction.{StandardFunction}
 use Rattle.rules.specs.declared.rule.Rule.{Rule}
 use Rattle.rules.specs.declared.rule.Rule.TheVariants.{OperandType, ValueType, ArgumentCount, OutsideType}
-use Rattle.rules.specs.Judgements.{Judgement, ok, suppressed, also, breaks, require}
+use Rattle.rules.specs.Judgements.{Judgement, ok, suppressed, and, breaks, require}
 use Rattle.source_tree.specs.declared.syntax.Literal.{Literal}
 use Rattle.source_tree.specs.Syntax.{Named, Tree, literal, path, enumerator, paren, unary, chain, call, Links, no_links, link, Arguments, no_arguments, argument}
 use Rattle.naming.specs.Library.{standard_function}
@@ -18,7 +18,7 @@ use Rattle.typing.specs.Typing.{Scope, by_path, by_value, bool_type, type_of, op
 use Rattle.typing.specs.Judged.{judged_literal, judged_meaning, takes_sign, negative_literal, judged_unary, expected_at, fit_from, judged_amount, place_for, gives_all, expected_by, judged_port, fits_port, judged_named, fit_placed, judged_answer, judged_user_call, judged_call, judged, judged_links, judged_arguments, judged_given, judged_alone, judged_condition}
 use Rattle.typed_scopes.specs.Uses.{Usable, IsWithin, AreLinksWithin, AreArgumentsWithin}
 use Rattle.whole_files.specs.WholeScopes.{is_whole_meaning, is_whole_port, IsWholeScope, IsWholeFunction}
-use Rattle.whole_files.proofs.Told.{IsTold, told_ok, told_breaks, told_also, told_if, told_said, told_require}
+use Rattle.whole_files.proofs.Told.{IsTold, told_ok, told_breaks, told_and, told_if, told_said, told_require}
 use Rattle.whole_files.proofs.KnownTypes.{IsKnownIf, port_known, expected_known, next_known, type_known, common_known, operand_known}
 
 literal_by : (u h : Bool) (at : ℕ) → u ≡ false → IsTold (if u then suppressed else (if h then ok else breaks OutsideType at))
@@ -60,7 +60,7 @@ named_told (Some n) fits j told = told_require j fits ValueType n.at told
 answer_told : (scope : Scope) (at : ℕ) (s : Signature) (args : Arguments) (parts : Judgement) → is_whole_port s.result ≡ true → IsTold parts → IsTold (judged_answer scope at s args parts)
 answer_told scope at s args parts whole told =
     let counted = require parts (gives_all scope s args) ArgumentCount at in
-    told_also (require counted (fit_placed scope s 0 args) OperandType at) (judged_port (Some s.result))
+    told_and (require counted (fit_placed scope s 0 args) OperandType at) (judged_port (Some s.result))
     (told_require counted (fit_placed scope s 0 args) OperandType at (told_require parts (gives_all scope s args) ArgumentCount at told))
     (told_said s.result.whole ok (and_parts s.result.whole (not (is_unknown s.result.kind)) whole).0 told_ok)
 
@@ -103,14 +103,14 @@ module _ (scope : Scope) (uses : Usable) (whole : IsWholeScope scope uses) where
     links_told t known left told (link o at e ls) within =
         let right = judged scope (Some t) e in
         let fits = takes o t && is_same_type (type_of scope (Some t) e) t in
-        links_told (next_type o t) (next_known o t known) (require (also left right) fits OperandType at) (told_require (also left right) fits OperandType at (told_also left right told (tree_told (Some t) known e within.0))) ls within.1
+        links_told (next_type o t) (next_known o t known) (require (and left right) fits OperandType at) (told_require (and left right) fits OperandType at (told_and left right told (tree_told (Some t) known e within.0))) ls within.1
 
     arguments_told : (f : StandardFunction) (t : DataType) → is_unknown t ≡ false → (place : ℕ) (args : Arguments) → AreArgumentsWithin uses args → IsTold (judged_arguments scope f t place args)
     arguments_told f t known place no_arguments within = told_ok
     arguments_told f t known place (argument n e args) within =
         let p = parameter_of f place in
         let value = judged scope (expected_at p t) e in
-        told_also (judged_amount scope p e value) (judged_arguments scope f t (place + 1) args) (amount_told scope p e value (tree_told (expected_at p t) (expected_known p t known) e within.0)) (arguments_told f t known (place + 1) args within.1)
+        told_and (judged_amount scope p e value) (judged_arguments scope f t (place + 1) args) (amount_told scope p e value (tree_told (expected_at p t) (expected_known p t known) e within.0)) (arguments_told f t known (place + 1) args within.1)
 
     given_told : (text : List ℕ) (r : IsWholeFunction scope text) (place : ℕ) (args : Arguments) → AreArgumentsWithin uses args → IsTold (judged_given scope r.signature place args)
     given_told text r place no_arguments within = told_ok
@@ -118,13 +118,13 @@ module _ (scope : Scope) (uses : Usable) (whole : IsWholeScope scope uses) where
         let at = place_for scope r.signature place n in
         let p = scope.port r.signature.function at in
         let value = judged scope (expected_by p) e in
-        told_also (judged_named n (fits_port scope p e) (also value (judged_port p))) (judged_given scope r.signature (place + 1) args)
-        (named_told n (fits_port scope p e) (also value (judged_port p)) (told_also value (judged_port p) (tree_told (expected_by p) (input_known p (r.inputs at)) e within.0) (port_told p (r.inputs at))))
+        told_and (judged_named n (fits_port scope p e) (and value (judged_port p))) (judged_given scope r.signature (place + 1) args)
+        (named_told n (fits_port scope p e) (and value (judged_port p)) (told_and value (judged_port p) (tree_told (expected_by p) (input_known p (r.inputs at)) e within.0) (port_told p (r.inputs at))))
         (given_told text r (place + 1) args within.1)
 
     alone_told : (args : Arguments) → AreArgumentsWithin uses args → IsTold (judged_alone scope args)
     alone_told no_arguments within = told_ok
-    alone_told (argument n e args) within = told_also (judged scope None e) (judged_alone scope args) (tree_told None tt e within.0) (alone_told args within.1)
+    alone_told (argument n e args) within = told_and (judged scope None e) (judged_alone scope args) (tree_told None tt e within.0) (alone_told args within.1)
 
   pub condition_told : (rule : Rule) (e : Tree) → IsWithin uses e → IsTold (judged_condition scope rule e)
   condition_told rule e within = told_require (judged scope None e) (is_same_type (type_of scope None e) bool_type) rule (place_of e) (tree_told None tt e within)

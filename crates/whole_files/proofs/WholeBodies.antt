@@ -2,7 +2,7 @@
 use Rattle.std.proofs.Common.{◌≡◌, ℕ, zero, suc, ◌+◌, List, [], ◌∷◌, true, Some, ap, subst, inl, arith, zero-add}
 use Rattle.std.specs.List.{slice_get}
 use Rattle.rules.specs.declared.rule.Refusal.{Refusal}
-use Rattle.rules.specs.Judgements.{also}
+use Rattle.rules.specs.Judgements.{and}
 use Rattle.source_tree.specs.Syntax.{BodyData, statements, chart as chart_body, PouData, FileData}
 use Rattle.source_tree.specs.Levels.{IsBodyLevelled, IsFileLevelled}
 use Rattle.naming.specs.FileScope.{types_of, pous_of, pou_at}
@@ -17,7 +17,7 @@ use Rattle.typing.specs.Variables.{judged_variables}
 use Rattle.typing.specs.Members.{scope_of}
 use Rattle.typing.specs.Pous.{judged_body, judged_pou, judged_pous, broken_types}
 use Rattle.typed_scopes.specs.Uses.{Usable}
-use Rattle.typed_scopes.proofs.Wholes.{whole_also}
+use Rattle.typed_scopes.proofs.Wholes.{whole_and}
 use Rattle.whole_files.specs.WholeScopes.{IsWholeScope}
 use Rattle.bound_names.specs.BoundNames.{is_function_called, bound_uses, IsBodyWithin}
 use Rattle.whole_files.proofs.Told.{IsTold, nil_front, nil_behind}
@@ -53,7 +53,7 @@ names_declared f d h =
     let p = names_of d in
     let twice = variables_twice p.has_fault [] p.variables in
     let declared = in_declarations f p 0 p.variables in
-    (whole_also twice declared (whole_also (also twice declared) (in_body f p d.body) h).0).1
+    (whole_and twice declared (whole_and (and twice declared) (in_body f p d.body) h).0).1
 
 pub names_of_body : (f : FileData) (d : PouData) → (in_pou f d).whole ≡ true → (in_body f (names_of d) d.body).whole ≡ true
 unfolding in_pou_scope
@@ -61,7 +61,7 @@ names_of_body f d h =
     let p = names_of d in
     let twice = variables_twice p.has_fault [] p.variables in
     let declared = in_declarations f p 0 p.variables in
-    (whole_also (also twice declared) (in_body f p d.body) h).1
+    (whole_and (and twice declared) (in_body f p d.body) h).1
 
 module _ (f : FileData) (none : broken_names f ≡ []) (levels : IsFileLevelled f) where
   body_levelled : (k : ℕ) (d : PouData) → pou_at f k ≡ Some d → IsBodyLevelled d.body

@@ -11,7 +11,7 @@ use Rattle.plc_types.specs.declared.operator.UnaryOperator.TheVariants as signs
 use Rattle.plc_types.specs.DataTypes.{is_same_type}
 use Rattle.plc_types.specs.Types.{is_integer}
 use Rattle.rules.specs.declared.rule.Rule.TheVariants.{OperandType, OutsideType, TooManyValues}
-use Rattle.rules.specs.Judgements.{Judgement, ok, suppressed, also, breaks, require}
+use Rattle.rules.specs.Judgements.{Judgement, ok, suppressed, and, breaks, require}
 use Rattle.source_tree.specs.Syntax.{Named, Tree, literal, path, enumerator, paren, unary, chain, call, BoundsData, of_elementary, of_subrange, of_name, SpecificationData, of_type, of_values, TypeDeclarationData, FileData}
 use Rattle.source_tree.specs.Levels.{IsConstant, IsSpecificationFormed, IsFileLevelled}
 use Rattle.naming.specs.declared.standing.Standing.{Standing}
@@ -30,7 +30,7 @@ use Rattle.typing.specs.Domains.{has_few, is_few, value_at, values_scope, bounds
 use Rattle.typed_scopes.specs.Uses.{IsWithin}
 use Rattle.whole_files.specs.WholeScopes.{is_whole_meaning, IsWholeScope}
 use Rattle.bound_names.specs.BoundNames.{value_uses}
-use Rattle.whole_files.proofs.Told.{IsTold, nil_front, nil_behind, told_also, told_require}
+use Rattle.whole_files.proofs.Told.{IsTold, nil_front, nil_behind, told_and, told_require}
 use Rattle.whole_files.proofs.ToldTrees.{tree_told}
 use Rattle.bound_names.proofs.NameParts.{named_value}
 use Rattle.whole_files.proofs.Formed.{types_formed, type_formed}
@@ -118,9 +118,9 @@ module _ (f : FileData) (none : broken_names f ≡ []) (levels : IsFileLevelled 
 
   pub subrange_told : (k : ElementaryType) (at : ℕ) (b : BoundsData) → IsWithin (value_uses f) b.low → IsWithin (value_uses f) b.high → IsTold (judged_subrange f k at b)
   subrange_told k at b low high =
-      let both = also (judged_bound_of f k b.low) (judged_bound_of f k b.high) in
+      let both = and (judged_bound_of f k b.low) (judged_bound_of f k b.high) in
       told_require (require both (is_integer k) OperandType at) (int_le (bounds_of f k b).low (bounds_of f k b).high) OutsideType (place_of b.low)
-      (told_require both (is_integer k) OperandType at (told_also (judged_bound_of f k b.low) (judged_bound_of f k b.high) (bound_told k b.low low) (bound_told k b.high high)))
+      (told_require both (is_integer k) OperandType at (told_and (judged_bound_of f k b.low) (judged_bound_of f k b.high) (bound_told k b.low low) (bound_told k b.high high)))
 
   value_name_clean : (n : Named) → (in_value_name f n).broken ≡ [] → is_value (standing f n.text) ≡ true
   value_name_clean n h = broken_if (is_value (standing f n.text)) ok (in_scope f n) (λ e. some_name f once n (subst (λ (b : Bool). (if b then suppressed else in_file f n).broken ≡ []) (no_broken_name f once clean results n) e)) h
@@ -166,14 +166,14 @@ module _ (f : FileData) (none : broken_names f ≡ []) (levels : IsFileLevelled 
 
   pub subrange_known : (k : ElementaryType) (at : ℕ) (b : BoundsData) → (judged_subrange f k at b).whole ≡ true → IsKnownDomain (subrange_domain f k at b)
   subrange_known k at b h =
-      if_known (judged_subrange f k at b).whole (record { kind = Elementary k; range = bounds_of f k b; limited = true; start = (bounds_of f k b).low; whole = true }) h (refl, refl)
+      if_known (judged_subrange f k at b).whole (record { kind = Elementary k; range = bounds_of f k b; is_subrange = true; start = (bounds_of f k b).low; whole = true }) h (refl, refl)
 
   end_known : (t : ℕ) (s : Option SpecificationData) → specification_at f t ≡ s → is_whole_end f t s ≡ true → IsKnownDomain (end_domain f t s)
   end_known t None e h = absurd (true≢false (sym h))
   end_known t (Some (of_values at first others)) e h =
       let r = specified t (of_values at first others) e in
       let few = broken_if (has_few others) ok (breaks TooManyValues r.0.at) (λ k. let z : ⊥ = cc in z) r.1 in
-      if_known (has_few others) (record { kind = Enumeration t; range = record { low = pos 0; high = pos (length others) }; limited = false; start = pos 0; whole = true }) few (refl, refl)
+      if_known (has_few others) (record { kind = Enumeration t; range = record { low = pos 0; high = pos (length others) }; is_subrange = false; start = pos 0; whole = true }) few (refl, refl)
   end_known t (Some (of_type (of_elementary k at))) e h = (refl, refl)
   end_known t (Some (of_type (of_subrange k at b))) e h = subrange_known k at b (subrange_at t k at b e)
   end_known t (Some (of_type (of_name n))) e h = absurd (true≢false (sym h))

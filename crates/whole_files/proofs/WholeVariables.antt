@@ -24,7 +24,7 @@ use Rattle.typing.specs.Typed.{constant_of}
 use Rattle.typing.specs.Domains.{values_scope, judged_types}
 use Rattle.typing.specs.Variables.{domain_if, domain_of_variable, judged_type_if, judged_initial, judged_value, judged_instance, judged_by_block, judged_variable, judged_variables}
 use Rattle.typed_scopes.specs.Uses.{IsWithin, IsOptionWithin}
-use Rattle.typed_scopes.proofs.Wholes.{whole_also}
+use Rattle.typed_scopes.proofs.Wholes.{whole_and}
 use Rattle.bound_names.specs.BoundNames.{value_uses}
 use Rattle.whole_files.proofs.Told.{IsTold, nil_front, nil_behind, told_ok, told_said, told_require}
 use Rattle.whole_files.proofs.ToldTrees.{tree_told}
@@ -78,7 +78,7 @@ module _ (f : FileData) (none : broken_names f ≡ []) (levels : IsFileLevelled 
     type_whole user v None formed h typed broken = record { whole = refl; known = (refl, refl) }
     type_whole user v (Some (of_elementary k at)) formed h typed broken = record { whole = refl; known = (refl, refl) }
     type_whole user v (Some (of_subrange k at b)) formed h typed broken =
-        let two = whole_also (in_declared_constant f p user b.low) (in_declared_constant f p user b.high) h in
+        let two = whole_and (in_declared_constant f p user b.low) (in_declared_constant f p user b.high) h in
         let whole = subrange_told f none levels types k at b (constant_within user b.low formed.0 two.0) (constant_within user b.high formed.1 two.1) broken in
         record { whole = whole; known = subrange_known f none levels types k at b whole }
     type_whole user v (Some (of_name n)) formed h typed broken =
@@ -107,7 +107,7 @@ module _ (f : FileData) (none : broken_names f ≡ []) (levels : IsFileLevelled 
     plain_whole user v kind initial h typed broken =
         let d = domain_of_variable f v in
         let value = judged_value f d v.name.at v.initial in
-        let two = whole_also (in_kind f p user v v.kind) (in_initial f p user v.initial) h in
+        let two = whole_and (in_kind f p user v v.kind) (in_initial f p user v.initial) h in
         let t = type_whole user v v.kind kind two.0 typed (nil_front (judged_type_if f v.kind).broken value.broken broken) in
         let told = told_said d.whole (judged_initial f d v.name.at v.initial) t.known.0 (initial_told d t.known.1 v.name.at v.initial (initial_within user v.initial initial two.1)) in
         (and_from (judged_type_if f v.kind).whole value.whole t.whole (told (nil_behind (judged_type_if f v.kind).broken value.broken broken)), t.known.1)
@@ -122,13 +122,13 @@ module _ (f : FileData) (none : broken_names f ≡ []) (levels : IsFileLevelled 
         let r = plain_whole user v kind initial h (typed_by (block_of f v) (unwrap_or (option_map (is_whole_type f) v.kind) true) e typed) broken in
         (r.0, λ is. r.1)
     variable_by user v kind initial h typed (Some b) e broken =
-        let two = whole_also (in_kind f p user v v.kind) (in_initial f p user v.initial) h in
+        let two = whole_and (in_kind f p user v v.kind) (in_initial f p user v.initial) h in
         (instance_told v.name.at v.initial (initial_within user v.initial initial two.1) broken, λ is. absurd (let same : Some b ≡ None = sym e ∙ is in let z : ⊥ = cc in z))
 
     pub variables_whole : (number : ℕ) (vs : List Variable) → AreFormed vs → (in_declarations f p number vs).whole ≡ true → are_typed f vs ≡ true → (judged_variables f vs).broken ≡ [] → AreWholeVariables f vs
     variables_whole number [] formed h typed broken = tt
     variables_whole number (v ∷ vs) formed h typed broken =
-        let two = whole_also (in_declaration f p number v) (in_declarations f p (number + 1) vs) h in
+        let two = whole_and (in_declaration f p number v) (in_declarations f p (number + 1) vs) h in
         let all = and_parts (is_typed f v) (list_all (is_typed f) vs) typed in
         let own = (judged_variable f v).broken in
         let rest = (judged_variables f vs).broken in

@@ -96,8 +96,8 @@ answers::judge_given-loop-place-preserved g t c =
     let all = given_outcome m s 0 (outcome_of ok) (arguments_view xs) in
     let all_fit = fit_placed m s 0 (arguments_view xs) in
     record {
-      judged = given_on m s place n e rest c.loop-place.outcome value.outcome c.judge_port.result c.also-parts.result c.judge_named.result c.also-outcome.result all port c.expected_by.result c.place_for-to.result c.fits_port-fits.result
-          to c.port-port.ensures c.expected_by.ensures told fits c.judge_port.ensures c.also-parts.ensures (c.judge_named.ensures ∙ ap (λ x. named_outcome x c.fits_port-fits.result c.also-parts.result) named) c.also-outcome.ensures
+      judged = given_on m s place n e rest c.loop-place.outcome value.outcome c.judge_port.result c.and-parts.result c.judge_named.result c.and-outcome.result all port c.expected_by.result c.place_for-to.result c.fits_port-fits.result
+          to c.port-port.ensures c.expected_by.ensures told fits c.judge_port.ensures c.and-parts.ensures (c.judge_named.ensures ∙ ap (λ x. named_outcome x c.fits_port-fits.result c.and-parts.result) named) c.and-outcome.ensures
           (sym (ap (given_outcome m s place c.loop-place.outcome) listed) ∙ c.loop-place.invariant.judged);
       fit = one_more_fits c.loop-place.fit c.fits_unless_named-placed.result (fit_placed m s (place + 1) rest) all_fit c.if-fit.fit new
           (ap (λ (b : Bool). c.loop-place.fit && (b && fit_placed m s (place + 1) rest)) placed ∙ sym (ap (λ (x : Arguments). c.loop-place.fit && fit_placed m s place x) listed) ∙ c.loop-place.invariant.fit);

@@ -167,8 +167,8 @@ pub charts::run_chart-returns-clause-state : goal.charts::run_chart-returns-clau
 charts::run_chart-returns-clause-state t c =
     let scope = c.args.scope.now in
     chart-ran (callees_here scope) scope.ranges.now scope.base c.args.steps.now (actions_view c.args.actions.now) (transitions_view c.args.transitions.now) c.args.cells.now
-    c.read_now.new.marking c.read_before.new.marking c.split_at_mut-left.result.0.now c.split_at_mut-come.result.0.now
-    _ _ c.fire_all-fault.new.left c.fire_all-fault.new.come c.latch_all.new.cells c.run_actions.new.cells c.add_fault.new.state c.mark.new.cells c.fire_all-fault.result
+    c.read_now.new.marking c.read_before.new.marking c.split_at_mut-exited.result.0.now c.split_at_mut-entered.result.0.now
+    _ _ c.fire_all-fault.new.exited c.fire_all-fault.new.entered c.latch_all.new.cells c.run_actions.new.cells c.add_fault.new.state c.mark.new.cells c.fire_all-fault.result
     (omega arith) (omega arith) (omega arith)
     c.read_now.ensures c.read_before.ensures c.clear.ensures c.clear-2.ensures c.latch_all.ensures c.run_actions.ensures.state
-    c.fire_all-fault.ensures.left c.fire_all-fault.ensures.come c.fire_all-fault.ensures.fault c.add_fault.ensures c.mark.ensures
+    c.fire_all-fault.ensures.exited c.fire_all-fault.ensures.entered c.fire_all-fault.ensures.fault c.add_fault.ensures c.mark.ensures

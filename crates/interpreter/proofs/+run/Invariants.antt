@@ -4,7 +4,7 @@ use Rattle.meaning.specs.Values.{State, value_on, any_faults, values_of, one_fau
 use Rattle.operations.specs.Joined.{joined_on}
 use Rattle.meaning.specs.Charts.{holds_in, faults_in}
 use Rattle.meaning.specs.Effects.{effect_of_all, effect_of_choices, effect_of_entries, effect_of_turns, effect_of_actions}
-use Rattle.meaning.specs.Flags.{left_after, come_after, fault_after}
+use Rattle.meaning.specs.Flags.{exited_after, entered_after, fault_after}
 use Rattle.meaning.specs.Room.{markings_in_all, markings_in_choices, markings_in_entries, markings_in_actions}
 use Rattle.interpreter.specs.Scopes.{callees_here, cells_read}
 use Rattle.meaning.proofs.Sizes.{nodes, operand_nodes, all_nodes, transition_nodes, statement_nodes, body_nodes, choice_nodes, entry_nodes, action_nodes}
@@ -67,9 +67,9 @@ invariant-charts::run_actions-loop-action l = record {
 
 abbrev pub invariant-charts::fire_all-loop-transition : goal.invariant-charts::fire_all-loop-transition
 invariant-charts::fire_all-loop-transition l = record {
-  left_rest : left_after l.now (holds_in (callees_here l.scope) l.scope.base l.cells) (transitions_view (drop l.transition-index l.transitions)) l.left ≡ left_after l.now (holds_in (callees_here l.scope) l.scope.base l.cells) (transitions_view l.transitions) l.initial.left;
-  come_rest : come_after l.now (holds_in (callees_here l.scope) l.scope.base l.cells) (transitions_view (drop l.transition-index l.transitions)) l.left l.come ≡ come_after l.now (holds_in (callees_here l.scope) l.scope.base l.cells) (transitions_view l.transitions) l.initial.left l.initial.come;
-  fault_rest : fault_after l.now (holds_in (callees_here l.scope) l.scope.base l.cells) (faults_in (callees_here l.scope) l.scope.base l.cells) (transitions_view (drop l.transition-index l.transitions)) l.left l.fault ≡ fault_after l.now (holds_in (callees_here l.scope) l.scope.base l.cells) (faults_in (callees_here l.scope) l.scope.base l.cells) (transitions_view l.transitions) l.initial.left false;
+  exited_rest : exited_after l.now (holds_in (callees_here l.scope) l.scope.base l.cells) (transitions_view (drop l.transition-index l.transitions)) l.exited ≡ exited_after l.now (holds_in (callees_here l.scope) l.scope.base l.cells) (transitions_view l.transitions) l.initial.exited;
+  entered_rest : entered_after l.now (holds_in (callees_here l.scope) l.scope.base l.cells) (transitions_view (drop l.transition-index l.transitions)) l.exited l.entered ≡ entered_after l.now (holds_in (callees_here l.scope) l.scope.base l.cells) (transitions_view l.transitions) l.initial.exited l.initial.entered;
+  fault_rest : fault_after l.now (holds_in (callees_here l.scope) l.scope.base l.cells) (faults_in (callees_here l.scope) l.scope.base l.cells) (transitions_view (drop l.transition-index l.transitions)) l.exited l.fault ≡ fault_after l.now (holds_in (callees_here l.scope) l.scope.base l.cells) (faults_in (callees_here l.scope) l.scope.base l.cells) (transitions_view l.transitions) l.initial.exited false;
   weighs : transition_nodes (transitions_view (drop l.transition-index l.transitions)) ≤ transition_nodes (transitions_view l.transitions);
   room : length l.stack ≡ length l.initial.stack;
 }

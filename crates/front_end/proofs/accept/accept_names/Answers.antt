@@ -3,7 +3,7 @@ use Rattle.source_tree.specs.SyntaxView.{file_view}
 use Rattle.program_tree.specs.View.{program_view}
 use Rattle.typed_programs.specs.Programs.{IsTypedProgram}
 use Rattle.st_types.specs.CheckedFiles.{file_checked}
-use Rattle.front_end.specs.Texts.{AreNamesSound, IsProgram}
+use Rattle.front_end.specs.Texts.{AreNamesSound, StatesProgram}
 use Rattle.front_end.proofs.Passes.{of_file}
 use Rattle.front_end.proofs.accept.accept_names.Goals as goal
 
@@ -12,7 +12,7 @@ program_of-requires c = subst AreNamesSound (sym c.in_ok-checked.ensures.file) c
 
 pub returns-clause-program : goal.returns-clause-program
 returns-clause-program c =
-    of_file (λ text. IsProgram text (program_view c.in_ok-program_of.field-0)) (file_checked c.in_ok-checked.checked) (file_view c.args.names.now.file.now) c.in_ok-checked.ensures.file
+    of_file (λ text. StatesProgram text (program_view c.in_ok-program_of.field-0)) (file_checked c.in_ok-checked.checked) (file_view c.args.names.now.file.now) c.in_ok-checked.ensures.file
     c.in_ok-program_of.ensures.program
 
 pub returns-clause-typed : goal.returns-clause-typed

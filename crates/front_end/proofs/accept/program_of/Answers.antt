@@ -1,10 +1,10 @@
 use Rattle.std.proofs.Common.{ℕ, List}
 use Rattle.program_tree.specs.View.{program_view}
 use Rattle.typing.specs.Ready.{IsReady}
-use Rattle.scan_model.specs.InRange.{IsProgram as IsFitToRun}
+use Rattle.scan_model.specs.InRange.{IsFitToRun}
 use Rattle.typed_programs.specs.Programs.{IsTypedProgram}
 use Rattle.st_types.specs.CheckedFiles.{file_checked}
-use Rattle.front_end.specs.Texts.{HasFile, IsProgram}
+use Rattle.front_end.specs.Texts.{HasFile, StatesProgram}
 use Rattle.front_end.proofs.Ready.{program_of_ready}
 use Rattle.front_end.proofs.TypedTexts.{text_typed}
 use Rattle.front_end.proofs.Passes.{ok_more, program_read}
@@ -19,5 +19,5 @@ returns-clause-fit c = ok_more c.program.result (λ p. IsReady (program_view p))
 pub returns-clause-typed : goal.returns-clause-typed
 returns-clause-typed c =
     let f = file_checked c.args.checked in
-    ok_more c.program.result (λ p. (text : List ℕ) → HasFile text f → IsProgram text (program_view p)) (λ p. (text : List ℕ) → HasFile text f → IsTypedProgram (program_view p)) (λ p each text h. text_typed text (program_view p) (each text h))
+    ok_more c.program.result (λ p. (text : List ℕ) → HasFile text f → StatesProgram text (program_view p)) (λ p. (text : List ℕ) → HasFile text f → IsTypedProgram (program_view p)) (λ p each text h. text_typed text (program_view p) (each text h))
     (program_read f c.program.result c.requires c.program.ensures.kept c.program.ensures.room c.program.ensures.typed)

@@ -5,5 +5,5 @@ use Rattle.interpreter.proofs.markings.mark.Given as goal
 
 abbrev pub invariant-loop-i : goal.invariant-loop-i
 invariant-loop-i l =
-    marked l.scope.ranges.now l.scope.base l.now (is_next_from l.now l.left l.come) l.i (drop l.i l.steps) l.cells
-    ≡ marked l.scope.ranges.now l.scope.base l.now (is_next_from l.now l.left l.come) 0 l.steps l.initial.cells
+    marked l.scope.ranges.now l.scope.base l.now (is_next_from l.now l.exited l.entered) l.i (drop l.i l.steps) l.cells
+    ≡ marked l.scope.ranges.now l.scope.base l.now (is_next_from l.now l.exited l.entered) 0 l.steps l.initial.cells

@@ -16,7 +16,7 @@ loop-action-preserved c =
     let rest = step_actions_view (drop (c.loop-action.action-index + 1) c.args.actions.now) in
     let left = view-drop step_action_view c.args.actions.now c.loop-action.action-index x (omega arith) c.action-item.is in
     let all = ap (λ ls. both c.loop-action.outcome (outcome_of (in_associations f p ls))) (sym left) ∙ c.loop-action.invariant in
-    before_rest c.loop-action.outcome c.also.result _ (in_association f p (step_action_view x)) (in_associations f p rest) (c.also.ensures ∙ ap (both c.loop-action.outcome) c.judged_association.ensures) all
+    before_rest c.loop-action.outcome c.and.result _ (in_association f p (step_action_view x)) (in_associations f p rest) (c.and.ensures ∙ ap (both c.loop-action.outcome) c.judged_association.ensures) all
 
 pub returns : goal.returns
 returns c =

@@ -34,8 +34,8 @@ loop-name-preserved c =
     let all = ap (λ ns. both c.loop-name.outcome (outcome_of (in_listed_from f p met ns))) (sym left) ∙ c.loop-name.invariant.judged in
     record {
       held = λ text. met_push c.loop-name.met c.add-in-loop-name.new.set met n.text c.loop-name.invariant.held c.in_ok-add-2.ensures text ∙ ap (list_any (λ t. bytes_eq t text)) (sym texts);
-      judged = ap (λ ts. both c.also.result (outcome_of (in_listed_from f p ts rest))) texts
-          ∙ before_rest c.loop-name.outcome c.also.result _ (in_listed f p met n) (in_listed_from f p (met ++ n.text ∷ []) rest) (c.also.ensures ∙ ap (both c.loop-name.outcome) told) all;
+      judged = ap (λ ts. both c.and.result (outcome_of (in_listed_from f p ts rest))) texts
+          ∙ before_rest c.loop-name.outcome c.and.result _ (in_listed f p met n) (in_listed_from f p (met ++ n.text ∷ []) rest) (c.and.ensures ∙ ap (both c.loop-name.outcome) told) all;
     }
 
 pub returns : goal.returns

@@ -13,5 +13,5 @@ returns-in-One c =
     let p = pou_in c.args.scope.now.names in
     let n = name_view c.in-One.name in
     let shape : steps_view c.args.steps.now ≡ one_step n = ap steps_view c.in-One.is in
-    c.also.ensures ∙ ap (both c.args.outcome.now) c.judged_listed.ensures ∙ one_listed c.args.outcome.now (in_listed f p [] n)
+    c.and.ensures ∙ ap (both c.args.outcome.now) c.judged_listed.ensures ∙ one_listed c.args.outcome.now (in_listed f p [] n)
     ∙ ap (λ (s : StepsData). both c.args.outcome.now (outcome_of (in_steps f p s))) (sym shape)

@@ -10,7 +10,7 @@ use Rattle.source_tree.specs.SyntaxView.{LinkData, ArgumentData, expr_step, argu
 use Rattle.naming.specs.Circles.{called, calls_in, calls_in_links, calls_in_arguments}
 use Rattle.rules.specs.declared.outcome.Outcome.{Outcome}
 use Rattle.naming.specs.Broken.{callee_of, in_called, in_argument_name, in_tree, in_links, in_arguments}
-use Rattle.rules.specs.Judgements.{also}
+use Rattle.rules.specs.Judgements.{and}
 use Rattle.pou_scope.specs.NamesView.{file_in, pou_in}
 use Rattle.rules.specs.Outcomes.{outcome_of, both}
 use Rattle.naming.proofs.Outs.{link_view-out, argument_view-out}
@@ -67,11 +67,11 @@ walk_expr-returns-in_ok-append_called-in-Call-clause-judged t c =
     let f = file_in c.args.scope.now.names in
     let p = pou_in c.args.scope.now.names in
     let old = c.args.outcome.now in
-    let mid = c.also-in-Call.result in
+    let mid = c.and-in-Call.result in
     let n = name_view c.in-Call.function in
     let args = c.in-Call.arguments.items in
     let shape : tree_view c.args.expr.now ≡ call n c.in-Call.field-1 (arguments_view args) = ap tree_view (c.in-Call.is ∙ sym (rolls-Call c.in-Call.function c.in-Call.field-1 c.in-Call.arguments)) ∙ fold-roll-Expr Tree ArgumentData LinkData expr_step argument_step link_step _ in
-    let called = c.also-in-Call.ensures ∙ ap (both old) (c.called.ensures ∙ ap (λ callee. outcome_of (in_called f callee n)) c.callee-callee.ensures) in
+    let called = c.and-in-Call.ensures ∙ ap (both old) (c.called.ensures ∙ ap (λ callee. outcome_of (in_called f callee n)) c.callee-callee.ensures) in
     let all = ap (λ callee. both mid (outcome_of (in_arguments f p callee (arguments_view c.deref-in-Call.result.now)))) c.callee-callee.ensures
     ∙ ap (λ (list : List Argument). both mid (outcome_of (in_arguments f p (callee_of f n.text) (arguments_view list)))) c.deref-in-Call.ensures.value
     ∙ behind old mid (in_called f (callee_of f n.text) n) (in_arguments f p (callee_of f n.text) (arguments_view args)) called in
@@ -100,11 +100,11 @@ walk_arguments-loop-argument-preserved t c =
     let more = map argument_view (drop (c.loop-argument.argument-index + 1) c.args.arguments.now) in
     let left = view-drop argument_view c.args.arguments.now c.loop-argument.argument-index x (omega arith) c.argument-item.is ∙ ap (λ (a : ArgumentData). a ∷ more) (argument_view-out x) in
     let all = ap (λ args. both c.loop-argument.outcome (outcome_of (in_arguments f p c.args.callee (arguments_of args)))) (sym left) ∙ c.loop-argument.invariant.judged in
-    let name = c.also.ensures ∙ ap (both c.loop-argument.outcome) c.argument_name.ensures in
-    let step = then_on c.loop-argument.outcome c.also.result c.walk_expr.new.outcome own (in_tree f p (tree_view x.value)) name c.in_ok-walk_expr.ensures.judged in
+    let name = c.and.ensures ∙ ap (both c.loop-argument.outcome) c.argument_name.ensures in
+    let step = then_on c.loop-argument.outcome c.and.result c.walk_expr.new.outcome own (in_tree f p (tree_view x.value)) name c.in_ok-walk_expr.ensures.judged in
     let calls = c.loop-argument.calls.items in
     record {
-      judged = before_rest c.loop-argument.outcome c.walk_expr.new.outcome _ (also own (in_tree f p (tree_view x.value))) (in_arguments f p c.args.callee (arguments_of more)) step all;
+      judged = before_rest c.loop-argument.outcome c.walk_expr.new.outcome _ (and own (in_tree f p (tree_view x.value))) (in_arguments f p c.args.callee (arguments_of more)) step all;
       calls = then_more calls c.walk_expr.new.calls.items (calls_in f (tree_view x.value)) (calls_in_arguments f (arguments_of more)) _ c.in_ok-walk_expr.ensures.calls (ap (λ args. calls ++ calls_in_arguments f (arguments_of args)) (sym left) ∙ c.loop-argument.invariant.calls);
     }
 

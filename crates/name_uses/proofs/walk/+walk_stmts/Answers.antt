@@ -18,7 +18,7 @@ use Rattle.naming.specs.Broken.{in_instance, instance_of, in_connections, in_tar
 use Rattle.pou_scope.specs.NamesView.{file_in, pou_in}
 use Rattle.naming.specs.Circles.{calls_in, calls_in_iteration, calls_in_stmt, calls_in_stmts, calls_in_arms, calls_in_entries}
 use Rattle.rules.specs.declared.outcome.Outcome.{Outcome}
-use Rattle.rules.specs.Judgements.{ok, also}
+use Rattle.rules.specs.Judgements.{ok, and}
 use Rattle.rules.specs.Outcomes.{outcome_of, both}
 use Rattle.naming.specs.Scopes.{seen_named}
 use Rattle.naming.proofs.Outs.{arm_view-out, entry_view-out}
@@ -34,8 +34,8 @@ walk_stmt-returns-in-Assign-clause-judged t c =
     let p = pou_in c.args.scope.now.names in
     let q = path_view c.in-Assign.target in
     let shape : stmt_view c.args.stmt.now ≡ assign q (tree_view c.in-Assign.value) = ap stmt_view (c.in-Assign.is ∙ sym (rolls-Assign c.in-Assign.target c.in-Assign.value)) ∙ fold-roll-Stmt Stmt ArmData EntryData stmt_step arm_step entry_step _ in
-    let target = c.also.ensures ∙ ap (both c.args.outcome.now) c.target.ensures in
-    let all = behind c.args.outcome.now c.also.result (in_target f p (seen_named f p q.first.text) q) (in_tree f p (tree_view c.in-Assign.value)) target in
+    let target = c.and.ensures ∙ ap (both c.args.outcome.now) c.target.ensures in
+    let all = behind c.args.outcome.now c.and.result (in_target f p (seen_named f p q.first.text) q) (in_tree f p (tree_view c.in-Assign.value)) target in
     rw shape (subst (λ (o : Outcome). OnOk c.walk_expr.result (c.walk_expr.new.outcome ≡ o)) all c.walk_expr.ensures.judged)
 
 pub walk_stmt-returns-in-Some-clause-judged : goal.walk_stmt-returns-in-Some-clause-judged
@@ -78,7 +78,7 @@ walk_arms-loop-arm-preserved t c =
     let ss = calls_in_stmts f (stmts_view x.body.items) in
     let called = c.in_ok-walk_stmts.ensures.calls ∙ ap (λ (list : List StmtTree). c.walk_expr.new.calls.items ++ calls_in_stmts f (stmts_view list)) c.deref.ensures.value ∙ ap (λ xs. xs ++ ss) c.in_ok-walk_expr.ensures.calls ∙ append_assoc calls e ss in
     record {
-      judged = before_rest c.loop-arm.outcome c.walk_stmts.new.outcome _ (also (in_tree f p (tree_view x.condition)) (in_stmts f p (stmts_view x.body.items))) (in_arms f p (arms_of more)) step all;
+      judged = before_rest c.loop-arm.outcome c.walk_stmts.new.outcome _ (and (in_tree f p (tree_view x.condition)) (in_stmts f p (stmts_view x.body.items))) (in_arms f p (arms_of more)) step all;
       calls = then_more calls c.walk_stmts.new.calls.items (e ++ ss) (calls_in_arms f (arms_of more)) _ called (ap (λ arms. calls ++ calls_in_arms f (arms_of arms)) (sym left) ∙ c.loop-arm.invariant.calls);
     }
 
@@ -98,7 +98,7 @@ walk_entries-loop-entry-preserved t c =
     let ss = calls_in_stmts f (stmts_view x.body.items) in
     let called = c.in_ok-walk_stmts.ensures.calls ∙ ap (λ (list : List StmtTree). calls ++ calls_in_stmts f (stmts_view list)) c.deref-in-loop-entry.ensures.value in
     record {
-      judged = before_rest c.loop-entry.outcome c.walk_stmts.new.outcome _ (also (in_labels f p labels) (in_stmts f p (stmts_view x.body.items))) (in_entries f p (entries_of more)) step all;
+      judged = before_rest c.loop-entry.outcome c.walk_stmts.new.outcome _ (and (in_labels f p labels) (in_stmts f p (stmts_view x.body.items))) (in_entries f p (entries_of more)) step all;
       calls = then_more calls c.walk_stmts.new.calls.items ss (calls_in_entries f (entries_of more)) _ called (ap (λ es. calls ++ calls_in_entries f (entries_of es)) (sym left) ∙ c.loop-entry.invariant.calls);
     }
 
@@ -114,7 +114,7 @@ walk_stmt-returns-in-Some-other-clause-judged t c =
     let entries = c.in_ok-walk_entries-in-Case.ensures.judged ∙ ap (λ (list : List Entry). both c.walk_expr-in-Case.new.outcome (outcome_of (in_entries f p (entries_view list)))) c.deref-in-Case.ensures.value in
     let front = then_on c.args.outcome.now c.walk_expr-in-Case.new.outcome c.walk_entries.new.outcome (in_tree f p e) (in_entries f p es) c.in_ok-walk_expr-in-Case.ensures.judged entries in
     let other = ap (λ (list : List StmtTree). both c.walk_entries.new.outcome (outcome_of (in_stmts f p (stmts_view list)))) c.deref-in-Some-other.ensures.value
-    ∙ behind c.args.outcome.now c.walk_entries.new.outcome (also (in_tree f p e) (in_entries f p es)) (in_stmts f p ss) front in
+    ∙ behind c.args.outcome.now c.walk_entries.new.outcome (and (in_tree f p e) (in_entries f p es)) (in_stmts f p ss) front in
     rw shape (subst (λ (o : Outcome). OnOk c.walk_stmts-in-Some-other.result (c.walk_stmts-in-Some-other.new.outcome ≡ o)) other c.walk_stmts-in-Some-other.ensures.judged)
 
 pub walk_stmt-returns-in-None-other-clause-judged : goal.walk_stmt-returns-in-None-other-clause-judged
@@ -127,7 +127,7 @@ walk_stmt-returns-in-None-other-clause-judged t c =
     let shape : stmt_view c.args.stmt.now ≡ cases e es no_else = ap stmt_view is ∙ stmt_view-Case c.in-Case.selector c.in-Case.entries None in
     let entries = c.in_ok-walk_entries-in-Case.ensures.judged ∙ ap (λ (list : List Entry). both c.walk_expr-in-Case.new.outcome (outcome_of (in_entries f p (entries_view list)))) c.deref-in-Case.ensures.value in
     let front = then_on c.args.outcome.now c.walk_expr-in-Case.new.outcome c.walk_entries.new.outcome (in_tree f p e) (in_entries f p es) c.in_ok-walk_expr-in-Case.ensures.judged entries in
-    rw shape (then_on c.args.outcome.now c.walk_entries.new.outcome c.walk_entries.new.outcome (also (in_tree f p e) (in_entries f p es)) ok front (sym (both_ok c.walk_entries.new.outcome)))
+    rw shape (then_on c.args.outcome.now c.walk_entries.new.outcome c.walk_entries.new.outcome (and (in_tree f p e) (in_entries f p es)) ok front (sym (both_ok c.walk_entries.new.outcome)))
 
 pub walk_stmt-returns-in_ok-walk_iteration-in-For-clause-judged : goal.walk_stmt-returns-in_ok-walk_iteration-in-For-clause-judged
 walk_stmt-returns-in_ok-walk_iteration-in-For-clause-judged t c =
@@ -170,10 +170,10 @@ walk_stmt-returns-in-Call-clause-judged t c =
     let cs = c.in-Call.connections.items in
     let s = seen_named f p n.text in
     let shape : stmt_view c.args.stmt.now ≡ invoke n c.in-Call.field-1 (connections_view cs) = ap stmt_view (c.in-Call.is ∙ sym (rolls-Call c.in-Call.name c.in-Call.field-1 c.in-Call.connections)) ∙ fold-roll-Stmt Stmt ArmData EntryData stmt_step arm_step entry_step _ in
-    let name = c.also-in-Call.ensures ∙ ap (both c.args.outcome.now) (c.instance.ensures ∙ ap (λ (o : Option Seen). outcome_of (in_instance f p o n)) c.used-seen.ensures.seen) in
-    let all = ap (λ block. both c.also-in-Call.result (outcome_of (in_connections f p block (connections_view c.deref.result.now)))) (c.instance_of.ensures ∙ ap instance_of c.used-seen.ensures.seen)
-    ∙ ap (λ (list : List Connection). both c.also-in-Call.result (outcome_of (in_connections f p (instance_of s) (connections_view list)))) c.deref.ensures.value
-    ∙ behind c.args.outcome.now c.also-in-Call.result (in_instance f p s n) (in_connections f p (instance_of s) (connections_view cs)) name in
+    let name = c.and-in-Call.ensures ∙ ap (both c.args.outcome.now) (c.instance.ensures ∙ ap (λ (o : Option Seen). outcome_of (in_instance f p o n)) c.used-seen.ensures.seen) in
+    let all = ap (λ block. both c.and-in-Call.result (outcome_of (in_connections f p block (connections_view c.deref.result.now)))) (c.instance_of.ensures ∙ ap instance_of c.used-seen.ensures.seen)
+    ∙ ap (λ (list : List Connection). both c.and-in-Call.result (outcome_of (in_connections f p (instance_of s) (connections_view list)))) c.deref.ensures.value
+    ∙ behind c.args.outcome.now c.and-in-Call.result (in_instance f p s n) (in_connections f p (instance_of s) (connections_view cs)) name in
     rw shape (subst (λ (o : Outcome). OnOk c.walk_connections.result (c.walk_connections.new.outcome ≡ o)) all c.walk_connections.ensures.judged)
 
 pub walk_stmts-returns-clause-judged : goal.walk_stmts-returns-clause-judged

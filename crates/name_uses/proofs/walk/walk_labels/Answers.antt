@@ -16,7 +16,7 @@ loop-label-preserved c =
     let rest = labels_view (drop (c.loop-label.label-index + 1) c.args.labels.now) in
     let left = view-drop label_view c.args.labels.now c.loop-label.label-index x (omega arith) c.label-item.is in
     let all = ap (λ ls. both c.loop-label.outcome (outcome_of (in_labels f p ls))) (sym left) ∙ c.loop-label.invariant in
-    before_rest c.loop-label.outcome c.also.result _ (in_label f p (label_view x)) (in_labels f p rest) (c.also.ensures ∙ ap (both c.loop-label.outcome) c.judged_label.ensures) all
+    before_rest c.loop-label.outcome c.and.result _ (in_label f p (label_view x)) (in_labels f p rest) (c.and.ensures ∙ ap (both c.loop-label.outcome) c.judged_label.ensures) all
 
 pub returns : goal.returns
 returns c =

@@ -23,8 +23,8 @@ loop-number-preserved c =
     let below : i < length own = omega (arith, ap length items) in
     let left = view-drop variable_view own i x below is in
     let all = ap (λ list. both c.loop-number.outcome (outcome_of (in_declarations f p i list))) (sym left) ∙ c.loop-number.invariant in
-    let step = c.also.ensures ∙ ap (both c.loop-number.outcome) c.declaration.ensures in
-    before_rest c.loop-number.outcome c.also.result _ (in_declaration f p i v) (in_declarations f p (i + 1) rest) step all
+    let step = c.and.ensures ∙ ap (both c.loop-number.outcome) c.declaration.ensures in
+    before_rest c.loop-number.outcome c.and.result _ (in_declaration f p i v) (in_declarations f p (i + 1) rest) step all
 
 pub returns : goal.returns
 returns c =

@@ -26,7 +26,7 @@ loop-place-preserved c =
     let held = c.loop-place.invariant.held in
     record {
       held = rw more (held_push c.args.has_fault c.loop-place.slots c.insert.new.self c.in_ok-clone.field-0 before (variable_view x) c.entered-slot.result c.slot_at-known.result (i + 1) held c.in_ok-insert.ensures.updates key known number c.entered-slot.ensures);
-      once = rw more (twice_push c.args.has_fault c.loop-place.outcome c.also-outcome.result c.declared_twice.result before rest (variable_view x) c.slot_at-known.result (known ∙ held (string_bytes x.name.now.text)) c.declared_twice.ensures c.also-outcome.ensures) ∙ rw left at c.loop-place.invariant.once;
+      once = rw more (twice_push c.args.has_fault c.loop-place.outcome c.and-outcome.result c.declared_twice.result before rest (variable_view x) c.slot_at-known.result (known ∙ held (string_bytes x.name.now.text)) c.declared_twice.ensures c.and-outcome.ensures) ∙ rw left at c.loop-place.invariant.once;
     }
 
 pub returns-clause-once : goal.returns-clause-once

@@ -23,4 +23,4 @@ returns c =
     let declared : c.judge_told-declared.result ≡ variables_outcome f c.ok.result vs =
     c.judge_told-declared.ensures ∙ ap (told_outcome c.ok.result) told ∙ told_outcome-is f c.ok.result vs in
     let body = c.in_ok-body.ensures ∙ ap (λ (sizes : List ℕ). outcome_of (judged_body (scope_of f sizes c.args.number) p.body)) c.requires.sizes in
-    outcome_of-pou f c.args.number p vs c.ok.result c.judge_told-declared.result c.in_ok-body.body c.also.result refl c.ok.ensures declared body c.also.ensures
+    outcome_of-pou f c.args.number p vs c.ok.result c.judge_told-declared.result c.in_ok-body.body c.and.result refl c.ok.ensures declared body c.and.ensures

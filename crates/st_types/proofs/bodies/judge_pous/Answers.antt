@@ -14,5 +14,5 @@ loop-number-preserved c =
     let n = c.loop-number.number in
     let ps = pous_of f in
     let here : drop n ps ≡ pou_view c.pou.result.now ∷ drop (n + 1) ps = drop_at ps n (pou_view c.pou.result.now) c.pou.ensures in
-    ap (λ (o : Outcome). pous_outcome f (n + 1) o (drop (n + 1) ps)) (c.also-judged.ensures ∙ ap (both c.loop-number.judged) c.in_ok-judge_pou.ensures)
+    ap (λ (o : Outcome). pous_outcome f (n + 1) o (drop (n + 1) ps)) (c.and-judged.ensures ∙ ap (both c.loop-number.judged) c.in_ok-judge_pou.ensures)
     ∙ sym (ap (pous_outcome f n c.loop-number.judged) here) ∙ c.loop-number.invariant

@@ -15,12 +15,12 @@ use Rattle.st_types.proofs.bodies.pou_body.Goals as goal
 
 begun_body : (f : FileData) (number : ℕ) (p : PouData) (sizes taken : List ℕ) (vs ws : List Variable) (first : Next) → sizes ≡ sizes_of f → taken ≡ sizes_of f → vs ≡ variables_in_pou p → ws ≡ variables_in_pou p
     → first ≡ first_places f taken p.kind vs → begun f first ws (typed_body (scope_of f sizes number) p.body) ≡ pou_body f number p
-begun_body f number p sizes taken vs ws first same also_same read also_read from =
+begun_body f number p sizes taken vs ws first same same_sizes read read_sizes from =
     let all = variables_in_pou p in
     let start : first ≡ first_places f (sizes_of f) p.kind all =
-    from ∙ ap (λ (s : List ℕ). first_places f s p.kind vs) also_same ∙ ap (first_places f (sizes_of f) p.kind) read in
+    from ∙ ap (λ (s : List ℕ). first_places f s p.kind vs) same_sizes ∙ ap (first_places f (sizes_of f) p.kind) read in
     ap (λ (n : Next). begun f n ws (typed_body (scope_of f sizes number) p.body)) start
-    ∙ ap (λ (xs : List Variable). begun f (first_places f (sizes_of f) p.kind all) xs (typed_body (scope_of f sizes number) p.body)) also_read
+    ∙ ap (λ (xs : List Variable). begun f (first_places f (sizes_of f) p.kind all) xs (typed_body (scope_of f sizes number) p.body)) read_sizes
     ∙ ap (λ (s : List ℕ). begun f (first_places f (sizes_of f) p.kind all) all (typed_body (scope_of f s number) p.body)) same
 
 pub returns : goal.returns

@@ -14,5 +14,5 @@ returns g c =
     let judged = c.in_ok-judged.judged in
     let kind : c.kind.result ≡ type_of m w e = c.kind.ensures ∙ ap (λ (o : Option DataType). or_dint (or_else o w)) c.in_ok-judged.ensures.synthesized in
     let fits : c.is_same-fits.result ≡ is_same_type (type_of m w e) (or_dint w) = search (rules, kind) in
-    outcome_of-input m c.args.meaning (name_view c.args.name.now) e w c.judge_meaning.result judged.outcome c.also-parts.result c.require.result c.is_same-fits.result
+    outcome_of-input m c.args.meaning (name_view c.args.name.now) e w c.judge_meaning.result judged.outcome c.and-parts.result c.require.result c.is_same-fits.result
     (search rules) (search rules) c.in_ok-judged.ensures.outcome (search rules) fits (search rules)

@@ -9,5 +9,5 @@ use Rattle.stmt_types.proofs.connections.judge_output.Goals as goal
 
 pub returns : goal.returns
 returns c =
-    outcome_of-parts (judged_meaning c.args.meaning) (judged_target c.args.controls.now c.args.target c.args.at) c.judge_meaning.result c.judge_target.result c.also-parts.result c.require.result
+    outcome_of-parts (judged_meaning c.args.meaning) (judged_target c.args.controls.now c.args.target c.args.at) c.judge_meaning.result c.judge_target.result c.and-parts.result c.require.result
     (is_same_type (or_dint (kind_at c.args.target)) (or_dint (kind_at c.args.meaning))) c.is_same-fits.result ValueType c.args.at (search rules) (search rules) (search rules) (search rules) (search rules)

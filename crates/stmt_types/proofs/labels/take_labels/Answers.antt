@@ -13,5 +13,5 @@ loop-label-preserved g c = λ list keeps.
     let rest = labels_view (drop (c.loop-label.label-index + 1) c.args.labels.now) in
     let split : labels_view (drop c.loop-label.label-index c.args.labels.now) ≡ l ∷ rest = grind (arith, common_steps) in
     let step = c.in_ok-take_label.ensures now known.1 in
-    let both = label_step (g.S.Scope.means c.args.scope.now) c.args.kind now c.loop-label.judged c.in_ok-take_label.field-0 c.also-judged.result _ _ l rest _ split step.0 c.also-judged.ensures known.2 known.3 in
+    let both = label_step (g.S.Scope.means c.args.scope.now) c.args.kind now c.loop-label.judged c.in_ok-take_label.field-0 c.and-judged.result _ _ l rest _ split step.0 c.and-judged.ensures known.2 known.3 in
     (seen_with (g.S.Scope.means c.args.scope.now) c.args.kind now l, step.1, both.0, both.1)

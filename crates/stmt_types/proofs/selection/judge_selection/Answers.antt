@@ -13,5 +13,5 @@ returns-then-not-judged g c =
 
 pub returns : goal.returns
 returns g c =
-    outcome_of-selection (g.S.Scope.means c.args.scope.now) (tree_view c.args.selector.now) (entries_view c.args.entries.now) c.in_ok-judged.judged.outcome c.in_ok-labels.labels c.also.result c.in_ok-judged.ensures.outcome (not-false c.in_ok-judged.judged.outcome.whole c.if-not-judged.false)
-    (c.in_ok-labels.ensures ∙ ap (λ t. outcome_of (judged_labels (g.S.Scope.means c.args.scope.now) t [] (all_labels (entries_view c.args.entries.now)))) c.in_ok-judged.ensures.kind) c.also.ensures
+    outcome_of-selection (g.S.Scope.means c.args.scope.now) (tree_view c.args.selector.now) (entries_view c.args.entries.now) c.in_ok-judged.judged.outcome c.in_ok-labels.labels c.and.result c.in_ok-judged.ensures.outcome (not-false c.in_ok-judged.judged.outcome.whole c.if-not-judged.false)
+    (c.in_ok-labels.ensures ∙ ap (λ t. outcome_of (judged_labels (g.S.Scope.means c.args.scope.now) t [] (all_labels (entries_view c.args.entries.now)))) c.in_ok-judged.ensures.kind) c.and.ensures
