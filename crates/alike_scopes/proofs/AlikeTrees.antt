@@ -133,7 +133,7 @@ module _ (s t : Scope) (alike : AreAlike s t) where
     judged_alike expected (call n at args) =
         let own_s = λ (x : Signature). judged_given s x 0 args in
         let own_t = λ (x : Signature). judged_given t x 0 args in
-        let user = user_call_by n.at (s.signature n.text) args own_s own_t (λ x is. let inputs = alike.input n.text x is in answer_alike n.at x inputs args (own_s x) (own_t x) (judged_given_alike x inputs 0 args)) in
+        let user = user_call_by n.at (s.signature n.text) args own_s own_t (λ x is. let inputs = alike.input x.function in answer_alike n.at x inputs args (own_s x) (own_t x) (judged_given_alike x inputs 0 args)) in
         call_by expected n.at (standard_function n.text) args (s.signature n.text) (t.signature n.text) (judged_alone s args) (judged_alone t args) (λ f k. judged_arguments s f k 0 args) (λ f k. judged_arguments t f k 0 args) own_s own_t
         (user ∙ ap (λ (o : Option Signature). judged_user_call t n.at o args own_t) (alike.signature n.text)) (judged_alone_alike args) (λ f k. judged_arguments_alike f k 0 args)
 

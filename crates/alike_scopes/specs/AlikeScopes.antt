@@ -3,7 +3,6 @@ use Rattle.std.specs.Prelude.{◌≡◌, ℕ, List, Bool, false, ◌==◌, Optio
 use Rattle.typing.specs.declared.scope.Place.{Place}
 use Rattle.typing.specs.declared.scope.Place.TheVariants as places
 use Rattle.typing.specs.declared.scope.Meaning.{Meaning}
-use Rattle.typing.specs.declared.scope.Signature.{Signature}
 use Rattle.typing.specs.Typing.{Reference, Scope}
 
 -- a meaning but for the number of its cell
@@ -18,7 +17,7 @@ pub record AreAlike (s t : Scope) : Type 0 where
   pub means : (r : Reference) → option_map cleared (s.means r) ≡ option_map cleared (t.means r)
   pub signature : (text : List ℕ) → s.signature text ≡ t.signature text
   pub port : (function place : ℕ) → s.port function place ≡ t.port function place
-  pub input : (text : List ℕ) (g : Signature) → s.signature text ≡ Some g → (name : List ℕ) → s.input g.function name ≡ t.input g.function name
+  pub input : (function : ℕ) (name : List ℕ) → s.input function name ≡ t.input function name
 
 -- one cell
 abbrev pub is_same_place : Place → Place → Bool

@@ -164,7 +164,7 @@ module _ (c : Counting) where
       same_in w v (call n at args) =
           let gs = λ (g : Signature). typed_given s g 0 args in
           let hs = λ (g : Signature). typed_given t g 0 args in
-          let answers = same_answer (s.signature n.text) gs hs (λ g is. same_given g (alike.input n.text g is) 0 args) in
+          let answers = same_answer (s.signature n.text) gs hs (λ g is. same_given g (alike.input g.function) 0 args) in
           same_result s t w v (standard_function n.text) (s.signature n.text) (t.signature n.text) args (λ f k. typed_operands s f k 0 args) (λ f k. typed_operands t f k 0 args) gs hs (λ f j k. same_operands f j k 0 args)
           (answers ∙ ap (λ (o : Option Signature). count_in c (typed_answer o hs)) (alike.signature n.text))
 

@@ -182,12 +182,13 @@ place_of_input m = if is_input m.role then Some (m.cell - 2) else None
 abbrev pub instance_of : FileData → Member → Option Instance
 instance_of f m = option_map (λ b. record { block = called_number f b; offset = m.cell }) m.block
 
--- the scope of the body of a POU, by its number, where blocks have some sizes
+-- The scope of the body of a POU, by its number, where blocks have some sizes. The inputs of a FUNCTION stand before all instances, so of
+-- their places no sizes are asked.
 abbrev pub scope_of : FileData → List ℕ → ℕ → Scope
 scope_of f sizes number = record {
   means = named_in f sizes number;
   signature = signature_at f sizes;
   port = λ function place. slice_get (ports_of (members_at f sizes function)) place;
-  input = λ function text. option_and_then place_of_input (member_at f sizes function text);
+  input = λ function text. option_and_then place_of_input (member_at f [] function text);
   instance = λ text. option_and_then (instance_of f) (member_at f sizes number text);
 }

@@ -16,3 +16,4 @@ pub mod ReadyLemmas
 pub mod OnlyPou
 pub mod ChartLemmas
 pub mod CellCounts
+pub mod FunctionLemmas
