@@ -3,7 +3,7 @@ use Rattle.std.proofs.Common.{◌≡◌, Bool, true, false, true≢false, ◌||�
 use Rattle.source_tree.specs.Syntax.{FileData}
 use Rattle.naming.specs.declared.role.Role.{Role}
 use Rattle.naming.specs.declared.role.Role.TheVariants as roles
-use Rattle.naming.specs.Scopes.{Variable, is_local, is_input, is_seen, is_result, is_step, is_action, is_transition, block_of_type, block_of}
+use Rattle.naming.specs.Scopes.{Variable, is_local, is_input, is_seen, is_step, is_action, is_transition, block_of_type, block_of}
 use Rattle.typing.specs.Places.{has_cell}
 use Rattle.typing.specs.Members.{may_control}
 
@@ -48,20 +48,6 @@ input_only roles.Transition h = refl
 
 pub no_block : (f : FileData) (v : Variable) → is_local v.role ≡ false → block_of f v ≡ None
 no_block f v h = ap (λ (b : Bool). if b then option_and_then (block_of_type f) v.kind else None) h
-
--- in a FUNCTION the inputs and what it answers take one cell each
-pub input_or_result : (r : Role) → (is_input r || is_result r) ≡ true → is_local r ≡ false
-input_or_result roles.Input h = refl
-input_or_result roles.Output h = refl
-input_or_result roles.Local h = absurd (let e : ⊥ = cc in e)
-input_or_result roles.Temporary h = refl
-input_or_result roles.Constant h = refl
-input_or_result roles.Result h = refl
-input_or_result roles.Step h = refl
-input_or_result roles.InitialStep h = refl
-input_or_result roles.Action h = refl
-input_or_result roles.StoredAction h = refl
-input_or_result roles.Transition h = refl
 
 -- what may control a FOR has a cell, and is no name of a chart
 pub control_role : (r : Role) → may_control r ≡ true → (has_cell r ≡ true) × (is_step r ≡ false) × ((is_action r || is_transition r) ≡ false)
