@@ -84,13 +84,18 @@ module _ (f : FileData) (runs : ℕ → Bool) (used : UsesItsBlocks f) (ordered 
                 (subst (λ (m : ℕ). IsTypedBody (pous f runs) 1 (map of_cell (frame_cells f p)) m (pou_body f k p)) number.number (body_as (function t) same number.marked)),
           )
 
+      places : (pous f runs).instances n ≡ block_places f k
+      places = ap (block_places f) at
+
+      places_typed : All IsTypedPlace ((pous f runs).instances n)
+      places_typed = subst (λ (l : List Scratch). All IsTypedPlace l) (sym places) (instance_typed f whole k)
+
       block_as : p.kind ≡ function_block → IsTypedPou (pous f runs) n (called_of f k function_block p)
-      block_as same =
-          let places : (pous f runs).instances n ≡ block_places f k = ap (block_places f) at in (
-            subst (λ (l : List Scratch). All IsTypedPlace l) (sym places) (instance_typed f whole k),
-            subst (λ (l : List Scratch). IsTypedBody (pous f runs) 0 l n (pou_body f k p)) (sym places)
-                (subst (λ (m : ℕ). IsTypedBody (pous f runs) 0 (block_places f k) m (pou_body f k p)) number.number (body_as function_block same number.marked)),
-          )
+      block_as same = (
+        places_typed,
+        subst (λ (l : List Scratch). IsTypedBody (pous f runs) 0 l n (pou_body f k p)) (sym places)
+            (subst (λ (m : ℕ). IsTypedBody (pous f runs) 0 (block_places f k) m (pou_body f k p)) number.number (body_as function_block same number.marked)),
+      )
 
       no_program : p.kind ≡ program → ⊥
       no_program same =
@@ -106,7 +111,7 @@ module _ (f : FileData) (runs : ℕ → Bool) (used : UsesItsBlocks f) (ordered 
       -- and one that never does
       rests_as : (kind : PouKindData) → p.kind ≡ kind → runs n ≡ false → IsTypedPou (pous f runs) n (unused_of f k kind p)
       rests_as (function t) same is = (frame_known t same false is, no_body (pous f runs) 1 (frame_places ((pous f runs).frames n)) n)
-      rests_as function_block same is = block_as same
+      rests_as function_block same is = (places_typed, no_body (pous f runs) 0 ((pous f runs).instances n) n)
       rests_as program same is = absurd (no_program same)
 
   module _ (n k : ℕ) (at : get_or (called_order f) n 0 ≡ k) (number : IsNumbered f ordered n k) where
