@@ -208,15 +208,15 @@ same-frames ps n f = ap (λ (g : ℕ → FrameData). g f) (frames-here ps n) ∙
 
 module _ (ps : List CalledData) where
   mutual
-    size-call_block : (n : ℕ) (owner : OwnerData) (b base k : ℕ) → size ((bodies_of ps n).run_list owner b base k) ≡ (counting_of ps n).runs b
-    size-call_block zero owner b base k = refl
-    size-call_block (suc n) owner b base k =
-        size-if (b == n) _ _ _ _ (size_of-all (bodies_of ps n) (counting_of ps n) (same-frames ps n) (λ o c at j. size-call_block n o c at j) (λ f a places j. size-call_standard n f a places j) owner base (block_body (slice_index_or ps n nothing)) k) (size-call_block n owner b base k)
+    size-run : (n : ℕ) (owner : OwnerData) (b base k : ℕ) → size ((bodies_of ps n).run_list owner b base k) ≡ (counting_of ps n).runs b
+    size-run zero owner b base k = refl
+    size-run (suc n) owner b base k =
+        size-if (b == n) _ _ _ _ (size_of-all (bodies_of ps n) (counting_of ps n) (same-frames ps n) (λ o c at j. size-run n o c at j) (λ f a places j. size-call n f a places j) owner base (block_body (slice_index_or ps n nothing)) k) (size-run n owner b base k)
 
-    size-call_standard : (n f a : ℕ) (places : List ℕ) (k : ℕ) → size ((bodies_of ps n).call_list f a places k) ≡ (counting_of ps n).bodies f
-    size-call_standard zero f a places k = refl
-    size-call_standard (suc n) f a places k =
-        size-if (f == n) _ _ _ _ (size_of-all (bodies_of ps n) (counting_of ps n) (same-frames ps n) (λ o c at j. size-call_block n o c at j) (λ g b there j. size-call_standard n g b there j) (call_owner a places) 0 (function_body (slice_index_or ps n nothing)) k) (size-call_standard n f a places k)
+    size-call : (n f a : ℕ) (places : List ℕ) (k : ℕ) → size ((bodies_of ps n).call_list f a places k) ≡ (counting_of ps n).bodies f
+    size-call zero f a places k = refl
+    size-call (suc n) f a places k =
+        size-if (f == n) _ _ _ _ (size_of-all (bodies_of ps n) (counting_of ps n) (same-frames ps n) (λ o c at j. size-run n o c at j) (λ g b there j. size-call n g b there j) (call_owner a places) 0 (function_body (slice_index_or ps n nothing)) k) (size-call n f a places k)
 
 -- ---- counts that are the same up to the limit give counts that are
 
@@ -314,7 +314,7 @@ is_short-count p body runs bodies ps n counts are called same =
     let m = length p.called in
     let equal : n ≡ capped (count_of_all (counting_of p.called m) p.body)
     = counts ∙ counts-same runs bodies ps (length ps) are body ∙ ap (λ q. capped (count_of_all (counting_of q (length q)) body)) called ∙ ap (λ b. capped (count_of_all (counting_of p.called m) b)) same in
-    let whole = size_of-all (bodies_in p) (counting_of p.called m) (same-frames p.called m) (λ o b base k. size-call_block p.called m o b base k) (λ f a places k. size-call_standard p.called m f a places k) program_owner 0 p.body (length p.cells) in
+    let whole = size_of-all (bodies_in p) (counting_of p.called m) (same-frames p.called m) (λ o b base k. size-run p.called m o b base k) (λ f a places k. size-call p.called m f a places k) program_owner 0 p.body (length p.cells) in
     rw (equal, whole) (below_the_limit (count_of_all (counting_of p.called m) p.body))
 
 -- ---- the counts of POUs, one after the other
@@ -379,9 +379,9 @@ capped_right a b = grind (arith, nat_tests)
 capped_both : (a b : ℕ) → capped (capped a + capped b) ≡ capped (a + b)
 capped_both a b = grind (arith, nat_tests)
 
-pub call_function-counted : (whole before rest others body at x y z b : ℕ) → whole ≡ capped (before + rest) → before ≡ capped x → rest ≡ capped (others + body) → others ≡ capped y → body ≡ capped (1 + at) → at ≡ capped b → y ≡ z
+pub answer-counted : (whole before rest others body at x y z b : ℕ) → whole ≡ capped (before + rest) → before ≡ capped x → rest ≡ capped (others + body) → others ≡ capped y → body ≡ capped (1 + at) → at ≡ capped b → y ≡ z
     → whole ≡ capped (x + (z + (1 + b)))
-call_function-counted whole before rest others body at x y z b is_whole is_before is_rest is_others is_body is_at same =
+answer-counted whole before rest others body at x y z b is_whole is_before is_rest is_others is_body is_at same =
     let body_counted : body ≡ capped (1 + b) = is_body ∙ ap (λ (n : ℕ). capped (1 + n)) is_at ∙ capped_right 1 b in
     let rest_counted : rest ≡ capped (y + (1 + b)) = is_rest ∙ ap (λ (n : ℕ). capped (n + body)) is_others ∙ ap (λ (n : ℕ). capped (capped y + n)) body_counted ∙ capped_both y (1 + b) in
     is_whole ∙ ap (λ (n : ℕ). capped (n + rest)) is_before ∙ ap (λ (n : ℕ). capped (capped x + n)) rest_counted ∙ capped_both x (y + (1 + b)) ∙ ap (λ (n : ℕ). capped (x + (n + (1 + b)))) same

@@ -64,9 +64,9 @@ module _ (idle : ℕ → Bool) where
         let each_holds = and_parts (is_idle idle t) (is_idle_all idle ts) h in
         ap (λ (u : State). effect_of_all callees rs base ts u) (one-effect base t s each_holds.0) ∙ all-effect base ts s each_holds.1
 
-    call_block-effect : (q : CalledData) (base : ℕ) (s : State) → is_idle_all idle (block_body q) ≡ true → effect_of_run callees q rs base s ≡ s
-    call_block-effect (block body) base s h = all-effect base body s h
-    call_block-effect (function types ranges start body) base s h = refl
+    run-effect : (q : CalledData) (base : ℕ) (s : State) → is_idle_all idle (block_body q) ≡ true → effect_of_run callees q rs base s ≡ s
+    run-effect (block body) base s h = all-effect base body s h
+    run-effect (function types ranges start body) base s h = refl
 
 -- ---- POUs, each of which runs those before it
 
@@ -94,7 +94,7 @@ module _ (ps : List CalledData) where
 
   next-effect : (n : ℕ) (rs : List Range) (each : (b base : ℕ) (s : State) → idle_of ps n b ≡ true → (callees_of ps n).runs b rs base s ≡ s) (b base : ℕ) (s : State) (test : Bool) → IdleBody n b test
       → (if test then effect_of_run (callees_of ps n) (slice_index_or ps n nothing) rs base s else (callees_of ps n).runs b rs base s) ≡ s
-  next-effect n rs each b base s true h = call_block-effect (idle_of ps n) (callees_of ps n) rs each (slice_index_or ps n nothing) base s h
+  next-effect n rs each b base s true h = run-effect (idle_of ps n) (callees_of ps n) rs each (slice_index_or ps n nothing) base s h
   next-effect n rs each b base s false h = each b base s h
 
   pub idle-effect : (n : ℕ) (rs : List Range) (b base : ℕ) (s : State) → idle_of ps n b ≡ true → (callees_of ps n).runs b rs base s ≡ s
@@ -110,4 +110,4 @@ module _ (ps : List CalledData) where
   idle_body-list n owner base ts k h = all-list (idle_of ps n) (bodies_of ps n) owner (idle-list n owner) base ts k h
 
   pub idle_body-effect : (n : ℕ) (rs : List Range) (q : CalledData) (base : ℕ) (s : State) → is_idle_all (idle_of ps n) (block_body q) ≡ true → effect_of_run (callees_of ps n) q rs base s ≡ s
-  idle_body-effect n rs q base s h = call_block-effect (idle_of ps n) (callees_of ps n) rs (idle-effect n rs) q base s h
+  idle_body-effect n rs q base s h = run-effect (idle_of ps n) (callees_of ps n) rs (idle-effect n rs) q base s h

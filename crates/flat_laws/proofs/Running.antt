@@ -20,7 +20,7 @@ use Rattle.flat_form.specs.Frames.{whole_cell}
 use Rattle.flat_form.specs.FlatLists.{repeated, scratch_of, scratch_of_all, scratch_of_choices, scratch_of_entries, unrolled, flat_of, flat_of_all, flat_choices, flat_entries}
 use Rattle.flat_form.specs.WellTyped.{IsOwnPlace, IsTyped, AreTyped, AreTypedChoices, AreTypedEntries, AreTypedActions}
 use Rattle.flat_laws.proofs.Shown.{held, Owns, Shows, Ran, Done, SameUpTo, Evaluated, Stands, BlockRuns, Owns-later, Ran-none, Ran-both, Ran-with_fault, Ran-scratch, Ran-kept, Shows-with_fault, Shows-scratch, Shows-kept, Done-stored}
-use Rattle.flat_laws.proofs.Sequences.{call_block-append, Stands-front, Stands-back}
+use Rattle.flat_laws.proofs.Sequences.{run-append, Stands-front, Stands-back}
 use Rattle.scan_model.proofs.Keeping.{HoldsFault, fault_added, kept_by_store, kept_by_statement, kept_by_all}
 use Rattle.flat_laws.proofs.LabelLemmas.{is_truth-number_of, labels_test-fault, labels_test-value}
 use Rattle.flat_laws.proofs.TurnValues.{stay_from, tested_fits, first-fits, later-fit}
@@ -122,7 +122,7 @@ module _ (rs : List Range) (cs : List Scratch) (own : List Range) (tested : ℕ 
       let rest = done_turns n c (v +ℤ step) step made body effect own_place (later-fit (tested c) n v step (range_at own c) fits) keeps (λ more. each (omega arith)) (k + m) f (effect s1) x2
       (Owns-later rs cs own tested owner k (k + m) (omega arith) owns) one.shown (keeps s1 range1) (omega arith) some (omega arith) (Stands-back rs cs k made (repeated n made) stands) in
       let all = Done-both (length own) k k owner f s1 (effect s1) x x1 x2 (omega arith) begun one in
-      subst (λ z. Done (length own) k owner f (effect_of_turns own (suc n) c v step effect s) x z) (sym (call_block-append rs cs (body k) (unrolled n (owner c) (v +ℤ step) step m body (k + m)) x1))
+      subst (λ z. Done (length own) k owner f (effect_of_turns own (suc n) c v step effect s) x z) (sym (run-append rs cs (body k) (unrolled n (owner c) (v +ℤ step) step m body (k + m)) x1))
       (Done-both (length own) k (k + m) owner f (effect s1) (effect_of_turns own n c (v +ℤ step) step effect (effect s1)) x x2 _ (omega arith) all rest)
 
   module _ (bodies : Bodies) (callees : Callees) (MayCall MayRun : ℕ → ℕ → Type 0) (extents : ℕ → ℕ)
@@ -151,7 +151,7 @@ module _ (rs : List Range) (cs : List Scratch) (own : List Range) (tested : ℕ 
         let fits : (tested c || in_range v (range_at own c)) ≡ true = tested_fits (tested c) _ _ typed.2 (λ h. stays base e (range_at own c) s h typed.1 range) in
         let ended = Done-stored rs cs own tested owner k f c v s1 y1 owns typed.0.0 typed.0.1 (omega arith) fits begun.shown in
         let all : Done n k owner f (stored own c v s1) x (placed rs cs (owner c) v y1) = Done-both n k k owner f s1 (stored own c v s1) x y1 _ (omega arith) begun ended in
-        subst (λ z. Done n k owner f (stored own c v s1) x z) (sym (call_block-append rs cs (before bodies owner base e k) (set (owner c) left ∷ []) x))
+        subst (λ z. Done n k owner f (stored own c v s1) x z) (sym (run-append rs cs (before bodies owner base e k) (set (owner c) left ∷ []) x))
         (subst (λ w. Done n k owner f (stored own c v s1) x (placed rs cs (owner c) w y1)) (sym same) all)
 
     module _ (done_chart : ChartsRun rs cs bodies callees MayCall MayRun extents own tested owner) where
@@ -197,7 +197,7 @@ module _ (rs : List Range) (cs : List Scratch) (own : List Range) (tested : ℕ 
             let ended = done_entries base v kind j es typed.1 (j + 1) f s1 z owns_after shown range1 (omega arith) some (omega arith) (Stands-front rs cs (j + 1) made last stands_after) held_now m (flat_of_all bodies owner base other m) (effect_of_all callees own base other) (omega arith) behind in
             let answer_state = effect_of_entries callees own base v es (effect_of_all callees own base other) s1 in
             let all : Done n k owner f answer_state x (run_of_all rs cs (flats_of rest) z) = Done-both n k (j + 1) owner f s1 answer_state x z _ (omega arith) kept ended in
-            subst (λ u. Done n k owner f answer_state x u) (sym (call_block-append rs cs (before bodies owner base e k) (set j left ∷ rest) x))
+            subst (λ u. Done n k owner f answer_state x u) (sym (run-append rs cs (before bodies owner base e k) (set j left ∷ rest) x))
             (subst (λ w. Done n k owner f answer_state x (run_of_all rs cs (flats_of rest) (placed rs cs j w y1))) (sym same)
             (subst (λ u. Done n k owner f answer_state x (run_of_all rs cs (flats_of rest) u)) (sym free) all))
         done_statement base (repeat turns body) typed k f s x owns shows range le some room stands =
@@ -218,7 +218,7 @@ module _ (rs : List Range) (cs : List Scratch) (own : List Range) (tested : ℕ 
             let one = done_statement base t typed.0 k f s x owns shows range le some (omega arith) (Stands-front rs cs k made later stands) in
             let long = one.ran.long in
             let rest = done_each base ts typed.1 m f s1 y (Owns-later rs cs own tested owner k m (omega arith) owns) one.shown (kept_by_statement own first callees calls base t s range) (omega arith) some (omega arith) (Stands-back rs cs k made later stands) in
-            subst (λ z. Done (length own) k owner f (effect_of_all callees own base ts s1) x z) (sym (call_block-append rs cs (flat_of bodies owner base t k) (flat_of_all bodies owner base ts m) x))
+            subst (λ z. Done (length own) k owner f (effect_of_all callees own base ts s1) x z) (sym (run-append rs cs (flat_of bodies owner base t k) (flat_of_all bodies owner base ts m) x))
             (Done-both (length own) k m owner f s1 (effect_of_all callees own base ts s1) x y _ (omega arith) one rest)
 
         -- behind the conditions stands what else runs, whose scratch cells begin at m
@@ -253,7 +253,7 @@ module _ (rs : List Range) (cs : List Scratch) (own : List Range) (tested : ℕ 
             let others_all = Done-both n k i owner f s1 _ x y1 _ (omega arith) begun others in
             let test = is_truth (value_of callees base e s) in
             let both_ways = Done-if n k owner f test _ _ x _ _ here_all others_all in
-            subst (λ z. Done n k owner f (effect_of_choices callees own base (choose e ss arms) other s) x z) (sym (call_block-append rs cs (before bodies owner base e k) _ x))
+            subst (λ z. Done n k owner f (effect_of_choices callees own base (choose e ss arms) other s) x z) (sym (run-append rs cs (before bodies owner base e k) _ x))
             (subst (λ v. Done n k owner f (effect_of_choices callees own base (choose e ss arms) other s) x (if is_truth v then run_of_all rs cs (flats_of (flat_of_all bodies owner base ss j)) y1 else run_of_all rs cs (flats_of (nested (flat_choices bodies owner base arms i) rest)) y1)) (sym same) both_ways)
 
         done_entries : (base : ℕ) (v : ℤ) (kind : Elementary) (t : ℕ) (es : Entries) → AreTypedEntries bodies.frame MayCall MayRun extents own tested base es → (k : ℕ) (f : ℤ) (s x : State) → Owns rs cs own tested owner k → Shows (length own) owner f s x → IsInRange own s → length rs ≤ k → 0 < length rs → k + length (scratch_of_entries bodies es) ≤ length x → Stands rs cs k (scratch_of_entries bodies es)

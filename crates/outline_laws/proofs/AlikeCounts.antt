@@ -6,7 +6,7 @@ use Rattle.std.proofs.lemmas.List.{length-map, map-set}
 use Rattle.plc_types.specs.declared.data_type.DataType.{DataType}
 use Rattle.plc_types.specs.declared.operator.UnaryOperator.{UnaryOperator}
 use Rattle.plc_types.specs.declared.function.StandardFunction.{StandardFunction}
-use Rattle.program_tree.specs.Tree.{Expression, number, answer, Expressions, Statement, assign as typed_assign, Statements, statement}
+use Rattle.program_tree.specs.Tree.{Expression, number, call_function, Expressions, Statement, assign as typed_assign, Statements, statement}
 use Rattle.program_tree.specs.View.{expressions_of, actions_of as actions_from}
 use Rattle.source_tree.specs.declared.syntax.Literal.{Literal}
 use Rattle.source_tree.specs.Syntax.{Named, Tree, literal, path, enumerator, paren, unary, chain, call, Links, no_links, link, Arguments, no_arguments, argument, ConnectionData, input, output, empty, assign, invoke, branch, cases, iterate, Stmts, no_stmts, stmt, Arms, no_arms, arm, Entries, no_entries, entry, Otherwise, no_else, else_stmts, ChartTransitionData, ChartActionData, PartData, BodyData, statements, chart as chart_body, FileData}
@@ -76,7 +76,7 @@ module _ (c : Counting) where
   abbrev by_counts : ℕ → List ℕ → ℕ
   by_counts f ns = inputs_by (c.frame f) 2 ns + (others_behind (c.frame f) (length ns) + (1 + c.bodies f))
 
-  answer_by : (f : ℕ) (es : List Expression) → count_in c (answer f (expressions_of es)) ≡ by_counts f (map (count_in c) es)
+  answer_by : (f : ℕ) (es : List Expression) → count_in c (call_function f (expressions_of es)) ≡ by_counts f (map (count_in c) es)
   answer_by f es = λ i. in_inputs (c.frame f) 2 es i + (others_behind (c.frame f) (arity_by es i) + (1 + c.bodies f))
 
   -- what is given counts, at its place
@@ -91,7 +91,7 @@ module _ (c : Counting) where
   placed_by es [] = refl
   placed_by es (g ∷ gs) = placed_by (set es g.0 g.1) gs ∙ ap (λ (ns : List ℕ). placed_counts ns (map given_count gs)) (map-set (count_in c) es g.0 g.1)
 
-  answer_placed : (f : ℕ) (es : List Expression) (gs : List PlacedData) → count_in c (answer f (expressions_of (placed es gs))) ≡ by_counts f (placed_counts (map (count_in c) es) (map given_count gs))
+  answer_placed : (f : ℕ) (es : List Expression) (gs : List PlacedData) → count_in c (call_function f (expressions_of (placed es gs))) ≡ by_counts f (placed_counts (map (count_in c) es) (map given_count gs))
   answer_placed f es gs = answer_by f (placed es gs) ∙ ap (by_counts f) (placed_by es gs)
 
   same_answer : (o : Option Signature) (gs hs : Signature → List PlacedData) → ((g : Signature) → o ≡ Some g → map given_count (gs g) ≡ map given_count (hs g)) → count_in c (typed_answer o gs) ≡ count_in c (typed_answer o hs)

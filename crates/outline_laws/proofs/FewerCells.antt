@@ -3,7 +3,7 @@
 use Rattle.std.proofs.Common.{◌≡◌, ◌≤◌, ◌⊎◌, ℕ, zero, suc, ◌+◌, ◌-◌, ◌*◌, List, [], ◌∷◌, length, arith, inl, inr}
 use Rattle.std.proofs.lemmas.Bool.Decides.{nat_tests}
 use Rattle.program_tree.specs.declared.typed.Association.{Association}
-use Rattle.program_tree.specs.Tree.{Expression, number, cell, unary, chain, call, answer, Operands, no_operands, operand, Expressions, no_expressions, expression, Statement, assign, run, choice, cases, repeat, chart, Statements, no_statements, statement, Choices, no_choices, choose, Entries, no_entries, entry, TransitionData, Actions, no_actions, action}
+use Rattle.program_tree.specs.Tree.{Expression, number, cell, unary, chain, call_standard, call_function, Operands, no_operands, operand, Expressions, no_expressions, expression, Statement, assign, call_block, choice, cases, repeat, chart, Statements, no_statements, statement, Choices, no_choices, choose, Entries, no_entries, entry, TransitionData, Actions, no_actions, action}
 use Rattle.flat_form.specs.Frames.{FrameData, others_behind}
 use Rattle.flat_form.specs.Calls.{arity}
 use Rattle.flat_count.specs.Counts.{Counting, count_of_start, count_in, count_in_operands, count_in_all, count_in_inputs, count_of_latches, count_of_transition, count_of_transitions, count_of_associated, count_of, count_of_all, count_of_choices, count_of_entries, count_of_actions, capped}
@@ -70,8 +70,8 @@ module _ (a b : Counting) (no_others : (f inputs : ℕ) → others_behind (a.fra
     less_in (cell place) = none
     less_in (unary o t e) = less_in e
     less_in (chain e os) = sum _ _ _ _ (less_in e) (less_operands os)
-    less_in (call f t es) = less_values es
-    less_in (answer f es) = less_answer f es (calls f) (less_inputs f 2 es)
+    less_in (call_standard f t es) = less_values es
+    less_in (call_function f es) = less_answer f es (calls f) (less_inputs f 2 es)
 
     less_operands : (os : Operands) → capped (count_in_operands a os) ≤ count_in_operands b os
     less_operands no_operands = none
@@ -99,7 +99,7 @@ module _ (a b : Counting) (no_others : (f inputs : ℕ) → others_behind (a.fra
   mutual
     less_statement : (t : Statement) → capped (count_of a t) ≤ count_of b t
     less_statement (assign target e) = sum _ 1 _ 1 (less_in e) (same 1)
-    less_statement (run k offset) = runs k
+    less_statement (call_block k offset) = runs k
     less_statement (choice arms other) = sum _ _ _ _ (less_choices arms) (less_of other)
     less_statement (cases kind e es other) = sum _ _ _ _ (sum _ _ _ _ (sum _ 1 _ 1 (less_in e) (same 1)) (less_entries es)) (less_of other)
     less_statement (repeat turns body) = turns-less turns.count (count_of_all a body) (count_of_all b body) (less_of body)

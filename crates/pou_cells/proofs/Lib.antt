@@ -1,3 +1,4 @@
 pub mod ToldLemmas
 pub mod TableLemmas
+pub mod PlacedLemmas
 pub mod SizeLemmas

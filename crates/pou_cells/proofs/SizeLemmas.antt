@@ -1,16 +1,19 @@
 -- Sizes that no number of 64 bits passes.
-use Rattle.std.proofs.Common.{◌≡◌, ℕ, zero, suc, ◌+◌, ◌-◌, ◌^◌, ◌<◌, ◌≤◌, min, Bool, true, false, ltb, leb, ◌&&◌, if◌then◌else◌, List, [], ◌∷◌, length, map, replicate, set, get_or, Option, Some, None, Result, Ok, Err, refl, sym, ap, ◌∙◌, arith, ⊎_elim, add_comm}
-use Rattle.std.specs.Prelude.{nat_lt, nat_le, IfOk}
-use Rattle.std.specs.List.{list_all}
+use Rattle.std.proofs.Common.{◌≡◌, ℕ, zero, suc, ◌+◌, ◌-◌, ◌^◌, ◌<◌, ◌≤◌, min, Bool, true, false, ltb, leb, ◌&&◌, if◌then◌else◌, List, [], ◌∷◌, length, map, replicate, set, get_or, Option, Some, None, refl, sym, ap, ◌∙◌, arith, ⊎_elim, add_comm}
+use Rattle.std.specs.Prelude.{nat_lt, nat_le, ◌==◌}
+use Rattle.std.specs.List.{AllByRecursion}
 use Rattle.std.proofs.Math.Nat.{min-eq_left, min-eq_right}
 use Rattle.std.proofs.Math.ListN.{get_or-map as get_or-mapped}
 use Rattle.std.proofs.lemmas.List.{map-set}
 use Rattle.std.proofs.lemmas.Bool.{cases_lt, lt-ltb, le-ltb, le-leb, lt-leb, ltb-true, and_parts}
-use Rattle.source_tree.specs.Syntax.{FileData}
+use Rattle.source_tree.specs.Syntax.{PouKindData, function, function_block, program, FileData}
 use Rattle.naming.specs.Scopes.{is_step}
-use Rattle.typing.specs.Places.{has_cell, size_among, count_of_cells, variables_at, sizes_along}
+use Rattle.typing.specs.declared.next.Next.{Next}
+use Rattle.typing.specs.declared.member.Member.{Member}
+use Rattle.typing.specs.Places.{has_cell, is_front, size_among, count_of_cells, variables_at, sizes_along}
 use Rattle.decl_types.specs.Told.{ToldData}
-use Rattle.pou_cells.specs.ToldPlaces.{told_at, told_cells, told_count}
+use Rattle.pou_cells.specs.ToldPlaces.{told_at, told_cells, told_count, told_front, told_first_places, told_first_place, told_places_behind}
+use Rattle.pou_cells.specs.ToldMembers.{told_member, told_members_from, told_members}
 use Rattle.pou_cells.specs.Placing.{capped, capped_cells, capped_along}
 use Rattle.pou_cells.proofs.ToldLemmas.{told_count-is}
 
@@ -119,20 +122,70 @@ room_of c n is =
     (λ (x : 4096 ≤ c). le-ltb n 4096 (many c n is x) ∙ sym (lt-leb (1 + c) 4096 (omega (arith, x))))
     (cases_lt c 4096)
 
--- sizes of which each stands for itself alone
-exact : (n : ℕ) → nat_lt (capped n) (2 ^ 64 - 1) ≡ true → capped n ≡ n
-exact n small =
-    ⊎_elim (λ (x : n < 2 ^ 64 - 1). capped_small n x)
-    (λ (x : 2 ^ 64 - 1 ≤ n). let same = capped_great n x in let below : capped n < 2 ^ 64 - 1 = ltb-true (capped n) (2 ^ 64 - 1) small in absurd (omega (arith, same, below)))
-    (cases_lt n (2 ^ 64 - 1))
+-- ---- the cells of POUs that are few stand for themselves
 
-pub all_exact : (s : List ℕ) → list_all (λ (n : ℕ). nat_lt n (2 ^ 64 - 1)) (map capped s) ≡ true → map capped s ≡ s
-all_exact [] all = refl
-all_exact (n ∷ s) all =
-    let both = and_parts (nat_lt (capped n) (2 ^ 64 - 1)) (list_all (λ (m : ℕ). nat_lt m (2 ^ 64 - 1)) (map capped s)) all in
-    rw (exact n both.0) (ap (λ (l : List ℕ). n ∷ l) (all_exact s both.1))
+abbrev pub IsExact : List ℕ → ToldData → Type 0
+IsExact s t = told_cells (map capped s) t ≡ told_cells s t
 
--- what is said of a result twice
-pub on_both : {A E : Type 0} → (r : Result A E) (P Q R : A → Type 0) → ((a : A) → P a → Q a → R a) → IfOk r P → IfOk r Q → IfOk r R
-on_both (Ok a) P Q R f p q = f a p q
-on_both (Err e) P Q R f p q = p
+pub exact_told : (s : List ℕ) (ts : List ToldData) → told_count s ts ≤ 16777216 → AllByRecursion (IsExact s) ts
+exact_told s [] few = tt
+exact_told s (t ∷ ts) few = (capped_taken s t ∙ capped_small (told_cells s t) (omega (arith, few)), exact_told s ts (omega (arith, few)))
+
+count_exact : (s : List ℕ) (o : Bool) (ts : List ToldData) → AllByRecursion (IsExact s) ts → told_count (map capped s) (told_front o ts) ≡ told_count s (told_front o ts)
+count_exact s o [] all = refl
+count_exact s o (t ∷ ts) all = by (is_front o t.role) (count_exact s o ts all.1)
+  where
+    by : (b : Bool) → told_count (map capped s) (told_front o ts) ≡ told_count s (told_front o ts)
+        → told_count (map capped s) (if b then t ∷ told_front o ts else told_front o ts) ≡ told_count s (if b then t ∷ told_front o ts else told_front o ts)
+    by true rest = λ i. all.0 i + rest i
+    by false rest = rest
+
+pub first_exact : (s : List ℕ) (kind : PouKindData) (ts : List ToldData) → AllByRecursion (IsExact s) ts → told_first_places (map capped s) kind ts ≡ told_first_places s kind ts
+first_exact s (function t) ts all = ap (λ (n : ℕ). record { of_function = true; front = 1; rest = 1 + n }) (count_exact s true ts all)
+first_exact s function_block ts all = ap (λ (n : ℕ). record { of_function = false; front = 0; rest = 0 + n }) (count_exact s false ts all)
+first_exact s program ts all = ap (λ (n : ℕ). record { of_function = false; front = 1; rest = 1 + n }) (count_exact s false ts all)
+
+pub behind_exact : (s : List ℕ) (next : Next) (t : ToldData) → IsExact s t → told_places_behind (map capped s) next t ≡ told_places_behind s next t
+behind_exact s next t same = by (is_front next.of_function t.role)
+  where
+    by : (b : Bool) → (if b then record { of_function = next.of_function; front = next.front + told_cells (map capped s) t; rest = next.rest } else record { of_function = next.of_function; front = next.front; rest = next.rest + told_cells (map capped s) t })
+        ≡ (if b then record { of_function = next.of_function; front = next.front + told_cells s t; rest = next.rest } else record { of_function = next.of_function; front = next.front; rest = next.rest + told_cells s t })
+    by true = λ i. record { of_function = next.of_function; front = next.front + same i; rest = next.rest }
+    by false = λ i. record { of_function = next.of_function; front = next.front; rest = next.rest + same i }
+
+members_exact : (s : List ℕ) (next : Next) (ts : List ToldData) → AllByRecursion (IsExact s) ts → told_members_from (map capped s) next ts ≡ told_members_from s next ts
+members_exact s next [] all = refl
+members_exact s next (t ∷ ts) all =
+    ap (λ (ms : List Member). told_member (told_first_place next t) t ∷ ms)
+    (ap (λ (n : Next). told_members_from (map capped s) n ts) (behind_exact s next t all.0) ∙ members_exact s (told_places_behind s next t) ts all.1)
+
+pub all_exact : (s : List ℕ) (kind : PouKindData) (ts : List ToldData) → AllByRecursion (IsExact s) ts → told_members (map capped s) kind ts ≡ told_members s kind ts
+all_exact s kind ts all = ap (λ (n : Next). told_members_from (map capped s) n ts) (first_exact s kind ts all) ∙ members_exact s (told_first_places s kind ts) ts all
+
+-- a block without cells is one by its capped size
+pub none_capped : (s : List ℕ) (b : ℕ) → (size_among (map capped s) (Some b) == 0) ≡ (size_among s (Some b) == 0)
+none_capped s b = ap (λ (n : ℕ). n == 0) (capped_size s (Some b)) ∙ by (size_among s (Some b))
+  where
+    by : (n : ℕ) → (capped n == 0) ≡ (n == 0)
+    by zero = refl
+    by (suc n) = ⊎_elim (λ (x : suc n < 2 ^ 64 - 1). ap (λ (m : ℕ). m == 0) (capped_small (suc n) x)) (λ (x : 2 ^ 64 - 1 ≤ suc n). ap (λ (m : ℕ). m == 0) (capped_great (suc n) x)) (cases_lt (suc n) (2 ^ 64 - 1))
+
+-- a size that stands for no greater one
+pub word_exact : (s : List ℕ) (t : ToldData) → told_cells (map capped s) t < 2 ^ 64 - 1 → IsExact s t
+word_exact s t small =
+    let same = capped_taken s t in
+    ⊎_elim (λ (x : told_cells s t < 2 ^ 64 - 1). same ∙ capped_small (told_cells s t) x)
+    (λ (x : 2 ^ 64 - 1 ≤ told_cells s t). let great = capped_great (told_cells s t) x in absurd (omega (arith, same, great, small)))
+    (cases_lt (told_cells s t) (2 ^ 64 - 1))
+
+-- ---- which POUs are few
+
+pub many_cells : (c n : ℕ) → n ≡ capped c → 16777216 < n → nat_le c 16777216 ≡ false
+many_cells c n is many =
+    ⊎_elim (λ (x : c < 2 ^ 64 - 1). lt-leb c 16777216 (let same = is ∙ capped_small c x in omega (arith, same, many))) (λ (x : 2 ^ 64 - 1 ≤ c). lt-leb c 16777216 (omega (arith, x)))
+    (cases_lt c (2 ^ 64 - 1))
+
+pub few_cells : (c n : ℕ) → n ≡ capped c → n ≤ 16777216 → c ≤ 16777216
+few_cells c n is few =
+    ⊎_elim (λ (x : c < 2 ^ 64 - 1). let same = is ∙ capped_small c x in omega (arith, same, few)) (λ (x : 2 ^ 64 - 1 ≤ c). let same = is ∙ capped_great c x in absurd (omega (arith, same, few)))
+    (cases_lt c (2 ^ 64 - 1))

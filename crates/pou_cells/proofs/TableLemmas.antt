@@ -21,6 +21,8 @@ use Rattle.decl_types.specs.ToldView.{told_view}
 use Rattle.pou_cells.specs.PouTables.{all_members, all_ports}
 use Rattle.pou_cells.specs.ToldPlaces.{told_at}
 use Rattle.pou_cells.specs.ToldMembers.{all_told}
+use Rattle.pou_cells.specs.Placing.{placed_in, all_placed, placed_at}
+use Rattle.pou_cells.proofs.PlacedLemmas.{placed_items}
 use Rattle.typing_laws.proofs.NamedLemmas.{IsFound, found_is, not_found_is}
 
 -- what is left from a number on begins with what stands there
@@ -140,3 +142,10 @@ pub one_told_more : (f : FileData) (vs : List (Vec Told Global)) (v : Vec Told G
     → map told_items vs ++ map (told_in_pou f) (drop k (pous_of f)) ≡ all_told f → map told_items (vs ++ v ∷ []) ++ map (told_in_pou f) (drop (k + 1) (pous_of f)) ≡ all_told f
 one_told_more f vs v k below is known =
     one_more told_items (told_in_pou f) f vs v k (all_told f) (pou_at f k) refl below (λ p there. is ∙ ap (λ o. told_in f (variables_in o)) there) known
+
+-- ---- the variables of POUs at their places
+
+pub one_placed_more : (f : FileData) (vs : List (Option (Vec Member Global))) (v : Option (Vec Member Global)) (k : ℕ) → k < length (pous_of f) → placed_items v ≡ placed_at f k
+    → map placed_items vs ++ map (placed_in f) (drop k (pous_of f)) ≡ all_placed f → map placed_items (vs ++ v ∷ []) ++ map (placed_in f) (drop (k + 1) (pous_of f)) ≡ all_placed f
+one_placed_more f vs v k below is known =
+    one_more placed_items (placed_in f) f vs v k (all_placed f) (pou_at f k) refl below (λ p there. is ∙ ap (option_and_then (placed_in f)) there) known

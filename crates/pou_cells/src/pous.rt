@@ -9,22 +9,22 @@ ghost use Rattle.pou_cells.specs.PouTables.{all_members, all_ports};
 ghost use Rattle.pou_cells.specs.ToldMembers.{all_told};
 
 use crate::block_members::{port_of, ports_of, seen_from};
+use crate::named_members::member_bound;
 use crate::reached::reached_order;
 use crate::tables::{all_members, all_told, told_of_pou};
 use decl_types::{Domains, Told, function_number, pou_at};
 use plc_types::DataType;
 use source_tree::{Name, Pou, PouKind};
-use st_names::{Bound, Resolved};
+use st_names::Resolved;
 use std::alloc::{AllocError, Global};
 use typing::{Instance, Meaning, Member, Port, Signature};
 
-/// The POUs of a file, by their numbers: what is told of the variables of each, these at their places where blocks have these sizes, and
-/// its inputs; which are reached, in an order in which each stands behind those that it uses, which of these may be called, and the
-/// number of each among them.
+/// The POUs of a file, by their numbers: what is told of the variables of each, these at their places where each block counts as one
+/// without cells, and its inputs; which are reached, in an order in which each stands behind those that it uses, which of these may be
+/// called, and the number of each among them.
 #[derive(Drop)]
 pub struct Pous<'p> {
     pub domains: Domains<'p>,
-    pub sizes: Vec<usize>,
     pub reached: Vec<usize>,
     pub called: Vec<usize>,
     numbers: Vec<usize>,
@@ -35,8 +35,8 @@ pub struct Pous<'p> {
     ghost ordered: { called.items ≡ called_order (file_in domains) },
     ghost numbered: { numbers.items ≡ numbers_of (file_in domains) },
     ghost judged: { map (λ v. map told_view v.items) told.items ≡ all_told (file_in domains) },
-    ghost known: { map (λ v. v.items) members.items ≡ all_members (file_in domains) sizes.items },
-    ghost given: { map (λ v. v.items) ports.items ≡ all_ports (file_in domains) sizes.items },
+    ghost known: { map (λ v. v.items) members.items ≡ all_members (file_in domains) [] },
+    ghost given: { map (λ v. v.items) ports.items ≡ all_ports (file_in domains) [] },
 }
 
 // Whether a POU is a FUNCTION or a FUNCTION_BLOCK.
@@ -129,19 +129,13 @@ fn result_of(members: &[Member]) -> Port
 }
 
 impl<'p> Pous<'p> {
-    ghost use Rattle.std.specs.Prelude.{◌-◌, ℕ, List, option_and_then};
-    ghost use Rattle.std.specs.List.{slice_get};
     ghost use Rattle.source_tree.specs.SyntaxView.{name_view, names_view};
-    ghost use Rattle.naming.specs.FileScope.{pou_at};
-    ghost use Rattle.naming.specs.Scopes.{variables_in_pou};
-    ghost use Rattle.st_names.specs.Bound.{bound_named};
     ghost use Rattle.pou_cells.specs.ToldPlaces.{told_at};
     ghost use Rattle.typing.specs.Members.{member_at, members_at, called_number, signature_of, signature_at, instance_of, in_instance, meant_by};
 
-    /// The POUs of a file whose names are bound. Each block counts as one without cells.
+    /// The POUs of a file whose names are bound.
     pub fn new(alloc: Global, names: &'p Resolved<'p>) -> Result<Pous<'p>, AllocError>
-        ensures file { IfOk result (λ s. file_in s.domains ≡ file_view names.now.file.now) }
-        ensures sizes { IfOk result (λ s. s.sizes.items ≡ []) }
+        ensures { IfOk result (λ s. file_in s.domains ≡ file_view names.now.file.now) }
     {
         let domains = Domains::new(alloc, names)?;
         let reached = reached_order(alloc, domains.types.names)?;
@@ -150,39 +144,8 @@ impl<'p> Pous<'p> {
         let told = all_told(alloc, &domains)?;
         let members = all_members(alloc, &domains, &[], &told)?;
         let ports = all_ports(alloc, &members)?;
-        let sizes = Vec::new(alloc);
         Ok(Pous {
             domains,
-            sizes,
-            reached,
-            called,
-            numbers,
-            told,
-            members,
-            ports,
-        })
-    }
-
-    /// The same POUs, where blocks have these sizes.
-    pub(crate) fn with_sizes(self, alloc: Global, sizes: Vec<usize>) -> Result<Pous<'p>, AllocError>
-        ensures file { IfOk result (λ s. file_in s.domains ≡ file_in self.entry.domains) }
-        ensures sizes { IfOk result (λ s. s.sizes.items ≡ sizes.items) }
-    {
-        let members = all_members(alloc, &self.domains, &sizes, &self.told)?;
-        let ports = all_ports(alloc, &members)?;
-        let Pous {
-            domains,
-            sizes: _,
-            reached,
-            called,
-            numbers,
-            told,
-            members: _,
-            ports: _,
-        } = self;
-        Ok(Pous {
-            domains,
-            sizes,
             reached,
             called,
             numbers,
@@ -201,7 +164,7 @@ impl<'p> Pous<'p> {
 
     /// The variables of a POU by its number.
     pub(crate) fn members_at(&self, number: usize) -> &[Member]
-        ensures { result.now ≡ members_at (file_in self.now.domains) self.now.sizes.items number }
+        ensures { result.now ≡ members_at (file_in self.now.domains) [] number }
     {
         match self.members.get(number) {
             None => &[],
@@ -211,7 +174,7 @@ impl<'p> Pous<'p> {
 
     /// The inputs of a POU by its number.
     pub(crate) fn ports_at(&self, number: usize) -> &[Port]
-        ensures { result.now ≡ ports_of (members_at (file_in self.now.domains) self.now.sizes.items number) }
+        ensures { result.now ≡ ports_of (members_at (file_in self.now.domains) [] number) }
     {
         match self.ports.get(number) {
             None => &[],
@@ -219,38 +182,20 @@ impl<'p> Pous<'p> {
         }
     }
 
-    // The variable of a number in declared order, from 1, of the POU of a number.
-    fn numbered(&self, number: usize, place: usize) -> Option<Member>
-        ensures { result ≡ slice_get (members_at (file_in self.now.domains) self.now.sizes.items number) (place - 1) }
-    {
-        match self.members_at(number).get(place.saturating_sub(1)) {
-            None => None,
-            Some(member) => Some(*member),
-        }
-    }
-
-    // The variable of the POU of a number that a name is bound to.
-    fn member_bound(&self, number: usize, bound: Option<Bound>) -> Option<Member>
-        ensures { (text : List ℕ) → bound ≡ option_and_then (λ p. bound_named (variables_in_pou p) text) (pou_at (file_in self.now.domains) number) → result ≡ member_at (file_in self.now.domains) self.now.sizes.items number text }
-    {
-        match bound {
-            None => None,
-            Some(bound) => self.numbered(number, bound.number),
-        }
-    }
-
     /// The variable of a name of the POU of a number, in constant time.
     pub fn member(&self, number: usize, name: &str) -> Option<Member>
-        ensures { result ≡ member_at (file_in self.now.domains) self.now.sizes.items number name.now }
+        ensures { result ≡ member_at (file_in self.now.domains) [] number name.now }
     {
-        self.member_bound(number, self.domains.types.names.variable(number, name))
+        let bound = self.domains.types.names.variable(number, name);
+        member_bound(self.members_at(number), bound)
     }
 
     /// The variable that a name means in the POU of a number, in constant time.
     pub fn member_of(&self, number: usize, name: &Name) -> Option<Member>
-        ensures { result ≡ member_at (file_in self.now.domains) self.now.sizes.items number (name_view name.now).text }
+        ensures { result ≡ member_at (file_in self.now.domains) [] number (name_view name.now).text }
     {
-        self.member_bound(number, self.domains.types.names.bound(number, name))
+        let bound = self.domains.types.names.bound(number, name);
+        member_bound(self.members_at(number), bound)
     }
 
     // The number of a POU among those that may be called.
@@ -262,7 +207,7 @@ impl<'p> Pous<'p> {
 
     // A FUNCTION by its number.
     fn signature_of(&self, number: usize) -> Signature
-        ensures { result ≡ signature_of (file_in self.now.domains) self.now.sizes.items number }
+        ensures { result ≡ signature_of (file_in self.now.domains) [] number }
     {
         Signature {
             function: number,
@@ -274,7 +219,7 @@ impl<'p> Pous<'p> {
 
     /// The FUNCTION of a name.
     pub fn signature(&self, name: &str) -> Option<Signature>
-        ensures { result ≡ signature_at (file_in self.now.domains) self.now.sizes.items name.now }
+        ensures { result ≡ signature_at (file_in self.now.domains) [] name.now }
     {
         match function_number(self.domains.types.names, name) {
             None => None,
@@ -297,7 +242,7 @@ impl<'p> Pous<'p> {
 
     // What a name stands for behind an instance of a block.
     fn in_instance(&self, cell: u32, name: &Name, block: Option<usize>) -> Option<Meaning>
-        ensures { result ≡ in_instance (file_in self.now.domains) self.now.sizes.items cell (name_view name.now) block }
+        ensures { result ≡ in_instance (file_in self.now.domains) [] cell (name_view name.now) block }
     {
         match self.member_of(block?, name) {
             None => None,
@@ -307,7 +252,7 @@ impl<'p> Pous<'p> {
 
     /// What a path stands for that begins with a variable or a step.
     pub fn meant_by(&self, members: &[Name], member: Member) -> Option<Meaning>
-        ensures { result ≡ meant_by (file_in self.now.domains) self.now.sizes.items (names_view members.now) member }
+        ensures { result ≡ meant_by (file_in self.now.domains) [] (names_view members.now) member }
     {
         match members.first() {
             None => Some(member.meaning),

@@ -4,7 +4,7 @@ use crate::pous::Pous;
 use source_tree::{Name, Path};
 use typing::{Instance, Meaning, Port, Scope, Signature};
 
-/// A POU of a file, by its number.
+/// A POU of a file, by its number, where each block counts as one without cells.
 #[derive(Clone, Copy)]
 pub struct PouScope<'s> {
     pub pous: &'s Pous<'s>,

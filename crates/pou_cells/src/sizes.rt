@@ -1,12 +1,10 @@
 // The sizes of POUs, and M2: how many cells a PROGRAM has.
-ghost use Rattle.std.specs.Prelude.{◌≡◌, ◌-◌, ◌^◌, map, slice_set, nat_lt, IfOk};
-ghost use Rattle.std.specs.List.{list_all};
+ghost use Rattle.std.specs.Prelude.{◌≡◌, map, slice_set, IfOk};
 ghost use Rattle.decl_types.specs.Bodies.{file_in};
 ghost use Rattle.decl_types.specs.ToldView.{told_view};
 ghost use Rattle.typing.specs.Places.{sizes_of};
 ghost use Rattle.typing.specs.Pous.{has_room};
-ghost use Rattle.pou_cells.specs.Placing.{capped, capped_cells, capped_along};
-ghost use Rattle.pou_cells.specs.Placed.{HasSizes};
+ghost use Rattle.pou_cells.specs.Placing.{capped, capped_cells};
 
 use crate::places::cells_taken;
 use crate::pous::Pous;
@@ -16,8 +14,8 @@ use std::alloc::{AllocError, Global};
 /// How many cells a program has at most.
 const MOST_CELLS: usize = 4096;
 
-// How many cells variables take; the greatest number of 64 bits stands for any greater one.
-fn capped_cells(sizes: &[usize], tolds: &[Told<'_>]) -> usize
+/// How many cells variables take; the greatest number of 64 bits stands for any greater one.
+pub(crate) fn capped_cells(sizes: &[usize], tolds: &[Told<'_>]) -> usize
     ensures { result ≡ capped_cells sizes.now (map told_view tolds.now) }
 {
     let mut count: usize = 0;
@@ -55,29 +53,4 @@ pub fn has_room(pous: &Pous<'_>, sizes: &[usize], number: usize) -> bool
     ensures { result ≡ has_room (file_in pous.now.domains) number }
 {
     capped_cells(sizes, pous.told_at(number)) < MOST_CELLS
-}
-
-// Whether each of some sizes stands for itself alone.
-fn are_exact(sizes: &[usize]) -> bool
-    ensures { result ≡ list_all (λ size. nat_lt size (2 ^ 64 - 1)) sizes.now }
-{
-    for size in sizes {
-        if *size == usize::MAX {
-            return false;
-        }
-    }
-    true
-}
-
-/// The POUs with the places of their variables. Where a POU that is reached has 2^64 cells or more, or a place past 32 bits,
-/// that is want of memory: its cells are to be spread.
-pub fn placed<'p>(alloc: Global, pous: Pous<'p>, sizes: Vec<usize>) -> Result<Pous<'p>, AllocError>
-    requires { sizes.items ≡ map capped (sizes_of (file_in pous.domains)) }
-    ensures file { IfOk result (λ s. file_in s.domains ≡ file_in pous.entry.domains) }
-    ensures sizes { IfOk result HasSizes }
-{
-    if !are_exact(&sizes) {
-        return Err(AllocError);
-    }
-    pous.with_sizes(alloc, sizes)
 }

@@ -1,5 +1,5 @@
--- The bodies of POUs.
-use Rattle.std.specs.Prelude.{ℕ, List, map, Option, Some, None, Vec}
+-- The bodies of POUs of which some run.
+use Rattle.std.specs.Prelude.{ℕ, ◌+◌, Bool, true, false, List, [], ◌∷◌, map, Option, Some, None, Vec}
 use Rattle.std.specs.declared.alloc.Global.{Global}
 use Rattle.source_tree.specs.Syntax.{PouData, FileData}
 use Rattle.program_tree.specs.declared.typed.TypedStmt.{TypedStmt}
@@ -11,10 +11,17 @@ use Rattle.typing.specs.TypedPrograms.{pou_body}
 abbrev pub bodies_view : List (Vec TypedStmt Global) → List Statements
 bodies_view bodies = map (λ body. stmts_view body.items) bodies
 
--- the bodies of the POUs of some numbers
+-- the body of the POU of a number
 abbrev pub body_if : FileData → ℕ → Option PouData → Statements
 body_if f k None = no_statements
 body_if f k (Some p) = pou_body f k p
 
-abbrev pub bodies_of : FileData → List ℕ → List Statements
-bodies_of f ks = map (λ k. body_if f k (pou_at f k)) ks
+-- that of one that runs; one that never runs has no statements
+abbrev pub running_body : FileData → ℕ → Bool → Statements
+running_body f k true = body_if f k (pou_at f k)
+running_body f k false = no_statements
+
+-- those of POUs that stand one behind the other from a number on, of which some run
+abbrev pub bodies_from : FileData → (ℕ → Bool) → ℕ → List ℕ → List Statements
+bodies_from f runs n [] = []
+bodies_from f runs n (k ∷ ks) = running_body f k (runs n) ∷ bodies_from f runs (n + 1) ks

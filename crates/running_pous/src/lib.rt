@@ -4,4 +4,5 @@
 mod running;
 mod uses;
 
-pub use running::{is_marked, mark_running};
+pub use running::{is_marked, mark};
+pub use uses::uses_of;

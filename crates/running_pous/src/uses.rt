@@ -1,9 +1,7 @@
 // The POUs that typed statements use.
-ghost use Rattle.std.specs.Prelude.{◌≡◌, ◌++◌, map, IfOk, OnOk};
-ghost use Rattle.call_order.specs.Uses.{graph_of};
+ghost use Rattle.std.specs.Prelude.{◌≡◌, ◌++◌, IfOk, OnOk};
 ghost use Rattle.program_tree.specs.View.{expr_view, operands_view, arguments_view, transitions_view, stmt_view, stmts_view, choices_view, entries_view, actions_view};
 ghost use Rattle.running_pous.specs.Uses.{uses_in, uses_in_operands, uses_in_all, uses_of_transitions, uses_of, uses_of_all, uses_of_choices, uses_of_entries, uses_of_actions};
-ghost use Rattle.running_pous.specs.Bodies.{bodies_view};
 
 use program_tree::{
     Operand, TypedAction, TypedArm, TypedEntry, TypedExpr, TypedStmt, TypedTransition,
@@ -150,16 +148,5 @@ pub fn uses_of(alloc: Global, body: &[TypedStmt]) -> Result<Vec<usize>, AllocErr
 {
     let mut uses = Vec::new(alloc);
     append_uses(body, &mut uses)?;
-    Ok(uses)
-}
-
-/// What each of some bodies uses.
-pub fn uses_by(alloc: Global, bodies: &[Vec<TypedStmt>]) -> Result<Vec<Vec<usize>>, AllocError>
-    ensures { IfOk result (λ uses. graph_of uses.items ≡ map uses_of_all (bodies_view bodies.now)) }
-{
-    let mut uses = Vec::new(alloc);
-    for body in bodies {
-        uses.push(uses_of(alloc, body)?)?;
-    }
     Ok(uses)
 }

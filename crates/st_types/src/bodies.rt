@@ -1,11 +1,11 @@
 // The bodies of POUs, judged and typed.
-ghost use Rattle.std.specs.Prelude.{◌≡◌, Some, map, IfOk};
+ghost use Rattle.std.specs.Prelude.{◌≡◌, true, Some, map, IfOk};
 ghost use Rattle.source_tree.specs.SyntaxView.{body_view, pou_view};
 ghost use Rattle.program_tree.specs.View.{stmt_view, stmts_view};
 ghost use Rattle.naming.specs.FileScope.{pous_of, pou_at};
 ghost use Rattle.decl_types.specs.Bodies.{file_in};
 ghost use Rattle.decl_types.specs.ToldView.{told_view};
-ghost use Rattle.pou_cells.specs.Placed.{HasNoSizes, HasSizes};
+ghost use Rattle.pou_cells.specs.Placing.{is_placed};
 ghost use Rattle.rules.specs.Outcomes.{outcome_of};
 ghost use Rattle.typing.specs.Outcomes.{pous_outcome};
 ghost use Rattle.typing.specs.Places.{variables_at};
@@ -15,7 +15,9 @@ ghost use Rattle.st_types.specs.ToldBeginnings.{told_beginnings};
 
 use crate::charts::{judge_parts, type_chart};
 use decl_types::{Told, judge_told};
-use pou_cells::{PouScope, Pous, first_place, first_places, is_temporary, places_behind};
+use pou_cells::{
+    PlacedPous, PlacedScope, PouScope, Pous, first_place, first_places, is_temporary, places_behind,
+};
 use program_tree::{TypedExpr, TypedStmt};
 use rules::Outcome;
 use source_tree::{Body, Pou};
@@ -41,8 +43,7 @@ fn judge_pou(
     number: usize,
     pou: &Pou,
 ) -> Result<Outcome, AllocError>
-    requires sizes { HasNoSizes pous.now }
-    requires there { pou_at (file_in pous.now.domains) number ≡ Some (pou_view pou.now) }
+    requires { pou_at (file_in pous.now.domains) number ≡ Some (pou_view pou.now) }
     ensures { IfOk result (λ o. o ≡ outcome_of (judged_pou (file_in pous.now.domains) number (pou_view pou.now))) }
 {
     let declared = judge_told(Outcome::ok(), pous.told_at(number));
@@ -57,7 +58,6 @@ pub(crate) fn judge_pous(
     pous: &Pous<'_>,
     so_far: Outcome,
 ) -> Result<Outcome, AllocError>
-    requires { HasNoSizes pous.now }
     ensures { IfOk result (λ o. o ≡ pous_outcome (file_in pous.now.domains) 0 so_far (pous_of (file_in pous.now.domains))) }
 {
     let names = pous.domains.types.names;
@@ -106,37 +106,41 @@ pub(crate) fn type_body<S: Scope>(
     }
 }
 
-// The typed statements of a body, behind the assignments to the VAR_TEMP variables of the POU of a number, whose cells begin at
-// places.
+// The typed statements of the body of the POU of a number, whose variables are placed, behind the assignments to its VAR_TEMP variables,
+// whose cells begin at places.
 fn begin_body<S: Scope>(
     alloc: Global,
-    pous: &Pous<'_>,
+    placed: &PlacedPous<'_>,
     number: usize,
     first: Next,
     scope: &S,
-    body: &Body,
+    pou: &Pou,
 ) -> Result<Vec<TypedStmt>, AllocError>
-    requires { HasSizes pous.now }
-    ensures { IfOk result (λ list. stmts_view list.items ≡ begun (file_in pous.now.domains) first (variables_at (file_in pous.now.domains) number) (typed_body (S.means scope.now) (body_view body.now))) }
+    requires there { pou_at (file_in placed.now.pous.domains) number ≡ Some (pou_view pou.now) }
+    requires placed { is_placed (file_in placed.now.pous.domains) number ≡ true }
+    ensures { IfOk result (λ list. stmts_view list.items ≡ begun (file_in placed.now.pous.domains) first (variables_at (file_in placed.now.pous.domains) number) (typed_body (S.means scope.now) (pou_view pou.now).body)) }
 {
-    let mut list = beginnings(alloc, &pous.sizes, first, pous.told_at(number))?;
-    let mut behind = type_body(alloc, scope, body)?;
+    let mut list = beginnings(alloc, &placed.sizes, first, placed.pous.told_at(number))?;
+    let mut behind = type_body(alloc, scope, &pou.body)?;
     list.append(&mut behind)?;
     Ok(list)
 }
 
-/// The typed statements of the body of the POU of a number, behind those that it begins with.
+/// The typed statements of the body of the POU of a number, behind those that it begins with. A POU of more than 2^24 cells is want of
+/// memory: what it runs over would take some gigabytes.
 pub(crate) fn pou_body(
     alloc: Global,
-    pous: &Pous<'_>,
+    placed: &PlacedPous<'_>,
     number: usize,
     pou: &Pou,
 ) -> Result<Vec<TypedStmt>, AllocError>
-    requires sizes { HasSizes pous.now }
-    requires there { pou_at (file_in pous.now.domains) number ≡ Some (pou_view pou.now) }
-    ensures { IfOk result (λ list. stmts_view list.items ≡ pou_body (file_in pous.now.domains) number (pou_view pou.now)) }
+    requires { pou_at (file_in placed.now.pous.domains) number ≡ Some (pou_view pou.now) }
+    ensures { IfOk result (λ list. stmts_view list.items ≡ pou_body (file_in placed.now.pous.domains) number (pou_view pou.now)) }
 {
-    let first = first_places(&pous.sizes, &pou.kind, pous.told_at(number))?;
-    let scope = PouScope { pous, number };
-    begin_body(alloc, pous, number, first, &scope, &pou.body)
+    if !placed.is_placed(number) {
+        return Err(AllocError);
+    }
+    let first = first_places(&placed.sizes, &pou.kind, placed.pous.told_at(number))?;
+    let scope = PlacedScope { placed, number };
+    begin_body(alloc, placed, number, first, &scope, pou)
 }

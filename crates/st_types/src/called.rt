@@ -5,20 +5,19 @@ ghost use Rattle.source_tree.specs.SyntaxView.{pou_view};
 ghost use Rattle.program_tree.specs.View.{cells_view, stmts_view, called_view, all_called_view};
 ghost use Rattle.naming.specs.FileScope.{pou_at};
 ghost use Rattle.decl_types.specs.Bodies.{file_in};
-ghost use Rattle.pou_cells.specs.Placed.{HasSizes};
 ghost use Rattle.typing.specs.Places.{size_among, variables_at};
 ghost use Rattle.typing.specs.TypedPrograms.{fault_cell, cells_in, type_of_cell, pou_body, called_of, called_by};
-ghost use Rattle.running_pous.specs.Bodies.{bodies_view, body_if, bodies_of};
+ghost use Rattle.running_pous.specs.Bodies.{bodies_view, running_body, bodies_from};
 ghost use Rattle.running_pous.specs.Running.{may_run};
 ghost use Rattle.running_pous.specs.Stated.{unused_of, stated_if, stated_from, stated_by};
 
-use crate::bodies::pou_body;
 use crate::cells::{cells_behind_fault, front_cells};
+use crate::running::{Running, running_bodies};
 use decl_types::pou_at;
 use plc_types::Range;
-use pou_cells::{Pous, size_among};
+use pou_cells::{PlacedPous, size_among};
 use program_tree::{Called, Cell, CellType, Frame, TypedStmt};
-use running_pous::{is_marked, mark_running};
+use running_pous::is_marked;
 use source_tree::{Pou, PouKind};
 use std::alloc::{AllocError, Global};
 
@@ -26,15 +25,18 @@ use std::alloc::{AllocError, Global};
 const MOST_CELLS: usize = 16_777_216;
 
 // The cells of a FUNCTION's call. More than 2^24 of them are want of memory, before the first is made: they would take some gigabytes.
-fn frame_cells(alloc: Global, pous: &Pous<'_>, number: usize) -> Result<Vec<Cell>, AllocError>
-    requires { HasSizes pous.now }
-    ensures cells { IfOk result (λ list. cells_view list.items ≡ fault_cell ∷ cells_in (file_in pous.now.domains) None true (variables_at (file_in pous.now.domains) number)) }
-    ensures few { OnOk result (size_among pous.now.sizes.items (Some number) ≤ 16777216) }
+fn frame_cells(
+    alloc: Global,
+    placed: &PlacedPous<'_>,
+    number: usize,
+) -> Result<Vec<Cell>, AllocError>
+    ensures cells { IfOk result (λ list. cells_view list.items ≡ fault_cell ∷ cells_in (file_in placed.now.pous.domains) None true (variables_at (file_in placed.now.pous.domains) number)) }
+    ensures few { OnOk result (size_among placed.now.sizes.items (Some number) ≤ 16777216) }
 {
-    if size_among(&pous.sizes, Some(number)) > MOST_CELLS {
+    if size_among(&placed.sizes, Some(number)) > MOST_CELLS {
         return Err(AllocError);
     }
-    let cells = cells_behind_fault(alloc, pous, None, true, number)?;
+    let cells = cells_behind_fault(alloc, placed, None, true, number)?;
     Ok(cells)
 }
 
@@ -87,19 +89,18 @@ fn frame_of(alloc: Global, cells: &[Cell]) -> Result<Frame, AllocError>
 // A POU that runs, by its number and with this body.
 fn called_of(
     alloc: Global,
-    pous: &Pous<'_>,
+    placed: &PlacedPous<'_>,
     number: usize,
     pou: &Pou,
     body: Vec<TypedStmt>,
 ) -> Result<Called, AllocError>
-    requires sizes { HasSizes pous.now }
-    requires there { pou_at (file_in pous.now.domains) number ≡ Some (pou_view pou.now) }
-    requires body { stmts_view body.items ≡ pou_body (file_in pous.now.domains) number (pou_view pou.now) }
-    ensures { IfOk result (λ called. called_view called ≡ called_of (file_in pous.now.domains) number (pou_view pou.now).kind (pou_view pou.now)) }
+    requires there { pou_at (file_in placed.now.pous.domains) number ≡ Some (pou_view pou.now) }
+    requires body { stmts_view body.items ≡ pou_body (file_in placed.now.pous.domains) number (pou_view pou.now) }
+    ensures { IfOk result (λ called. called_view called ≡ called_of (file_in placed.now.pous.domains) number (pou_view pou.now).kind (pou_view pou.now)) }
 {
     match pou.kind {
         PouKind::Function(_) => {
-            let cells = frame_cells(alloc, pous, number)?;
+            let cells = frame_cells(alloc, placed, number)?;
             let frame = frame_of(alloc, &cells)?;
             Ok(Called::Function(frame, body))
         }
@@ -107,108 +108,78 @@ fn called_of(
     }
 }
 
-// A POU that never runs, by its number and with this body.
+// A POU that never runs, by its number.
 fn unused_of(
     alloc: Global,
-    pous: &Pous<'_>,
+    placed: &PlacedPous<'_>,
     number: usize,
     pou: &Pou,
-    body: Vec<TypedStmt>,
 ) -> Result<Called, AllocError>
-    requires sizes { HasSizes pous.now }
-    requires there { pou_at (file_in pous.now.domains) number ≡ Some (pou_view pou.now) }
-    requires body { stmts_view body.items ≡ pou_body (file_in pous.now.domains) number (pou_view pou.now) }
-    ensures { IfOk result (λ called. called_view called ≡ unused_of (file_in pous.now.domains) number (pou_view pou.now).kind (pou_view pou.now)) }
+    requires { pou_at (file_in placed.now.pous.domains) number ≡ Some (pou_view pou.now) }
+    ensures { IfOk result (λ called. called_view called ≡ unused_of (file_in placed.now.pous.domains) number (pou_view pou.now).kind (pou_view pou.now)) }
 {
     match pou.kind {
         PouKind::Function(_) => {
-            let cells = front_cells(alloc, pous, number)?;
+            let cells = front_cells(alloc, placed, number)?;
             let frame = frame_of(alloc, &cells)?;
             Ok(Called::Function(frame, Vec::new(alloc)))
         }
-        PouKind::FunctionBlock | PouKind::Program => Ok(Called::Block(body)),
+        PouKind::FunctionBlock | PouKind::Program => Ok(Called::Block(Vec::new(alloc))),
     }
 }
 
-// The POU of a number, of which the body is typed, and which runs or not.
+// The POU of a number, which runs or not, and has this body where it does.
 fn stated_if(
     alloc: Global,
-    pous: &Pous<'_>,
+    placed: &PlacedPous<'_>,
     number: usize,
     runs: bool,
     body: Vec<TypedStmt>,
 ) -> Result<Called, AllocError>
-    requires sizes { HasSizes pous.now }
-    requires body { stmts_view body.items ≡ body_if (file_in pous.now.domains) number (pou_at (file_in pous.now.domains) number) }
-    ensures { IfOk result (λ called. called_view called ≡ stated_if (file_in pous.now.domains) number runs) }
+    requires { stmts_view body.items ≡ running_body (file_in placed.now.pous.domains) number runs }
+    ensures { IfOk result (λ called. called_view called ≡ stated_if (file_in placed.now.pous.domains) number runs) }
 {
-    match pou_at(pous.domains.types.names, number) {
+    match pou_at(placed.pous.domains.types.names, number) {
         None => Ok(Called::Block(Vec::new(alloc))),
-        Some(pou) if runs => called_of(alloc, pous, number, pou, body),
-        Some(pou) => unused_of(alloc, pous, number, pou, body),
+        Some(pou) if runs => called_of(alloc, placed, number, pou, body),
+        Some(pou) => unused_of(alloc, placed, number, pou),
     }
 }
 
-// The POUs that may be called, of which the bodies are typed, and of which those run that are marked.
+// The POUs that may be called, of which those run that are marked and have these bodies.
 fn stated_from(
     alloc: Global,
-    pous: &Pous<'_>,
+    placed: &PlacedPous<'_>,
     marks: &[bool],
     bodies: Vec<Vec<TypedStmt>>,
 ) -> Result<Vec<Called>, AllocError>
-    requires sizes { HasSizes pous.now }
-    requires bodies { bodies_view bodies.items ≡ bodies_of (file_in pous.now.domains) pous.now.called.items }
-    ensures { IfOk result (λ list. all_called_view list.items ≡ stated_from (file_in pous.now.domains) (is_marked marks.now) 0 pous.now.called.items) }
+    requires { bodies_view bodies.items ≡ bodies_from (file_in placed.now.pous.domains) (is_marked marks.now) 0 placed.now.pous.called.items }
+    ensures { IfOk result (λ list. all_called_view list.items ≡ stated_from (file_in placed.now.pous.domains) (is_marked marks.now) 0 placed.now.pous.called.items) }
 {
     let mut left = bodies;
     left.reverse();
     let mut list = Vec::new(alloc);
-    for (place, number) in pous.called.iter().enumerate() {
+    for (place, number) in placed.pous.called.iter().enumerate() {
         let Some(body) = left.pop() else {
             unreachable!()
         };
         let runs = is_marked(marks, place);
-        let called = stated_if(alloc, pous, *number, runs, body)?;
+        let called = stated_if(alloc, placed, *number, runs, body)?;
         list.push(called)?;
     }
     Ok(list)
 }
 
-// The body of the POU of a number.
-fn body_if(alloc: Global, pous: &Pous<'_>, number: usize) -> Result<Vec<TypedStmt>, AllocError>
-    requires { HasSizes pous.now }
-    ensures { IfOk result (λ body. stmts_view body.items ≡ body_if (file_in pous.now.domains) number (pou_at (file_in pous.now.domains) number)) }
-{
-    match pou_at(pous.domains.types.names, number) {
-        None => Ok(Vec::new(alloc)),
-        Some(pou) => pou_body(alloc, pous, number, pou),
-    }
-}
-
-// The bodies of the POUs that may be called.
-fn bodies_of(alloc: Global, pous: &Pous<'_>) -> Result<Vec<Vec<TypedStmt>>, AllocError>
-    requires { HasSizes pous.now }
-    ensures { IfOk result (λ bodies. bodies_view bodies.items ≡ bodies_of (file_in pous.now.domains) pous.now.called.items) }
-{
-    let mut bodies = Vec::new(alloc);
-    for number in &pous.called {
-        bodies.push(body_if(alloc, pous, *number)?)?;
-    }
-    Ok(bodies)
-}
-
 /// The POUs that are reached and may be called, each of which calls only those before it, where the PROGRAM has this body. Of these
-/// a FUNCTION that never runs has no statements, and of its cells those alone that its callers name.
+/// one that never runs has no statements, and a FUNCTION that never runs has of its cells those alone that its callers name.
 pub fn stated_by(
     alloc: Global,
-    pous: &Pous<'_>,
+    placed: &PlacedPous<'_>,
     body: &[TypedStmt],
 ) -> Result<Vec<Called>, AllocError>
-    requires { HasSizes pous.now }
-    ensures { IfOk result (λ list. all_called_view list.items ≡ stated_by (file_in pous.now.domains) (may_run (called_by (file_in pous.now.domains)) (stmts_view body.now))) }
+    ensures { IfOk result (λ list. all_called_view list.items ≡ stated_by (file_in placed.now.pous.domains) (may_run (called_by (file_in placed.now.pous.domains)) (stmts_view body.now))) }
 {
-    let bodies = bodies_of(alloc, pous)?;
-    let marks = mark_running(alloc, &bodies, body)?;
-    let list = stated_from(alloc, pous, &marks, bodies)?;
+    let Running { runs, bodies } = running_bodies(alloc, placed, body)?;
+    let list = stated_from(alloc, placed, &runs, bodies)?;
     Ok(list)
 }

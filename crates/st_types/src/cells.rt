@@ -6,9 +6,8 @@ ghost use Rattle.program_tree.specs.View.{cell_view, cells_view, texts_view};
 ghost use Rattle.naming.specs.FileScope.{pous_of};
 ghost use Rattle.decl_types.specs.Bodies.{file_in};
 ghost use Rattle.decl_types.specs.ToldView.{told_view};
-ghost use Rattle.pou_cells.specs.Placed.{HasSizes};
 ghost use Rattle.pou_cells.specs.ToldPlaces.{told_at};
-ghost use Rattle.typing.specs.Places.{in_front, in_order, sizes_of, variables_at};
+ghost use Rattle.typing.specs.Places.{in_front, sizes_of, variables_at};
 ghost use Rattle.typing.specs.TypedPrograms.{path_of, path_behind, flag_cell, fault_cell, cells_of, block_cells, cells_in, names_without_cell};
 ghost use Rattle.st_types.specs.ToldCells.{told_cell_for, told_cells_for, told_cells_of_variable, is_written, told_cells_of, is_told_without_cell, told_without_cell};
 
@@ -17,7 +16,7 @@ use expr_types::{bool_type, range};
 use naming::Role;
 use plc_types::Elementary;
 use pou_cells::{
-    Pous, active_first, has_cell, is_constant, is_front, is_stored_action, part_in, size_among,
+    PlacedPous, Pous, active_first, has_cell, is_constant, is_front, is_stored_action, part_in,
 };
 use program_tree::{Cell, Part};
 use source_tree::Name;
@@ -159,49 +158,47 @@ fn fault_cell(alloc: Global) -> Result<Cell, AllocError>
 #[cycle(write_cells)]
 fn write_block(
     alloc: Global,
-    pous: &Pous<'_>,
+    placed: &PlacedPous<'_>,
     depth: usize,
     before: Option<&str>,
     block: usize,
     list: &mut Vec<Cell>,
 ) -> Result<(), AllocError>
-    requires { HasSizes pous.now }
-    ensures { OnOk result (cells_view list.new.items ≡ cells_view list.old.items ++ block_cells (file_in pous.now.domains) depth (option_map (λ b. b.now) before.entry) block) }
+    ensures { OnOk result (cells_view list.new.items ≡ cells_view list.old.items ++ block_cells (file_in placed.now.pous.domains) depth (option_map (λ b. b.now) before.entry) block) }
 {
     if depth == 0 {
         return Ok(());
     }
-    let variables = pous.told_at(block);
+    let variables = placed.pous.told_at(block);
     let front = Walk {
         of_function: false,
         in_front: true,
         inside: true,
     };
-    write_variables(alloc, pous, depth - 1, front, before, variables, list)?;
+    write_variables(alloc, placed, depth - 1, front, before, variables, list)?;
     let rest = Walk {
         in_front: false,
         ..front
     };
-    write_variables(alloc, pous, depth - 1, rest, before, variables, list)
+    write_variables(alloc, placed, depth - 1, rest, before, variables, list)
 }
 
 // Appends the cells of the names of a POU that a walk writes, where instances stand in one another so many times at most.
 #[cycle(write_cells)]
 fn write_variables(
     alloc: Global,
-    pous: &Pous<'_>,
+    placed: &PlacedPous<'_>,
     depth: usize,
     walk: Walk,
     before: Option<&str>,
     variables: &[Told<'_>],
     list: &mut Vec<Cell>,
 ) -> Result<(), AllocError>
-    requires { HasSizes pous.now }
-    ensures { OnOk result (cells_view list.new.items ≡ cells_view list.old.items ++ told_cells_of (sizes_of (file_in pous.now.domains)) (block_cells (file_in pous.now.domains) depth) walk (option_map (λ b. b.now) before.entry) (map told_view variables.now)) }
+    ensures { OnOk result (cells_view list.new.items ≡ cells_view list.old.items ++ told_cells_of (sizes_of (file_in placed.now.pous.domains)) (block_cells (file_in placed.now.pous.domains) depth) walk (option_map (λ b. b.now) before.entry) (map told_view variables.now)) }
 {
     for told in variables {
         if is_written(walk, told.role) {
-            write_variable(alloc, pous, depth, walk.inside, before, told, list)?;
+            write_variable(alloc, placed, depth, walk.inside, before, told, list)?;
         }
     }
     Ok(())
@@ -211,55 +208,60 @@ fn write_variables(
 #[cycle(write_cells)]
 fn write_variable(
     alloc: Global,
-    pous: &Pous<'_>,
+    placed: &PlacedPous<'_>,
     depth: usize,
     inside: bool,
     before: Option<&str>,
     told: &Told<'_>,
     list: &mut Vec<Cell>,
 ) -> Result<(), AllocError>
-    requires { HasSizes pous.now }
-    ensures { OnOk result (cells_view list.new.items ≡ cells_view list.old.items ++ told_cells_of_variable (sizes_of (file_in pous.now.domains)) (block_cells (file_in pous.now.domains) depth) inside (option_map (λ b. b.now) before.entry) (told_view told.now) told.now.block) }
+    ensures { OnOk result (cells_view list.new.items ≡ cells_view list.old.items ++ told_cells_of_variable (sizes_of (file_in placed.now.pous.domains)) (block_cells (file_in placed.now.pous.domains) depth) inside (option_map (λ b. b.now) before.entry) (told_view told.now) told.now.block) }
 {
     let Some(block) = told.block else {
         return write_cells_for(alloc, inside, before, told, list);
     };
-    if size_among(&pous.sizes, Some(block)) == 0 {
+    if placed.has_no_cells(block) {
         return Ok(());
     }
     let inner = path_behind(alloc, before, told.name)?;
     match &inner {
-        None => write_block(alloc, pous, depth, None, block, list),
-        Some(path) => write_block(alloc, pous, depth, Some(path.as_str()), block, list),
+        None => write_block(alloc, placed, depth, None, block, list),
+        Some(path) => write_block(alloc, placed, depth, Some(path.as_str()), block, list),
     }
 }
 
 // Appends the cells of those names of the POU of a number that stand in front, or of the others.
 fn write_part(
     alloc: Global,
-    pous: &Pous<'_>,
+    placed: &PlacedPous<'_>,
     walk: Walk,
     before: Option<&str>,
     number: usize,
     list: &mut Vec<Cell>,
 ) -> Result<(), AllocError>
-    requires { HasSizes pous.now }
-    ensures { OnOk result (cells_view list.new.items ≡ cells_view list.old.items ++ told_cells_of (sizes_of (file_in pous.now.domains)) (block_cells (file_in pous.now.domains) (length (pous_of (file_in pous.now.domains)))) walk (option_map (λ b. b.now) before.entry) (told_at (file_in pous.now.domains) number)) }
+    ensures { OnOk result (cells_view list.new.items ≡ cells_view list.old.items ++ told_cells_of (sizes_of (file_in placed.now.pous.domains)) (block_cells (file_in placed.now.pous.domains) (length (pous_of (file_in placed.now.pous.domains)))) walk (option_map (λ b. b.now) before.entry) (told_at (file_in placed.now.pous.domains) number)) }
 {
-    let depth = pous.domains.types.names.pou_count();
-    write_variables(alloc, pous, depth, walk, before, pous.told_at(number), list)
+    let depth = placed.pous.domains.types.names.pou_count();
+    write_variables(
+        alloc,
+        placed,
+        depth,
+        walk,
+        before,
+        placed.pous.told_at(number),
+        list,
+    )
 }
 
 /// FAULT's cell and those of the names of a FUNCTION or another POU, by its number, with their paths or without.
 pub(crate) fn cells_behind_fault(
     alloc: Global,
-    pous: &Pous<'_>,
+    placed: &PlacedPous<'_>,
     before: Option<&str>,
     of_function: bool,
     number: usize,
 ) -> Result<Vec<Cell>, AllocError>
-    requires { HasSizes pous.now }
-    ensures { IfOk result (λ list. cells_view list.items ≡ fault_cell ∷ cells_in (file_in pous.now.domains) (option_map (λ b. b.now) before.entry) of_function (variables_at (file_in pous.now.domains) number)) }
+    ensures { IfOk result (λ list. cells_view list.items ≡ fault_cell ∷ cells_in (file_in placed.now.pous.domains) (option_map (λ b. b.now) before.entry) of_function (variables_at (file_in placed.now.pous.domains) number)) }
 {
     let mut list = Vec::new(alloc);
     list.push(fault_cell(alloc)?)?;
@@ -268,23 +270,22 @@ pub(crate) fn cells_behind_fault(
         in_front: true,
         inside: false,
     };
-    write_part(alloc, pous, front, before, number, &mut list)?;
+    write_part(alloc, placed, front, before, number, &mut list)?;
     let rest = Walk {
         in_front: false,
         ..front
     };
-    write_part(alloc, pous, rest, before, number, &mut list)?;
+    write_part(alloc, placed, rest, before, number, &mut list)?;
     Ok(list)
 }
 
 /// FAULT's cell, and those of what the FUNCTION of a number answers and of its inputs.
 pub(crate) fn front_cells(
     alloc: Global,
-    pous: &Pous<'_>,
+    placed: &PlacedPous<'_>,
     number: usize,
 ) -> Result<Vec<Cell>, AllocError>
-    requires { HasSizes pous.now }
-    ensures { IfOk result (λ list. cells_view list.items ≡ fault_cell ∷ cells_of (file_in pous.now.domains) (block_cells (file_in pous.now.domains) (length (pous_of (file_in pous.now.domains)))) false None (in_front true (variables_at (file_in pous.now.domains) number))) }
+    ensures { IfOk result (λ list. cells_view list.items ≡ fault_cell ∷ cells_of (file_in placed.now.pous.domains) (block_cells (file_in placed.now.pous.domains) (length (pous_of (file_in placed.now.pous.domains)))) false None (in_front true (variables_at (file_in placed.now.pous.domains) number))) }
 {
     let mut list = Vec::new(alloc);
     list.push(fault_cell(alloc)?)?;
@@ -293,7 +294,7 @@ pub(crate) fn front_cells(
         in_front: true,
         inside: false,
     };
-    write_part(alloc, pous, front, None, number, &mut list)?;
+    write_part(alloc, placed, front, None, number, &mut list)?;
     Ok(list)
 }
 

@@ -2,13 +2,12 @@
 ghost use Rattle.std.specs.Prelude.{◌≡◌, ◌++◌, map, IfOk, OnOk};
 ghost use Rattle.decl_types.specs.Bodies.{file_in};
 ghost use Rattle.decl_types.specs.ToldView.{told_view};
-ghost use Rattle.pou_cells.specs.Placed.{HasSizes};
 ghost use Rattle.typing.specs.Places.{sizes_of, variables_at};
 ghost use Rattle.typing.specs.ChartPlaces.{block_charts, charts_in};
 ghost use Rattle.st_types.specs.ToldCharts.{told_steps, told_charts_of_variable, told_charts_of};
 
 use decl_types::Told;
-use pou_cells::{Pous, cells_taken, is_stored_action, size_among, sum};
+use pou_cells::{PlacedPous, is_stored_action, sum};
 use program_tree::ChartCells;
 use std::alloc::{AllocError, Global};
 
@@ -28,32 +27,30 @@ fn steps_among(variables: &[Told<'_>]) -> usize
 // Appends the charts of an instance of a block, whose cells begin at a place.
 #[cycle(write_charts)]
 fn write_block(
-    pous: &Pous<'_>,
+    placed: &PlacedPous<'_>,
     depth: usize,
     place: usize,
     block: usize,
     list: &mut Vec<ChartCells>,
 ) -> Result<(), AllocError>
-    requires { HasSizes pous.now }
-    ensures { OnOk result (list.new.items ≡ list.old.items ++ block_charts (file_in pous.now.domains) depth place block) }
+    ensures { OnOk result (list.new.items ≡ list.old.items ++ block_charts (file_in placed.now.pous.domains) depth place block) }
 {
     if depth == 0 {
         return Ok(());
     }
-    write_charts(pous, depth - 1, place, pous.told_at(block), list)
+    write_charts(placed, depth - 1, place, placed.pous.told_at(block), list)
 }
 
 // Appends the charts of names, whose cells begin at a place. The cells of stored actions stand behind all others.
 #[cycle(write_charts)]
 fn write_charts(
-    pous: &Pous<'_>,
+    placed: &PlacedPous<'_>,
     depth: usize,
     first: usize,
     variables: &[Told<'_>],
     list: &mut Vec<ChartCells>,
 ) -> Result<(), AllocError>
-    requires { HasSizes pous.now }
-    ensures { OnOk result (list.new.items ≡ list.old.items ++ told_charts_of (sizes_of (file_in pous.now.domains)) (block_charts (file_in pous.now.domains) depth) first (map told_view variables.now)) }
+    ensures { OnOk result (list.new.items ≡ list.old.items ++ told_charts_of (sizes_of (file_in placed.now.pous.domains)) (block_charts (file_in placed.now.pous.domains) depth) first (map told_view variables.now)) }
 {
     let mut place = first;
     for (index, told) in variables.iter().enumerate() {
@@ -68,8 +65,8 @@ fn write_charts(
             })?;
             return Ok(());
         }
-        write_variable(pous, depth, place, told, list)?;
-        place = sum(place, cells_taken(&pous.sizes, told))?;
+        write_variable(placed, depth, place, told, list)?;
+        place = sum(place, placed.cells_taken(told)?)?;
     }
     Ok(())
 }
@@ -77,35 +74,33 @@ fn write_charts(
 // Appends the charts of a variable, where it is an instance.
 #[cycle(write_charts)]
 fn write_variable(
-    pous: &Pous<'_>,
+    placed: &PlacedPous<'_>,
     depth: usize,
     place: usize,
     told: &Told<'_>,
     list: &mut Vec<ChartCells>,
 ) -> Result<(), AllocError>
-    requires { HasSizes pous.now }
-    ensures { OnOk result (list.new.items ≡ list.old.items ++ told_charts_of_variable (sizes_of (file_in pous.now.domains)) (block_charts (file_in pous.now.domains) depth) place told.now.block) }
+    ensures { OnOk result (list.new.items ≡ list.old.items ++ told_charts_of_variable (sizes_of (file_in placed.now.pous.domains)) (block_charts (file_in placed.now.pous.domains) depth) place told.now.block) }
 {
     let Some(block) = told.block else {
         return Ok(());
     };
-    if size_among(&pous.sizes, Some(block)) == 0 {
+    if placed.has_no_cells(block) {
         return Ok(());
     }
-    write_block(pous, depth, place, block, list)
+    write_block(placed, depth, place, block, list)
 }
 
 /// The charts of the PROGRAM of a number and of its instances, in the order of their cells.
 pub(crate) fn charts_in(
     alloc: Global,
-    pous: &Pous<'_>,
+    placed: &PlacedPous<'_>,
     number: usize,
 ) -> Result<Vec<ChartCells>, AllocError>
-    requires { HasSizes pous.now }
-    ensures { IfOk result (λ list. list.items ≡ charts_in (file_in pous.now.domains) (variables_at (file_in pous.now.domains) number)) }
+    ensures { IfOk result (λ list. list.items ≡ charts_in (file_in placed.now.pous.domains) (variables_at (file_in placed.now.pous.domains) number)) }
 {
     let mut list = Vec::new(alloc);
-    let depth = pous.domains.types.names.pou_count();
-    write_charts(pous, depth, 1, pous.told_at(number), &mut list)?;
+    let depth = placed.pous.domains.types.names.pou_count();
+    write_charts(placed, depth, 1, placed.pous.told_at(number), &mut list)?;
     Ok(list)
 }

@@ -1,12 +1,12 @@
 // The charts of bodies, judged and typed (IEC 61131-3, 2.6).
-ghost use Rattle.std.specs.Prelude.{◌≡◌, ◌+◌, map, IfOk};
-ghost use Rattle.source_tree.specs.SyntaxView.{name_view, chart_step_view, chart_transition_view, chart_action_view, part_view, parts_view};
+ghost use Rattle.std.specs.Prelude.{◌≡◌, map, IfOk};
+ghost use Rattle.source_tree.specs.SyntaxView.{chart_step_view, chart_transition_view, chart_action_view, part_view, parts_view};
 ghost use Rattle.program_tree.specs.View.{stmt_view, action_view, transition_view};
 ghost use Rattle.sfc_shape.specs.ShapeView.{seen_steps, seen_transitions, seen_actions};
 ghost use Rattle.sfc_shape.specs.PartsView.{parts_in};
 ghost use Rattle.typing.specs.JudgedCharts.{judged_part, judged_parts};
 ghost use Rattle.rules.specs.Outcomes.{outcome_of};
-ghost use Rattle.typing.specs.TypedCharts.{step_cells, latch_place, latch_of, typed_action, typed_transition, typed_chart};
+ghost use Rattle.typing.specs.TypedCharts.{step_cells, latch_of, typed_action, typed_transition, typed_chart};
 
 use expr_types::{cell_of, judge_condition, meaning_alone, type_expr};
 use pou_cells::sum;

@@ -15,7 +15,6 @@ pub struct Checked<'p> {
     pub(crate) pous: Pous<'p>,
     pub(crate) sizes: Vec<usize>,
     pub(crate) number: usize,
-    ghost unplaced: { pous.sizes.items ≡ [] },
     ghost sized: { sizes.items ≡ map capped (sizes_of (file_in pous.domains)) },
     ghost one: { program_number (file_in pous.domains) ≡ Some number },
     ghost kept: { broken_types (file_in pous.domains) ≡ [] },

@@ -4,7 +4,6 @@ ghost use Rattle.rules.specs.Rules.{first_in};
 ghost use Rattle.source_tree.specs.SyntaxView.{file_view};
 ghost use Rattle.st_names.specs.Bound.{program_number};
 ghost use Rattle.decl_types.specs.Bodies.{file_in};
-ghost use Rattle.pou_cells.specs.Placed.{HasNoSizes};
 ghost use Rattle.pou_cells.specs.Placing.{capped};
 ghost use Rattle.typing.specs.Places.{sizes_of};
 ghost use Rattle.typing.specs.Pous.{broken_types, has_room};
@@ -21,7 +20,6 @@ use std::alloc::{AllocError, Global};
 
 // What a file breaks first.
 fn judge_file(alloc: Global, pous: &Pous<'_>) -> Result<Option<Refusal>, AllocError>
-    requires { HasNoSizes pous.now }
     ensures { IfOk result (λ first. first ≡ first_in (broken_types (file_in pous.now.domains))) }
 {
     let types = judge_types(&pous.domains);
@@ -31,7 +29,6 @@ fn judge_file(alloc: Global, pous: &Pous<'_>) -> Result<Option<Refusal>, AllocEr
 
 // The sizes of a file's POUs, or the first rule on types that is broken, and where none is, M2.
 fn test_pous(alloc: Global, pous: &Pous<'_>, number: usize) -> Result<Vec<usize>, Fault>
-    requires { HasNoSizes pous.now }
     ensures refused { IfErr result (IsFaultOf (file_in pous.now.domains) number) }
     ensures kept { OnOk result (broken_types (file_in pous.now.domains) ≡ []) }
     ensures room { OnOk result (has_room (file_in pous.now.domains) number ≡ true) }

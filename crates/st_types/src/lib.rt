@@ -10,6 +10,7 @@ mod checked;
 mod judged_file;
 mod outlines;
 mod program;
+mod running;
 
 pub use checked::Checked;
 pub use judged_file::check;

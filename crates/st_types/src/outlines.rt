@@ -5,7 +5,6 @@ ghost use Rattle.source_tree.specs.SyntaxView.{pou_view};
 ghost use Rattle.program_tree.specs.View.{stmts_view, called_view, all_called_view, program_view};
 ghost use Rattle.naming.specs.FileScope.{pou_at};
 ghost use Rattle.decl_types.specs.Bodies.{file_in};
-ghost use Rattle.pou_cells.specs.Placed.{HasNoSizes};
 ghost use Rattle.st_types.specs.Outlines.{long_body, outlined_body, is_long, outlined_of, outlined_if, outlined_by, outlined_program};
 
 use crate::bodies::type_body;
@@ -48,7 +47,6 @@ fn outlined_body(
     number: usize,
     pou: &Pou,
 ) -> Result<Vec<TypedStmt>, AllocError>
-    requires { HasNoSizes pous.now }
     ensures { IfOk result (λ list. stmts_view list.items ≡ outlined_body (file_in pous.now.domains) number (pou_view pou.now)) }
 {
     let scope = PouScope { pous, number };
@@ -63,7 +61,6 @@ fn function_body(
     number: usize,
     pou: &Pou,
 ) -> Result<Vec<TypedStmt>, AllocError>
-    requires { HasNoSizes pous.now }
     ensures { IfOk result (λ list. stmts_view list.items
         ≡ (if is_long sizes.now number then long_body else outlined_body (file_in pous.now.domains) number (pou_view pou.now))) }
 {
@@ -80,7 +77,6 @@ fn outlined_of(
     number: usize,
     pou: &Pou,
 ) -> Result<Called, AllocError>
-    requires { HasNoSizes pous.now }
     ensures { IfOk result (λ called. called_view called ≡ outlined_of (file_in pous.now.domains) sizes.now number (pou_view pou.now).kind (pou_view pou.now)) }
 {
     match pou.kind {
@@ -106,7 +102,6 @@ fn outlined_if(
     sizes: &[usize],
     number: usize,
 ) -> Result<Called, AllocError>
-    requires { HasNoSizes pous.now }
     ensures { IfOk result (λ called. called_view called ≡ outlined_if (file_in pous.now.domains) sizes.now number (pou_at (file_in pous.now.domains) number)) }
 {
     match pou_at(pous.domains.types.names, number) {
@@ -117,7 +112,6 @@ fn outlined_if(
 
 // The POUs that are reached and may be called.
 fn outlined_by(alloc: Global, pous: &Pous<'_>, sizes: &[usize]) -> Result<Vec<Called>, AllocError>
-    requires { HasNoSizes pous.now }
     ensures { IfOk result (λ list. all_called_view list.items ≡ outlined_by (file_in pous.now.domains) sizes.now) }
 {
     let mut list = Vec::new(alloc);
@@ -135,7 +129,6 @@ fn outlined_program(
     number: usize,
     program: &Pou,
 ) -> Result<Program, AllocError>
-    requires { HasNoSizes pous.now }
     ensures { IfOk result (λ p. program_view p ≡ outlined_program (file_in pous.now.domains) sizes.now number (pou_view program.now)) }
 {
     Ok(Program {

@@ -4,7 +4,6 @@ ghost use Rattle.source_tree.specs.SyntaxView.{pou_view};
 ghost use Rattle.program_tree.specs.View.{program_view};
 ghost use Rattle.naming.specs.FileScope.{pou_at};
 ghost use Rattle.decl_types.specs.Bodies.{file_in};
-ghost use Rattle.pou_cells.specs.Placed.{HasSizes};
 ghost use Rattle.running_pous.specs.Stated.{stated_program};
 
 use crate::bodies::pou_body;
@@ -13,30 +12,29 @@ use crate::cells::{cells_behind_fault, names_without_cell};
 use crate::chart_places::charts_in;
 use crate::checked::Checked;
 use decl_types::type_texts;
-use pou_cells::{Pous, placed};
+use pou_cells::PlacedPous;
 use program_tree::Program;
 use source_tree::Pou;
 use std::alloc::{AllocError, Global};
 
-// The typed program of the PROGRAM of a number, whose POUs are placed.
+// The typed program of the PROGRAM of a number.
 fn type_program(
     alloc: Global,
-    pous: &Pous<'_>,
+    placed: &PlacedPous<'_>,
     number: usize,
     program: &Pou,
 ) -> Result<Program, AllocError>
-    requires sizes { HasSizes pous.now }
-    requires there { pou_at (file_in pous.now.domains) number ≡ Some (pou_view program.now) }
-    ensures { IfOk result (λ p. program_view p ≡ stated_program (file_in pous.now.domains) number (pou_view program.now)) }
+    requires { pou_at (file_in placed.now.pous.domains) number ≡ Some (pou_view program.now) }
+    ensures { IfOk result (λ p. program_view p ≡ stated_program (file_in placed.now.pous.domains) number (pou_view program.now)) }
 {
-    let body = pou_body(alloc, pous, number, program)?;
-    let called = stated_by(alloc, pous, &body)?;
+    let body = pou_body(alloc, placed, number, program)?;
+    let called = stated_by(alloc, placed, &body)?;
     Ok(Program {
         name: String::from_str(alloc, program.name.text.as_str())?,
-        cells: cells_behind_fault(alloc, pous, Some(""), false, number)?,
-        charts: charts_in(alloc, pous, number)?,
-        without_cell: names_without_cell(alloc, pous, number)?,
-        types: type_texts(alloc, &pous.domains.types)?,
+        cells: cells_behind_fault(alloc, placed, Some(""), false, number)?,
+        charts: charts_in(alloc, placed, number)?,
+        without_cell: names_without_cell(alloc, &placed.pous, number)?,
+        types: type_texts(alloc, &placed.pous.domains.types)?,
         called,
         body,
     })
@@ -63,7 +61,7 @@ impl Checked<'_> {
             number,
         } = self;
         let program = pous.domains.types.names.pou(number);
-        let placed = placed(alloc, pous, sizes)?;
+        let placed = PlacedPous::new(alloc, pous, sizes)?;
         let typed = type_program(alloc, &placed, number, program)?;
         Ok(typed)
     }

@@ -30,9 +30,9 @@ module _ (s : Standing) where
   left_operands os k = moved_operands s.bodies s.owner s.base os k
 
   -- where a call's answer stands
-  pub call_function-stands : (f : ℕ) (es : Expressions) (k : ℕ) → Stand k (scratch_in s.bodies (call_function f es))
+  pub answer-stands : (f : ℕ) (es : Expressions) (k : ℕ) → Stand k (scratch_in s.bodies (call_function f es))
       → place_at s.places (k + length (input_scratch s.bodies (s.bodies.frame f) 2 es) + others_behind (s.bodies.frame f) (arity es)) ≡ scratch_at (s.bodies.frame f) 1
-  call_function-stands f es k stands =
+  answer-stands f es k stands =
       let frame = s.bodies.frame f in
       let inputs = input_scratch s.bodies frame 2 es in
       let others = other_scratch frame (2 + arity es) (others_behind frame (arity es)) in
@@ -59,7 +59,7 @@ module _ (s : Standing) where
           subst (λ q. flats.Join s.places q t (left_operands os j)) same (operands-are (first_kind t os) t os j h.1 (stand_back s.places mine others k stands)),
         )
     moved-is t (call_standard f q es) k h stands = (h.0, h.1, all-are (first_operand_kind f q) q es k h.2 stands)
-    moved-is t (call_function f es) k h stands = ap (λ (p : Scratch). p.kind) (call_function-stands f es k stands) ∙ h.2
+    moved-is t (call_function f es) k h stands = ap (λ (p : Scratch). p.kind) (answer-stands f es k stands) ∙ h.2
 
     operands-are : (before t : Elementary) (os : Operands) (k : ℕ) → Join (pous_of s) s.scope before t os → Stand k (operand_scratch s.bodies os) → flats.Join s.places before t (left_operands os k)
     operands-are before t no_operands k h stands = h
@@ -90,7 +90,7 @@ module _ (s : Standing) where
         last-same os (k + length (scratch_in s.bodies e)) r _ _ (moved-stays (first_kind t os) e k r h.0 (stand_front s.places (scratch_in s.bodies e) (operand_scratch s.bodies os) k stands))
     moved-stays t (call_standard f q es) k r h stands =
         ap (λ (l : List Bool). covers r (range_of q) || (covers (range_of q) r && chosen_stay f l)) (each-stays (first_operand_kind f q) q es k r h.2 stands)
-    moved-stays t (call_function f es) k r h stands = ap (λ (p : Scratch). covers r p.range) (call_function-stands f es k stands)
+    moved-stays t (call_function f es) k r h stands = ap (λ (p : Scratch). covers r p.range) (answer-stands f es k stands)
 
     each-stays : (first others : Elementary) (es : Expressions) (k : ℕ) (r : Range) → AreOf (pous_of s) s.scope first others es → Stand k (all_scratch s.bodies es)
         → flats.each_stays s.places (all_moved s.bodies s.owner s.base es k) r ≡ each_stays (pous_of s) s.scope.places es r

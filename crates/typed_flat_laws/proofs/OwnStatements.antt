@@ -57,8 +57,8 @@ module _ (w : OwnCells) (MayCall : ℕ → ℕ → Type 0) (each_call : EachMayB
       = ap (λ (r : Range). well.stays_in w.frames w.ranges w.base e r) its.range ∙ stays-same w p.kind e p.range h.1.0 in
       (settable-own target h.0, value-typed w MayCall each_call p.kind e h.1.0, tested-or p.is_subrange (w.tested (w.base + target)) _ its.is_subrange (ap (λ (x : Bool). p.is_subrange || x) same ∙ h.1.1))
 
-  call_block-own : (block offset : ℕ) → IsTyped (pous_for w) w.scope (call_block block offset) → One (call_block block offset)
-  call_block-own block offset h =
+  run-own : (block offset : ℕ) → IsTyped (pous_for w) w.scope (call_block block offset) → One (call_block block offset)
+  run-own block offset h =
       let first = h.1 in
       let room = h.2 in
       let most = w.within in
@@ -72,7 +72,7 @@ module _ (w : OwnCells) (MayCall : ℕ → ℕ → Type 0) (each_call : EachMayB
   mutual
     statement-own : (t : Statement) → IsTyped (pous_for w) w.scope t → One t
     statement-own (assign target e) h = assign-own target e h
-    statement-own (call_block block offset) h = call_block-own block offset h
+    statement-own (call_block block offset) h = run-own block offset h
     statement-own (choice arms other) h = (choices-own arms h.0, list-own other h.1)
     statement-own (cases kind e es other) h = (value-typed w MayCall each_call kind e h.0, entries-own kind es h.1, list-own other h.2)
     statement-own (repeat turns body) h =
@@ -118,7 +118,7 @@ module _ (w : OwnCells) (MayCall : ℕ → ℕ → Type 0) (each_call : EachMayB
 
   part-own : (t : Statement) → IsTypedPart (pous_for w) w.scope t → One t
   part-own (assign target e) h = assign-own target e h
-  part-own (call_block block offset) h = call_block-own block offset h
+  part-own (call_block block offset) h = run-own block offset h
   part-own (choice arms other) h = statement-own (choice arms other) h
   part-own (cases kind e es other) h = statement-own (cases kind e es other) h
   part-own (repeat turns body) h = statement-own (repeat turns body) h

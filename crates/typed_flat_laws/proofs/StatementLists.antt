@@ -31,8 +31,8 @@ module _ (s : Standing) where
       typed_both s.places (before s.bodies s.owner s.base e k) _ (before-typed s (place_at s.scope.places target).kind e k taken.0 stands)
       (takes_at s.places (s.owner (s.base + target)) (place_at s.scope.places target) (left s e k) (settable-stands target settable) (moved-taken s (place_at s.scope.places target) e k taken stands), tt)
 
-  call_block-typed : (block offset k : ℕ) → IsTyped (pous_of s) s.scope (call_block block offset) → Stand s k (scratch_of s.bodies (call_block block offset)) → Lists s (flat_of s.bodies s.owner s.base (call_block block offset) k)
-  call_block-typed block offset k h stands =
+  run-typed : (block offset k : ℕ) → IsTyped (pous_of s) s.scope (call_block block offset) → Stand s k (scratch_of s.bodies (call_block block offset)) → Lists s (flat_of s.bodies s.owner s.base (call_block block offset) k)
+  run-typed block offset k h stands =
       let first = h.1 in
       let room = h.2 in
       let most = s.within in
@@ -44,7 +44,7 @@ module _ (s : Standing) where
   mutual
     pub statement-typed : (t : Statement) (k : ℕ) → IsTyped (pous_of s) s.scope t → Stand s k (scratch_of s.bodies t) → Lists s (flat_of s.bodies s.owner s.base t k)
     statement-typed (assign target e) k h stands = assign-typed target e k h.0 h.1 stands
-    statement-typed (call_block block offset) k h stands = call_block-typed block offset k h stands
+    statement-typed (call_block block offset) k h stands = run-typed block offset k h stands
     statement-typed (choice arms other) k h stands =
         let made = scratch_of_choices s.bodies arms in
         let rest = scratch_of_all s.bodies other in

@@ -10,7 +10,7 @@ use Rattle.naming.specs.Library.{standard_function}
 use Rattle.source_tree.specs.declared.syntax.Literal.{Literal}
 use Rattle.plc_types.specs.declared.operator.UnaryOperator.{UnaryOperator}
 use Rattle.plc_types.specs.Types.{wrap_to}
-use Rattle.source_tree.specs.Syntax.{Tree, literal, path, enumerator, paren, unary, chain, call_standard, Links, no_links, link, Arguments, no_arguments, argument}
+use Rattle.source_tree.specs.Syntax.{Tree, literal, path, enumerator, paren, unary, chain, call, Links, no_links, link, Arguments, no_arguments, argument}
 use Rattle.program_tree.specs.Tree.{Expression, number, cell, unary as typed_unary, chain as typed_chain, call_standard, call_function, Operands, no_operands, operand, Expressions, no_expressions, expression}
 use Rattle.program_tree.specs.View.{expressions_of}
 use Rattle.typing.specs.declared.scope.Meaning.{Meaning}
@@ -90,7 +90,7 @@ abbrev mutual
   typed scope expected (chain e ls) =
       let t = operand_type scope expected e ls in
       typed_chain (typed scope (Some t) e) (typed_links scope t ls)
-  typed scope expected (call_standard n at args) =
+  typed scope expected (call n at args) =
       typed_result scope expected (standard_function n.text) (scope.signature n.text) args (λ f t. typed_operands scope f t 0 args) (λ s. typed_given scope s 0 args)
 
   pub typed_links : Scope → DataType → Links → Operands

@@ -1,4 +1,13 @@
+use Rattle.std.proofs.Common.{List, [], ◌-◌, ap, ◌∙◌}
+use Rattle.std.specs.Prelude.{option_and_then}
+use Rattle.std.specs.List.{slice_get}
+use Rattle.st_names.specs.declared.bound.Bound.{Bound}
+use Rattle.typing.specs.declared.member.Member.{Member}
+use Rattle.decl_types.specs.Bodies.{file_in}
+use Rattle.pou_cells.proofs.TableLemmas.{member_at-is}
 use Rattle.pou_cells.proofs.pous.Pous.member.Goals as goal
 
 pub returns : goal.returns
-returns c = c.member_bound.ensures c.args.name.now c.variable.ensures
+returns c =
+    member_at-is (file_in c.args.self.now.domains) [] c.args.number c.args.name.now c.variable-bound.result c.member_bound.result c.variable-bound.ensures
+    (c.member_bound.ensures ∙ ap (λ (ms : List Member). option_and_then (λ (b : Bound). slice_get ms (b.number - 1)) c.variable-bound.result) c.members_at.ensures)

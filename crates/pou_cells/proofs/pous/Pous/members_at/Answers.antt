@@ -1,4 +1,4 @@
-use Rattle.std.proofs.Common.{◌≡◌, ap, sym, ◌∙◌, refl, length, Some}
+use Rattle.std.proofs.Common.{◌≡◌, ap, sym, ◌∙◌, refl, length, Some, []}
 use Rattle.std.specs.List.{slice_get}
 use Rattle.std.proofs.lemmas.Option.{slice_get_read}
 use Rattle.decl_types.specs.Bodies.{file_in}
@@ -13,4 +13,4 @@ returns-in-Some c =
     let k = c.args.number in
     let got : slice_get ts k ≡ Some c.in-Some.members.now = slice_get_read ts (length ts) k c.in-Some.members.now refl c.in-Some.ensures.lookup.3.0 c.in-Some.ensures.lookup.1 in
     let here : slice_get vs k ≡ Some c.in-Some.members.now = ap (λ l. slice_get l k) (sym c.deref.ensures.value) ∙ got in
-    c.deref-in-Some.ensures.value ∙ members_at-is f c.args.self.now.sizes.items vs k (Some c.in-Some.members.now) c.args.self.now.known here
+    c.deref-in-Some.ensures.value ∙ members_at-is f [] vs k (Some c.in-Some.members.now) c.args.self.now.known here
