@@ -17,11 +17,11 @@ use Rattle.relation_file.proofs.OneRelation.{relation_once, no_small_relation_to
 use Rattle.command_answers.specs.declared.source.Source.{Source}
 use Rattle.command_answers.specs.declared.limit.Limit.{Limit}
 use Rattle.command_files.specs.Texts.{Texts}
-use Rattle.comparison_files.specs.Accepting.{nodes_of, StatesProgram, StatesSmallRelation, StatesNoSmallRelation, by_tokens, by_lines, AreStated, AreAccepted, IsRefused, old_refused, new_refused, rel_refused, IsTooLarge, old_nodes, new_nodes, gates}
+use Rattle.comparison_files.specs.Accepting.{nodes_of, StatesSmallProgram, StatesSmallRelation, StatesNoSmallRelation, by_tokens, by_lines, AreStated, AreAccepted, IsRefused, old_refused, new_refused, rel_refused, IsTooLarge, old_nodes, new_nodes, gates}
 
 -- ---- one program
 
-program_once : (text : List ℕ) (p q : ProgramData) → StatesProgram text p → StatesProgram text q → p ≡ q
+program_once : (text : List ℕ) (p q : ProgramData) → StatesSmallProgram text p → StatesSmallProgram text q → p ≡ q
 program_once text p q h k = one_program text p q h.is k.is
 
 -- what is short is not long
@@ -32,7 +32,7 @@ no_flat_too : (text : List ℕ) (p : ProgramData) (r : Refusal) → StatesProgra
 no_flat_too text p r is short (by_program none) = no_program_too text p r is none
 no_flat_too text p r is short (by_size q k long e) = not_long p q (one_program text p q is k) short long
 
-no_nodes_too : (text : List ℕ) (p : ProgramData) → StatesProgram text p → HasManyNodes text → ⊥
+no_nodes_too : (text : List ℕ) (p : ProgramData) → StatesSmallProgram text p → HasManyNodes text → ⊥
 no_nodes_too text p h k = true≢false (sym h.small ∙ ap (λ x. is_small (flat_program x)) (one_program text p k.program h.is k.is) ∙ k.many)
 
 no_flat_once : (text : List ℕ) (r s : Refusal) → HasNoFlatForm text r → HasNoFlatForm text s → IsSame r s
@@ -85,7 +85,7 @@ not_many c d e few many = few_or_many (subst (λ x. HasFewGates x (nodes_of x.ol
 
 -- ---- never two answers
 
-rel_apart : (t : Texts) (o o' n n' : ProgramData) (l : RelationData) (r : Refusal) → StatesProgram t.old o → StatesProgram t.old o' → StatesProgram t.new n → StatesProgram t.new n'
+rel_apart : (t : Texts) (o o' n n' : ProgramData) (l : RelationData) (r : Refusal) → StatesSmallProgram t.old o → StatesSmallProgram t.old o' → StatesSmallProgram t.new n → StatesSmallProgram t.new n'
     → RelStated t l o n → RelBroken t r o' n' → ⊥
 rel_apart t o o' n n' l r a b c d h k =
     no_small_too o' n' t.rel l r (moved (RelStated t l) o o' n n' (program_once t.old o o' a b) (program_once t.new n n' c d) h) k

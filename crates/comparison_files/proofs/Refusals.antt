@@ -19,7 +19,7 @@ use Rattle.command_files.specs.Texts.{Texts}
 use Rattle.comparison_files.specs.declared.fault.CompareFault.{CompareFault}
 use Rattle.comparison_files.specs.declared.fault.CompareFault.TheVariants.{Refused, TooLarge, Memory}
 use Rattle.comparison_files.specs.Faults.{IfFault, IfFaultOf, program_fault, relation_fault}
-use Rattle.comparison_files.specs.Accepting.{StatesProgram, StatesNoSmallRelation, by_tokens, by_lines, IsRefused, old_refused, new_refused, rel_refused, IsTooLarge, old_nodes, new_nodes}
+use Rattle.comparison_files.specs.Accepting.{StatesSmallProgram, StatesNoSmallRelation, by_tokens, by_lines, IsRefused, old_refused, new_refused, rel_refused, IsTooLarge, old_nodes, new_nodes}
 
 -- ---- one file
 
@@ -53,12 +53,12 @@ at_old t (Refused file r) h = old_refused h.1 h.0
 at_old t (TooLarge file l) h = old_nodes h.1.1 h.0 h.1.0
 at_old t Memory h = tt
 
-pub at_new : (t : Texts) (old : ProgramData) (e : CompareFault) → StatesProgram t.old old → IfFaultOf New (HasNoFlatForm t.new) (ManyNodes t.new) e → IfFault (IsRefused t) (IsTooLarge t) e
+pub at_new : (t : Texts) (old : ProgramData) (e : CompareFault) → StatesSmallProgram t.old old → IfFaultOf New (HasNoFlatForm t.new) (ManyNodes t.new) e → IfFault (IsRefused t) (IsTooLarge t) e
 at_new t old (Refused file r) a h = new_refused old a h.1 h.0
 at_new t old (TooLarge file l) a h = new_nodes old a h.1.1 h.0 h.1.0
 at_new t old Memory a h = tt
 
-pub at_relation : (t : Texts) (old new : ProgramData) (e : CompareFault) → StatesProgram t.old old → StatesProgram t.new new
+pub at_relation : (t : Texts) (old new : ProgramData) (e : CompareFault) → StatesSmallProgram t.old old → StatesSmallProgram t.new new
     → IfFaultOf Relation (StatesNoSmallRelation old new t.rel) NoLimit e → IfFault (IsRefused t) (IsTooLarge t) e
 at_relation t old new (Refused file r) a b h = rel_refused old new a b h.1 h.0
 at_relation t old new (TooLarge file l) a b h = absurd h.1

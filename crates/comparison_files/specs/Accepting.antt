@@ -24,7 +24,7 @@ abbrev pub nodes_of : ProgramData → ScanData
 nodes_of p = scan_of (flat_program p)
 
 -- a text states a program with few flat statements and few nodes
-pub record StatesProgram (text : List ℕ) (p : ProgramData) : Type 0 where
+pub record StatesSmallProgram (text : List ℕ) (p : ProgramData) : Type 0 where
   pub is : StatesProgram text p
   pub short : IsTrue (is_short p)
   pub small : IsTrue (is_small (flat_program p))
@@ -43,8 +43,8 @@ pub data StatesNoSmallRelation (old new : ProgramData) (text : List ℕ) (r : Re
 
 -- three texts state what is compared
 pub record AreStated (t : Texts) (c : Comparison) : Type 0 where
-  pub old_is : StatesProgram t.old c.old
-  pub new_is : StatesProgram t.new c.new
+  pub old_is : StatesSmallProgram t.old c.old
+  pub new_is : StatesSmallProgram t.new c.new
   pub rel_is : StatesSmallRelation c.old c.new t.rel c.relation
 
 -- and its circuits have few gates
@@ -55,11 +55,11 @@ pub record AreAccepted (t : Texts) (c : Comparison) : Type 0 where
 -- a file is the first that breaks a rule on texts, and this is the first rule that it breaks
 pub data IsRefused (t : Texts) (file : Source) (r : Refusal) : Type 0 where
   old_refused : HasNoFlatForm t.old r → file ≡ Old → IsRefused t file r
-  new_refused : (old : ProgramData) → StatesProgram t.old old → HasNoFlatForm t.new r → file ≡ New → IsRefused t file r
-  rel_refused : (old new : ProgramData) → StatesProgram t.old old → StatesProgram t.new new → StatesNoSmallRelation old new t.rel r → file ≡ Relation → IsRefused t file r
+  new_refused : (old : ProgramData) → StatesSmallProgram t.old old → HasNoFlatForm t.new r → file ≡ New → IsRefused t file r
+  rel_refused : (old new : ProgramData) → StatesSmallProgram t.old old → StatesSmallProgram t.new new → StatesNoSmallRelation old new t.rel r → file ≡ Relation → IsRefused t file r
 
 -- a file is the first of which too many nodes or gates would be made
 pub data IsTooLarge (t : Texts) (file : Source) (limit : Limit) : Type 0 where
   old_nodes : HasManyNodes t.old → file ≡ Old → limit ≡ Nodes → IsTooLarge t file limit
-  new_nodes : (old : ProgramData) → StatesProgram t.old old → HasManyNodes t.new → file ≡ New → limit ≡ Nodes → IsTooLarge t file limit
+  new_nodes : (old : ProgramData) → StatesSmallProgram t.old old → HasManyNodes t.new → file ≡ New → limit ≡ Nodes → IsTooLarge t file limit
   gates : (c : Comparison) → AreStated t c → HasManyGates c (nodes_of c.old) (nodes_of c.new) → file ≡ Relation → limit ≡ Gates → IsTooLarge t file limit

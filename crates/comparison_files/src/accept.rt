@@ -14,7 +14,7 @@ ghost use Rattle.typed_relations.specs.Readings.{IsReadProgram, IsStated};
 ghost use Rattle.command_files.specs.Kept.{IsKept};
 ghost use Rattle.command_files.specs.KeptTexts.{AreKept};
 ghost use Rattle.command_files.specs.Texts.{Texts};
-ghost use Rattle.comparison_files.specs.Accepting.{nodes_of, StatesProgram, StatesSmallRelation, StatesNoSmallRelation, AreStated, IsRefused, IsTooLarge};
+ghost use Rattle.comparison_files.specs.Accepting.{nodes_of, StatesSmallProgram, StatesSmallRelation, StatesNoSmallRelation, AreStated, IsRefused, IsTooLarge};
 ghost use Rattle.comparison_files.specs.Faults.{IfFault, IfFaultOf};
 ghost use Rattle.comparison_files.specs.Held.{comparison_in};
 ghost use Rattle.comparison_files.specs.Scans.{AreScansOf};
@@ -58,7 +58,7 @@ fn program_in(
     source: Source,
     text: &Option<Vec<u8>>,
 ) -> Result<Accepted, CompareFault>
-    ensures ok { (bytes : List ℕ) → IsKept text.now bytes → IfOk result (λ a. StatesProgram bytes (program_view a.program)) }
+    ensures ok { (bytes : List ℕ) → IsKept text.now bytes → IfOk result (λ a. StatesSmallProgram bytes (program_view a.program)) }
     ensures nodes { IfOk result (λ a. scan_view a.scan ≡ nodes_of (program_view a.program)) }
     ensures read { IfOk result (λ a. IsReadProgram (program_view a.program)) }
     ensures meaning { IfOk result (λ a. IsScanOf (program_view a.program) (scan_view a.scan)) }

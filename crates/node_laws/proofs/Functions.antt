@@ -7,7 +7,7 @@ use Rattle.plc_types.specs.declared.function.Function.{Function}
 use Rattle.plc_types.specs.declared.function.Function.TheVariants as functions
 use Rattle.plc_types.specs.declared.range.Range.{Range}
 use Rattle.plc_types.specs.Types.{width_of, range_of, in_range, wrap_to}
-use Rattle.meaning.specs.Values.{number_of, is_truth, converted, shifted, lesser, greater, least, greatest, is_subrange, selected, of_one, of_many, of_three, called}
+use Rattle.meaning.specs.Values.{number_of, is_truth, converted, shifted, lesser, greater, least, greatest, limited, selected, of_one, of_many, of_three, called}
 use Rattle.node_core.specs.declared.node.Node.{Node}
 use Rattle.node_core.specs.declared.node.Node.TheVariants.{Constant, Convert, Absolute, Minimum, Maximum, Shift, Mux}
 use Rattle.node_core.specs.Nodes.{node_value}
@@ -92,7 +92,7 @@ module _ (val : ℕ → ℤ) where
       gives_wrapped _ t _ b (greatest_in t (val a) (map val ws) fit.0 fit.1) (gives_folded (Maximum t) greater greatest (λ v. refl) (λ v w vs. refl) (λ a c. refl) ws a n b h is_b)
 
   gives_limited : (t : Elementary) (ws : List ℕ) (n : NodeList) (b : Bool) → Fit t t (map val ws) → Hold val (limited_word t ws n).list → val n.fault ≡ number_of b
-      → Gives val (limited_word t ws n) (wrap_to t (of_three is_subrange (map val ws))) b
+      → Gives val (limited_word t ws n) (wrap_to t (of_three limited (map val ws))) b
   unfolding Fit
   gives_limited t [] n b fit h is_b = gives_nothing t n b h is_b
   gives_limited t (a ∷ []) n b fit h is_b = gives_nothing t n b h is_b

@@ -1,9 +1,9 @@
 -- The variables of POUs of few cells, at their places.
-use Rattle.std.proofs.Common.{◌≡◌, ℕ, ◌≤◌, ◌<◌, ◌&&◌, Bool, true, false, if◌then◌else◌, List, [], ◌∷◌, map, Option, Some, None, refl, sym, ap, subst, ◌∙◌, arith, Vec, Global}
+use Rattle.std.proofs.Common.{◌≡◌, ℕ, ◌≤◌, Bool, true, false, if◌then◌else◌, List, [], ◌∷◌, map, Option, Some, None, refl, sym, ap, subst, ◌∙◌, arith, Vec, Global}
 use Rattle.std.specs.Prelude.{nat_le, is_some, option_map, option_and_then}
-use Rattle.std.specs.List.{list_all, slice_get}
+use Rattle.std.specs.List.{AllByRecursion, list_all, slice_get}
 use Rattle.std.proofs.lemmas.Option.{slice_get-map}
-use Rattle.std.proofs.lemmas.Bool.{le-leb, and_parts, false≢true}
+use Rattle.std.proofs.lemmas.Bool.{le-leb, leb-true, and_parts, false≢true}
 use Rattle.source_tree.specs.Syntax.{PouData, FileData}
 use Rattle.naming.specs.FileScope.{pous_of, pou_at}
 use Rattle.naming.specs.Scopes.{Variable, variables_in_pou, is_of_name, block_of}
@@ -16,7 +16,7 @@ use Rattle.pou_cells.specs.ToldPlaces.{told_at}
 use Rattle.pou_cells.specs.ToldMembers.{told_members}
 use Rattle.pou_cells.specs.Placing.{capped, is_few, placed_in, all_placed, placed_at, is_placed_block, is_placed}
 use Rattle.pou_cells.proofs.ToldLemmas.{told_count-is, told_members_at-is}
-use Rattle.pou_cells.proofs.SizeLemmas.{exact_told, all_exact}
+use Rattle.pou_cells.proofs.SizeLemmas.{IsExact, exact_told, all_exact}
 
 -- a POU of many cells is not placed
 pub not_placed : (f : FileData) (o : Option PouData) → nat_le (count_of_cells f (sizes_of f) (variables_in o)) 16777216 ≡ false → option_and_then (placed_in f) o ≡ None
@@ -111,3 +111,12 @@ block_placed f k s text m placed e =
 
 pub has_places : (f : FileData) (k : ℕ) → is_placed f k ≡ true → is_some (placed_at f k) ≡ true
 has_places f k placed = (and_parts (is_some (placed_at f k)) (list_all (λ t. is_placed_block f t.block) (told_at f k)) placed).0
+
+-- the cells of the variables of a POU that is placed stand for themselves among capped sizes
+pub few_exact : (f : FileData) (k : ℕ) (p : PouData) → pou_at f k ≡ Some p → is_placed f k ≡ true → AllByRecursion (IsExact (sizes_of f)) (told_at f k)
+few_exact f k p there placed =
+    let s = sizes_of f in
+    let same : variables_at f k ≡ variables_in_pou p = ap variables_in there in
+    let few : count_of_cells f s (variables_in_pou p) ≤ 16777216 = leb-true (count_of_cells f s (variables_in_pou p)) 16777216 (placed_few f k p there placed) in
+    let counted = told_count-is f s (variables_at f k) ∙ ap (count_of_cells f s) same in
+    exact_told s (told_at f k) (omega (arith, counted, few))

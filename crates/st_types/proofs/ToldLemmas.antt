@@ -1,9 +1,10 @@
 -- What is told of the variables of a POU has the cells, charts and beginnings of these.
 use Rattle.std.proofs.Common.{◌≡◌, ℕ, ◌+◌, ◌-◌, zero, suc, Bool, true, false, not, if◌then◌else◌, List, [], ◌∷◌, ◌++◌, append_assoc, Option, Some, None, map, refl, sym, ap, ◌∙◌, zero-add, add-zero, arith}
+use Rattle.std.specs.List.{AllByRecursion}
 use Rattle.std.specs.Prelude.{filter, ◌&&◌, Result, Ok, Err, OnOk}
 use Rattle.std.proofs.lemmas.List.Sums.{sum_by-append}
 use Rattle.naming.proofs.CountLemmas.{count-cons}
-use Rattle.program_tree.specs.Tree.{CellData, Statement}
+use Rattle.program_tree.specs.Tree.{CellData, Statement, number, assign}
 use Rattle.program_tree.specs.declared.typed.ChartCells.{ChartCells}
 use Rattle.source_tree.specs.Syntax.{FileData}
 use Rattle.naming.specs.declared.role.Role.{Role}
@@ -15,6 +16,9 @@ use Rattle.typing.specs.TypedPrograms.{cells_of_variable, cells_of, block_cells,
 use Rattle.typing.specs.ChartPlaces.{steps_among, charts_of_variable, charts_of, block_charts}
 use Rattle.typing.specs.Beginnings.{beginning, beginnings}
 use Rattle.decl_types.specs.Told.{ToldData, told_of, told_in}
+use Rattle.pou_cells.specs.Placing.{capped}
+use Rattle.pou_cells.specs.ToldPlaces.{told_first_place, told_places_behind}
+use Rattle.pou_cells.proofs.SizeLemmas.{IsExact, behind_exact}
 use Rattle.st_types.specs.ToldCells.{told_cells_of_variable, told_cells_of, is_told_without_cell, told_without_cell}
 use Rattle.st_types.specs.ToldCharts.{told_steps, told_charts_of_variable, told_charts_of}
 use Rattle.st_types.specs.ToldBeginnings.{told_beginnings}
@@ -204,3 +208,11 @@ beginnings-told f next [] = refl
 beginnings-told f next (v ∷ vs) =
     let behind = places_behind f (sizes_of f) next v in
     beginning_if (is_temporary v.role) (beginning f (first_place next v) v) (told_beginnings (sizes_of f) behind (told_in f vs)) (beginnings f behind vs) (beginnings-told f behind vs)
+
+-- by capped sizes, where all cells stand for themselves
+pub beginnings-exact : (s : List ℕ) (next : Next) (ts : List ToldData) → AllByRecursion (IsExact s) ts → told_beginnings (map capped s) next ts ≡ told_beginnings s next ts
+beginnings-exact s next [] all = refl
+beginnings-exact s next (t ∷ ts) all =
+    beginning_if (is_temporary t.role) (assign (told_first_place next t) (number t.initial)) (told_beginnings (map capped s) (told_places_behind (map capped s) next t) ts)
+    (told_beginnings s (told_places_behind s next t) ts)
+    (ap (λ (n : Next). told_beginnings (map capped s) n ts) (behind_exact s next t all.0) ∙ beginnings-exact s (told_places_behind s next t) ts all.1)

@@ -1,5 +1,6 @@
 use Rattle.std.proofs.Common.{◌≡◌, ℕ, List, ◌++◌, map, ap, ◌∙◌}
 use Rattle.std.proofs.lemmas.List.{map-append}
+use Rattle.source_tree.specs.SyntaxView.{pou_view}
 use Rattle.program_tree.specs.Tree.{Statement}
 use Rattle.program_tree.specs.View.{stmt_view, stmts_view, statements_of}
 use Rattle.decl_types.specs.Bodies.{file_in}
@@ -8,20 +9,26 @@ use Rattle.typing.specs.Beginnings.{beginnings}
 use Rattle.typing.specs.Places.{sizes_of, variables_at}
 use Rattle.typing.specs.TypedPrograms.{begun}
 use Rattle.typing_laws.proofs.BeginningLemmas.{begun-list}
+use Rattle.pou_cells.specs.Placing.{capped}
+use Rattle.pou_cells.specs.ToldPlaces.{told_at}
+use Rattle.pou_cells.proofs.PlacedLemmas.{few_exact}
 use Rattle.st_types.specs.ToldBeginnings.{told_beginnings}
-use Rattle.st_types.proofs.ToldLemmas.{beginnings-told}
+use Rattle.st_types.proofs.ToldLemmas.{beginnings-told, beginnings-exact}
 use Rattle.st_types.proofs.bodies.begin_body.Goals as goal
 
 pub returns : goal.returns
 returns g c =
-    let f = file_in c.args.pous.now.domains in
+    let f = file_in c.args.placed.now.pous.domains in
+    let k = c.args.number in
     let list = c.in_ok-list.list.items in
     let behind = c.in_ok-behind.behind.items in
-    let vs = variables_at f c.args.number in
+    let vs = variables_at f k in
     let ts = map told_view c.told_at.result.now in
     let items : c.append.new.self.items ≡ list ++ behind = c.in_ok-append.ensures.items in
     let begins : map stmt_view list ≡ beginnings f c.args.first vs =
-    c.in_ok-list.ensures ∙ ap (λ (sizes : List ℕ). told_beginnings sizes c.args.first ts) (c.deref.ensures.value ∙ c.requires) ∙ ap (told_beginnings (sizes_of f) c.args.first) c.told_at.ensures
+    c.in_ok-list.ensures ∙ ap (λ (sizes : List ℕ). told_beginnings sizes c.args.first ts) (c.deref.ensures.value ∙ c.args.placed.now.sized)
+    ∙ ap (told_beginnings (map capped (sizes_of f)) c.args.first) c.told_at.ensures
+    ∙ beginnings-exact (sizes_of f) c.args.first (told_at f k) (few_exact f k (pou_view c.args.pou.now) c.requires.there c.requires.placed)
     ∙ beginnings-told f c.args.first vs in
     ap stmts_view items
     ∙ ap statements_of (map-append stmt_view list behind ∙ ap (λ (ss : List Statement). ss ++ map stmt_view behind) begins)

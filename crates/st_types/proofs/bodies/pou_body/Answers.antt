@@ -1,4 +1,4 @@
-use Rattle.std.proofs.Common.{◌≡◌, ℕ, List, IfOk, ap, subst, ◌∙◌}
+use Rattle.std.proofs.Common.{◌≡◌, ℕ, List, true, IfOk, map, ap, sym, subst, ◌∙◌}
 use Rattle.source_tree.specs.Syntax.{PouData, FileData}
 use Rattle.source_tree.specs.SyntaxView.{pou_view}
 use Rattle.program_tree.specs.Tree.{Statements}
@@ -8,30 +8,35 @@ use Rattle.decl_types.specs.Bodies.{file_in}
 use Rattle.typing.specs.declared.next.Next.{Next}
 use Rattle.typing.specs.Members.{scope_of}
 use Rattle.typing.specs.Places.{sizes_of, first_places, variables_in, variables_at}
-use Rattle.pou_cells.specs.ToldPlaces.{told_first_places}
-use Rattle.pou_cells.proofs.ToldLemmas.{told_first_places-is}
 use Rattle.typing.specs.TypedPrograms.{begun, typed_body, pou_body}
+use Rattle.pou_cells.specs.Placing.{capped, is_placed}
+use Rattle.pou_cells.specs.ToldPlaces.{told_at, told_first_places}
+use Rattle.pou_cells.proofs.SizeLemmas.{first_exact}
+use Rattle.pou_cells.proofs.PlacedLemmas.{few_exact}
+use Rattle.pou_cells.proofs.ToldLemmas.{told_first_places-is}
 use Rattle.st_types.proofs.bodies.pou_body.Goals as goal
 
-begun_body : (f : FileData) (number : ℕ) (p : PouData) (sizes taken : List ℕ) (vs ws : List Variable) (first : Next) → sizes ≡ sizes_of f → taken ≡ sizes_of f → vs ≡ variables_in_pou p → ws ≡ variables_in_pou p
-    → first ≡ first_places f taken p.kind vs → begun f first ws (typed_body (scope_of f sizes number) p.body) ≡ pou_body f number p
-begun_body f number p sizes taken vs ws first same same_sizes read read_sizes from =
-    let all = variables_in_pou p in
-    let start : first ≡ first_places f (sizes_of f) p.kind all =
-    from ∙ ap (λ (s : List ℕ). first_places f s p.kind vs) same_sizes ∙ ap (first_places f (sizes_of f) p.kind) read in
-    ap (λ (n : Next). begun f n ws (typed_body (scope_of f sizes number) p.body)) start
-    ∙ ap (λ (xs : List Variable). begun f (first_places f (sizes_of f) p.kind all) xs (typed_body (scope_of f sizes number) p.body)) read_sizes
-    ∙ ap (λ (s : List ℕ). begun f (first_places f (sizes_of f) p.kind all) all (typed_body (scope_of f s number) p.body)) same
+pub invariant_of-scope : goal.invariant_of-scope
+invariant_of-scope c = record { fits = sym c.is_placed.ensures ∙ c.if-not-is_placed.false }
+
+pub begin_body-requires-clause-placed : goal.begin_body-requires-clause-placed
+begin_body-requires-clause-placed c = sym c.is_placed.ensures ∙ c.if-not-is_placed.false
+
+begun_body : (f : FileData) (number : ℕ) (p : PouData) (vs : List Variable) (first : Next) → vs ≡ variables_in_pou p → first ≡ first_places f (sizes_of f) p.kind vs
+    → begun f first vs (typed_body (scope_of f (sizes_of f) number) p.body) ≡ pou_body f number p
+begun_body f number p vs first read from =
+    let body = typed_body (scope_of f (sizes_of f) number) p.body in
+    ap (λ (n : Next). begun f n vs body) from ∙ ap (λ (xs : List Variable). begun f (first_places f (sizes_of f) p.kind xs) xs body) read
 
 pub returns : goal.returns
 returns c =
-    let f = file_in c.args.pous.now.domains in
+    let f = file_in c.args.placed.now.pous.domains in
+    let k = c.args.number in
     let p = pou_view c.args.pou.now in
-    let vs = variables_at f c.args.number in
-    let taken = c.deref.result.now in
-    let read : vs ≡ variables_in_pou p = ap variables_in c.requires.there in
-    let first : c.in_ok-first.first ≡ first_places f taken p.kind vs =
-    c.in_ok-first.ensures ∙ ap (told_first_places taken p.kind) c.told_at.ensures ∙ told_first_places-is f taken p.kind vs in
-    subst (λ (ss : Statements). IfOk c.begin_body.result (λ list. stmts_view list.items ≡ ss))
-    (begun_body f c.args.number p c.args.pous.now.sizes.items taken vs vs c.in_ok-first.first c.requires.sizes (c.deref.ensures.value ∙ c.requires.sizes) read read first)
-    c.begin_body.ensures
+    let vs = variables_at f k in
+    let sizes : c.deref.result.now ≡ map capped (sizes_of f) = c.deref.ensures.value ∙ c.args.placed.now.sized in
+    let placed : is_placed f k ≡ true = sym c.is_placed.ensures ∙ c.if-not-is_placed.false in
+    let first : c.in_ok-first.first ≡ first_places f (sizes_of f) p.kind vs =
+    c.in_ok-first.ensures ∙ ap (told_first_places c.deref.result.now p.kind) c.told_at.ensures ∙ ap (λ (s : List ℕ). told_first_places s p.kind (told_at f k)) sizes
+    ∙ first_exact (sizes_of f) p.kind (told_at f k) (few_exact f k p c.requires placed) ∙ told_first_places-is f (sizes_of f) p.kind vs in
+    subst (λ (ss : Statements). IfOk c.begin_body.result (λ list. stmts_view list.items ≡ ss)) (begun_body f k p vs c.in_ok-first.first (ap variables_in c.requires) first) c.begin_body.ensures

@@ -12,7 +12,7 @@ use Rattle.st_types.proofs.cells.+write_cells.Goals as goal
 
 pub write_block-returns : goal.write_block-returns
 write_block-returns t c =
-    let f = file_in c.args.pous.now.domains in
+    let f = file_in c.args.placed.now.pous.domains in
     let before = option_map (λ b. b.now) c.args.before in
     let of_block = block_cells f (c.args.depth - 1) in
     let ts = map told_view c.told_at-variables.result.now in

@@ -10,8 +10,8 @@ use Rattle.st_types.proofs.cells.+write_cells.Given as goal
 
 abbrev pub invariant-write_variables-loop-told : goal.invariant-write_variables-loop-told
 invariant-write_variables-loop-told l =
-    cells_view l.list.items ++ told_cells_of (sizes_of (file_in l.pous.domains)) (block_cells (file_in l.pous.domains) l.depth) l.walk (option_map (λ b. b.now) l.before) (map told_view (drop l.told-index l.variables))
-    ≡ cells_view l.initial.list.items ++ told_cells_of (sizes_of (file_in l.pous.domains)) (block_cells (file_in l.pous.domains) l.depth) l.walk (option_map (λ b. b.now) l.before) (map told_view l.variables)
+    cells_view l.list.items ++ told_cells_of (sizes_of (file_in l.placed.pous.domains)) (block_cells (file_in l.placed.pous.domains) l.depth) l.walk (option_map (λ b. b.now) l.before) (map told_view (drop l.told-index l.variables))
+    ≡ cells_view l.initial.list.items ++ told_cells_of (sizes_of (file_in l.placed.pous.domains)) (block_cells (file_in l.placed.pous.domains) l.depth) l.walk (option_map (λ b. b.now) l.before) (map told_view l.variables)
 
 abbrev pub decreases-write_block : goal.decreases-write_block
 decreases-write_block l = 3 * l.depth

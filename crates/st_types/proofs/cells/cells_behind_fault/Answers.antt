@@ -13,7 +13,7 @@ use Rattle.st_types.proofs.cells.cells_behind_fault.Goals as goal
 
 pub returns : goal.returns
 returns c =
-    let f = file_in c.args.pous.now.domains in
+    let f = file_in c.args.placed.now.pous.domains in
     let before = option_map (λ b. b.now) c.args.before in
     let first = c.push.new.self.items in
     let vs = variables_at f c.args.number in

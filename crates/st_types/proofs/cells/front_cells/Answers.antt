@@ -13,7 +13,7 @@ use Rattle.st_types.proofs.cells.front_cells.Goals as goal
 
 pub returns : goal.returns
 returns c =
-    let f = file_in c.args.pous.now.domains in
+    let f = file_in c.args.placed.now.pous.domains in
     let of_block = block_cells f (length (pous_of f)) in
     let started : cells_view c.push.new.self.items ≡ fault_cell ∷ [] =
     ap cells_view c.in_ok-push.ensures.items ∙ ap (λ (l : List Cell). cells_view (l ++ c.in_ok-fault_cell.field-0 ∷ [])) c.new-list.ensures.items ∙ ap (λ (x : CellData). x ∷ []) c.in_ok-fault_cell.ensures in

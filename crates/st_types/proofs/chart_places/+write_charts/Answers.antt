@@ -10,7 +10,7 @@ use Rattle.st_types.proofs.chart_places.+write_charts.Goals as goal
 
 pub write_block-returns : goal.write_block-returns
 write_block-returns t c =
-    let f = file_in c.args.pous.now.domains in
+    let f = file_in c.args.placed.now.pous.domains in
     let of_block = block_charts f (c.args.depth - 1) in
     let ts = map told_view c.told_at.result.now in
     let old = c.args.list.now.items in

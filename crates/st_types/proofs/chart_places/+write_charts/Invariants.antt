@@ -8,8 +8,8 @@ use Rattle.st_types.proofs.chart_places.+write_charts.Given as goal
 
 abbrev pub invariant-write_charts-loop-index : goal.invariant-write_charts-loop-index
 invariant-write_charts-loop-index l =
-    l.list.items ++ told_charts_of (sizes_of (file_in l.pous.domains)) (block_charts (file_in l.pous.domains) l.depth) l.place (map told_view (drop l.index l.variables))
-    ≡ l.initial.list.items ++ told_charts_of (sizes_of (file_in l.pous.domains)) (block_charts (file_in l.pous.domains) l.depth) l.initial.place (map told_view l.variables)
+    l.list.items ++ told_charts_of (sizes_of (file_in l.placed.pous.domains)) (block_charts (file_in l.placed.pous.domains) l.depth) l.place (map told_view (drop l.index l.variables))
+    ≡ l.initial.list.items ++ told_charts_of (sizes_of (file_in l.placed.pous.domains)) (block_charts (file_in l.placed.pous.domains) l.depth) l.initial.place (map told_view l.variables)
 
 abbrev pub decreases-write_block : goal.decreases-write_block
 decreases-write_block l = 3 * l.depth

@@ -10,7 +10,7 @@ use Rattle.st_types.proofs.chart_places.charts_in.Goals as goal
 
 pub returns : goal.returns
 returns c =
-    let f = file_in c.args.pous.now.domains in
+    let f = file_in c.args.placed.now.pous.domains in
     let of_block = block_charts f c.pou_count-depth.result in
     let ts = map told_view c.told_at.result.now in
     let vs = variables_at f c.args.number in

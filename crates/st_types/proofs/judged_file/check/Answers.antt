@@ -7,11 +7,11 @@ use Rattle.typing_laws.proofs.OnlyPou.{ok_each}
 use Rattle.st_types.proofs.judged_file.check.Goals as goal
 
 pub returns-clause-kept : goal.returns-clause-kept
-returns-clause-kept c = subst (λ (f : FileData). broken_types f ≡ []) c.in_ok-pous.ensures.file c.in_ok-sizes.ensures.kept
+returns-clause-kept c = subst (λ (f : FileData). broken_types f ≡ []) c.in_ok-pous.ensures c.in_ok-sizes.ensures.kept
 
 pub returns-clause-room : goal.returns-clause-room
 returns-clause-room c =
     let f = file_view c.args.names.now.file.now in
     let k = c.program-number.result in
-    let room : has_room f k ≡ true = subst (λ (g : FileData). has_room g k ≡ true) c.in_ok-pous.ensures.file c.in_ok-sizes.ensures.room in
+    let room : has_room f k ≡ true = subst (λ (g : FileData). has_room g k ≡ true) c.in_ok-pous.ensures c.in_ok-sizes.ensures.room in
     ok_each {A = ℕ} {E = ℕ} (Ok k) (λ n. has_room f n ≡ true) (program_number f) k c.program-number.ensures room

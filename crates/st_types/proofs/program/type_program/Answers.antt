@@ -10,7 +10,7 @@ use Rattle.st_types.proofs.program.type_program.Goals as goal
 
 pub returns : goal.returns
 returns c =
-    let f = file_in c.args.pous.now.domains in
+    let f = file_in c.args.placed.now.pous.domains in
     let p = pou_view c.args.program.now in
     let called : all_called_view c.in_ok-called.called.items ≡ stated_by f (may_run (called_by f) (pou_body f c.args.number p)) =
     c.in_ok-called.ensures ∙ ap (λ (ss : Statements). stated_by f (may_run (called_by f) ss)) (ap stmts_view c.deref.ensures.value ∙ c.in_ok-body.ensures) in

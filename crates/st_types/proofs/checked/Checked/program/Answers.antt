@@ -22,12 +22,12 @@ returns-clause-typed c =
     let f = file_in c.args.self.pous.domains in
     let k = c.args.self.number in
     let p = pou_view c.pou-program.result.now in
-    let stated : program_view c.in_ok-typed.typed ≡ stated_program f k p = c.in_ok-typed.ensures ∙ ap (λ (g : FileData). stated_program g k p) c.in_ok-placed.ensures.file in
+    let stated : program_view c.in_ok-typed.typed ≡ stated_program f k p = c.in_ok-typed.ensures ∙ ap (λ (g : FileData). stated_program g k p) c.in_ok-placed.ensures in
     if_each {E = AllocError} (Ok c.in_ok-typed.typed) (λ r n q. program_view r ≡ stated_program f n q) (program_number f) (pou_at f) k p c.args.self.one c.pou-program.ensures stated
 
 pub returns-clause-ready : goal.returns-clause-ready
 returns-clause-ready c =
-    let f = file_in c.in_ok-placed.placed.domains in
+    let f = file_in c.in_ok-placed.placed.pous.domains in
     subst IsReady (sym c.in_ok-typed.ensures) (stated-ready f c.args.self.number (pou_view c.pou-program.result.now))
 
 pub pou-program-requires : goal.pou-program-requires
