@@ -92,11 +92,11 @@ impl Scope for PairScope<'_> {
         None
     }
 
-    fn input(&self, _function: usize, _name: &str) -> Option<usize> {
+    fn input(&self, _function: usize, _name: &Name) -> Option<usize> {
         None
     }
 
-    fn instance(&self, _name: &str) -> Option<Instance> {
+    fn instance(&self, _name: &Name) -> Option<Instance> {
         None
     }
 }

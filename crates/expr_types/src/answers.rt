@@ -30,7 +30,7 @@ pub fn place_for<S: Scope>(
     match name {
         None => place,
         Some(name) => scope
-            .input(signature.function, name.text.as_str())
+            .input(signature.function, name)
             .unwrap_or(signature.count),
     }
 }

@@ -157,15 +157,6 @@ impl<'p> PlacedPous<'p> {
         }
     }
 
-    /// The variable of a name of the POU of a number, in constant time.
-    pub(crate) fn member(&self, number: usize, name: &str) -> Option<Member>
-        requires { is_some (placed_at (file_in self.now.pous.domains) number) ≡ true }
-        ensures { result ≡ member_at (file_in self.now.pous.domains) (sizes_of (file_in self.now.pous.domains)) number name.now }
-    {
-        let bound = self.pous.domains.types.names.variable(number, name);
-        member_bound(self.members_at(number), bound)
-    }
-
     /// The variable that a name means in the POU of a number, in constant time.
     pub(crate) fn member_of(&self, number: usize, name: &Name) -> Option<Member>
         requires { is_some (placed_at (file_in self.now.pous.domains) number) ≡ true }

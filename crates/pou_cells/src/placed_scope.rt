@@ -41,13 +41,13 @@ impl Scope for PlacedScope<'_> {
         self.placed.pous.ports_at(function).get(place).copied()
     }
 
-    fn input(&self, function: usize, name: &str) -> Option<usize> {
-        let member = self.placed.pous.member(function, name)?;
+    fn input(&self, function: usize, name: &Name) -> Option<usize> {
+        let member = self.placed.pous.member_of(function, name)?;
         place_of_input(member)
     }
 
-    fn instance(&self, name: &str) -> Option<Instance> {
-        let member = self.placed.member(self.number, name)?;
+    fn instance(&self, name: &Name) -> Option<Instance> {
+        let member = self.placed.member_of(self.number, name)?;
         self.placed.pous.instance_of(member)
     }
 }

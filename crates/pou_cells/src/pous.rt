@@ -182,14 +182,6 @@ impl<'p> Pous<'p> {
         }
     }
 
-    /// The variable of a name of the POU of a number, in constant time.
-    pub fn member(&self, number: usize, name: &str) -> Option<Member>
-        ensures { result ≡ member_at (file_in self.now.domains) [] number name.now }
-    {
-        let bound = self.domains.types.names.variable(number, name);
-        member_bound(self.members_at(number), bound)
-    }
-
     /// The variable that a name means in the POU of a number, in constant time.
     pub fn member_of(&self, number: usize, name: &Name) -> Option<Member>
         ensures { result ≡ member_at (file_in self.now.domains) [] number (name_view name.now).text }

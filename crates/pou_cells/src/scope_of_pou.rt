@@ -35,13 +35,13 @@ impl Scope for PouScope<'_> {
         self.pous.ports_at(function).get(place).copied()
     }
 
-    fn input(&self, function: usize, name: &str) -> Option<usize> {
-        let member = self.pous.member(function, name)?;
+    fn input(&self, function: usize, name: &Name) -> Option<usize> {
+        let member = self.pous.member_of(function, name)?;
         place_of_input(member)
     }
 
-    fn instance(&self, name: &str) -> Option<Instance> {
-        let member = self.pous.member(self.number, name)?;
+    fn instance(&self, name: &Name) -> Option<Instance> {
+        let member = self.pous.member_of(self.number, name)?;
         self.pous.instance_of(member)
     }
 }

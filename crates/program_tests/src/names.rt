@@ -1,6 +1,6 @@
 // What the names of a text stand for, and the words of the language that are looked up.
 use naming::{Role, Standing, is_library};
-use source_tree::SourceFile;
+use source_tree::{Name, SourceFile};
 use st_lexer::lex;
 use st_names::{Bound, Resolved, resolve};
 use st_parser::parse_file;
@@ -38,6 +38,20 @@ fn resolved(alloc: Global, file: &SourceFile) -> Result<Resolved<'_>, Fail> {
     Ok(resolve(alloc, file)?)
 }
 
+// What a name in a POU is bound to. It stands where no text has one, so no number is kept of it.
+fn bound(
+    alloc: Global,
+    names: &Resolved<'_>,
+    pou: usize,
+    text: &str,
+) -> Result<Option<Bound>, Fail> {
+    let name = Name {
+        text: String::from_str(alloc, text)?,
+        at: usize::MAX,
+    };
+    Ok(names.bound(pou, &name))
+}
+
 // What these names of POUs are for: the number of the POU, and the name's number and role.
 fn have_roles(
     rt: &(impl Abort + AllocGlobal),
@@ -51,10 +65,12 @@ fn have_roles(
             number: *number,
             role: *role,
         });
-        assert_eq!(rt; resolved.variable(*pou, name), want, "{name}");
+        let found = bound(rt.alloc(), &resolved, *pou, name)?;
+        assert_eq!(rt; found, want, "{name}");
     }
     for (pou, name) in [(0, "c"), (0, "FAULT"), (0, ""), (9, "K"), (0, "M")] {
-        assert_eq!(rt; resolved.variable(pou, name), None, "{name}");
+        let found = bound(rt.alloc(), &resolved, pou, name)?;
+        assert_eq!(rt; found, None, "{name}");
     }
     Ok(())
 }

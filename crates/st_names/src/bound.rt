@@ -8,7 +8,7 @@ ghost use Rattle.naming.specs.FileScope.{pous_of};
 
 use file_scope::{Table, end_at, standing_at};
 use naming::{Declared, Role, Slot, Standing};
-use pou_scope::{NamesOfPou, UseNumbers, slot_at, slot_by};
+use pou_scope::{NamesOfPou, UseNumbers, slot_by};
 use source_tree::{Item, Name, Pou, SourceFile, TypeDeclaration};
 
 /// A variable that a name is bound to: its number in declared order, from 1, and what it is for.
@@ -130,16 +130,6 @@ impl<'f> Resolved<'f> {
         }
     }
 
-    // The slot of a name in the POU of a number.
-    fn slot(&self, pou: usize, name: &str) -> Option<Slot>
-        ensures { result ≡ option_and_then (λ p. slot_named (scope_of p) name.now) (pou_at (file_view self.now.file.now) pou) }
-    {
-        match self.bindings.names.as_slice().get(pou) {
-            Some(names) => slot_at(&names.slots, name),
-            None => None,
-        }
-    }
-
     // The slot of a name that is used, in the POU of a number.
     fn slot_of_use(&self, pou: usize, name: &Name) -> Option<Slot>
         ensures { result ≡ option_and_then (λ p. slot_named (scope_of p) (name_view name.now).text) (pou_at (file_view self.now.file.now) pou) }
@@ -151,7 +141,7 @@ impl<'f> Resolved<'f> {
         }
     }
 
-    /// The variable that a name is bound to in the POU of a number, as `variable` finds it, by the number that is kept of its use.
+    /// The variable that a name is bound to in the POU of a number, by the number that is kept of its use.
     pub fn bound(&self, pou: usize, name: &Name) -> Option<Bound>
         ensures { result ≡ option_and_then (λ p. bound_named (variables_in_pou p) (name_view name.now).text) (pou_at (file_view self.now.file.now) pou) }
     {
@@ -173,13 +163,6 @@ impl<'f> Resolved<'f> {
         ensures { ∥ types_view result.now ≡ types_of (file_view self.now.file.now) ∥₁ }
     {
         &self.bindings.types
-    }
-
-    /// The variable that a name in upper case is bound to in the POU of a number, in constant time.
-    pub fn variable(&self, pou: usize, name: &str) -> Option<Bound>
-        ensures { result ≡ option_and_then (λ p. bound_named (variables_in_pou p) name.now) (pou_at (file_view self.now.file.now) pou) }
-    {
-        bound_by(self.slot(pou, name))
     }
 
     /// What a name in upper case stands for in the file's scope, where it is declared there once, in constant time.

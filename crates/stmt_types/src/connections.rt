@@ -289,6 +289,6 @@ pub(crate) fn type_invoke<S: Scope>(
     ensures { OnOk result (map stmt_view list.new.items ≡ map stmt_view list.old.items ++ typed_invoke (S.means scope.now) (name_view instance.now) (connections_view connections.now)) }
 {
     type_inputs(alloc, scope, instance, connections, list)?;
-    type_run(scope.instance(instance.text.as_str()), list)?;
+    type_run(scope.instance(instance), list)?;
     type_outputs(alloc, scope, instance, connections, list)
 }

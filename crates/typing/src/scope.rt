@@ -70,11 +70,11 @@ pub trait Scope {
     fn port(&self, function: usize, place: usize) -> Option<Port>
         ensures { result ≡ (means self.now).port function place };
 
-    /// The place of the input of a name in upper case among those of a FUNCTION, by the number of its POU.
-    fn input(&self, function: usize, name: &str) -> Option<usize>
-        ensures { result ≡ (means self.now).input function name.now };
+    /// The place of the input of a name among those of a FUNCTION, by the number of its POU.
+    fn input(&self, function: usize, name: &Name) -> Option<usize>
+        ensures { result ≡ (means self.now).input function (name_view name.now).text };
 
-    /// The instance of a name in upper case.
-    fn instance(&self, name: &str) -> Option<Instance>
-        ensures { result ≡ (means self.now).instance name.now };
+    /// The instance of a name.
+    fn instance(&self, name: &Name) -> Option<Instance>
+        ensures { result ≡ (means self.now).instance (name_view name.now).text };
 }

@@ -1,9 +1,0 @@
-use Rattle.std.proofs.Common.{option_map, ap, ◌∙◌}
-use Rattle.source_tree.specs.SyntaxView.{file_view}
-use Rattle.st_names.specs.BoundBy.{bound_by}
-use Rattle.naming.specs.FileScope.{pou_at}
-use Rattle.st_names.proofs.BindingLemmas.{bound_slot}
-use Rattle.st_names.proofs.bound.Resolved.variable.Goals as goal
-
-pub returns : goal.returns
-returns c = c.bound_by.ensures ∙ ap (option_map bound_by) c.slot.ensures ∙ bound_slot c.args.name.now (pou_at (file_view c.args.self.now.file.now) c.args.pou)
