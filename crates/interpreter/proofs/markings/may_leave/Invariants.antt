@@ -3,4 +3,4 @@ use Rattle.meaning.specs.Flags.{may_leave}
 use Rattle.interpreter.proofs.markings.may_leave.Given as goal
 
 abbrev pub invariant-loop-step : goal.invariant-loop-step
-invariant-loop-step l = may_leave l.now l.left (drop l.step-index l.steps) ≡ may_leave l.now l.left l.steps
+invariant-loop-step l = may_leave l.now l.exited (drop l.step-index l.steps) ≡ may_leave l.now l.exited l.steps
