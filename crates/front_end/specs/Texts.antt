@@ -79,7 +79,7 @@ pub record HasProgram (f : FileData) (number : ℕ) (p : PouData) : Type 0 where
   pub there : pou_at f number ≡ Some p
 
 -- A text states a program: its file breaks no rule on names, has one PROGRAM, breaks no rule on types, and has room for its cells. The program is the
--- typed program of the file, in which a FUNCTION that never runs keeps only the cells that its callers name, and no statements.
+-- typed program of the file, in which a POU that never runs has no statements, and a FUNCTION that never runs keeps only the cells that its callers name.
 pub record StatesProgram (text : List ℕ) (p : ProgramData) : Type 0 where
   pub file : FileData
   pub number : ℕ
