@@ -1,3 +1,4 @@
 pub mod RunningLaws
 pub mod StatedPous
 pub mod StatedLemmas
+pub mod SearchLemmas
