@@ -1,4 +1,9 @@
-// The cells of POUs: their places, and the members and ports of blocks and functions.
+// What names stand for in the body of a POU, and where the cells of its variables stand.
+// - `pous`: the POUs of a file, where each block counts as one without cells; of `tables`, `block_members`, `places` and `reached`
+// - `sizes`: how many cells POUs have, and M2
+// - `placed_pous`: the variables of POUs at their places, where blocks have their sizes
+// - `scope_of_pou`, `placed_scope`: the scope of a body by each of these; names are found by `named_members`
+// - `roles`: what variables are for
 #![tactic(auto)]
 
 mod block_members;
