@@ -1,6 +1,6 @@
 -- The variables of POUs of few cells, at their places.
 use Rattle.std.proofs.Common.{◌≡◌, ℕ, ◌≤◌, Bool, true, false, if◌then◌else◌, List, [], ◌∷◌, map, Option, Some, None, refl, sym, ap, subst, ◌∙◌, arith, Vec, Global}
-use Rattle.std.specs.Prelude.{nat_le, is_some, option_map, option_and_then}
+use Rattle.std.specs.Prelude.{nat_le, is_some, option_map, option_and_then, unwrap_or}
 use Rattle.std.specs.List.{AllByRecursion, list_all, slice_get}
 use Rattle.std.proofs.lemmas.Option.{slice_get-map}
 use Rattle.std.proofs.lemmas.Bool.{le-leb, leb-true, and_parts, false≢true}
@@ -73,8 +73,12 @@ placed_if : (f : FileData) (o : Option PouData) (ms : List Member) → option_an
 placed_if f None ms e = absurd (let h : ⊥ = cc in h)
 placed_if f (Some p) ms e = placed_by f p (is_few f p) ms e
 
-pub placed_members : (f : FileData) (k : ℕ) (ms : List Member) → placed_at f k ≡ Some ms → ms ≡ members_at f (sizes_of f) k
-placed_members f k ms e = placed_if f (pou_at f k) ms e
+placed_some : (f : FileData) (k : ℕ) (o : Option (List Member)) → placed_at f k ≡ o → is_some o ≡ true → unwrap_or o [] ≡ members_at f (sizes_of f) k
+placed_some f k None is some = absurd (false≢true some)
+placed_some f k (Some ms) is some = placed_if f (pou_at f k) ms is
+
+pub members_placed : (f : FileData) (k : ℕ) → is_some (placed_at f k) ≡ true → unwrap_or (placed_at f k) [] ≡ members_at f (sizes_of f) k
+members_placed f k some = placed_some f k (placed_at f k) refl some
 
 -- a POU whose variables are placed has few cells
 few_by : (f : FileData) (p : PouData) (b : Bool) → is_some (if b then Some (members_in f (sizes_of f) p) else None) ≡ true → b ≡ true
@@ -92,12 +96,13 @@ block_among : (f : FileData) (s text : List ℕ) (next : Next) (vs : List Variab
     → member_among f s text next vs ≡ Some m → is_placed_block f m.block ≡ true
 block_among f s text next [] m all e = absurd (let h : ⊥ = cc in h)
 block_among f s text next (v ∷ vs) m all e =
-    by (is_of_name text v) (and_parts (is_placed_block f (block_of f v)) (list_all (λ t. is_placed_block f t.block) (told_in f vs)) all) e
+    let both = and_parts (is_placed_block f (block_of f v)) (list_all (λ t. is_placed_block f t.block) (told_in f vs)) all in
+    by (is_of_name text v) both.0 (λ more. block_among f s text (places_behind f s next v) vs m both.1 more) e
   where
-    by : (b : Bool) → (is_placed_block f (block_of f v) ≡ true) × (list_all (λ t. is_placed_block f t.block) (told_in f vs) ≡ true)
+    by : (b : Bool) → is_placed_block f (block_of f v) ≡ true → (member_among f s text (places_behind f s next v) vs ≡ Some m → is_placed_block f m.block ≡ true)
         → (if b then Some (member_of f (first_place next v) v) else member_among f s text (places_behind f s next v) vs) ≡ Some m → is_placed_block f m.block ≡ true
-    by true both here = let same : member_of f (first_place next v) v ≡ m = cc in subst (λ (x : Member). is_placed_block f x.block ≡ true) same both.0
-    by false both more = block_among f s text (places_behind f s next v) vs m both.1 more
+    by true own others here = let same : member_of f (first_place next v) v ≡ m = cc in subst (λ (x : Member). is_placed_block f x.block ≡ true) same own
+    by false own others more = others more
 
 block_if : (f : FileData) (s text : List ℕ) (o : Option PouData) (m : Member) → list_all (λ t. is_placed_block f t.block) (told_in f (variables_in o)) ≡ true
     → option_and_then (member_in f s text) o ≡ Some m → is_placed_block f m.block ≡ true

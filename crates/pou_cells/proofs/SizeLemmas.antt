@@ -5,7 +5,7 @@ use Rattle.std.specs.List.{AllByRecursion}
 use Rattle.std.proofs.Math.Nat.{min-eq_left, min-eq_right}
 use Rattle.std.proofs.Math.ListN.{get_or-map as get_or-mapped}
 use Rattle.std.proofs.lemmas.List.{map-set}
-use Rattle.std.proofs.lemmas.Bool.{cases_lt, lt-ltb, le-ltb, le-leb, lt-leb}
+use Rattle.std.proofs.lemmas.Bool.{cases_lt, lt-ltb, le-ltb, le-leb, lt-leb, ne_eqb}
 use Rattle.source_tree.specs.Syntax.{PouKindData, function, function_block, program, FileData}
 use Rattle.naming.specs.Scopes.{is_step}
 use Rattle.typing.specs.declared.next.Next.{Next}
@@ -145,13 +145,18 @@ first_exact s (function t) ts all = ap (λ (n : ℕ). record { of_function = tru
 first_exact s function_block ts all = ap (λ (n : ℕ). record { of_function = false; front = 0; rest = 0 + n }) (count_exact s false ts all)
 first_exact s program ts all = ap (λ (n : ℕ). record { of_function = false; front = 1; rest = 1 + n }) (count_exact s false ts all)
 
+abbrev with_front : Next → ℕ → Next
+with_front next n = record { of_function = next.of_function; front = next.front + n; rest = next.rest }
+
+abbrev with_rest : Next → ℕ → Next
+with_rest next n = record { of_function = next.of_function; front = next.front; rest = next.rest + n }
+
 pub behind_exact : (s : List ℕ) (next : Next) (t : ToldData) → IsExact s t → told_places_behind (map capped s) next t ≡ told_places_behind s next t
 behind_exact s next t same = by (is_front next.of_function t.role)
   where
-    by : (b : Bool) → (if b then record { of_function = next.of_function; front = next.front + told_cells (map capped s) t; rest = next.rest } else record { of_function = next.of_function; front = next.front; rest = next.rest + told_cells (map capped s) t })
-        ≡ (if b then record { of_function = next.of_function; front = next.front + told_cells s t; rest = next.rest } else record { of_function = next.of_function; front = next.front; rest = next.rest + told_cells s t })
-    by true = λ i. record { of_function = next.of_function; front = next.front + same i; rest = next.rest }
-    by false = λ i. record { of_function = next.of_function; front = next.front; rest = next.rest + same i }
+    by : (b : Bool) → (if b then with_front next (told_cells (map capped s) t) else with_rest next (told_cells (map capped s) t)) ≡ (if b then with_front next (told_cells s t) else with_rest next (told_cells s t))
+    by true = ap (with_front next) same
+    by false = ap (with_rest next) same
 
 members_exact : (s : List ℕ) (next : Next) (ts : List ToldData) → AllByRecursion (IsExact s) ts → told_members_from (map capped s) next ts ≡ told_members_from s next ts
 members_exact s next [] all = refl
@@ -168,7 +173,9 @@ none_capped s b = ap (λ (n : ℕ). n == 0) (capped_size s (Some b)) ∙ by (siz
   where
     by : (n : ℕ) → (capped n == 0) ≡ (n == 0)
     by zero = refl
-    by (suc n) = ⊎_elim (λ (x : suc n < 2 ^ 64 - 1). ap (λ (m : ℕ). m == 0) (capped_small (suc n) x)) (λ (x : 2 ^ 64 - 1 ≤ suc n). ap (λ (m : ℕ). m == 0) (capped_great (suc n) x)) (cases_lt (suc n) (2 ^ 64 - 1))
+    by (suc n) =
+        let some : (suc n == 0) ≡ false = ne_eqb (suc n) 0 (λ e. let h : ⊥ = omega (arith, e) in h) in
+        ⊎_elim (λ (x : suc n < 2 ^ 64 - 1). ap (λ (m : ℕ). m == 0) (capped_small (suc n) x)) (λ (x : 2 ^ 64 - 1 ≤ suc n). ap (λ (m : ℕ). m == 0) (capped_great (suc n) x) ∙ sym some) (cases_lt (suc n) (2 ^ 64 - 1))
 
 -- a size that stands for no greater one
 pub word_exact : (s : List ℕ) (t : ToldData) → told_cells (map capped s) t < 2 ^ 64 - 1 → IsExact s t

@@ -1,5 +1,5 @@
 // The variables of POUs at their places, where blocks have their sizes.
-ghost use Rattle.std.specs.Prelude.{◌≡◌, ◌<◌, ◌==◌, map, length, true, Some, is_some, option_map, IfOk};
+ghost use Rattle.std.specs.Prelude.{◌≡◌, ◌<◌, ◌==◌, map, length, true, [], Some, is_some, option_map, unwrap_or, IfOk};
 ghost use Rattle.std.specs.List.{list_all};
 ghost use Rattle.source_tree.specs.SyntaxView.{name_view, names_view};
 ghost use Rattle.naming.specs.FileScope.{pous_of};
@@ -67,6 +67,16 @@ fn all_placed(
         list.push(placed_members(alloc, pous, sizes, number)?)?;
     }
     Ok(list)
+}
+
+// The variables that are placed, or none.
+fn members_of(members: &Option<Vec<Member>>) -> &[Member]
+    ensures { result.now ≡ unwrap_or (option_map (λ v. v.items) members.now) [] }
+{
+    match members {
+        None => &[],
+        Some(members) => members,
+    }
 }
 
 impl<'p> PlacedPous<'p> {
@@ -146,14 +156,13 @@ impl<'p> PlacedPous<'p> {
         Ok(taken)
     }
 
-    // The variables of the POU of a number, which are placed.
+    // The variables of the POU of a number, where they are placed.
     fn members_at(&self, number: usize) -> &[Member]
-        requires { is_some (placed_at (file_in self.now.pous.domains) number) ≡ true }
-        ensures { result.now ≡ members_at (file_in self.now.pous.domains) (sizes_of (file_in self.now.pous.domains)) number }
+        ensures { result.now ≡ unwrap_or (placed_at (file_in self.now.pous.domains) number) [] }
     {
         match self.members.get(number) {
-            Some(Some(members)) => members,
-            _ => &[],
+            None => &[],
+            Some(members) => members_of(members),
         }
     }
 

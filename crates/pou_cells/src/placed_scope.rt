@@ -38,7 +38,7 @@ impl Scope for PlacedScope<'_> {
     }
 
     fn port(&self, function: usize, place: usize) -> Option<Port> {
-        self.placed.pous.ports_at(function).get(place).copied()
+        self.placed.pous.port(function, place)
     }
 
     fn input(&self, function: usize, name: &Name) -> Option<usize> {

@@ -129,6 +129,7 @@ fn result_of(members: &[Member]) -> Port
 }
 
 impl<'p> Pous<'p> {
+    ghost use Rattle.std.specs.List.{slice_get};
     ghost use Rattle.source_tree.specs.SyntaxView.{name_view, names_view};
     ghost use Rattle.pou_cells.specs.ToldPlaces.{told_at};
     ghost use Rattle.typing.specs.Members.{member_at, members_at, called_number, signature_of, signature_at, instance_of, in_instance, meant_by};
@@ -162,8 +163,8 @@ impl<'p> Pous<'p> {
         told_of_pou(&self.told, number)
     }
 
-    /// The variables of a POU by its number.
-    pub(crate) fn members_at(&self, number: usize) -> &[Member]
+    // The variables of a POU by its number.
+    fn members_at(&self, number: usize) -> &[Member]
         ensures { result.now ≡ members_at (file_in self.now.domains) [] number }
     {
         match self.members.get(number) {
@@ -172,14 +173,21 @@ impl<'p> Pous<'p> {
         }
     }
 
-    /// The inputs of a POU by its number.
-    pub(crate) fn ports_at(&self, number: usize) -> &[Port]
+    // The inputs of a POU by its number.
+    fn ports_at(&self, number: usize) -> &[Port]
         ensures { result.now ≡ ports_of (members_at (file_in self.now.domains) [] number) }
     {
         match self.ports.get(number) {
             None => &[],
             Some(ports) => ports,
         }
+    }
+
+    /// The input at a place among those of a POU, by its number.
+    pub(crate) fn port(&self, number: usize, place: usize) -> Option<Port>
+        ensures { result ≡ slice_get (ports_of (members_at (file_in self.now.domains) [] number)) place }
+    {
+        self.ports_at(number).get(place).copied()
     }
 
     /// The variable that a name means in the POU of a number, in constant time.

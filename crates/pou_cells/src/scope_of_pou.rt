@@ -32,7 +32,7 @@ impl Scope for PouScope<'_> {
     }
 
     fn port(&self, function: usize, place: usize) -> Option<Port> {
-        self.pous.ports_at(function).get(place).copied()
+        self.pous.port(function, place)
     }
 
     fn input(&self, function: usize, name: &Name) -> Option<usize> {

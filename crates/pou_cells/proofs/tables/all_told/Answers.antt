@@ -4,7 +4,6 @@ use Rattle.naming.specs.Scopes.{variables_in_pou}
 use Rattle.decl_types.specs.Bodies.{file_in}
 use Rattle.decl_types.specs.Told.{told_in}
 use Rattle.decl_types.specs.ToldView.{told_view}
-use Rattle.pou_cells.specs.ToldMembers.{all_told}
 use Rattle.pou_cells.proofs.TableLemmas.{one_told_more}
 use Rattle.pou_cells.proofs.tables.all_told.Goals as goal
 

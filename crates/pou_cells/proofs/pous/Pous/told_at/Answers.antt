@@ -1,4 +1,4 @@
-use Rattle.std.proofs.Common.{List, ap, ◌∙◌, map, []}
+use Rattle.std.proofs.Common.{ap, ◌∙◌, map, []}
 use Rattle.std.specs.Prelude.{option_map, unwrap_or}
 use Rattle.std.specs.List.{slice_get}
 use Rattle.decl_types.specs.Bodies.{file_in}
