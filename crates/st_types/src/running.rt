@@ -1,5 +1,5 @@
 // The bodies of the POUs that may run. They alone are typed: nothing is asked of the places in a POU that never runs.
-ghost use Rattle.std.specs.Prelude.{◌≡◌, ◌<◌, ℕ, replicate, length, IfOk};
+ghost use Rattle.std.specs.Prelude.{◌≡◌, ◌<◌, ℕ, replicate, length, slice_index_or, IfOk};
 ghost use Rattle.call_order.specs.Marks.{is_marked};
 ghost use Rattle.program_tree.specs.Tree.{no_statements};
 ghost use Rattle.program_tree.specs.View.{stmts_view};
@@ -35,6 +35,13 @@ fn no_bodies(alloc: Global, count: usize) -> Result<Vec<Vec<TypedStmt>>, AllocEr
     Ok(list)
 }
 
+// The number of a POU, by its number among those that may be called.
+fn number_of(called: &[usize], place: usize) -> usize
+    ensures { result ≡ slice_index_or called.now place 0 }
+{
+    called.get(place).copied().unwrap_or(0)
+}
+
 // The body of the POU of a number.
 fn body_if(
     alloc: Global,
@@ -58,7 +65,7 @@ pub(crate) fn running_bodies(
     ensures runs { IfOk result (λ r. (k : ℕ) → k < length (called_order (file_in placed.now.pous.domains)) → is_marked r.runs.items k ≡ may_run (called_by (file_in placed.now.pous.domains)) (stmts_view body.now) k) }
     ensures bodies { IfOk result (λ r. bodies_view r.bodies.items ≡ bodies_from (file_in placed.now.pous.domains) (is_marked r.runs.items) 0 (called_order (file_in placed.now.pous.domains))) }
 {
-    let called = &placed.pous.called;
+    let called = placed.pous.called.as_slice();
     let mut marks = vec![in alloc; false; called.len()]?;
     let mut runs = vec![in alloc; false; called.len()]?;
     let mut bodies = no_bodies(alloc, called.len())?;
@@ -66,7 +73,7 @@ pub(crate) fn running_bodies(
     let first = uses_of(alloc, body)?;
     mark(&first, &mut marks, &mut waiting)?;
     while let Some(number) = waiting.pop() {
-        let body = body_if(alloc, placed, called[number])?;
+        let body = body_if(alloc, placed, number_of(called, number))?;
         let uses = uses_of(alloc, &body)?;
         mark(&uses, &mut marks, &mut waiting)?;
         runs[number] = true;

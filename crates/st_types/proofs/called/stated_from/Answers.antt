@@ -1,4 +1,4 @@
-use Rattle.std.proofs.Common.{◌≡◌, ℕ, ◌<◌, length, subst, sym, List, [], ◌∷◌, ◌++◌, ◌∙◌, get_or, reverse, arith, ap, Vec, Global}
+use Rattle.std.proofs.Common.{Bool, ◌≡◌, ℕ, ◌<◌, length, subst, sym, List, [], ◌∷◌, ◌++◌, ◌∙◌, get_or, reverse, arith, ap, Vec, Global}
 use Rattle.std.proofs.lemmas.List.{map-append, reverse-reverse}
 use Rattle.call_order.specs.Marks.{is_marked}
 use Rattle.program_tree.specs.declared.typed.Called.{Called}
