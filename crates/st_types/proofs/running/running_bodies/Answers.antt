@@ -1,4 +1,4 @@
-use Rattle.std.proofs.Common.{rules, ◌≡◌, ℕ, ◌<◌, ◌∙◌, Bool, true, false, List, [], ◌∷◌, ◌++◌, length, replicate, take, drop, get_or, set, arith, refl, ap, sym, subst, Vec, Global}
+use Rattle.std.proofs.Common.{rules, ◌≡◌, ℕ, suc, ◌+◌, ◌<◌, ◌∙◌, Bool, true, false, List, [], ◌∷◌, ◌++◌, length, replicate, take, drop, get_or, set, arith, refl, ap, sym, subst, Vec, Global}
 use Rattle.std.proofs.lemmas.List.{take_at, length-map, map-set}
 use Rattle.call_order.specs.Marks.{GetMarks}
 use Rattle.program_tree.specs.declared.typed.TypedStmt.{TypedStmt}
@@ -8,8 +8,7 @@ use Rattle.naming.specs.FileScope.{pou_at}
 use Rattle.decl_types.specs.Bodies.{file_in}
 use Rattle.typing.specs.Members.{called_order}
 use Rattle.running_pous.specs.Uses.{uses_of_all}
-use Rattle.running_pous.specs.Bodies.{bodies_view, body_if}
-use Rattle.running_pous.proofs.StatedLemmas.{length-bodies}
+use Rattle.running_pous.specs.Bodies.{bodies_view, body_if, bodies_from}
 use Rattle.running_pous.proofs.SearchLemmas.{IsUnderWay, search-begun, waiting-low, search-more, search-ended}
 use Rattle.call_order.specs.Marks.{is_marked}
 use Rattle.source_tree.specs.Syntax.{FileData}
@@ -36,6 +35,10 @@ loop-number-init c =
     subst (λ (ms : List Bool). IsUnderWay f starts ms c.in_ok-runs.runs.items (bodies_view c.in_ok-bodies.bodies.items) c.mark.new.waiting.items) (sym marks)
     (search-begun f starts c.mark.new.marks c.in_ok-runs.runs.items (bodies_view c.in_ok-bodies.bodies.items) c.mark.new.waiting.items got none empty)
 
+length_from : (f : FileData) (runs : ℕ → Bool) (n : ℕ) (ks : List ℕ) → length (bodies_from f runs n ks) ≡ length ks
+length_from f runs n [] = refl
+length_from f runs n (k ∷ ks) = ap (λ (m : ℕ). suc m) (length_from f runs (n + 1) ks)
+
 -- what waited is the number of a POU
 below : (f : FileData) (starts : List ℕ) (marks runs : List Bool) (bodies : List (Vec TypedStmt Global)) (rest waiting : List ℕ) (number : ℕ)
     → IsUnderWay f starts marks runs (bodies_view bodies) waiting → waiting ≡ rest ++ number ∷ [] → number < length (called_order f)
@@ -58,7 +61,7 @@ index_mut-requires-in-Some c =
     let low = below f (uses_of_all (stmts_view c.args.body.now)) c.loop-number.marks.items c.loop-number.runs.items c.loop-number.bodies.items c.pop.new.self.items c.loop-number.waiting.items c.in-Some.number i c.in-Some.ensures.items in
     let all = ap length i.typed in
     let each = length-map c.loop-number.bodies.items (λ body. stmts_view body.items) in
-    let many = length-bodies f (is_marked c.loop-number.runs.items) 0 (called_order f) in
+    let many = length_from f (is_marked c.loop-number.runs.items) 0 (called_order f) in
     let o = c.loop-number.bodies.ok in
     let number_low : c.in-Some.number < length c.loop-number.bodies.items = omega arith in
     search rules
