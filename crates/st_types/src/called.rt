@@ -179,7 +179,8 @@ pub fn stated_by(
 ) -> Result<Vec<Called>, AllocError>
     ensures { IfOk result (λ list. all_called_view list.items ≡ stated_by (file_in placed.now.pous.domains) (may_run (called_by (file_in placed.now.pous.domains)) (stmts_view body.now))) }
 {
-    let Running { runs, bodies } = running_bodies(alloc, placed, body)?;
+    let running = running_bodies(alloc, placed, body)?;
+    let Running { runs, bodies } = running;
     let list = stated_from(alloc, placed, &runs, bodies)?;
     Ok(list)
 }

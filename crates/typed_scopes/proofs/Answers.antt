@@ -135,4 +135,4 @@ module _ (pous : Pous) (b : BodyScope) (last : ℕ → ℤ) (scope : Scope) (s :
       let room = subst (λ (n : ℕ). 2 + n ≤ length (pous.frames s.number).types) (sym (arity-list given ∙ length-given (typed_given scope s 0 args))) fits.room in
       let inputs = inputs_from pous b (pous.frames s.number) 2 (number (pos 0)) given (λ k below. each_taken args all_given.1 all k (subst (λ (n : ℕ). k < n) (length-given (typed_given scope s 0 args)) below)) in
       subst (λ (t : DataType). IsValueIf pous b last t (call_function s.number (expressions_of given))) (sym (whole_port s.result result))
-      (λ known. let place = fits.call_function result known in record { known = place.known; typed = (fits.before, room, place.kind, inputs); stays = place.within })
+      (λ known. let place = fits.answer result known in record { known = place.known; typed = (fits.before, room, place.kind, inputs); stays = place.within })

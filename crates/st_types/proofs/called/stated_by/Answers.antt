@@ -13,14 +13,14 @@ use Rattle.st_types.proofs.called.stated_by.Goals as goal
 pub stated_from-requires : goal.stated_from-requires
 stated_from-requires c =
     let f = file_in c.args.placed.now.pous.domains in
-    c.in_ok-runs.ensures.bodies ∙ ap (λ (ks : List ℕ). bodies_from f (is_marked c.in_ok-runs.runs.items) 0 ks) (sym c.args.placed.now.pous.ordered)
+    c.in_ok-running.ensures.bodies ∙ ap (λ (ks : List ℕ). bodies_from f (is_marked c.in_ok-running.running.runs.items) 0 ks) (sym c.args.placed.now.pous.ordered)
     ∙ ap (λ (ms : List Bool). bodies_from f (is_marked ms) 0 c.args.placed.now.pous.called.items) (sym c.deref.ensures.value)
 
 pub returns : goal.returns
 returns c =
     let f = file_in c.args.placed.now.pous.domains in
     let runs = may_run (called_by f) (stmts_view c.args.body.now) in
-    let marks = c.in_ok-runs.runs.items in
+    let marks = c.in_ok-running.running.runs.items in
     c.in_ok-list.ensures ∙ ap (λ (ms : List Bool). stated_from f (is_marked ms) 0 c.args.placed.now.pous.called.items) c.deref.ensures.value
     ∙ ap (λ (ks : List ℕ). stated_from f (is_marked marks) 0 ks) c.args.placed.now.pous.ordered
-    ∙ stated-same f (is_marked marks) runs 0 (called_order f) (λ k below. c.in_ok-runs.ensures.runs k (omega (arith, below)))
+    ∙ stated-same f (is_marked marks) runs 0 (called_order f) (λ k below. c.in_ok-running.ensures.runs k (omega (arith, below)))
