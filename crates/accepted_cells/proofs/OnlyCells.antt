@@ -19,6 +19,7 @@ use Rattle.typing.specs.declared.scope.Meaning.{Meaning}
 use Rattle.typing.specs.Typing.{by_path}
 use Rattle.typing.specs.Programs.{or_meaning, joined, cell_meaning, cell_among, value_member, value_among, own_type, pair_means}
 use Rattle.candidates.specs.ByPath.{placed, cell_named}
+use Rattle.candidates.proofs.PlacedLemmas.{named_at}
 use Rattle.found_cells.specs.Clauses.{of_program, in_clause}
 use Rattle.found_cells.proofs.Paths.{Apart}
 use Rattle.accepted_cells.specs.OnlyCells.{IsOnlyCell}
@@ -50,34 +51,38 @@ only_place (x ∷ cs) apart (suc a) (suc b) c d at to same = let rest = only_pla
 -- ---- the look-up by path
 
 module _ (path : List ℕ) where
-  named_here : (start : ℕ) (c : CellData) (cs : List CellData) → c.path ≡ path → cell_named path start (c ∷ cs) ≡ Some (placed start c)
-  named_here start c cs is = let test : bytes_eq c.path path ≡ true = (bytes_eq-Decides c.path path).1 is in rw test refl
+  meant_here : (start : ℕ) (c : CellData) (cs : List CellData) → c.path ≡ path → cell_among own_type path start (c ∷ cs) ≡ Some (cell_meaning own_type start c)
+  meant_here start c cs is = let test : bytes_eq c.path path ≡ true = (bytes_eq-Decides c.path path).1 is in rw test refl
 
-  named_later : (start : ℕ) (c : CellData) (cs : List CellData) → bytes_eq c.path path ≡ false → cell_named path start (c ∷ cs) ≡ cell_named path (start + 1) cs
-  named_later start c cs test = rw test refl
+  meant_later : (start : ℕ) (c : CellData) (cs : List CellData) → bytes_eq c.path path ≡ false → cell_among own_type path start (c ∷ cs) ≡ cell_among own_type path (start + 1) cs
+  meant_later start c cs test = rw test refl
 
-  first_named : (start : ℕ) (cs : List CellData) → Apart cs → (n : ℕ) (d : CellData) → slice_get cs n ≡ Some d → d.path ≡ path → cell_named path start cs ≡ Some (placed (start + n) d)
-  first_named start [] apart n d is named = absurd (let h : ⊥ = cc in h)
-  first_named start (c ∷ cs) apart zero d is named =
+  first_meant : (start : ℕ) (cs : List CellData) → Apart cs → (n : ℕ) (d : CellData) → slice_get cs n ≡ Some d → d.path ≡ path → cell_among own_type path start cs ≡ Some (cell_meaning own_type (start + n) d)
+  first_meant start [] apart n d is named = absurd (let h : ⊥ = cc in h)
+  first_meant start (c ∷ cs) apart zero d is named =
       let same : c ≡ d = cc in
       let place : start ≡ start + 0 = omega arith in
-      named_here start c cs (ap (λ (e : CellData). e.path) same ∙ named) ∙ ap (λ (e : CellData). Some (placed start e)) same ∙ ap (λ (s : ℕ). Some (placed s d)) place
-  first_named start (c ∷ cs) apart (suc n) d is named =
+      meant_here start c cs (ap (λ (e : CellData). e.path) same ∙ named) ∙ ap (λ (e : CellData). Some (cell_meaning own_type start e)) same ∙ ap (λ (s : ℕ). Some (cell_meaning own_type s d)) place
+  first_meant start (c ∷ cs) apart (suc n) d is named =
       let other : bytes_eq c.path path ≡ false = subst (λ (l : List ℕ). bytes_eq c.path l ≡ false) named (first_differs c cs apart n d is) in
       let place : start + 1 + n ≡ start + suc n = omega arith in
-      named_later start c cs other ∙ first_named (start + 1) cs apart.1 n d is named ∙ ap (λ (s : ℕ). Some (placed s d)) place
+      meant_later start c cs other ∙ first_meant (start + 1) cs apart.1 n d is named ∙ ap (λ (s : ℕ). Some (cell_meaning own_type s d)) place
+
+  first_named : (cs : List CellData) → Apart cs → (n : ℕ) (d : CellData) → slice_get cs n ≡ Some d → d.path ≡ path → cell_named path cs ≡ Some (placed n d)
+  first_named cs apart n d is named =
+      let place : 0 + n ≡ n = omega arith in
+      named_at path cs n d (first_meant 0 cs apart n d is named ∙ ap (λ (s : ℕ). Some (cell_meaning own_type s d)) place) is
 
 pub only_cell : (cells : List CellData) → Apart cells → (place : ℕ) (cell : CellData) (path : List ℕ) (kind : DataType) (range : Range) → slice_get cells place ≡ Some cell → cell.path ≡ path → cell.kind ≡ kind
     → cell.range ≡ range → IsOnlyCell cells place path kind range
 only_cell cells apart place cell path kind range there named typed ranged =
-    let zero_place : 0 + place ≡ place = omega arith in
     record {
       cell = cell;
       there = there;
       named = named;
       typed = typed;
       ranged = ranged;
-      found = first_named path 0 cells apart place cell there named ∙ ap (λ (s : ℕ). Some (placed s cell)) zero_place;
+      found = first_named path cells apart place cell there named;
       only = λ other c at is. only_place cells apart other place c cell at there (is ∙ sym named);
     }
 

@@ -20,7 +20,7 @@ pub record IsOnlyCell (cells : List CellData) (place : ℕ) (path : List ℕ) (k
   pub named : cell.path ≡ path
   pub typed : cell.kind ≡ kind
   pub ranged : cell.range ≡ range
-  pub found : cell_named path 0 cells ≡ Some (placed place cell)
+  pub found : cell_named path cells ≡ Some (placed place cell)
   pub only : (other : ℕ) (c : CellData) → slice_get cells other ≡ Some c → c.path ≡ path → other ≡ place
 
 -- The cells of each name of a PROGRAM, and of each name behind the names of instances in instances, stand at the name's place, with its path, its

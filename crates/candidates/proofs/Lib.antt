@@ -1,5 +1,5 @@
 pub mod PlacedLemmas
-pub mod PlaceLemmas
+pub mod NameLemmas
 pub mod CandidateLemmas
 pub mod PairLemmas
 pub mod ExclusiveLemmas

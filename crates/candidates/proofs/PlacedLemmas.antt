@@ -1,90 +1,55 @@
 -- What is found by a path is a cell.
-use Rattle.std.proofs.Common.{◌≡◌, ◌<◌, ℕ, suc, ◌+◌, List, [], ◌∷◌, length, Bool, true, false, Some, refl, sym, ap, ◌∙◌, arith}
-use Rattle.std.specs.Prelude.{slice_get}
+use Rattle.std.proofs.Common.{◌≡◌, ℕ, suc, ◌+◌, Bool, true, false, List, [], ◌∷◌, Option, Some, None, option_map, refl, sym, ap, ◌∙◌, arith}
+use Rattle.std.specs.Prelude.{zero, slice_get, option_and_then}
 use Rattle.std.specs.Str.{bytes_eq}
+use Rattle.std.proofs.lemmas.Option.{slice_get_within}
 use Rattle.program_tree.specs.Tree.{CellData, ProgramData}
 use Rattle.meaning.specs.Effects.{range_at}
 use Rattle.scan_model.specs.Scans.{ranges_of}
 use Rattle.scan_model.specs.Pairs.{IsCellOf}
+use Rattle.typing.specs.declared.scope.Meaning.{Meaning}
+use Rattle.typing.specs.Programs.{own_type, cell_meaning, cell_among}
+use Rattle.clause_types.specs.FirstPlaces.{cell_at, place_of, first_place}
 use Rattle.candidates.specs.declared.places.Placed.{Placed}
-use Rattle.candidates.specs.ByPath.{placed, cell_named}
+use Rattle.candidates.specs.ByPath.{placed, placed_at, cell_named}
 
-record IsPlaced (cs : List CellData) (place : ℕ) (p : Placed) : Type 0 where
+-- what a path means among cells that begin at a place is a cell of that path
+pub record IsMeant (text : List ℕ) (start : ℕ) (cs : List CellData) (m : Meaning) : Type 0 where
   pub index : ℕ
-  pub at : p.place ≡ place + index
-  pub within : index < length cs
-  pub ranged : range_at (ranges_of cs) index ≡ p.range
-
-placed_first : (c : CellData) (cs : List CellData) (place : ℕ) (p : Placed) → placed place c ≡ p → IsPlaced (c ∷ cs) place p
-placed_first c cs place p h = record {
-  index = 0;
-  at = sym (ap (λ (q : Placed). q.place) h) ∙ omega arith;
-  within = omega arith;
-  ranged = ap (λ (q : Placed). q.range) h;
-}
-
-placed_later : (c : CellData) (cs : List CellData) (place : ℕ) (p : Placed) → IsPlaced cs (place + 1) p → IsPlaced (c ∷ cs) place p
-placed_later c cs place p h = record {
-  index = suc h.index;
-  at = h.at ∙ omega arith;
-  within = omega (arith, h.within);
-  ranged = h.ranged;
-}
-
-found_placed : (text : List ℕ) (place : ℕ) (cs : List CellData) (p : Placed) → cell_named text place cs ≡ Some p → IsPlaced cs place p
-found_placed text place [] p h = absurd (let e : ⊥ = cc in e)
-found_placed text place (c ∷ cs) p h = by (bytes_eq c.path text) refl (found_placed text (place + 1) cs p)
-  where
-    by : (b : Bool) → bytes_eq c.path text ≡ b → (cell_named text (place + 1) cs ≡ Some p → IsPlaced cs (place + 1) p) → IsPlaced (c ∷ cs) place p
-    by true e rest = placed_first c cs place p (let f : Some (placed place c) ≡ Some p = rw e at h in cc)
-    by false e rest = placed_later c cs place p (rest (let f : cell_named text (place + 1) cs ≡ Some p = rw e at h in f))
-
-pub is_cell : (program : ProgramData) (text : List ℕ) (p : Placed) → cell_named text 0 program.cells ≡ Some p → IsCellOf program p.place p.range
-is_cell program text p h =
-    let q = found_placed text 0 program.cells p h in
-    let e : p.place ≡ q.index = q.at ∙ omega arith in
-    (omega (arith, q.within), ap (range_at (ranges_of program.cells)) e ∙ q.ranged)
-
--- ---- which cell it is
-
--- the cell of a path that is found among cells that begin at a place
-pub record IsFound (text : List ℕ) (place : ℕ) (cs : List CellData) (p : Placed) : Type 0 where
-  pub index : ℕ
-  pub at : p.place ≡ place + index
   pub cell : CellData
   pub there : slice_get cs index ≡ Some cell
-  pub is : placed p.place cell ≡ p
   pub named : bytes_eq cell.path text ≡ true
+  pub is : m ≡ cell_meaning own_type (start + index) cell
 
-found_first : (text : List ℕ) (c : CellData) (cs : List CellData) (place : ℕ) (p : Placed) → placed place c ≡ p → bytes_eq c.path text ≡ true → IsFound text place (c ∷ cs) p
-found_first text c cs place p h named =
-    let same : p.place ≡ place = sym (ap (λ (q : Placed). q.place) h) in
-    record {
-      index = 0;
-      at = same ∙ omega arith;
-      cell = c;
-      there = refl;
-      is = ap (λ n. placed n c) same ∙ h;
-      named = named;
-    }
+meant_first : (text : List ℕ) (start : ℕ) (c : CellData) (cs : List CellData) (m : Meaning) → bytes_eq c.path text ≡ true → cell_meaning own_type start c ≡ m → IsMeant text start (c ∷ cs) m
+meant_first text start c cs m named e =
+    let at : start ≡ start + 0 = omega arith in
+    record { index = 0; cell = c; there = refl; named = named; is = sym e ∙ ap (λ n. cell_meaning own_type n c) at }
 
-found_later : (text : List ℕ) (c : CellData) (cs : List CellData) (place : ℕ) (p : Placed) → IsFound text (place + 1) cs p → IsFound text place (c ∷ cs) p
-found_later text c cs place p h = record {
-  index = suc h.index;
-  at = h.at ∙ omega arith;
-  cell = h.cell;
-  there = h.there;
-  is = h.is;
-  named = h.named;
-}
+meant_later : (text : List ℕ) (start : ℕ) (c : CellData) (cs : List CellData) (m : Meaning) → IsMeant text (start + 1) cs m → IsMeant text start (c ∷ cs) m
+meant_later text start c cs m h =
+    let at : start + 1 + h.index ≡ start + suc h.index = omega arith in
+    record { index = suc h.index; cell = h.cell; there = h.there; named = h.named; is = h.is ∙ ap (λ n. cell_meaning own_type n h.cell) at }
 
-found : (text : List ℕ) (place : ℕ) (cs : List CellData) (p : Placed) → cell_named text place cs ≡ Some p → IsFound text place cs p
-found text place [] p h = absurd (let e : ⊥ = cc in e)
-found text place (c ∷ cs) p h = by (bytes_eq c.path text) refl (found text (place + 1) cs p)
+pub is_meant : (text : List ℕ) (start : ℕ) (cs : List CellData) (m : Meaning) → cell_among own_type text start cs ≡ Some m → IsMeant text start cs m
+is_meant text start [] m h = absurd (let e : ⊥ = cc in e)
+is_meant text start (c ∷ cs) m h = by (bytes_eq c.path text) refl (is_meant text (start + 1) cs m)
   where
-    by : (b : Bool) → bytes_eq c.path text ≡ b → (cell_named text (place + 1) cs ≡ Some p → IsFound text (place + 1) cs p) → IsFound text place (c ∷ cs) p
-    by true e rest = found_first text c cs place p (let f : Some (placed place c) ≡ Some p = rw e at h in cc) e
-    by false e rest = found_later text c cs place p (rest (let f : cell_named text (place + 1) cs ≡ Some p = rw e at h in f))
+    by : (b : Bool) → bytes_eq c.path text ≡ b → (cell_among own_type text (start + 1) cs ≡ Some m → IsMeant text (start + 1) cs m) → IsMeant text start (c ∷ cs) m
+    by true e rest = meant_first text start c cs m e (let f : Some (cell_meaning own_type start c) ≡ Some m = rw e at h in cc)
+    by false e rest = meant_later text start c cs m (rest (let f : cell_among own_type text (start + 1) cs ≡ Some m = rw e at h in f))
+
+-- the cell of a path is the one that the path means
+pub named_none : (text : List ℕ) (cs : List CellData) → cell_among own_type text 0 cs ≡ None → cell_named text cs ≡ None
+named_none text cs h = ap (λ o. option_and_then (placed_at cs) (place_of o)) h
+
+pub named_at : (text : List ℕ) (cs : List CellData) (place : ℕ) (c : CellData) → cell_among own_type text 0 cs ≡ Some (cell_meaning own_type place c) → slice_get cs place ≡ Some c → cell_named text cs ≡ Some (placed place c)
+named_at text cs place c found there = ap (λ o. option_and_then (placed_at cs) (place_of o)) found ∙ ap (option_map (placed place)) there
+
+pub named_meant : (text : List ℕ) (cs : List CellData) (m : Meaning) → cell_among own_type text 0 cs ≡ Some m → (h : IsMeant text 0 cs m) → cell_named text cs ≡ Some (placed h.index h.cell)
+named_meant text cs m found h =
+    let at : 0 + h.index ≡ h.index = omega arith in
+    named_at text cs h.index h.cell (found ∙ ap (λ (x : Meaning). Some x) (h.is ∙ ap (λ n. cell_meaning own_type n h.cell) at)) h.there
 
 -- the cell at the place that is found has the path
 pub record HasPath (cs : List CellData) (text : List ℕ) (p : Placed) : Type 0 where
@@ -92,9 +57,36 @@ pub record HasPath (cs : List CellData) (text : List ℕ) (p : Placed) : Type 0 
   pub there : slice_get cs p.place ≡ Some cell
   pub is : placed p.place cell ≡ p
   pub named : bytes_eq cell.path text ≡ true
+  pub first : first_place text cs ≡ Some p.place
 
-pub has_path : (text : List ℕ) (cs : List CellData) (p : Placed) → cell_named text 0 cs ≡ Some p → HasPath cs text p
-has_path text cs p h =
-    let f = found text 0 cs p h in
-    let same : f.index ≡ p.place = sym (f.at ∙ omega arith) in
-    record { cell = f.cell; there = ap (slice_get cs) (sym same) ∙ f.there; is = f.is; named = f.named }
+path_meant : (text : List ℕ) (cs : List CellData) (p : Placed) (m : Meaning) → cell_among own_type text 0 cs ≡ Some m → (h : IsMeant text 0 cs m) → placed h.index h.cell ≡ p → HasPath cs text p
+path_meant text cs p m found h e =
+    let same : p.place ≡ h.index = sym (ap (λ (q : Placed). q.place) e) in
+    let at : 0 + h.index ≡ h.index = omega arith in
+    record {
+      cell = h.cell;
+      there = ap (slice_get cs) same ∙ h.there;
+      is = ap (λ n. placed n h.cell) same ∙ e;
+      named = h.named;
+      first = ap place_of found ∙ ap (λ (x : Meaning). cell_at x.place) h.is ∙ ap (λ n. Some n) (at ∙ sym same);
+    }
+
+pub has_path : (text : List ℕ) (cs : List CellData) (p : Placed) → cell_named text cs ≡ Some p → HasPath cs text p
+has_path text cs p h = by (cell_among own_type text 0 cs) refl
+  where
+    by : (o : Option Meaning) → cell_among own_type text 0 cs ≡ o → HasPath cs text p
+    by None e = absurd (let f : None ≡ Some p = sym (named_none text cs e) ∙ h in let none : ⊥ = cc in none)
+    by (Some m) e =
+        let f = is_meant text 0 cs m e in
+        let same : Some (placed f.index f.cell) ≡ Some p = sym (named_meant text cs m e f) ∙ h in
+        path_meant text cs p m e f cc
+
+range_there : (cs : List CellData) (place : ℕ) (c : CellData) → slice_get cs place ≡ Some c → range_at (ranges_of cs) place ≡ c.range
+range_there [] place c h = absurd (let e : ⊥ = cc in e)
+range_there (d ∷ cs) zero c h = let same : d ≡ c = cc in ap (λ (x : CellData). x.range) same
+range_there (d ∷ cs) (suc place) c h = range_there cs place c h
+
+pub is_cell : (program : ProgramData) (text : List ℕ) (p : Placed) → cell_named text program.cells ≡ Some p → IsCellOf program p.place p.range
+is_cell program text p h =
+    let q = has_path text program.cells p h in
+    (slice_get_within program.cells p.place q.cell q.there, range_there program.cells p.place q.cell q.there ∙ ap (λ (x : Placed). x.range) q.is)

@@ -3,22 +3,26 @@ ghost use Rattle.std.specs.Prelude.{◌≡◌, IfOk};
 ghost use Rattle.program_tree.specs.View.{program_view};
 ghost use Rattle.plc_types.specs.Enumerations.{paired_type};
 ghost use Rattle.clause_types.specs.PairedTypes.{paired_in};
-ghost use Rattle.clause_types.specs.Pairs.{pair_means};
+ghost use Rattle.clause_types.specs.FirstPlaces.{places_by_path};
+ghost use Rattle.clause_types.specs.Pairs.{pair_means, old_places, new_places};
 ghost use Rattle.typing.specs.Programs.{pair_scope};
+ghost use Rattle.candidates.specs.ByPath.{cell_named};
 
-use crate::places::Cells;
+use crate::places::{PairProgram, Placed, placed_at};
 use clause_types::PairScope;
 use plc_types::DataType;
 use program_tree::Program;
 use std::alloc::{AllocError, Global};
 
-/// OLD and NEW, with their cells by paths, and by the paths of clauses with the data types of NEW as those of the pair.
+/// OLD and NEW, and their cells and values by the paths of clauses, with the data types of NEW as those of the pair.
 #[derive(Drop)]
 pub struct Pair<'p> {
-    pub old: Cells<'p>,
-    pub new: Cells<'p>,
+    pub old: PairProgram<'p>,
+    pub new: PairProgram<'p>,
     pub scope: PairScope<'p>,
     ghost scoped: { pair_means scope ≡ pair_scope (program_view old.program.now) (program_view new.program.now) },
+    ghost finds_old: { old_places scope ≡ places_by_path (program_view old.program.now) },
+    ghost finds_new: { new_places scope ≡ places_by_path (program_view new.program.now) },
     ghost paired: { paired_in scope.types ≡ paired_type (program_view old.program.now).types (program_view new.program.now).types },
 }
 
@@ -28,10 +32,26 @@ impl<'p> Pair<'p> {
         ensures { IfOk result (λ pair. (pair.old.program.now ≡ old.now) × (pair.new.program.now ≡ new.now)) }
     {
         Ok(Pair {
-            old: Cells::new(alloc, old)?,
-            new: Cells::new(alloc, new)?,
+            old: PairProgram::new(alloc, old)?,
+            new: PairProgram::new(alloc, new)?,
             scope: PairScope::new(alloc, old, new)?,
         })
+    }
+
+    /// The first cell of a path in OLD.
+    pub fn find_old(&self, path: &str) -> Option<Placed>
+        ensures { result ≡ cell_named path.now (program_view self.now.old.program.now).cells }
+    {
+        let place = self.scope.find_old_place(path)?;
+        placed_at(self.old.program.cells(), place)
+    }
+
+    /// The first cell of a path in NEW.
+    pub fn find_new(&self, path: &str) -> Option<Placed>
+        ensures { result ≡ cell_named path.now (program_view self.now.new.program.now).cells }
+    {
+        let place = self.scope.find_new_place(path)?;
+        placed_at(self.new.program.cells(), place)
     }
 
     /// What a data type of NEW is in the pair.

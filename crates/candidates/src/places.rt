@@ -1,10 +1,10 @@
-// The cells of a program by their paths, and the names of its variables that are no cells.
+// What is known of a cell, and the programs of a pair with the names of their variables that are no cells.
 ghost use Rattle.std.specs.Prelude.{◌≡◌, IfOk};
 ghost use Rattle.program_tree.specs.View.{cell_view, cells_view, texts_view, program_view};
-ghost use Rattle.candidates.specs.ByPath.{placed, cell_named, is_among};
-ghost use Rattle.candidates.specs.Places.{Finds, HasNames};
+ghost use Rattle.candidates.specs.ByPath.{placed, placed_at, is_among};
+ghost use Rattle.candidates.specs.Places.{HasNames};
 
-use indexmap::{IndexMap, IndexSet};
+use indexmap::IndexSet;
 use plc_types::{DataType, Range};
 use program_tree::{Cell, Part, Program};
 use std::alloc::{AllocError, Global};
@@ -18,9 +18,6 @@ pub struct Placed {
     pub range: Range,
     pub is_subrange: bool,
 }
-
-// Cells by their paths.
-type Places<'p> = IndexMap<&'p str, Placed>;
 
 // Names.
 type Names<'p> = IndexSet<&'p str>;
@@ -37,16 +34,12 @@ fn known(place: usize, cell: &Cell) -> Placed
     }
 }
 
-// Of each path the first cell.
-fn places<'p>(alloc: Global, cells: &'p [Cell]) -> Result<Places<'p>, AllocError>
-    ensures { IfOk result (λ found. Finds found 0 (cells_view cells.now)) }
+/// What is known of the cell at a place, where there is one.
+pub(crate) fn placed_at(cells: &[Cell], place: usize) -> Option<Placed>
+    ensures { result ≡ placed_at (cells_view cells.now) place }
 {
-    let mut found = IndexMap::new(alloc);
-    for index in (0..cells.len()).rev() {
-        let cell = &cells[index];
-        found.insert(cell.path.as_str(), known(index, cell))?;
-    }
-    Ok(found)
+    let cell = cells.get(place)?;
+    Some(known(place, cell))
 }
 
 // A list of names as a set.
@@ -60,33 +53,23 @@ fn names<'p>(alloc: Global, list: &'p [String]) -> Result<Names<'p>, AllocError>
     Ok(set)
 }
 
-/// A program, its cells by their paths, and the names of its variables that are no cells.
+/// A program of a pair, and the names of its variables that are no cells.
 #[derive(Drop)]
-pub struct Cells<'p> {
+pub struct PairProgram<'p> {
     pub program: &'p Program,
-    places: Places<'p>,
     without_cell: Names<'p>,
-    ghost finds: { Finds places 0 (program_view program.now).cells },
     ghost named: { HasNames without_cell (program_view program.now).without_cell },
 }
 
-impl<'p> Cells<'p> {
-    /// The cells of a program, to be looked up.
-    pub fn new(alloc: Global, program: &'p Program) -> Result<Cells<'p>, AllocError>
-        ensures { IfOk result (λ cells. cells.program.now ≡ program.now) }
+impl<'p> PairProgram<'p> {
+    /// A program, whose names are to be looked up.
+    pub(crate) fn new(alloc: Global, program: &'p Program) -> Result<PairProgram<'p>, AllocError>
+        ensures { IfOk result (λ paired. paired.program.now ≡ program.now) }
     {
-        Ok(Cells {
+        Ok(PairProgram {
             program,
-            places: places(alloc, &program.cells)?,
             without_cell: names(alloc, &program.without_cell)?,
         })
-    }
-
-    /// The first cell of a path.
-    pub fn find(&self, path: &str) -> Option<Placed>
-        ensures { result ≡ cell_named path.now 0 (program_view self.now.program.now).cells }
-    {
-        self.places.get(path).copied()
     }
 
     /// Whether a name is that of a constant or an instance, which are variables without a cell of their own.

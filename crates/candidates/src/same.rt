@@ -3,14 +3,14 @@ ghost use Rattle.std.specs.Prelude.{◌≡◌, ◌+◌, ◌<◌, ◌^◌, ◌++�
 ghost use Rattle.plc_types.specs.Enumerations.{paired_type};
 ghost use Rattle.clause_types.specs.PairedTypes.{paired_in};
 ghost use Rattle.program_tree.specs.Tree.{cell};
-ghost use Rattle.program_tree.specs.View.{expr_view, cell_view, cells_view, program_view};
+ghost use Rattle.program_tree.specs.View.{expr_view, cell_view, cells_view};
 ghost use Rattle.scan_model.specs.Pairs.{CandidateData, candidate_view, candidates_view};
 ghost use Rattle.scan_model.specs.Candidates.{is_equal, same_cells};
 ghost use Rattle.candidates.specs.PairView.{old_of, new_of};
 ghost use Rattle.candidates.specs.Candidates.{before, same_found};
 
 use crate::pair::Pair;
-use crate::places::{Cells, Placed};
+use crate::places::Placed;
 use clause_types::PairedTypes;
 use plc_types::{DataType, Operator};
 use program_tree::{Cell, Operand, TypedExpr};
@@ -71,16 +71,16 @@ fn add(candidate: Option<Candidate>, found: &mut Vec<Candidate>) -> Result<(), A
 // `SAME P` of each cell of OLD.
 fn add_same(
     alloc: Global,
-    types: &PairedTypes<'_>,
+    pair: &Pair<'_>,
     old: &[Cell],
-    new: &Cells<'_>,
     found: &mut Vec<Candidate>,
 ) -> Result<(), AllocError>
-    requires { length old.now + length new.now.program.now.cells.items < 2 ^ 64 }
-    ensures { OnOk result (candidates_view found.new.items ≡ candidates_view found.old.items ++ same_cells (paired_in types.now) 0 (length old.now) (program_view new.now.program.now).cells (cells_view old.now)) }
+    requires { length old.now + length pair.now.new.program.now.cells.items < 2 ^ 64 }
+    ensures { OnOk result (candidates_view found.new.items ≡ candidates_view found.old.items ++ same_cells (paired_in pair.now.scope.types) 0 (length old.now) (new_of pair.now).cells (cells_view old.now)) }
 {
+    let types = &pair.scope.types;
     for (place, cell) in old.iter().enumerate() {
-        let other = new.find(cell.path.as_str());
+        let other = pair.find_new(cell.path.as_str());
         let candidate = same(alloc, types, cell, place, old.len(), other)?;
         add(candidate, found)?;
     }
@@ -95,11 +95,5 @@ pub fn add_same_of(
 ) -> Result<(), AllocError>
     ensures { OnOk result (candidates_view found.new.items ≡ candidates_view found.old.items ++ same_cells (paired_type (old_of pair.now).types (new_of pair.now).types) 0 (length (old_of pair.now).cells) (new_of pair.now).cells (old_of pair.now).cells) }
 {
-    add_same(
-        alloc,
-        &pair.scope.types,
-        pair.old.program.cells(),
-        &pair.new,
-        found,
-    )
+    add_same(alloc, pair, pair.old.program.cells(), found)
 }

@@ -1,3 +1,4 @@
+pub mod FirstPlaces
 pub mod PairedNumbers
 pub mod PairedTypes
 pub mod Pairs

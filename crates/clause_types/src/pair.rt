@@ -38,7 +38,8 @@ impl<'p> PairScope<'p> {
     ghost use Rattle.program_tree.specs.View.{program_view};
     ghost use Rattle.typing.specs.Programs.{member_of, pair_scope};
     ghost use Rattle.clause_types.specs.PairedTypes.{paired_in};
-    ghost use Rattle.clause_types.specs.Pairs.{pair_means};
+    ghost use Rattle.clause_types.specs.FirstPlaces.{places_by_path};
+    ghost use Rattle.clause_types.specs.Pairs.{pair_means, old_places, new_places};
 
     /// The cells and values of a pair, to be looked up.
     pub fn new(
@@ -46,6 +47,8 @@ impl<'p> PairScope<'p> {
         old: &'p Program,
         new: &'p Program,
     ) -> Result<PairScope<'p>, AllocError>
+        ensures old { IfOk result (λ scope. old_places scope ≡ places_by_path (program_view old.now)) }
+        ensures new { IfOk result (λ scope. new_places scope ≡ places_by_path (program_view new.now)) }
         ensures means { IfOk result (λ scope. pair_means scope ≡ pair_scope (program_view old.now) (program_view new.now)) }
         ensures types { IfOk result (λ scope. paired_in scope.types ≡ paired_type (program_view old.now).types (program_view new.now).types) }
     {
@@ -53,6 +56,20 @@ impl<'p> PairScope<'p> {
         let types = PairedTypes::new(alloc, old.program, &old.values, new)?;
         let new = Side::new(alloc, old.program.cells.len(), new)?;
         Ok(PairScope { old, new, types })
+    }
+
+    /// The place among the cells of OLD of the first one of a path.
+    pub fn find_old_place(&self, path: &str) -> Option<usize>
+        ensures { result ≡ old_places self.now path.now }
+    {
+        self.old.find_place(path)
+    }
+
+    /// The same of NEW.
+    pub fn find_new_place(&self, path: &str) -> Option<usize>
+        ensures { result ≡ new_places self.now path.now }
+    {
+        self.new.find_place(path)
     }
 
     // What names behind `new` stand for: their data type is that of the pair.

@@ -64,6 +64,13 @@ pub(crate) fn first_places(alloc: Global, cells: &[Cell]) -> Result<FirstPlaces,
     Ok(found)
 }
 
+/// The place of the first cell whose path has the hash of a text.
+pub(crate) fn find_first_of(found: &FirstPlaces, path: &str) -> Option<usize>
+    ensures { result ≡ get_by (nat_eq (spec.hash_of path.now)) found.now }
+{
+    found.get(&with_bytes(NO_BYTES, path.as_bytes())).copied()
+}
+
 /// The place of the first cell whose path has the hash of the joined names.
 pub(crate) fn find_first(found: &FirstPlaces, members: &[Name]) -> Option<usize>
     ensures { result ≡ get_by (nat_eq (spec.hash_of (joined (names_view members.now)))) found.now }

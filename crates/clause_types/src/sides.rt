@@ -4,10 +4,11 @@ ghost use Rattle.source_tree.specs.SyntaxView.{names_view};
 ghost use Rattle.program_tree.specs.View.{cell_view, cells_view, program_view};
 ghost use Rattle.typing.specs.Programs.{joined, own_type, cell_meaning, cell_among, value_among, member_of};
 ghost use Rattle.clause_types.specs.PathHashes.{FindsHashes};
+ghost use Rattle.clause_types.specs.FirstPlaces.{place_of, first_place};
 ghost use Rattle.clause_types.specs.Sides.{FindsValues};
 
 use crate::enumeration_values::{Values, find_meaning, values};
-use crate::path_hashes::{FirstPlaces, find_first, first_places};
+use crate::path_hashes::{FirstPlaces, find_first, find_first_of, first_places};
 use program_tree::{Cell, Program};
 use source_tree::Name;
 use std::alloc::{AllocError, Global};
@@ -88,6 +89,18 @@ fn search_from(first: usize, start: usize, cells: &[Cell], members: &[Name]) -> 
     search_cells(start + first, &cells[first..], members)
 }
 
+// The place of the first cell of a path, from a place on.
+fn search_path(first: usize, cells: &[Cell], path: &str) -> Option<usize>
+    ensures { result ≡ place_of (cell_among own_type path.now first (cells_view (drop first cells.now))) }
+{
+    for index in first..cells.len() {
+        if cells[index].path.as_bytes() == path.as_bytes() {
+            return Some(index);
+        }
+    }
+    None
+}
+
 /// The cells and values of one program of a pair, whose cells' places begin at a place.
 #[derive(Drop)]
 pub struct Side<'p> {
@@ -114,6 +127,14 @@ impl<'p> Side<'p> {
             first_places,
             values,
         })
+    }
+
+    /// The place among the program's cells of the first one of a path.
+    pub fn find_place(&self, path: &str) -> Option<usize>
+        ensures { result ≡ first_place path.now (program_view self.now.program.now).cells }
+    {
+        let first = find_first_of(&self.first_places, path)?;
+        search_path(first, self.program.cells(), path)
     }
 
     // The cell of these names, joined by points: the first of their hash, or where that has another path, one behind it.

@@ -52,18 +52,18 @@ module _ (old new : ProgramData) where
   IfLine None = Unit {0}
   IfLine (Some l) = NamesCells old new l
 
-  both_belong : (a b : Named) (p q : Option Placed) → cell_named a.text 0 old.cells ≡ p → cell_named b.text 0 new.cells ≡ q → are_alike (paired_type old.types new.types) p q ≡ true → IfLine (both_line p q)
+  both_belong : (a b : Named) (p q : Option Placed) → cell_named a.text old.cells ≡ p → cell_named b.text new.cells ≡ q → are_alike (paired_type old.types new.types) p q ≡ true → IfLine (both_line p q)
   both_belong a b None q f g h = tt
   both_belong a b (Some p) None f g h = tt
   both_belong a b (Some p) (Some q) f g h =
       let e = and_parts (is_same_type p.kind (paired_type old.types new.types q.kind) && is_same_flag p.is_subrange q.is_subrange) (is_same_range p.range q.range) h in
       (is_cell old a.text p f, subst (IsCellOf new q.place) (sym (same_range p.range q.range e.1)) (is_cell new b.text q g))
 
-  single_old : (a : Named) (p : Option Placed) → cell_named a.text 0 old.cells ≡ p → IfLine (single_line sides.Old p)
+  single_old : (a : Named) (p : Option Placed) → cell_named a.text old.cells ≡ p → IfLine (single_line sides.Old p)
   single_old a None f = tt
   single_old a (Some p) f = is_cell old a.text p f
 
-  single_new : (a : Named) (p : Option Placed) → cell_named a.text 0 new.cells ≡ p → IfLine (single_line sides.New p)
+  single_new : (a : Named) (p : Option Placed) → cell_named a.text new.cells ≡ p → IfLine (single_line sides.New p)
   single_new a None f = tt
   single_new a (Some p) f = is_cell new a.text p f
 
@@ -71,7 +71,7 @@ module _ (old new : ProgramData) where
   input_belongs above (setting s value at) h = tt
   input_belongs above (faults equal at) h = tt
   input_belongs above (paired a at b) h =
-      let alike = are_alike (paired_type old.types new.types) (cell_named a.text 0 old.cells) (cell_named b.text 0 new.cells) in
+      let alike = are_alike (paired_type old.types new.types) (cell_named a.text old.cells) (cell_named b.text new.cells) in
       let none = or_nothing (broken_name old new sides.Old above a ++ broken_name old new sides.New above b) (unless alike InputsDiffer a.at) h in
       both_belong a b _ _ refl refl (holds alike InputsDiffer a.at none.1)
   input_belongs above (single sides.Old at a) h = single_old a _ refl

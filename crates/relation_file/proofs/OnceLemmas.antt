@@ -37,17 +37,17 @@ not_again false again n h = absurd (let e : ⊥ = cc in e)
 -- it is that of a cell, and no line before has it
 record IsFresh (cells : List CellData) (names : List (List ℕ)) (n : Named) : Type 0 where
   pub cell : Placed
-  pub found : cell_named n.text 0 cells ≡ Some cell
+  pub found : cell_named n.text cells ≡ Some cell
   pub fresh : is_among names n.text ≡ false
 
-fresh_at : (cells : List CellData) (names : List (List ℕ)) (without : Bool) (n : Named) (o : Option Placed) → cell_named n.text 0 cells ≡ o
+fresh_at : (cells : List CellData) (names : List (List ℕ)) (without : Bool) (n : Named) (o : Option Placed) → cell_named n.text cells ≡ o
     → broken_at_cell (is_among names n.text) without n o ≡ [] → IsFresh cells names n
 fresh_at cells names true n None is h = absurd (let e : ⊥ = cc in e)
 fresh_at cells names false n None is h = absurd (let e : ⊥ = cc in e)
 fresh_at cells names without n (Some p) is h = record { cell = p; found = is; fresh = not_again (is_input p.part) (is_among names n.text) n h }
 
 is_fresh : (names : List (List ℕ)) (program : ProgramData) (n : Named) → broken_input names program n ≡ [] → IsFresh program.cells names n
-is_fresh names program n h = fresh_at program.cells names (is_among program.without_cell n.text) n (cell_named n.text 0 program.cells) refl h
+is_fresh names program n h = fresh_at program.cells names (is_among program.without_cell n.text) n (cell_named n.text program.cells) refl h
 
 -- ---- texts
 
@@ -103,7 +103,7 @@ module _ (old new : ProgramData) where
 
   parts_of_pair : (above : List LineData) (a b : Named) → broken_pair old new above a b ≡ [] → (broken_name old new sides.Old above a ≡ []) × (broken_name old new sides.New above b ≡ [])
   parts_of_pair above a b h =
-      let alike = are_alike (paired_type old.types new.types) (cell_named a.text 0 old.cells) (cell_named b.text 0 new.cells) in
+      let alike = are_alike (paired_type old.types new.types) (cell_named a.text old.cells) (cell_named b.text new.cells) in
       let both = or_nothing (broken_name old new sides.Old above a ++ broken_name old new sides.New above b) (unless alike InputsDiffer a.at) h in
       nothing_of_both (broken_name old new sides.Old above a) (broken_name old new sides.New above b) both.0
 
@@ -177,7 +177,7 @@ module _ (old new : ProgramData) where
   IfAlike None = Unit {0}
   IfAlike (Some l) = IsAlike old new l
 
-  pair_alike : (a b : Named) (p q : Option Placed) → cell_named a.text 0 old.cells ≡ p → cell_named b.text 0 new.cells ≡ q → are_alike (paired_type old.types new.types) p q ≡ true → IfAlike (both_line p q)
+  pair_alike : (a b : Named) (p q : Option Placed) → cell_named a.text old.cells ≡ p → cell_named b.text new.cells ≡ q → are_alike (paired_type old.types new.types) p q ≡ true → IfAlike (both_line p q)
   pair_alike a b None q f g h = tt
   pair_alike a b (Some p) None f g h = tt
   pair_alike a b (Some p) (Some q) f g h =
@@ -203,11 +203,11 @@ module _ (old new : ProgramData) where
   input_alike above (setting s value at) h = tt
   input_alike above (faults equal at) h = tt
   input_alike above (paired a at b) h =
-      let alike = are_alike (paired_type old.types new.types) (cell_named a.text 0 old.cells) (cell_named b.text 0 new.cells) in
+      let alike = are_alike (paired_type old.types new.types) (cell_named a.text old.cells) (cell_named b.text new.cells) in
       let none = or_nothing (broken_name old new sides.Old above a ++ broken_name old new sides.New above b) (unless alike InputsDiffer a.at) h in
       pair_alike a b _ _ refl refl (holds alike InputsDiffer a.at none.1)
-  input_alike above (single sides.Old at a) h = old_alike (cell_named a.text 0 old.cells)
-  input_alike above (single sides.New at a) h = new_alike (cell_named a.text 0 new.cells)
+  input_alike above (single sides.Old at a) h = old_alike (cell_named a.text old.cells)
+  input_alike above (single sides.New at a) h = new_alike (cell_named a.text new.cells)
   input_alike above (clause c e) h = tt
 
   before_alike : (o : Option InputLine) (ls : List InputLine) → IfAlike o → All (IsAlike old new) ls → All (IsAlike old new) (before o ls)

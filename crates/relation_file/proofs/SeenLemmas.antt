@@ -5,7 +5,7 @@ use Rattle.std.specs.String.{string_bytes, string_eq}
 use Rattle.std.proofs.lemmas.Map.Text.{hash_set_updates_text}
 use Rattle.indexmap.specs.IndexSet.{IndexSet, contains_text, Updates}
 use Rattle.candidates.specs.ByPath.{is_among}
-use Rattle.candidates.proofs.PlaceLemmas.{or_is}
+use Rattle.candidates.proofs.NameLemmas.{or_is}
 use Rattle.relation_file.specs.Seen.{Lists}
 
 pub lists_push : {Y S : Type 0} (old new : IndexSet (String Y) S) (key : String Y) (text : List ℕ) (before : List (List ℕ)) → Updates string_eq old new key true → string_bytes key ≡ text → Lists old before → Lists new (text ∷ before)

@@ -29,7 +29,7 @@ module _ (old new : ProgramData) where
   -- P1, at the first name, where two inputs that break nothing are not alike
   abbrev pub broken_pair : List LineData → Named → Named → List Refusal
   broken_pair before a b =
-      or_own (broken_name sides.Old before a ++ broken_name sides.New before b) (unless (are_alike (paired_type old.types new.types) (cell_named a.text 0 old.cells) (cell_named b.text 0 new.cells)) InputsDiffer a.at)
+      or_own (broken_name sides.Old before a ++ broken_name sides.New before b) (unless (are_alike (paired_type old.types new.types) (cell_named a.text old.cells) (cell_named b.text new.cells)) InputsDiffer a.at)
 
   -- what the parts of a line break: R2 its number, N2, N4, P2 and P1 its inputs, R3 and N2 the names of its clause
   abbrev pub broken_parts : List LineData → ContentData → List Refusal

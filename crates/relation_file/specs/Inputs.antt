@@ -47,7 +47,7 @@ broken_at_cell again without_cell n (Some c) = if is_input c.part then unless (n
 
 -- the names of the lines before come first
 abbrev pub broken_input : List (List ℕ) → ProgramData → Named → List Refusal
-broken_input before p n = broken_at_cell (is_among before n.text) (is_among p.without_cell n.text) n (cell_named n.text 0 p.cells)
+broken_input before p n = broken_at_cell (is_among before n.text) (is_among p.without_cell n.text) n (cell_named n.text p.cells)
 
 abbrev pub is_same_range : Range → Range → Bool
 is_same_range r s = int_eq r.low s.low && int_eq r.high s.high

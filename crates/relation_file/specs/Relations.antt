@@ -79,9 +79,9 @@ module _ (old new : ProgramData) where
   abbrev pub input_of : ContentData → Option InputLine
   input_of (setting s value at) = None
   input_of (faults equal at) = None
-  input_of (paired a at b) = both_line (cell_named a.text 0 old.cells) (cell_named b.text 0 new.cells)
-  input_of (single sides.Old at a) = single_line sides.Old (cell_named a.text 0 old.cells)
-  input_of (single sides.New at a) = single_line sides.New (cell_named a.text 0 new.cells)
+  input_of (paired a at b) = both_line (cell_named a.text old.cells) (cell_named b.text new.cells)
+  input_of (single sides.Old at a) = single_line sides.Old (cell_named a.text old.cells)
+  input_of (single sides.New at a) = single_line sides.New (cell_named a.text new.cells)
   input_of (clause c e) = None
 
   abbrev pub inputs_in : List LineData → List InputLine

@@ -90,14 +90,14 @@ fn input_of(pair: &Pair<'_>, content: &Content) -> Option<InputLine>
 {
     match content {
         Content::Paired(old, _, new) => both_line(
-            pair.old.find(old.text.as_str()),
-            pair.new.find(new.text.as_str()),
+            pair.find_old(old.text.as_str()),
+            pair.find_new(new.text.as_str()),
         ),
         Content::Single(Side::Old, _, name) => {
-            single_line(Side::Old, pair.old.find(name.text.as_str()))
+            single_line(Side::Old, pair.find_old(name.text.as_str()))
         }
         Content::Single(Side::New, _, name) => {
-            single_line(Side::New, pair.new.find(name.text.as_str()))
+            single_line(Side::New, pair.find_new(name.text.as_str()))
         }
         Content::Setting(_, _, _) | Content::Faults(_, _) | Content::Clause(_, _) => None,
     }

@@ -61,7 +61,7 @@ pub(crate) fn name_refusal(pair: &Pair<'_>, seen: &Seen, side: Side, name: &Name
                 seen.of_old.contains(text),
                 without_cell,
                 name,
-                pair.old.find(text),
+                pair.find_old(text),
             )
         }
         Side::New => {
@@ -70,7 +70,7 @@ pub(crate) fn name_refusal(pair: &Pair<'_>, seen: &Seen, side: Side, name: &Name
                 seen.of_new.contains(text),
                 without_cell,
                 name,
-                pair.new.find(text),
+                pair.find_new(text),
             )
         }
     }
@@ -108,8 +108,8 @@ pub(crate) fn pair_refusal(pair: &Pair<'_>, seen: &Seen, old: &Name, new: &Name)
 {
     let alike = are_alike(
         pair,
-        pair.old.find(old.text.as_str()),
-        pair.new.find(new.text.as_str()),
+        pair.find_old(old.text.as_str()),
+        pair.find_new(new.text.as_str()),
     );
     let of_old = name_refusal(pair, seen, Side::Old, old);
     let of_new = name_refusal(pair, seen, Side::New, new);

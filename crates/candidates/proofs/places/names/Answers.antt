@@ -1,5 +1,5 @@
 use Rattle.std.proofs.Common.{arith}
-use Rattle.candidates.proofs.PlaceLemmas.{has_one_more}
+use Rattle.candidates.proofs.NameLemmas.{has_one_more}
 use Rattle.candidates.proofs.places.names.Goals as goal
 
 pub loop-index-preserved : goal.loop-index-preserved

@@ -15,10 +15,10 @@ returns-in-Old c = λ before recalls.
     let named = c.as_str-text.ensures.value in
     let names = names_in sides.Old before in
     let again = c.contains.ensures ∙ ap (contains_text c.args.seen.now.of_old) named ∙ ap (λ (f : List ℕ → Bool). f n.text) recalls.of_old in
-    let found = c.find.ensures ∙ ap (λ (t : List ℕ). cell_named t 0 p.cells) named in
+    let found = c.find_old.ensures ∙ ap (λ (t : List ℕ). cell_named t p.cells) named in
     let without = c.is_without_cell-without_cell.ensures ∙ ap (λ (t : List ℕ). is_among p.without_cell t) named in
-    rw c.in-Old.is (c.at_cell.ensures ∙ ap (λ b. first_in (broken_at_cell b c.is_without_cell-without_cell.result n c.find.result)) again
-    ∙ ap (λ b. first_in (broken_at_cell (is_among names n.text) b n c.find.result)) without ∙ ap (λ o. first_in (broken_at_cell (is_among names n.text) (is_among p.without_cell n.text) n o)) found)
+    rw c.in-Old.is (c.at_cell.ensures ∙ ap (λ b. first_in (broken_at_cell b c.is_without_cell-without_cell.result n c.find_old.result)) again
+    ∙ ap (λ b. first_in (broken_at_cell (is_among names n.text) b n c.find_old.result)) without ∙ ap (λ o. first_in (broken_at_cell (is_among names n.text) (is_among p.without_cell n.text) n o)) found)
 
 pub returns-in-New : goal.returns-in-New
 returns-in-New c = λ before recalls.
@@ -27,7 +27,7 @@ returns-in-New c = λ before recalls.
     let named = c.as_str-text.ensures.value in
     let names = names_in sides.New before in
     let again = c.contains-in-New.ensures ∙ ap (contains_text c.args.seen.now.of_new) named ∙ ap (λ (f : List ℕ → Bool). f n.text) recalls.of_new in
-    let found = c.find-in-New.ensures ∙ ap (λ (t : List ℕ). cell_named t 0 p.cells) named in
+    let found = c.find_new.ensures ∙ ap (λ (t : List ℕ). cell_named t p.cells) named in
     let without = c.is_without_cell-without_cell-in-New.ensures ∙ ap (λ (t : List ℕ). is_among p.without_cell t) named in
-    rw c.in-New.is (c.at_cell-in-New.ensures ∙ ap (λ b. first_in (broken_at_cell b c.is_without_cell-without_cell-in-New.result n c.find-in-New.result)) again
-    ∙ ap (λ b. first_in (broken_at_cell (is_among names n.text) b n c.find-in-New.result)) without ∙ ap (λ o. first_in (broken_at_cell (is_among names n.text) (is_among p.without_cell n.text) n o)) found)
+    rw c.in-New.is (c.at_cell-in-New.ensures ∙ ap (λ b. first_in (broken_at_cell b c.is_without_cell-without_cell-in-New.result n c.find_new.result)) again
+    ∙ ap (λ b. first_in (broken_at_cell (is_among names n.text) b n c.find_new.result)) without ∙ ap (λ o. first_in (broken_at_cell (is_among names n.text) (is_among p.without_cell n.text) n o)) found)
