@@ -6,6 +6,7 @@ pub mod SeenLemmas
 pub mod BelongsLemmas
 pub mod LimitLemmas
 pub mod OnceLemmas
+pub mod InputLemmas
 pub mod WellFormedLemmas
 pub mod PassLemmas
 pub mod FirstBrokenLemmas

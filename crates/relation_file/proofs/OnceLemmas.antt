@@ -34,24 +34,34 @@ not_again true true n h = absurd (let e : ⊥ = cc in e)
 not_again true false n h = refl
 not_again false again n h = absurd (let e : ⊥ = cc in e)
 
--- it is that of a cell, and no line before has it
+is_one_input : (b again : Bool) (n : Named) → (if b then unless (not again) InputCount n.at else breaks WrongKind n.at) ≡ [] → b ≡ true
+is_one_input true again n h = refl
+is_one_input false again n h = absurd (let e : ⊥ = cc in e)
+
+-- it is that of an input, and no line before has it
 record IsFresh (cells : List CellData) (names : List (List ℕ)) (n : Named) : Type 0 where
   pub cell : Placed
   pub found : cell_named n.text cells ≡ Some cell
+  pub input : is_input cell.part ≡ true
   pub fresh : is_among names n.text ≡ false
 
 fresh_at : (cells : List CellData) (names : List (List ℕ)) (without : Bool) (n : Named) (o : Option Placed) → cell_named n.text cells ≡ o
     → broken_at_cell (is_among names n.text) without n o ≡ [] → IsFresh cells names n
 fresh_at cells names true n None is h = absurd (let e : ⊥ = cc in e)
 fresh_at cells names false n None is h = absurd (let e : ⊥ = cc in e)
-fresh_at cells names without n (Some p) is h = record { cell = p; found = is; fresh = not_again (is_input p.part) (is_among names n.text) n h }
+fresh_at cells names without n (Some p) is h = record {
+  cell = p;
+  found = is;
+  input = is_one_input (is_input p.part) (is_among names n.text) n h;
+  fresh = not_again (is_input p.part) (is_among names n.text) n h;
+}
 
 is_fresh : (names : List (List ℕ)) (program : ProgramData) (n : Named) → broken_input names program n ≡ [] → IsFresh program.cells names n
 is_fresh names program n h = fresh_at program.cells names (is_among program.without_cell n.text) n (cell_named n.text program.cells) refl h
 
 -- ---- texts
 
-same_text : (s t : List ℕ) → bytes_eq s t ≡ true → s ≡ t
+pub same_text : (s t : List ℕ) → bytes_eq s t ≡ true → s ≡ t
 same_text s t h = (bytes_eq-Decides s t).0 h
 
 other_text : (names : List (List ℕ)) (s t : List ℕ) → is_among names s ≡ true → is_among names t ≡ false → s ≢ t
@@ -78,18 +88,19 @@ other_place cells s t p q h k apart e =
 -- ---- the lines of one program
 
 module _ (old new : ProgramData) where
-  cells_behind : (side : Side) (o : Option InputLine) (ls : List InputLine) → cells_of side (before o ls) ≡ cells_of side (before o []) ++ cells_of side ls
+  pub cells_behind : (side : Side) (o : Option InputLine) (ls : List InputLine) → cells_of side (before o ls) ≡ cells_of side (before o []) ++ cells_of side ls
   cells_behind side None ls = refl
   cells_behind side (Some l) ls = ap (λ cs. cs ++ cells_of side ls) (sym (append-nil (cell_of side l)))
 
-  -- what a line names of a program: nothing, or one cell that no line before names
-  data NamesOne (side : Side) (above : List LineData) (texts : List (List ℕ)) (cells : List ℕ) : Type 0 where
+  -- what a line names of a program: nothing, or one input that no line before names
+  pub data NamesOne (side : Side) (above : List LineData) (texts : List (List ℕ)) (cells : List ℕ) : Type 0 where
     nothing : texts ≡ [] → cells ≡ [] → NamesOne side above texts cells
-    one : (t : List ℕ) (p : Placed) → texts ≡ t ∷ [] → cells ≡ p.place ∷ [] → HasPath (program_at old new side).cells t p → is_among (names_in side above) t ≡ false → NamesOne side above texts cells
+    one : (t : List ℕ) (p : Placed) → texts ≡ t ∷ [] → cells ≡ p.place ∷ [] → HasPath (program_at old new side).cells t p → is_input p.part ≡ true
+        → is_among (names_in side above) t ≡ false → NamesOne side above texts cells
 
   of_fresh : (side : Side) (above : List LineData) (n : Named) (texts : List (List ℕ)) (cells : List ℕ) (h : IsFresh (program_at old new side).cells (names_in side above) n)
       → texts ≡ n.text ∷ [] → cells ≡ h.cell.place ∷ [] → NamesOne side above texts cells
-  of_fresh side above n texts cells h e f = one n.text h.cell e f (has_path n.text (program_at old new side).cells h.cell h.found) h.fresh
+  of_fresh side above n texts cells h e f = one n.text h.cell e f (has_path n.text (program_at old new side).cells h.cell h.found) h.input h.fresh
 
   both-found : (a b : Option Placed) (p q : Placed) → a ≡ Some p → b ≡ Some q → both_line a b ≡ Some (Both p.range p.place q.place)
   both-found a b p q e f = ap (λ o. both_line o b) e ∙ ap (both_line (Some p)) f
@@ -117,7 +128,7 @@ module _ (old new : ProgramData) where
   of_single_new sides.Old above at a h = nothing refl (ap (λ o. cells_of sides.Old (before (single_line sides.New o) [])) h.found)
   of_single_new sides.New above at a h = of_fresh sides.New above a _ _ h refl (ap (λ o. cells_of sides.New (before (single_line sides.New o) [])) h.found)
 
-  names_one : (side : Side) (above : List LineData) (c : ContentData) → broken_parts old new above c ≡ [] → NamesOne side above (named_by side c) (cells_of side (before (input_of old new c) []))
+  pub names_one : (side : Side) (above : List LineData) (c : ContentData) → broken_parts old new above c ≡ [] → NamesOne side above (named_by side c) (cells_of side (before (input_of old new c) []))
   names_one side above (setting s value at) h = nothing refl refl
   names_one side above (faults equal at) h = nothing refl refl
   names_one side above (paired a at b) h =
@@ -129,7 +140,7 @@ module _ (old new : ProgramData) where
 
   -- ---- no cell twice
 
-  behind_line : (end : ℕ) (above ls : List LineData) (l : LineData) → broken_behind old new end above (l ∷ ls) ≡ [] → (broken_parts old new above l.content ≡ []) × (broken_behind old new end (l ∷ above) ls ≡ [])
+  pub behind_line : (end : ℕ) (above ls : List LineData) (l : LineData) → broken_behind old new end above (l ∷ ls) ≡ [] → (broken_parts old new above l.content ≡ []) × (broken_behind old new end (l ∷ above) ls ≡ [])
   behind_line end above ls l h =
       let e = nothing_of_both (broken_line old new above l) (broken_behind old new end (l ∷ above) ls) h in
       ((or_nothing (broken_parts old new above l.content) _ e.0).0, e.1)
@@ -138,7 +149,7 @@ module _ (old new : ProgramData) where
   apart_line : (side : Side) (above : List LineData) (t : List ℕ) (p : Placed) (texts : List (List ℕ)) (cells rest : List ℕ) → HasPath (program_at old new side).cells t p
       → is_among (names_in side above) t ≡ true → NamesOne side above texts cells → All (λ q. p.place ≢ q) rest → All (λ q. p.place ≢ q) (cells ++ rest)
   apart_line side above t p texts cells rest path there (nothing e f) h = subst (λ cs. All (λ q. p.place ≢ q) (cs ++ rest)) (sym f) h
-  apart_line side above t p texts cells rest path there (one u q e f other fresh) h =
+  apart_line side above t p texts cells rest path there (one u q e f other input fresh) h =
       subst (λ cs. All (λ r. p.place ≢ r) (cs ++ rest)) (sym f)
       (All-cons (λ r. p.place ≢ r) q.place rest (other_place (program_at old new side).cells t u p q path other (other_text (names_in side above) t u there fresh)) h)
 
@@ -156,7 +167,7 @@ module _ (old new : ProgramData) where
       → NamesOne side above texts cells → broken_behind old new end (l ∷ above) ls ≡ [] → AllPairs (λ p q. p ≢ q) (cells_of side (inputs_in old new ls))
       → AllPairs (λ p q. p ≢ q) (cells ++ cells_of side (inputs_in old new ls))
   distinct_line side end above ls l texts cells named (nothing e f) behind h = subst (λ cs. AllPairs (λ p q. p ≢ q) (cs ++ cells_of side (inputs_in old new ls))) (sym f) h
-  distinct_line side end above ls l texts cells named (one t p e f path fresh) behind h =
+  distinct_line side end above ls l texts cells named (one t p e f path input fresh) behind h =
       let there : is_among (names_in side (l ∷ above)) t ≡ true = ap (λ ns. is_among (ns ++ names_in side above) t) (named ∙ e) ∙ among_first t (names_in side above) in
       subst (λ cs. AllPairs (λ p q. p ≢ q) (cs ++ cells_of side (inputs_in old new ls))) (sym f)
       (AllPairs-cons (λ p q. p ≢ q) p.place (cells_of side (inputs_in old new ls)) (apart side end (l ∷ above) ls t p path there behind) h)
