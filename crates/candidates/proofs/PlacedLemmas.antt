@@ -9,7 +9,7 @@ use Rattle.scan_model.specs.Scans.{ranges_of}
 use Rattle.scan_model.specs.Pairs.{IsCellOf}
 use Rattle.typing.specs.declared.scope.Meaning.{Meaning}
 use Rattle.typing.specs.Programs.{own_type, cell_meaning, cell_among}
-use Rattle.clause_types.specs.FirstPlaces.{cell_at, place_of, first_place}
+use Rattle.clause_types.specs.PlacesByPath.{cell_at, place_of, place_by_path}
 use Rattle.candidates.specs.declared.places.Placed.{Placed}
 use Rattle.candidates.specs.ByPath.{placed, placed_at, cell_named}
 
@@ -57,7 +57,7 @@ pub record HasPath (cs : List CellData) (text : List ℕ) (p : Placed) : Type 0 
   pub there : slice_get cs p.place ≡ Some cell
   pub is : placed p.place cell ≡ p
   pub named : bytes_eq cell.path text ≡ true
-  pub first : first_place text cs ≡ Some p.place
+  pub first : place_by_path text cs ≡ Some p.place
 
 path_meant : (text : List ℕ) (cs : List CellData) (p : Placed) (m : Meaning) → cell_among own_type text 0 cs ≡ Some m → (h : IsMeant text 0 cs m) → placed h.index h.cell ≡ p → HasPath cs text p
 path_meant text cs p m found h e =

@@ -3,7 +3,7 @@ ghost use Rattle.std.specs.Prelude.{◌≡◌, IfOk};
 ghost use Rattle.program_tree.specs.View.{program_view};
 ghost use Rattle.plc_types.specs.Enumerations.{paired_type};
 ghost use Rattle.clause_types.specs.PairedTypes.{paired_in};
-ghost use Rattle.clause_types.specs.FirstPlaces.{places_by_path};
+ghost use Rattle.clause_types.specs.PlacesByPath.{places_by_path};
 ghost use Rattle.clause_types.specs.Pairs.{pair_means, old_places, new_places};
 ghost use Rattle.typing.specs.Programs.{pair_scope};
 ghost use Rattle.candidates.specs.ByPath.{cell_named};

@@ -31,10 +31,6 @@ pub one_behind : {P : Type 0} (text front rest all : List ℕ) → text ≡ fron
 one_behind text front rest all is same =
     (λ p. append_cancel_left front rest all (sym is ∙ same.0 p), λ e. same.1 (is ∙ ap (λ (t : List ℕ). front ++ t) e))
 
--- a text that has no such front is not the whole
-pub none_behind : {P : Type 0} (text front all : List ℕ) → ((rest : List ℕ) → text ≡ front ++ rest → ⊥) → P ↔ (text ≡ front ++ all) → P → ⊥
-none_behind text front all none same p = none all (same.0 p)
-
 pub test_is : (b : Bool) (x y : List ℕ) → IsTrue b ↔ (x ≡ y) → b ≡ bytes_eq x y
 test_is b x y same = one_answer b (bytes_eq x y) same (bytes_eq-Decides x y)
 

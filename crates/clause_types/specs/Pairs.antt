@@ -2,7 +2,7 @@
 use Rattle.std.specs.Prelude.{ℕ, List, Option}
 use Rattle.program_tree.specs.View.{program_view}
 use Rattle.clause_types.specs.declared.pair.PairScope.{PairScope}
-use Rattle.clause_types.specs.FirstPlaces.{places_by_path}
+use Rattle.clause_types.specs.PlacesByPath.{places_by_path}
 use Rattle.typing.specs.Typing.{Scope}
 use Rattle.typing.specs.Programs.{pair_scope}
 

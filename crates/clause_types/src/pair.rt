@@ -38,7 +38,7 @@ impl<'p> PairScope<'p> {
     ghost use Rattle.program_tree.specs.View.{program_view};
     ghost use Rattle.typing.specs.Programs.{member_of, pair_scope};
     ghost use Rattle.clause_types.specs.PairedTypes.{paired_in};
-    ghost use Rattle.clause_types.specs.FirstPlaces.{places_by_path};
+    ghost use Rattle.clause_types.specs.PlacesByPath.{places_by_path};
     ghost use Rattle.clause_types.specs.Pairs.{pair_means, old_places, new_places};
 
     /// The cells and values of a pair, to be looked up.

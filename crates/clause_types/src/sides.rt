@@ -4,7 +4,7 @@ ghost use Rattle.source_tree.specs.SyntaxView.{names_view};
 ghost use Rattle.program_tree.specs.View.{cell_view, cells_view, program_view};
 ghost use Rattle.typing.specs.Programs.{joined, own_type, cell_meaning, cell_among, value_among, member_of};
 ghost use Rattle.clause_types.specs.PathHashes.{FindsHashes};
-ghost use Rattle.clause_types.specs.FirstPlaces.{place_of, first_place};
+ghost use Rattle.clause_types.specs.PlacesByPath.{place_of, place_by_path};
 ghost use Rattle.clause_types.specs.Sides.{FindsValues};
 
 use crate::enumeration_values::{Values, find_meaning, values};
@@ -131,7 +131,7 @@ impl<'p> Side<'p> {
 
     /// The place among the program's cells of the first one of a path.
     pub fn find_place(&self, path: &str) -> Option<usize>
-        ensures { result ≡ first_place path.now (program_view self.now.program.now).cells }
+        ensures { result ≡ place_by_path path.now (program_view self.now.program.now).cells }
     {
         let first = find_first_of(&self.first_places, path)?;
         search_path(first, self.program.cells(), path)

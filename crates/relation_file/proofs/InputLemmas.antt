@@ -12,7 +12,7 @@ use Rattle.program_tree.specs.Tree.{CellData, ProgramData}
 use Rattle.scan_model.specs.declared.side.Side.{Side}
 use Rattle.scan_model.specs.declared.side.Side.TheVariants as sides
 use Rattle.relation_lines.specs.Lines.{LineData}
-use Rattle.clause_types.specs.FirstPlaces.{first_place}
+use Rattle.clause_types.specs.PlacesByPath.{place_by_path}
 use Rattle.candidates.specs.declared.places.Placed.{Placed}
 use Rattle.candidates.specs.ByPath.{is_among}
 use Rattle.candidates.proofs.PlacedLemmas.{HasPath}
@@ -74,7 +74,7 @@ module _ (old new : ProgramData) where
       let same : u ≡ t = ⊎_elim (λ is. same_text u t is) (λ none. absurd (let h : ⊥ = cc in h)) (or_cases (bytes_eq u t) false named) in
       record {
         place = p.place;
-        first = ap (λ s. first_place s (cells_at side)) (sym same) ∙ path.first;
+        first = ap (λ s. place_by_path s (cells_at side)) (sym same) ∙ path.first;
         listed = subst (λ cs. Contains (cs ++ rest) p.place) (sym f) (0, omega arith, refl);
       }
 

@@ -10,7 +10,7 @@ use Rattle.scan_model.specs.declared.relation.InputLine.{InputLine}
 use Rattle.scan_model.specs.declared.relation.InputLine.TheVariants.{Both, Old, New}
 use Rattle.scan_model.specs.Pairs.{RelationData}
 use Rattle.scan_model.specs.Candidates.{candidates_of}
-use Rattle.clause_types.specs.FirstPlaces.{first_place}
+use Rattle.clause_types.specs.PlacesByPath.{place_by_path}
 use Rattle.candidates.specs.ByPath.{placed}
 use Rattle.relation_file.specs.Inputs.{are_alike}
 use Rattle.relation_file.specs.Broken.{program_at}
@@ -50,11 +50,11 @@ pub record IsInputAt (cells : List CellData) (place : ℕ) : Type 0 where
 -- the first cell of a path stands at one of these places
 pub record HasPlaceOf (cells : List CellData) (places path : List ℕ) : Type 0 where
   pub place : ℕ
-  pub first : first_place path cells ≡ Some place
+  pub first : place_by_path path cells ≡ Some place
   pub listed : Contains places place
 
--- The candidates are the model's, DEPTH and CONFLICTS lie in their limits, numbers go into inputs alone, each input gets one, where no other cell
--- before it has its path, and none gets two, and inputs that get one number are alike.
+-- The candidates are the model's, DEPTH and CONFLICTS lie in their limits, the cells that get numbers are inputs, each input gets one (of cells with
+-- one path the first), none gets two, and inputs that get one number are alike.
 pub record IsWellFormed (old new : ProgramData) (rel : RelationData) : Type 0 where
   pub candidates : rel.candidates ≡ candidates_of old new rel
   pub depth : (1 ≤ rel.depth) × (rel.depth ≤ 64)

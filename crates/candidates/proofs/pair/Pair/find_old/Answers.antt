@@ -1,7 +1,7 @@
 use Rattle.std.proofs.Common.{◌≡◌, ℕ, List, Option, Some, None, ap, ◌∙◌}
 use Rattle.std.specs.Prelude.{option_and_then}
 use Rattle.program_tree.specs.Tree.{CellData}
-use Rattle.clause_types.specs.FirstPlaces.{first_place}
+use Rattle.clause_types.specs.PlacesByPath.{place_by_path}
 use Rattle.candidates.specs.ByPath.{placed_at}
 use Rattle.candidates.specs.PairView.{old_of}
 use Rattle.candidates.proofs.pair.Pair.find_old.Goals as goal
@@ -11,7 +11,7 @@ returns-in_err-place c =
     let pair = c.args.self.now in
     let path = c.args.path.now in
     let cells = (old_of pair).cells in
-    let none : None ≡ first_place path cells = c.in_err-place.ensures ∙ ap (λ (f : List ℕ → Option ℕ). f path) pair.finds_old in
+    let none : None ≡ place_by_path path cells = c.in_err-place.ensures ∙ ap (λ (f : List ℕ → Option ℕ). f path) pair.finds_old in
     c.from_residual.ensures ∙ ap (option_and_then (placed_at cells)) none
 
 pub returns : goal.returns
@@ -20,5 +20,5 @@ returns c =
     let path = c.args.path.now in
     let cells = (old_of pair).cells in
     let place = c.in_ok-place.place in
-    let found : Some place ≡ first_place path cells = c.in_ok-place.ensures ∙ ap (λ (f : List ℕ → Option ℕ). f path) pair.finds_old in
+    let found : Some place ≡ place_by_path path cells = c.in_ok-place.ensures ∙ ap (λ (f : List ℕ → Option ℕ). f path) pair.finds_old in
     c.placed_at.ensures ∙ ap (λ (cs : List CellData). placed_at cs place) c.cells.ensures ∙ ap (option_and_then (placed_at cells)) found

@@ -3,7 +3,7 @@ use Rattle.program_tree.specs.declared.typed.Program.{Program}
 use Rattle.plc_types.specs.Enumerations.{paired_type}
 use Rattle.program_tree.specs.View.{program_view}
 use Rattle.typing.specs.Programs.{pair_scope}
-use Rattle.clause_types.specs.FirstPlaces.{places_by_path}
+use Rattle.clause_types.specs.PlacesByPath.{places_by_path}
 use Rattle.candidates.proofs.pair.Pair.new.Goals as goal
 
 pub invariant_of-result : goal.invariant_of-result

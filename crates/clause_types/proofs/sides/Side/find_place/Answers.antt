@@ -3,7 +3,7 @@ use Rattle.std.proofs.lemmas.List.{drop-map}
 use Rattle.program_tree.specs.View.{cell_view, program_view}
 use Rattle.typing.specs.Programs.{own_type, cell_among}
 use Rattle.clause_types.specs.PathHashes.{hash_of, first_hashed}
-use Rattle.clause_types.specs.FirstPlaces.{place_of}
+use Rattle.clause_types.specs.PlacesByPath.{place_of}
 use Rattle.clause_types.proofs.HashLemmas.{none_hashed, among_from_first}
 use Rattle.clause_types.proofs.sides.Side.find_place.Goals as goal
 

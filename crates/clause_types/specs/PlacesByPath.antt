@@ -1,4 +1,4 @@
--- The place of the first cell of a path.
+-- Cells by their paths.
 use Rattle.std.specs.Prelude.{ℕ, List, Option, Some, None, option_and_then}
 use Rattle.program_tree.specs.Tree.{CellData, ProgramData}
 use Rattle.typing.specs.declared.scope.Place.{Place}
@@ -15,9 +15,9 @@ abbrev pub place_of : Option Meaning → Option ℕ
 place_of o = option_and_then (λ m. cell_at m.place) o
 
 -- the place of the first cell of a path, which is the cell that the path means in a clause
-abbrev pub first_place : List ℕ → List CellData → Option ℕ
-first_place text cells = place_of (cell_among own_type text 0 cells)
+abbrev pub place_by_path : List ℕ → List CellData → Option ℕ
+place_by_path text cells = place_of (cell_among own_type text 0 cells)
 
 -- the same of each path in a program
 abbrev pub places_by_path : ProgramData → List ℕ → Option ℕ
-places_by_path p text = first_place text p.cells
+places_by_path p text = place_by_path text p.cells
