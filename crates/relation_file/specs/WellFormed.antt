@@ -53,8 +53,8 @@ pub record HasPlaceOf (cells : List CellData) (places path : List ℕ) : Type 0 
   pub first : place_by_path path cells ≡ Some place
   pub listed : Contains places place
 
--- The candidates are the model's, DEPTH and CONFLICTS lie in their limits, the cells that get numbers are inputs, each input gets one (of cells with
--- one path the first), none gets two, and inputs that get one number are alike.
+-- The candidates are the model's, DEPTH and CONFLICTS lie in their limits, only inputs get numbers, the first cell of each input's path gets one,
+-- none gets two, and inputs that get one number are alike.
 pub record IsWellFormed (old new : ProgramData) (rel : RelationData) : Type 0 where
   pub candidates : rel.candidates ≡ candidates_of old new rel
   pub depth : (1 ≤ rel.depth) × (rel.depth ≤ 64)

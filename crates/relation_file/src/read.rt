@@ -52,7 +52,7 @@ pub fn read_lines(
 ) -> Result<Relation, Fault>
     ensures read { IfOk result (λ r. IsRelation (program_view old.now) (program_view new.now) end toks.now (relation_view r)) }
     // The cells that its INPUT lines name are cells of the programs, of the lines' ranges; its candidates are the model's, its numbers lie in their
-    // limits, each input gets one number and no other cell gets one, and inputs that get one number are alike.
+    // limits, only inputs get numbers, the first cell of each input's path gets one, none gets two, and inputs that get one number are alike.
     ensures belongs { IfOk result (λ r. BelongsTo (program_view old.now) (program_view new.now) (relation_view r)) }
     ensures well_formed { IfOk result (λ r. IsWellFormed (program_view old.now) (program_view new.now) (relation_view r)) }
     ensures refused { IfErr result (IfRefused (IsNoRelation (program_view old.now) (program_view new.now) end toks.now)) }
