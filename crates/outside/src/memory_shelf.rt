@@ -84,6 +84,10 @@ impl Shelf for MemShelf {
 
     ghost write_faults = { λ s name. write_faults_of s };
 
+    ghost read_failed = { λ s. false };
+
+    ghost reach = { λ s name. 0 };
+
     fn read_at(&mut self, name: &str, from: u64, buf: &mut [u8]) -> Result<usize, OutErr>
         requires { 0 < length buf.old }
         ensures within { IfOk result (λ count. count ≤ length buf.new) }

@@ -1,5 +1,5 @@
 // A sink in memory, which tells what it took and fails in the calls on a list.
-ghost use Rattle.std.specs.Prelude.{◌≡◌, ◌++◌, [], Some, Option, List, ℕ, IsErrOf, take, OnOk, IfSome};
+ghost use Rattle.std.specs.Prelude.{false, ◌≡◌, ◌++◌, [], Some, Option, List, ℕ, IsErrOf, take, OnOk, IfSome};
 ghost use Rattle.outside.specs.Contents.{Adds};
 ghost use Rattle.outside.specs.Causes.{HasCause};
 ghost use Rattle.outside.specs.Failures.{FailsAsListed, after_call, faults_after, schedule_at_start};
@@ -55,6 +55,8 @@ impl Sink for MemSink {
     ghost taken = { λ s. Some (taken_by s) };
 
     ghost faults = { λ s. faults_of s };
+
+    ghost put_failed = { λ s. false };
 
     fn put(&mut self, bytes: &[u8]) -> Result<(), OutErr>
         ensures ok { OnOk result (taken_by self.new ≡ taken_by self.old ++ bytes.now) }
