@@ -3,7 +3,6 @@
 
 mod cells;
 mod typed;
-mod typed_copies;
 
 pub use typed::{
     Association, Called, Cell, CellType, ChartCells, Frame, Operand, Part, Program, Qualifier,
