@@ -1,5 +1,14 @@
 // Runs of a pair of programs, 256 side by side on the circuit of one scan, that propose rows which may drop candidates. What is
 // proposed is tested by others.
+// - `drawing`: numbers drawn for all lanes at once, bit by bit
+// - `free`: the words of the free bits
+// - `guessing`: the rows that are proposed for a query
+// - `lanes`: sets of runs, a bit for each
+// - `near`: pairs near another
+// - `random`: numbers that follow from one another
+// - `runs`: 
+// - `scans`: one scan in all lanes
+// - `spelling`: the numbers that words of free bits spell in one lane
 #![tactic(auto)]
 
 mod drawing;

@@ -1,4 +1,14 @@
 // The rules on the types of expressions that are broken, and the typed expressions that they stand for.
+// - `alone`: names that stand alone
+// - `amounts`: the amounts of shifts
+// - `answers`: judging calls of FUNCTIONs (IEC 61131-3, 2.5.1)
+// - `calls`: judging calls of standard functions (IEC 61131-3, 2.5.1.5)
+// - `expressions`: judging expressions
+// - `judged`: expressions that were judged
+// - `typed_answers`: typed calls of FUNCTIONs
+// - `typed_calls`: typed calls of standard functions
+// - `typed_expressions`: typed expressions
+// - `value_meanings`: what a name stands for that is a value of an enumeration
 #![tactic(auto)]
 
 mod alone;

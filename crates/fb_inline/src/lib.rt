@@ -1,4 +1,12 @@
 // Flat forms of typed programs, whose scans leave the cells that the programs' scans leave.
+// - `calls`: expressions, with the statements that their calls become
+// - `chart_lists`: the flat statements of a chart that its steps and latches alone become
+// - `charts`: charts as flat statements
+// - `frames`: the cells of calls, as scratch cells
+// - `labels`: tests of the labels of a CASE
+// - `program`: the flat form of a program
+// - `puts`: one more flat statement, arm or scratch cell
+// - `statements`: statements as flat statements
 #![tactic(auto)]
 
 mod calls;

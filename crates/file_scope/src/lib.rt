@@ -1,4 +1,13 @@
 // The names of a file: what each stands for, where types lead to, and the shapes of POUs.
+// - `declaration_uses`: which declarations of a file use which, and which uses lead back to their user
+// - `ends`: where the types of a file lead to
+// - `file_names`: the scope of a file
+// - `file_types`: the types of a file
+// - `names`: the types and POUs of a file, and all names that it declares
+// - `refusals`: judgements of rules on names
+// - `scope_of_file`: what the uses of types, of their values and of POUs break in a file's scope
+// - `table`: the names of a file, each with how often it is declared and what it stands for first
+// - `type_declarations`: what the declarations of types break, and the types of results
 #![tactic(auto)]
 
 mod declaration_uses;

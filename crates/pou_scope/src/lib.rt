@@ -1,4 +1,17 @@
 // The names of a POU: its declarations, and which of them break no rule.
+// - `chart_names`: the names of a chart's steps, actions and transitions
+// - `constants`: the constants and types of a POU's declarations, and what their names break
+// - `declarations`: what the declarations of a POU break, and the blocks of its instances
+// - `declared`: the names of a POU in declared order
+// - `in_file`: what is known of each variable of a POU, by its declaration
+// - `names`: the names of a POU, in the file around it
+// - `pou_names`: the names of a POU, and what is known of each of its variables
+// - `slots`: the names of a POU, each with the first variable of that name
+// - `slotted`: the variables of a POU, and what is known of their names
+// - `text_set`: sets of texts
+// - `typed`: which variables are instances, and whose types break no rule
+// - `use_numbers`: the numbers of a file's uses of variables, each of the entry of its name in the slots in which it was looked up
+// - `variable_uses`: which variables of a POU use which, and which uses lead back to their user
 #![tactic(auto)]
 
 mod chart_names;

@@ -1,4 +1,11 @@
 // Machines that run programs scan by scan: their states are those of the model.
+// - `cells`: cells and their ranges
+// - `duo`: two programs that run under a relation, scan by scan
+// - `machine`: a machine that runs a program scan by scan
+// - `pair`: a pair of states under a relation
+// - `run`: one scan
+// - `states`: states and rows
+// - `two_states`: the states of two programs
 #![tactic(auto)]
 
 mod cells;

@@ -1,4 +1,14 @@
 // The rules on types of statements and charts, and the typed statements that they stand for.
+// - `connections`: calls of instances of FUNCTION_BLOCKs (IEC 61131-3, 2.5.2)
+// - `constants`: constant expressions
+// - `iteration`: what stands between FOR and DO
+// - `labels`: the labels of a CASE
+// - `laws`: laws of FORs
+// - `seen_labels`: the labels of a CASE that were seen
+// - `selection`: the selector of a CASE, and its labels
+// - `statements`: judging statements, inside FORs whose control variables are the cells `controls`
+// - `turns`: how many turns a FOR has, and whether it may have them
+// - `typed_statements`: typed statements
 #![tactic(auto)]
 
 mod connections;
