@@ -4,4 +4,5 @@ pub mod Rows
 pub mod Steps
 pub mod Tops
 pub mod Walks
+pub mod Words
 pub mod WalkLaws

@@ -15,7 +15,6 @@ use Rattle.command_line.specs.Grammar.{grammar}
 use Rattle.command_line.specs.Plain.{by_place, command_asked, plainly_asked}
 use Rattle.command_line.proofs.Plainly.{placed_is, utf8_after}
 use Rattle.command_line.proofs.Tops.{AsksAll, RefusesAll, top_runs}
-use Rattle.command_line.proofs.WalkLaws.{placed}
 use Rattle.command_line.proofs.Walks.{rows_of}
 
 -- what is found for the words asks for what the words do

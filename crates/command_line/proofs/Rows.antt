@@ -1,5 +1,5 @@
 -- What the values of a parse come to.
-use Rattle.std.proofs.Common.{◌≡◌, sym, ap, List, [], ◌∷◌, Option, Some, None, option_map}
+use Rattle.std.proofs.Common.{◌≡◌, sym, ap, [], ◌∷◌, Option, Some, None, option_map}
 use Rattle.clap.specs.Words.{Text}
 use Rattle.command_line.specs.Asked.{words_given}
 

@@ -1,5 +1,5 @@
 -- What clap's walk makes of the words of each subcommand.
-use Rattle.std.proofs.Common.{◌≡◌, ◌∙◌, ◌<◌, ◌≤◌, ◌+◌, ◌⊎◌, inl, inr, ℕ, Bool, true, false, refl, sym, ap, arith, List, [], ◌∷◌, ◌++◌, length, Option, Some, None}
+use Rattle.std.proofs.Common.{◌≡◌, ◌∙◌, ◌<◌, ◌≤◌, ◌+◌, ◌⊎◌, inl, inr, Bool, true, false, refl, sym, ap, arith, List, [], ◌∷◌, ◌++◌, length, Option, Some, None}
 use Rattle.std.specs.Prelude.{codes}
 use Rattle.clap.specs.Walk.{Row, Text, arg_by_index, finished, nothing_held, rows_after, to_positional, walked}
 use Rattle.clap.specs.Takes.{level_passes, turn_passes}
@@ -8,10 +8,9 @@ use Rattle.clap.specs.Faults.{defaults_fault, level_fault, turn_fault}
 use Rattle.clap.specs.Simple.{Shape, built_leaf, inherited, marked_built, with_leaf_noted}
 use Rattle.command_line.specs.Subcommands.{Subcommand, checks, explains, generates, replays, verifies}
 use Rattle.command_line.specs.Grammar.{grammar, files_app, count_app}
-use Rattle.command_line.specs.Asked.{Asked, asked_of, asked_by, subcommand_asked, usage}
-use Rattle.command_line.proofs.Steps.{IsByPlace}
+use Rattle.command_line.specs.Asked.{asked_of, asked_by, usage}
 use Rattle.command_line.proofs.WalkLaws.{Places, IsWalked, at, row, placed, end_passes, end_fault, leaf_runs}
-use Rattle.command_line.proofs.WalkLaws.{Asks as AsksIn, Refuses as RefusesIn}
+use Rattle.command_line.proofs.WalkLaws.{Refuses as RefusesIn}
 
 -- ---- four files, by any name
 

@@ -1,11 +1,20 @@
 -- The command lines that there are, as clap sees them.
-use Rattle.std.specs.Prelude.{[], true, codes}
-use Rattle.clap.specs.Words.{App, Rule, Shape, Text, new_app, new_rule, with_rule, with_subcommand}
+use Rattle.std.specs.Prelude.{◌≡◌, [], true, false, codes}
+use Rattle.clap.specs.Words.{AddsArg, App, Rule, Shape, Text, new_app, new_rule, rule_of, with_rule, with_subcommand}
+use Rattle.clap.specs.declared.builder.command.Command.{Command}
+use Rattle.clap.specs.declared.builder.arg.Arg.{Arg}
 use Rattle.command_line.specs.Subcommands.{Subcommand, checks, explains, generates, replays, verifies, name_of}
 
 -- a word that is required, by its place
 abbrev pub required_word : Text → Rule
 required_word name = record (new_rule name) { required = true }
+
+-- one more word that is required, of this command alone
+pub record AddsWord (old : Command) (name : Text) (new : Command) : Type 0 where
+  pub word : Arg
+  pub added : AddsArg old word new
+  pub required : rule_of word ≡ required_word name
+  pub alone : word.global ≡ false
 
 -- a subcommand with OLD, NEW, REL and a last file
 abbrev pub files_app : Text → App

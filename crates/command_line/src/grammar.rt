@@ -1,10 +1,22 @@
 // The command lines that there are, as clap is told of them.
 ghost use Rattle.std.specs.Prelude.{◌≡◌, IfOk};
 ghost use Rattle.clap.specs.Words.{app_of, with_subcommand};
-ghost use Rattle.command_line.specs.Grammar.{grammar, files_app, with_count};
+ghost use Rattle.command_line.specs.Grammar.{AddsWord, grammar, files_app, with_count};
 
 use clap::{Arg, Command};
 use std::alloc::{AllocError, Global};
+
+// Adds a word that is required.
+fn with_word<'a>(
+    alloc: Global,
+    command: Command<'a>,
+    name: &'a str,
+) -> Result<Command<'a>, AllocError>
+    ensures { IfOk result (λ behind. AddsWord command.entry name.now behind) }
+{
+    let word = Arg::new(alloc, name).required(true);
+    command.arg(word)
+}
 
 // Adds a subcommand `NAME OLD NEW REL LAST`.
 fn with_files<'a>(
@@ -14,15 +26,11 @@ fn with_files<'a>(
 ) -> Result<Command<'a>, AllocError>
     ensures { IfOk result (λ command. app_of command ≡ with_subcommand (app_of program.entry) (files_app name.now).top) }
 {
-    let old = Arg::new(alloc, "OLD").required(true);
-    let new = Arg::new(alloc, "NEW").required(true);
-    let relation = Arg::new(alloc, "REL").required(true);
-    let last = Arg::new(alloc, "LAST").required(true);
-    let files = Command::new(alloc, name)
-        .arg(old)?
-        .arg(new)?
-        .arg(relation)?
-        .arg(last)?;
+    let files = Command::new(alloc, name);
+    let files = with_word(alloc, files, "OLD")?;
+    let files = with_word(alloc, files, "NEW")?;
+    let files = with_word(alloc, files, "REL")?;
+    let files = with_word(alloc, files, "LAST")?;
     program.subcommand(files)
 }
 
@@ -30,8 +38,7 @@ fn with_files<'a>(
 fn with_count<'a>(alloc: Global, program: Command<'a>) -> Result<Command<'a>, AllocError>
     ensures { IfOk result (λ command. app_of command ≡ with_count (app_of program.entry)) }
 {
-    let count = Arg::new(alloc, "N").required(true);
-    let one = Command::new(alloc, "gen").arg(count)?;
+    let one = with_word(alloc, Command::new(alloc, "gen"), "N")?;
     program.subcommand(one)
 }
 
