@@ -2,5 +2,4 @@ pub mod Passes
 pub mod OneReading
 pub mod OneProgram
 pub mod OnePou
-pub mod Ready
 pub mod TypedTexts

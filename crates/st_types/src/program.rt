@@ -43,9 +43,9 @@ fn type_program(
 impl Checked<'_> {
     ghost use Rattle.std.specs.Prelude.{ℕ, [], true, OnOk};
     ghost use Rattle.source_tree.specs.Syntax.{PouData};
+    ghost use Rattle.scan_model.specs.InRange.{IsFitToRun};
     ghost use Rattle.st_names.specs.Bound.{program_number};
     ghost use Rattle.typing.specs.Pous.{broken_types, has_room};
-    ghost use Rattle.typing.specs.Ready.{IsReady};
     ghost use Rattle.st_types.specs.CheckedFiles.{file_checked};
 
     /// The typed program of the PROGRAM. Fails where memory runs out.
@@ -53,7 +53,7 @@ impl Checked<'_> {
         ensures kept { OnOk result (broken_types (file_checked self.entry) ≡ []) }
         ensures room { OnOk result ((number : ℕ) → program_number (file_checked self.entry) ≡ Some number → has_room (file_checked self.entry) number ≡ true) }
         ensures typed { IfOk result (λ r. (number : ℕ) → (p : PouData) → program_number (file_checked self.entry) ≡ Some number → pou_at (file_checked self.entry) number ≡ Some p → program_view r ≡ stated_program (file_checked self.entry) number p) }
-        ensures ready { IfOk result (λ r. IsReady (program_view r)) }
+        ensures fit { IfOk result (λ r. IsFitToRun (program_view r)) }
     {
         let Checked {
             pous,

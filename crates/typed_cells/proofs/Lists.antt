@@ -22,10 +22,6 @@ module _ (P : Variable → Type 0) where
   all-left [] ws all = tt
   all-left (v ∷ vs) ws all = (all.0, all-left vs ws all.1)
 
-  pub all-right : (vs ws : List Variable) → AllByRecursion P (vs ++ ws) → AllByRecursion P ws
-  all-right [] ws all = all
-  all-right (v ∷ vs) ws all = all-right vs ws all.1
-
   pub all-in_order : (of_function : Bool) (vs : List Variable) → AllByRecursion P vs → AllByRecursion P (in_order of_function vs)
   all-in_order of_function vs all =
       all-append (in_front of_function vs) (behind_front of_function vs) (all-filter (λ v. is_front of_function v.role) vs all) (all-filter (λ v. not (is_front of_function v.role)) vs all)

@@ -78,9 +78,6 @@ pub body_of_chart : (b : BodyData) → AllByRecursion IsOfChart (names_in_body b
 body_of_chart (statements ss) = tt
 body_of_chart (chart ps) = parts_of_chart (is_stored ps) ps
 
-pub names_split : (p : PouData) → variables_in_pou p ≡ declared_names p ++ names_in_body p.body
-names_split p = refl
-
 -- ---- names of a chart have no type
 
 abbrev pub HasKind : Variable → Type 0

@@ -1,6 +1,6 @@
 -- Lists that stand in a list from a place on.
-use Rattle.std.proofs.Common.{◌≡◌, ℕ, ◌+◌, ◌≤◌, List, [], ◌∷◌, ◌++◌, length, refl, sym, ap, ◌∙◌, arith, append_assoc, subst}
-use Rattle.std.proofs.lemmas.List.{length-append, append-nil, get_or_append_left, get_or-append-add}
+use Rattle.std.proofs.Common.{◌≡◌, ℕ, ◌+◌, ◌≤◌, List, ◌∷◌, ◌++◌, length, sym, ap, ◌∙◌, arith, append_assoc, subst}
+use Rattle.std.proofs.lemmas.List.{length-append, get_or_append_left, get_or-append-add}
 use Rattle.flat_core.specs.declared.flat_tree.Scratch.{Scratch}
 use Rattle.node_core.specs.Stores.{place_at}
 use Rattle.typed_programs.specs.Statements.{StandAt}
@@ -10,9 +10,6 @@ pub record Occurs (xs owner : List Scratch) (place : ℕ) : Type 0 where
   pub behind : List Scratch
   pub is : owner ≡ before ++ (xs ++ behind)
   pub long : length before ≡ place
-
-pub occurs_whole : (xs : List Scratch) → Occurs xs xs 0
-occurs_whole xs = record { before = []; behind = []; is = sym (append-nil xs); long = refl }
 
 pub occurs_left : (xs ys owner : List Scratch) (place : ℕ) → Occurs (xs ++ ys) owner place → Occurs xs owner place
 occurs_left xs ys owner place o =

@@ -23,5 +23,4 @@ pub mod TypedLists
 pub mod Seen
 pub mod OwnDomains
 pub mod Faults
-pub mod Ready
 pub mod Beginnings

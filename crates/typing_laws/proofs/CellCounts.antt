@@ -3,9 +3,9 @@ use Rattle.std.proofs.Common.{◌≡◌, ◌≢◌, ℕ, zero, suc, ◌+◌, ◌
 use Rattle.std.specs.Prelude.{filter, ◌==◌}
 use Rattle.std.specs.List.{AllByRecursion}
 use Rattle.std.proofs.lemmas.List.{length-append, length-map, length-replicate, get_or-set_same, get_or-set_other, get_or-replicate, get_or_past, length-set, append-nil}
-use Rattle.std.proofs.lemmas.Bool.{cases_Bool, cases_lt, eqb-true, eq-eqb}
+use Rattle.std.proofs.lemmas.Bool.{cases_lt, eqb-true, eq-eqb}
 use Rattle.call_order.specs.Marks.{is_marked}
-use Rattle.call_order.specs.Uses.{Graph, uses_at, is_among, order_of}
+use Rattle.call_order.specs.Uses.{uses_at, is_among, order_of}
 use Rattle.call_order.proofs.Members.{is_among-left, is_among-right, is_among-head, is_among-cases, is_among-either, is_among-parts}
 use Rattle.call_order.proofs.Orders.{behind_uses, only_once, below_length, each_in}
 use Rattle.source_tree.specs.Syntax.{PouData, FileData}
@@ -14,7 +14,7 @@ use Rattle.naming.specs.declared.role.Role.{Role}
 use Rattle.naming.specs.declared.role.Role.TheVariants as roles
 use Rattle.naming.specs.Circles.{uses_in, uses_of}
 use Rattle.naming.specs.FileScope.{pous_of, pou_at}
-use Rattle.naming.specs.Scopes.{Variable, variables_in_pou, is_local, is_step, block_of, block_of_type}
+use Rattle.naming.specs.Scopes.{Variable, variables_in_pou, is_local, is_step, block_of}
 use Rattle.typing.specs.Reached.{reached, reached_order}
 use Rattle.typing.specs.Places.{has_cell, is_stored_action, is_front, in_front, behind_front, in_order, size_among, cells_taken, count_of_cells, variables_in, variables_at, sizes_along, sizes_of}
 use Rattle.typing.specs.TypedPrograms.{cells_for, cells_of_variable, cells_of, block_cells, cells_in, path_behind, typed_program}
@@ -147,9 +147,6 @@ record AreSizes (f : FileData) (marks : List Bool) (before s : List ℕ) : Type 
   closed : (b u : ℕ) → is_among b before ≡ true → is_among u (uses_at (uses_of f) b) ≡ true → is_among u before ≡ true
   counted : (b : ℕ) → is_among b before ≡ true → is_marked marks b ≡ true → get_or s b 0 ≡ count_of_cells f s (variables_at f b)
   unmarked : (b : ℕ) → is_marked marks b ≡ false → get_or s b 0 ≡ 0
-
-abbrev set_if : (f : FileData) (marks : List Bool) (k : ℕ) (s : List ℕ) → List ℕ
-set_if f marks k s = if is_marked marks k then set s k (count_of_cells f s (variables_at f k)) else s
 
 apart_from : (u k : ℕ) (numbers : List ℕ) → is_among u numbers ≡ true → is_among k numbers ≡ false → u ≢ k
 apart_from u k numbers here gone same = let there : is_among k numbers ≡ true = subst (λ (n : ℕ). is_among n numbers ≡ true) same here in cc

@@ -1,6 +1,6 @@
 -- The domain at the end of a type's way.
-use Rattle.std.proofs.Common.{◌≡◌, ℕ, zero, suc, ◌+◌, Result, Ok, Err, List, [], ◌∷◌, Option, Some, None, option_map, refl, sym, ap, ◌∙◌, add-zero, zero-add, arith}
-use Rattle.std.specs.Prelude.{unwrap_or, IfOk}
+use Rattle.std.proofs.Common.{◌≡◌, ℕ, zero, suc, ◌+◌, List, [], ◌∷◌, Option, Some, None, option_map, refl, sym, ap, ◌∙◌, add-zero, zero-add, arith}
+use Rattle.std.specs.Prelude.{unwrap_or}
 use Rattle.std.specs.List.{slice_get}
 use Rattle.source_tree.specs.Syntax.{TypeDeclarationData, FileData}
 use Rattle.naming.specs.FileScope.{types_of}
@@ -26,11 +26,3 @@ end_of_own f own e spelled =
     ap (λ (l : List Domain). unwrap_or (slice_get l e) no_domain) spelled
     ∙ ap (λ (o : Option Domain). unwrap_or o no_domain) (own_at f 0 (types_of f) e ∙ ap (λ k. option_map (λ (d : TypeDeclarationData). end_domain f k (Some d.specification)) (slice_get (types_of f) e)) (zero-add e))
     ∙ or_none f e (slice_get (types_of f) e)
-
-pub for_all : {E : Type 0} (r : Result Domain E) (v : Domain) → IfOk r (λ d. d ≡ v) → IfOk r (λ d. (number : ℕ) → d ≡ v)
-for_all (Ok d) v is = λ number. is
-for_all (Err e) v is = tt
-
-pub at_number : {E : Type 0} (r : Result Domain E) (of : ℕ → Domain) (number : ℕ) → IfOk r (λ d. (n : ℕ) → d ≡ of n) → IfOk r (λ d. d ≡ of number)
-at_number (Ok d) of number all = all number
-at_number (Err e) of number all = tt

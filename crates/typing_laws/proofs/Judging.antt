@@ -1,5 +1,5 @@
 -- What judging tells of a construct, from what it tells of the parts.
-use Rattle.std.proofs.Common.{◌≡◌, ℕ, suc, length, map, arith, Bool, true, false, ◌&&◌, ◌+◌, if◌then◌else◌, List, [], ◌∷◌, ◌++◌, Option, Some, None, refl, sym, ap, ◌∙◌, Result, Ok, Err}
+use Rattle.std.proofs.Common.{◌≡◌, ℕ, Bool, true, false, ◌&&◌, ◌+◌, if◌then◌else◌, List, [], ◌∷◌, ◌++◌, Option, Some, None, refl, sym, ap, ◌∙◌, Result, Ok, Err}
 use Rattle.std.specs.Prelude.{IfOk}
 use Rattle.plc_types.specs.declared.data_type.DataType.{DataType}
 use Rattle.plc_types.specs.DataTypes.{is_same_type}
@@ -11,10 +11,7 @@ use Rattle.plc_types.specs.declared.range.Range.{Range}
 use Rattle.source_tree.specs.declared.syntax.Literal.{Literal}
 use Rattle.plc_types.specs.declared.operator.UnaryOperator.{UnaryOperator}
 use Rattle.source_tree.specs.Syntax.{Named, PathData, Tree, unary, chain, Links, no_links, link, Arguments, no_arguments, argument, ConnectionData, Stmt, empty, assign, invoke, branch, cases, iterate, Stmts, no_stmts, stmt, Arms, no_arms, arm, Entries, no_entries, entry, Otherwise, no_else, else_stmts, LabelData, IterationData}
-use Rattle.std.proofs.lemmas.List.{length-map}
 use Rattle.std.proofs.Math.Bool.{and_assoc, and_comm}
-use Rattle.source_tree.specs.declared.syntax.Argument.{Argument}
-use Rattle.source_tree.specs.SyntaxView.{ArgumentData, argument_view, arguments_view, arguments_of}
 use Rattle.rules.proofs.Refusals.{earlier-assoc, earlier-swap, first_in-append}
 use Rattle.naming.specs.Broken.{alone}
 use Rattle.rules.specs.declared.outcome.Outcome.{Outcome}
@@ -309,17 +306,6 @@ pub outcome_of-unary : (scope : Scope) (expected : Option DataType) (o : UnaryOp
 outcome_of-unary scope expected o at e t l r is none operand tried_is =
     let f = outcome_of-require (judged scope (Some t) e) (takes_sign o t) OperandType at in
     tried_is ∙ ap (λ (x : Outcome). tried x (takes_sign o t) OperandType at) operand ∙ sym f ∙ ap (λ (x : DataType). outcome_of (require (judged scope (Some x) e) (takes_sign o x) OperandType at)) is ∙ ap (λ (x : Option Literal). outcome_of (judged_unary (type_of scope expected e) o at x (judged scope (Some (type_of scope expected e)) e))) (sym none)
-
--- how many arguments there are
-count_of-list : (args : List ArgumentData) → count_of (arguments_of args) ≡ length args
-count_of-list [] = refl
-count_of-list (a ∷ args) = ap (λ n. n + 1) (count_of-list args) ∙ one_more (length args)
-  where
-    one_more : (n : ℕ) → n + 1 ≡ suc n
-    one_more n = omega arith
-
-pub count_of_arguments : (args : List Argument) → count_of (arguments_view args) ≡ length args
-count_of_arguments args = count_of-list (map argument_view args) ∙ length-map args argument_view
 
 -- a call of a function with as many arguments as it takes, and with more or fewer
 module _ (scope : Scope) (expected : Option DataType) (at : ℕ) (f : StandardFunction) (signature : Option Signature) (args : Arguments) where

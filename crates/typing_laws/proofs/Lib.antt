@@ -3,7 +3,6 @@ pub mod Judging
 pub mod Marks
 pub mod Connecting
 pub mod Apart
-pub mod Counting
 pub mod TurnLaws
 pub mod Labelling
 pub mod TypedLemmas
@@ -12,7 +11,7 @@ pub mod DeclaredLemmas
 pub mod StandingLemmas
 pub mod DomainLemmas
 pub mod NamedLemmas
-pub mod ReadyLemmas
+pub mod FitLemmas
 pub mod OnlyPou
 pub mod ChartLemmas
 pub mod CellCounts

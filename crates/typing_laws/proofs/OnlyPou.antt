@@ -1,7 +1,7 @@
 -- What holds of a file's PROGRAM holds of each number that is its number.
 use Rattle.std.proofs.Common.{◌≡◌, ℕ, ◌+◌, ◌<◌, List, [], ◌∷◌, length, Bool, true, false, if◌then◌else◌, Option, Some, subst, sym, ◌∙◌, Result, Ok, Err, arith}
 use Rattle.std.specs.List.{position_from}
-use Rattle.std.specs.Prelude.{IfOk, IfErr, OnOk}
+use Rattle.std.specs.Prelude.{IfOk, OnOk}
 use Rattle.source_tree.specs.Syntax.{PouData}
 
 same_number : (k l : ℕ) → (let o : Option ℕ = Some k in o) ≡ Some l → k ≡ l
@@ -9,10 +9,6 @@ same_number k l e = cc
 
 same_pou : (p q : PouData) → (let o : Option PouData = Some p in o) ≡ Some q → p ≡ q
 same_pou p q e = cc
-
-pub err_each : {A E : Type 0} (r : Result A E) (P : E → ℕ → Type 0) (o : Option ℕ) (l : ℕ) → o ≡ Some l → IfErr r (λ e. P e l) → IfErr r (λ e. (k : ℕ) → o ≡ Some k → P e k)
-err_each (Ok a) P o l only h = h
-err_each (Err e) P o l only h = λ k is. subst (P e) (same_number l k (sym only ∙ is)) h
 
 pub ok_each : {A E : Type 0} (r : Result A E) (P : ℕ → Type 0) (o : Option ℕ) (l : ℕ) → o ≡ Some l → OnOk r (P l) → OnOk r ((k : ℕ) → o ≡ Some k → P k)
 ok_each (Ok a) P o l only h = λ k is. subst P (same_number l k (sym only ∙ is)) h

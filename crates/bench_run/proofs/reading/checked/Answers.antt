@@ -1,16 +1,11 @@
 use Rattle.std.proofs.Common.{subst, sym}
-use Rattle.program_tree.specs.View.{program_view}
 use Rattle.front_end.proofs.OnePou.{one_pou}
 use Rattle.front_end.proofs.Passes.{sound_names}
-use Rattle.front_end.proofs.Ready.{program_of_ready}
 use Rattle.typed_files.proofs.TypedFiles.{program_typed}
 use Rattle.typed_programs.specs.Programs.{IsTypedProgram}
 use Rattle.st_types.specs.CheckedFiles.{file_checked}
 use Rattle.bench_run.specs.SoundFiles.{HasSoundNames}
 use Rattle.bench_run.proofs.reading.checked.Goals as goal
-
-pub returns-clause-fit : goal.returns-clause-fit
-returns-clause-fit c = program_of_ready (program_view c.in_ok-program.field-0) c.in_ok-program.ensures.ready
 
 pub returns-clause-typed : goal.returns-clause-typed
 returns-clause-typed c =

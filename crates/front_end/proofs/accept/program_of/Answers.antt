@@ -1,20 +1,14 @@
 use Rattle.std.proofs.Common.{ℕ, List}
 use Rattle.program_tree.specs.View.{program_view}
-use Rattle.typing.specs.Ready.{IsReady}
-use Rattle.scan_model.specs.InRange.{IsFitToRun}
 use Rattle.typed_programs.specs.Programs.{IsTypedProgram}
 use Rattle.st_types.specs.CheckedFiles.{file_checked}
 use Rattle.front_end.specs.Texts.{HasFile, StatesProgram}
-use Rattle.front_end.proofs.Ready.{program_of_ready}
 use Rattle.front_end.proofs.TypedTexts.{text_typed}
 use Rattle.front_end.proofs.Passes.{ok_more, program_read}
 use Rattle.front_end.proofs.accept.program_of.Goals as goal
 
 pub returns-clause-program : goal.returns-clause-program
 returns-clause-program c = program_read (file_checked c.args.checked) c.program.result c.requires c.program.ensures.kept c.program.ensures.room c.program.ensures.typed
-
-pub returns-clause-fit : goal.returns-clause-fit
-returns-clause-fit c = ok_more c.program.result (λ p. IsReady (program_view p)) (λ p. IsFitToRun (program_view p)) (λ p. program_of_ready (program_view p)) c.program.ensures.ready
 
 pub returns-clause-typed : goal.returns-clause-typed
 returns-clause-typed c =

@@ -1,8 +1,7 @@
--- A typed program begins in range: each start lies in the range of its domain.
-use Rattle.std.proofs.Common.{◌≡◌, ℕ, zero, suc, ◌==◌, ◌++◌, length, Bool, true, false, ◌&&◌, if◌then◌else◌, List, [], ◌∷◌, Option, Some, None, refl, sym, subst, arith, Result, Ok, Err}
+-- A typed program is fit to run: FAULT comes first, and each cell begins in its range, since each start lies in the range of its domain.
+use Rattle.std.proofs.Common.{◌≡◌, ℕ, zero, suc, ◌==◌, ◌++◌, length, Bool, true, false, ◌&&◌, if◌then◌else◌, List, [], ◌∷◌, Option, Some, None, refl, arith}
 use Rattle.std.proofs.Math.IntN.{ℤ, pos}
-use Rattle.std.specs.Prelude.{IfOk, codes, int_le}
-use Rattle.std.specs.List.{AllByRecursion}
+use Rattle.std.specs.Prelude.{codes, int_le}
 use Rattle.std.proofs.lemmas.Int.{ints}
 use Rattle.std.proofs.lemmas.Bool.{and_parts}
 use Rattle.std.proofs.Math.Bool.{and-false}
@@ -11,11 +10,9 @@ use Rattle.plc_types.specs.declared.elementary.Elementary.{Elementary as Element
 use Rattle.plc_types.specs.declared.elementary.Elementary.TheVariants as types
 use Rattle.rules.specs.declared.rule.Rule.{Rule}
 use Rattle.rules.specs.declared.rule.Rule.TheVariants.{ValueType, OutsideType, OperandType}
-use Rattle.program_tree.specs.declared.typed.Program.{Program}
 use Rattle.plc_types.specs.DataTypes.{is_same_type}
 use Rattle.plc_types.specs.Types.{is_integer, least_of, greatest_of, in_range}
 use Rattle.source_tree.specs.Syntax.{Named, Tree, BoundsData, TypeData, of_elementary, of_subrange, of_name, SpecificationData, of_type, of_values, PouData, FileData}
-use Rattle.program_tree.specs.View.{program_view}
 use Rattle.naming.specs.declared.standing.Standing.{Standing}
 use Rattle.naming.specs.declared.standing.Standing.TheVariants as standings
 use Rattle.naming.specs.Types.{end_of, end_specification}
@@ -32,8 +29,9 @@ use Rattle.typing.specs.Domains.{has_few, values_scope, bounds_of, judged_bound_
 use Rattle.program_tree.specs.Tree.{CellData}
 use Rattle.typing.specs.Variables.{domain_if, domain_of_variable, judged_initial, given_value, start_of}
 use Rattle.typing.specs.Places.{has_cell, is_stored_action, in_order, size_among, sizes_of, variables_at}
-use Rattle.typing.specs.TypedPrograms.{path_behind, cell_for, flag_cell, active_first, cells_for, cells_of_variable, cells_of, block_cells, typed_program}
-use Rattle.typing.specs.Ready.{StartsInRange, IsReady}
+use Rattle.typing.specs.TypedPrograms.{path_behind, cell_for, flag_cell, active_first, cells_for, cells_of_variable, cells_of, block_cells, cells_in, fault_cell, typed_program}
+use Rattle.scan_model.specs.Scans.{ranges_of, initial}
+use Rattle.scan_model.specs.InRange.{IsInRange, IsFitToRun}
 use Rattle.typing_laws.proofs.Apart.{le_true}
 
 zero_fits : (t : ElementaryType) → Fits (least_of t) (greatest_of t) (pos 0)
@@ -126,7 +124,12 @@ unfolding StartFits
 start_by true f d at initial e fits = rw e (given-fits f d at initial fits e)
 start_by false f d at initial e fits = rw e fits
 
+-- a cell begins in its range
+StartsInRange : CellData → Type 0
+StartsInRange c = Fits c.range.low c.range.high c.initial
+
 cell-fits : (f : FileData) (inside : Bool) (before : Option (List ℕ)) (v : Variable) → StartsInRange (cell_for f inside before v)
+unfolding StartsInRange
 cell-fits f inside before v =
     start_by (judged_initial f (domain_of_variable f v) v.name.at v.initial).whole f (domain_of_variable f v) v.name.at v.initial refl (domain_if-fits f v.kind)
 
@@ -146,17 +149,26 @@ active_first-fits roles.StoredAction = (omega (arith, ints), omega (arith, ints)
 active_first-fits roles.Transition = (omega (arith, ints), omega (arith, ints))
 
 flag-fits : (before : Option (List ℕ)) (n : Named) (text : List ℕ) (initial : ℤ) → Fits (least_of types.Bool) (greatest_of types.Bool) initial → StartsInRange (flag_cell before n text initial)
+unfolding StartsInRange
 flag-fits before n text initial fits = fits
 
 -- ---- the cells of instances too
 
 AllFit : List CellData → Type 0
-AllFit cs = AllByRecursion StartsInRange cs
+AllFit cs = IsInRange (ranges_of cs) (initial cs)
+
+one_more_fits : (c : CellData) (cs : List CellData) → StartsInRange c → AllFit cs → AllFit (c ∷ cs)
+unfolding AllFit StartsInRange
+one_more_fits c cs fits all = (fits.0, fits.1, all)
+
+one_fits : (c : CellData) → StartsInRange c → AllFit (c ∷ [])
+unfolding AllFit StartsInRange
+one_fits c fits = (fits.0, fits.1, tt)
 
 append_fit : (cs ds : List CellData) → AllFit cs → AllFit ds → AllFit (cs ++ ds)
 unfolding AllFit
 append_fit [] ds a b = b
-append_fit (c ∷ cs) ds a b = (a.0, append_fit cs ds a.1 b)
+append_fit (c ∷ cs) ds a b = (a.0, a.1, append_fit cs ds a.2 b)
 
 if_fit : (b : Bool) (cs : List CellData) → AllFit cs → AllFit (if b then cs else [])
 unfolding AllFit
@@ -174,15 +186,15 @@ else_fit true cs ds all others = all
 else_fit false cs ds all others = others
 
 cells_for-fit : (f : FileData) (inside : Bool) (before : Option (List ℕ)) (v : Variable) → AllFit (cells_for f inside before v)
-unfolding AllFit
 cells_for-fit f inside before v =
     let active = flag_cell before v.name (codes "X") (active_first v.role) in
     let latest = flag_cell before v.name (codes "L") (pos 0) in
     let stored = flag_cell before v.name (codes "S") (pos 0) in
-    let zero_fit : Fits (least_of types.Bool) (greatest_of types.Bool) (pos 0) = zero_fits types.Bool in
+    let latest_fits = flag-fits before v.name (codes "L") (pos 0) (zero_fits types.Bool) in
+    let stored_fits = flag-fits before v.name (codes "S") (pos 0) (zero_fits types.Bool) in
     else_fit (is_step v.role) (active ∷ latest ∷ []) (if is_stored_action v.role then stored ∷ [] else cell_for f inside before v ∷ [])
-    (flag-fits before v.name (codes "X") (active_first v.role) (active_first-fits v.role), (flag-fits before v.name (codes "L") (pos 0) zero_fit, tt))
-    (else_fit (is_stored_action v.role) (stored ∷ []) (cell_for f inside before v ∷ []) (flag-fits before v.name (codes "S") (pos 0) zero_fit, tt) (cell-fits f inside before v, tt))
+    (one_more_fits active (latest ∷ []) (flag-fits before v.name (codes "X") (active_first v.role) (active_first-fits v.role)) (one_fits latest latest_fits))
+    (else_fit (is_stored_action v.role) (stored ∷ []) (cell_for f inside before v ∷ []) (one_fits stored stored_fits) (one_fits (cell_for f inside before v) (cell-fits f inside before v)))
 
 BlocksFit : (Option (List ℕ) → ℕ → List CellData) → Type 0
 BlocksFit of_block = (before : Option (List ℕ)) (b : ℕ) → AllFit (of_block before b)
@@ -208,13 +220,10 @@ unfolding AllFit BlocksFit
 blocks_fit f zero before b = tt
 blocks_fit f (suc depth) before b = all_fit f (block_cells f depth) true before (in_order false (variables_at f b)) (blocks_fit f depth)
 
-pub typed_program-ready : (f : FileData) (k : ℕ) (p : PouData) → IsReady (typed_program f k p)
-unfolding AllFit
-typed_program-ready f k p = record {
+pub typed_program-fit : (f : FileData) (k : ℕ) (p : PouData) → IsFitToRun (typed_program f k p)
+unfolding AllFit StartsInRange
+typed_program-fit f k p = record {
   begins_with_fault = (refl, refl, refl);
-  start_in_range = (zero_fits types.Bool, all_fit f (block_cells f (length (pous_of f))) false (Some []) (in_order false (variables_in_pou p)) (blocks_fit f (length (pous_of f))));
+  start_in_range = one_more_fits fault_cell (cells_in f (Some []) false (variables_in_pou p)) (zero_fits types.Bool)
+      (all_fit f (block_cells f (length (pous_of f))) false (Some []) (in_order false (variables_in_pou p)) (blocks_fit f (length (pous_of f))));
 }
-
-pub ready_of : {E : Type 0} (f : FileData) (k : ℕ) (p : PouData) (r : Result Program E) → IfOk r (λ q. program_view q ≡ typed_program f k p) → IfOk r (λ q. IsReady (program_view q))
-ready_of f k p (Ok q) typed = subst IsReady (sym typed) (typed_program-ready f k p)
-ready_of f k p (Err e) typed = tt
