@@ -101,7 +101,7 @@ impl Scope for PairScope<'_> {
         None
     }
 
-    fn signature(&self, _name: &str) -> Option<Signature> {
+    fn signature(&self, _name: &Name) -> Option<Signature> {
         None
     }
 

@@ -1,13 +1,13 @@
 // The POUs of a file by their numbers, and the blocks of instances.
 ghost use Rattle.std.specs.Prelude.{◌≡◌, false, option_map, unwrap_or};
-ghost use Rattle.source_tree.specs.SyntaxView.{type_view, pou_view, file_view};
+ghost use Rattle.source_tree.specs.SyntaxView.{name_view, type_view, pou_view, file_view};
 ghost use Rattle.naming.specs.FileScope.{pou_at, standing, is_block, pou_number, block_number};
 ghost use Rattle.naming.specs.Scopes.{block_of, block_of_type};
 ghost use Rattle.naming.specs.ScopeView.{variable_view};
 ghost use Rattle.typing.specs.Members.{is_function, function_number};
 
 use naming::{Declared, Role, Standing};
-use source_tree::{Pou, PouKind, TypeName};
+use source_tree::{Name, Pou, PouKind, TypeName};
 use st_names::Resolved;
 
 /// The POU of a number, where there is one.
@@ -61,11 +61,11 @@ fn block_number(names: &Resolved<'_>, name: &str) -> Option<usize>
     }
 }
 
-/// The FUNCTION that a name stands for, by its number.
-pub fn function_number(names: &Resolved<'_>, name: &str) -> Option<usize>
-    ensures { result ≡ function_number (file_view names.now.file.now) (standing (file_view names.now.file.now) name.now) }
+/// The FUNCTION that a name that is used stands for, by its number.
+pub fn function_number(names: &Resolved<'_>, name: &Name) -> Option<usize>
+    ensures { let f = file_view names.now.file.now in result ≡ function_number f (standing f (name_view name.now).text) }
 {
-    let number = pou_number(names.standing(name))?;
+    let number = pou_number(names.standing_of_use(name))?;
     if is_function(pou_at(names, number)) {
         Some(number)
     } else {

@@ -37,7 +37,7 @@ fn value_of_type(kind: usize, number: usize, specification: &Specification) -> M
 
 impl<'p> FileTypes<'p> {
     ghost use Rattle.std.specs.Prelude.{◌≡◌};
-    ghost use Rattle.source_tree.specs.SyntaxView.{file_view};
+    ghost use Rattle.source_tree.specs.SyntaxView.{name_view, file_view};
     ghost use Rattle.naming.specs.FileScope.{standing};
     ghost use Rattle.decl_types.specs.Bodies.{file_of};
     ghost use Rattle.typing.specs.Domains.{value_at};
@@ -50,11 +50,11 @@ impl<'p> FileTypes<'p> {
         FileTypes { names, types }
     }
 
-    /// What a name stands for as a value.
-    pub fn value_of(&self, name: &str) -> Option<Meaning>
-        ensures { result ≡ value_at (file_of self.now) (standing (file_of self.now) name.now) }
+    /// What a name that is used stands for as a value.
+    pub fn value_of(&self, name: &Name) -> Option<Meaning>
+        ensures { result ≡ value_at (file_of self.now) (standing (file_of self.now) (name_view name.now).text) }
     {
-        match self.names.standing(name) {
+        match self.names.standing_of_use(name) {
             Some(Standing::Value(kind, number)) => {
                 let declaration = self.types.get(kind)?;
                 Some(value_of_type(kind, number, &declaration.specification))
@@ -70,14 +70,14 @@ impl Scope for FileTypes<'_> {
     ghost means = { values_in };
 
     fn meaning(&self, path: &Path) -> Option<Meaning> {
-        self.value_of(path.first.text.as_str())
+        self.value_of(&path.first)
     }
 
     fn value(&self, name: &Name) -> Option<Meaning> {
-        self.value_of(name.text.as_str())
+        self.value_of(name)
     }
 
-    fn signature(&self, _name: &str) -> Option<Signature> {
+    fn signature(&self, _name: &Name) -> Option<Signature> {
         None
     }
 

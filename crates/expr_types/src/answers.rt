@@ -209,7 +209,7 @@ pub(crate) fn judge_user_call<S: Scope>(
     ensures outcome { IfOk result (λ j. j.outcome ≡ outcome_of (judged_user_call (S.means scope.now) (name_view name.now).at ((S.means scope.now).signature (name_view name.now).text) (arguments_view arguments.now) (λ s. judged_given (S.means scope.now) s 0 (arguments_view arguments.now)))) }
     ensures synthesized { IfOk result (λ j. j.synthesized ≡ synthesized_of_answer ((S.means scope.now).signature (name_view name.now).text)) }
 {
-    let Some(signature) = scope.signature(name.text.as_str()) else {
+    let Some(signature) = scope.signature(name) else {
         return Ok(JudgedExpr {
             outcome: Outcome::suppressed(),
             synthesized: None,

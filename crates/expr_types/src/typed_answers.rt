@@ -42,7 +42,7 @@ pub(crate) fn type_answer<S: Scope>(
 ) -> Result<TypedExpr, AllocError>
     ensures { IfOk result (λ e. expr_view e ≡ typed_answer ((S.means scope.now).signature (name_view name.now).text) (λ s. typed_given (S.means scope.now) s 0 (arguments_view arguments.now))) }
 {
-    let Some(signature) = scope.signature(name.text.as_str()) else {
+    let Some(signature) = scope.signature(name) else {
         return Ok(TypedExpr::Number(0));
     };
     let values = type_given(alloc, scope, signature, arguments)?;

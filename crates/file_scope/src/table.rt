@@ -10,6 +10,7 @@ ghost use Rattle.file_scope.specs.FileView.{file_names_view};
 ghost use Rattle.naming.specs.Library.{is_library};
 ghost use Rattle.naming.specs.Table.{entry_named, count_in, recounted, is_twice, standing_by, used, Holds};
 
+use crate::entries::value_by;
 use crate::names::FileName;
 use crate::refusals::{misused, unknown};
 use indexmap::IndexMap;
@@ -84,6 +85,13 @@ pub fn standing_at(table: &Table, text: &str) -> Option<Standing>
     ensures { result ≡ standing_by (is_library text.now) (get_by_text table.now text.now) }
 {
     standing_by(is_library(text), entry_at(table, text))
+}
+
+/// The same, where this is the number of its entry; where there is none, or another's, the name is looked up.
+pub fn standing_by_number(table: &Table, number: Option<usize>, text: &str) -> Option<Standing>
+    ensures { result ≡ standing_by (is_library text.now) (get_by_text table.now text.now) }
+{
+    standing_by(is_library(text), value_by(table, number, text))
 }
 
 /// What the first declared of a name stands for, in constant time.

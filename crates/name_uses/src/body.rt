@@ -14,7 +14,7 @@ use rules::Outcome;
 use source_tree::Body;
 use std::alloc::{AllocError, Global};
 
-/// Keeps what a body breaks and the numbers of its uses of variables, and appends the FUNCTIONs that it calls.
+/// Keeps what a body breaks and the numbers of its uses of names, and appends the FUNCTIONs that it calls.
 pub fn walk_body(
     alloc: Global,
     scope: &Scope<'_, '_>,

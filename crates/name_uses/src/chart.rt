@@ -180,7 +180,7 @@ fn place_of_chart(parts: &[ChartPart]) -> usize
     }
 }
 
-/// What a chart breaks. Keeps the numbers of its uses of variables, and appends the FUNCTIONs that it calls.
+/// What a chart breaks. Keeps the numbers of its uses of names, and appends the FUNCTIONs that it calls.
 pub fn judged_chart(
     alloc: Global,
     scope: &Scope<'_, '_>,

@@ -1,7 +1,7 @@
 // The names that the body of a POU may use, and what their uses break.
 ghost use Rattle.std.specs.Prelude.{◌≡◌, option_map, None};
 ghost use Rattle.source_tree.specs.SyntaxView.{name_view, names_view, path_view, file_view, pou_view};
-ghost use Rattle.naming.specs.Broken.{member_by, in_member, in_members, in_flag, in_named, in_variable, in_outer, in_target, in_path, argument_by, in_argument_named, in_argument_name, in_called, in_enumerator, in_instance, in_connected, alone};
+ghost use Rattle.naming.specs.Broken.{member_by, in_member, in_members, in_flag, in_named, in_variable, in_outer, in_target, in_path, argument_by, in_argument_named, in_argument_name, in_called, in_enumerator, in_instance, in_connected, callee_of, alone};
 ghost use Rattle.naming.specs.FileScope.{pou_at, standing};
 ghost use Rattle.pou_scope.specs.NamesView.{file_in, pou_in, AreNamesOf};
 ghost use Rattle.rules.specs.Outcomes.{outcome_of};
@@ -179,11 +179,12 @@ impl Scope<'_, '_> {
         self.target_of(numbers, name, &[])
     }
 
-    // A path that is read, whose first name is that of no variable.
-    fn outer_path(&self, path: &Path) -> Outcome
+    // A path that is read, whose first name is that of no variable. Keeps the number of this name.
+    fn outer_path(&self, numbers: &mut UseNumbers, path: &Path) -> Outcome
         ensures { let f = file_in self.now.names in let p = pou_in self.now.names in result ≡ outcome_of (in_path f p None (path_view path.now)) }
     {
         let first = &path.first;
+        self.names.note(numbers, first);
         if !self.names.own.is_fault(first)
             && is_value(self.names.file.types.names.standing(first))
         {
@@ -198,15 +199,24 @@ impl Scope<'_, '_> {
     {
         match self.names.used(numbers, &path.first) {
             Some(seen) => self.variable(numbers, seen, &path.first, &path.members),
-            None => self.outer_path(path),
+            None => self.outer_path(numbers, path),
         }
     }
 
-    /// `kind#value`.
-    pub fn enumerator(&self, kind: &Name, value: &Name) -> Outcome
+    /// `kind#value`. Keeps the number of the value.
+    pub fn enumerator(&self, numbers: &mut UseNumbers, kind: &Name, value: &Name) -> Outcome
         ensures { let f = file_in self.now.names in let t = name_view kind.now in result ≡ outcome_of (in_enumerator f t (name_view value.now) (standing f t.text)) }
     {
+        self.names.note(numbers, value);
         self.names.file.enumerator(kind, value)
+    }
+
+    /// What a call in an expression calls. Keeps the number of its name.
+    pub fn callee(&self, numbers: &mut UseNumbers, name: &Name) -> Callee
+        ensures { result ≡ callee_of (file_in self.now.names) (name_view name.now).text }
+    {
+        self.names.note(numbers, name);
+        self.names.file.callee(name)
     }
 
     /// The name of a call in an expression, which calls this.

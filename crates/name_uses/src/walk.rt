@@ -13,7 +13,7 @@ use rules::Outcome;
 use source_tree::{Argument, Arm, Connection, Entry, Expr, Iteration, Label, Link, Stmt};
 use std::alloc::AllocError;
 
-/// Keeps what an expression breaks and the numbers of its uses of variables, and appends the FUNCTIONs that it calls.
+/// Keeps what an expression breaks and the numbers of its uses of names, and appends the FUNCTIONs that it calls.
 #[cycle(walk_expr)]
 #[tactic(auto, using(rules::proofs::Outcomes::both_on, rules::proofs::Outcomes::both_ok))]
 pub fn walk_expr(
@@ -33,7 +33,7 @@ pub fn walk_expr(
             Ok(())
         }
         Expr::Enumerator(kind, value) => {
-            *outcome = outcome.and(scope.enumerator(kind, value));
+            *outcome = outcome.and(scope.enumerator(numbers, kind, value));
             Ok(())
         }
         Expr::Paren(_, inner) => walk_expr(scope, inner, outcome, numbers, calls),
@@ -43,7 +43,7 @@ pub fn walk_expr(
             walk_links(scope, links, outcome, numbers, calls)
         }
         Expr::Call(function, _, arguments) => {
-            let callee = scope.names.file.callee(function);
+            let callee = scope.callee(numbers, function);
             *outcome = outcome.and(scope.called(callee, function));
             append_called(calls, callee)?;
             walk_arguments(scope, callee, arguments, outcome, numbers, calls)
@@ -91,22 +91,27 @@ fn walk_arguments(
     Ok(())
 }
 
-// A label.
+// A label. Keeps the numbers of its names.
 #[tactic(auto, using(rules::proofs::Outcomes::outcome_and))]
-fn judged_label(scope: &Scope<'_, '_>, label: &Label) -> Outcome
+fn judged_label(scope: &Scope<'_, '_>, numbers: &mut UseNumbers, label: &Label) -> Outcome
     ensures { result ≡ outcome_of (in_label (file_in scope.now.names) (pou_in scope.now.names) (label_view label.now)) }
 {
-    let low = scope.names.constant(&label.low);
-    low.and(scope.names.written(&label.high))
+    let low = scope.names.constant(numbers, &label.low);
+    low.and(scope.names.written(numbers, &label.high))
 }
 
-// Keeps what labels break.
+// Keeps what labels break and the numbers of their names.
 #[tactic(auto, using(rules::proofs::Outcomes::both_on, rules::proofs::Outcomes::both_ok))]
-fn walk_labels(scope: &Scope<'_, '_>, labels: &[Label], outcome: &mut Outcome)
+fn walk_labels(
+    scope: &Scope<'_, '_>,
+    labels: &[Label],
+    outcome: &mut Outcome,
+    numbers: &mut UseNumbers,
+)
     ensures { outcome.new ≡ both outcome.old (outcome_of (in_labels (file_in scope.now.names) (pou_in scope.now.names) (labels_view labels.now))) }
 {
     for label in labels {
-        *outcome = outcome.and(judged_label(scope, label));
+        *outcome = outcome.and(judged_label(scope, numbers, label));
     }
 }
 
@@ -191,7 +196,7 @@ fn walk_connections(
     Ok(())
 }
 
-/// Keeps what statements break and the numbers of their uses of variables, and appends the FUNCTIONs that they call.
+/// Keeps what statements break and the numbers of their uses of names, and appends the FUNCTIONs that they call.
 #[cycle(walk_stmts)]
 #[tactic(auto, using(rules::proofs::Outcomes::both_on, rules::proofs::Outcomes::both_ok))]
 pub fn walk_stmts(
@@ -297,7 +302,7 @@ fn walk_entries(
     ensures calls { OnOk result (calls.new.items ≡ calls.old.items ++ calls_in_entries (file_in scope.now.names) (entries_view entries.now)) }
 {
     for entry in entries {
-        walk_labels(scope, &entry.labels, outcome);
+        walk_labels(scope, &entry.labels, outcome, numbers);
         walk_stmts(scope, &entry.body, outcome, numbers, calls)?;
     }
     Ok(())

@@ -30,10 +30,10 @@ impl Scope for PlacedScope<'_> {
 
     fn value(&self, name: &Name) -> Option<Meaning> {
         let types = &self.placed.pous.domains.types;
-        types.value_of(name.text.as_str())
+        types.value_of(name)
     }
 
-    fn signature(&self, name: &str) -> Option<Signature> {
+    fn signature(&self, name: &Name) -> Option<Signature> {
         self.placed.pous.signature(name)
     }
 

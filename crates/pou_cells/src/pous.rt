@@ -217,9 +217,9 @@ impl<'p> Pous<'p> {
         }
     }
 
-    /// The FUNCTION of a name.
-    pub fn signature(&self, name: &str) -> Option<Signature>
-        ensures { result ≡ signature_at (file_in self.now.domains) [] name.now }
+    /// The FUNCTION of a name that is used.
+    pub fn signature(&self, name: &Name) -> Option<Signature>
+        ensures { result ≡ signature_at (file_in self.now.domains) [] (name_view name.now).text }
     {
         match function_number(self.domains.types.names, name) {
             None => None,

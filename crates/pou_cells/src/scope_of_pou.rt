@@ -24,10 +24,10 @@ impl Scope for PouScope<'_> {
     }
 
     fn value(&self, name: &Name) -> Option<Meaning> {
-        self.pous.domains.types.value_of(name.text.as_str())
+        self.pous.domains.types.value_of(name)
     }
 
-    fn signature(&self, name: &str) -> Option<Signature> {
+    fn signature(&self, name: &Name) -> Option<Signature> {
         self.pous.signature(name)
     }
 

@@ -1,8 +1,8 @@
--- The numbers of a file's uses of variables, by half of the place of each, and the entries that they lead to.
-use Rattle.std.specs.Prelude.{◌≡◌, ◌⊎◌, ℕ, ◌/◌, nat_eq, List, Option, Some, None, String, option_map, slice_get, slice_index_or, if◌then◌else◌}
-use Rattle.std.specs.HashMap.{HashMap, keys}
-use Rattle.std.specs.String.{string_bytes}
+-- The numbers of a file's uses of names, by half of the place of each, and the entries that they lead to.
+use Rattle.std.specs.Prelude.{◌≡◌, ◌⊎◌, ℕ, ◌/◌, nat_eq, List, Option, Some, None, String, slice_index_or, if◌then◌else◌}
+use Rattle.std.specs.HashMap.{HashMap}
 use Rattle.source_tree.specs.Syntax.{Named}
+use Rattle.file_scope.specs.Entries.{text_at}
 
 -- the number of the use at a place, where one is kept
 abbrev pub number_at : List (Option ℕ) → ℕ → Option ℕ
@@ -11,10 +11,6 @@ number_at numbers at = slice_index_or numbers (at / 2) None
 -- the number of the use at a place is kept, and all others are as they were
 abbrev pub IsKept : List (Option ℕ) → ℕ → ℕ → List (Option ℕ) → Type 0
 IsKept old at number new = (other : ℕ) → number_at new other ≡ (if nat_eq (other / 2) (at / 2) then Some number else number_at old other)
-
--- the text of the entry of a number
-abbrev pub text_at : {Y X S : Type 0} → HashMap (String Y) X S → ℕ → Option (List ℕ)
-text_at m number = option_map string_bytes (slice_get (keys m) number)
 
 -- of the use of a name the number of its entry is kept, or nothing changes
 abbrev pub NotesUse : {Y X S : Type 0} → HashMap (String Y) X S → Named → List (Option ℕ) → List (Option ℕ) → Type 0

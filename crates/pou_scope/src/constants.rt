@@ -9,6 +9,7 @@ ghost use Rattle.naming.specs.ScopeView.{variable_view};
 
 use crate::names::Names;
 use crate::typed::is_typed;
+use crate::use_numbers::UseNumbers;
 use file_scope::misused;
 use naming::{Declared, Seen};
 use rules::Outcome;
@@ -45,23 +46,37 @@ impl Names<'_, '_> {
         self.value_by(self.seen(name), name)
     }
 
-    /// A constant of a label.
-    pub fn constant(&self, constant: &Expr) -> Outcome
+    // A name that is used as a value. Keeps the number of the use.
+    fn value_used(&self, numbers: &mut UseNumbers, name: &Name) -> Outcome
+        ensures { let n = name_view name.now in result ≡ outcome_of (in_value (file_in self.now) (pou_in self.now) (seen_named (file_in self.now) (pou_in self.now) n.text) n) }
+    {
+        let seen = self.used(numbers, name);
+        if seen.is_none() {
+            self.note(numbers, name);
+        }
+        self.value_by(seen, name)
+    }
+
+    /// A constant of a label. Keeps the number of its name.
+    pub fn constant(&self, numbers: &mut UseNumbers, constant: &Expr) -> Outcome
         ensures { result ≡ outcome_of (in_constant (file_in self.now) (pou_in self.now) (tree_view constant.now)) }
     {
         match constant {
-            Expr::Path(path) => self.value(&path.first),
-            Expr::Enumerator(kind, value) => self.file.enumerator(kind, value),
+            Expr::Path(path) => self.value_used(numbers, &path.first),
+            Expr::Enumerator(kind, value) => {
+                self.note(numbers, value);
+                self.file.enumerator(kind, value)
+            }
             _ => Outcome::ok(),
         }
     }
 
-    /// The second value of a label, where there is one.
-    pub fn written(&self, value: &Option<Expr>) -> Outcome
+    /// The second value of a label, where there is one. Keeps the number of its name.
+    pub fn written(&self, numbers: &mut UseNumbers, value: &Option<Expr>) -> Outcome
         ensures { result ≡ outcome_of (in_constant_if (file_in self.now) (pou_in self.now) (initial_view value.now)) }
     {
         match value {
-            Some(value) => self.constant(value),
+            Some(value) => self.constant(numbers, value),
             None => Outcome::ok(),
         }
     }

@@ -7,7 +7,7 @@ ghost use Rattle.pou_scope.specs.AllSeen.{all_seen};
 
 use crate::pou_names::NamesOfPou;
 use crate::use_numbers::UseNumbers;
-use file_scope::FileScope;
+use file_scope::{FileScope, numbered};
 use naming::Seen;
 use source_tree::Name;
 
@@ -36,5 +36,14 @@ impl Names<'_, '_> {
         ensures numbers { NotesUse self.now.own.now.slots (name_view name.now) numbers.old numbers.new }
     {
         self.own.used(numbers, name)
+    }
+
+    /// Keeps the number of a name that is used, where the file declares it.
+    pub fn note(&self, numbers: &mut UseNumbers, name: &Name)
+        ensures { NotesUse self.now.file.now.types.names.table (name_view name.now) numbers.old numbers.new }
+    {
+        if let Some((number, _)) = numbered(&self.file.types.names.table, name.text.as_str()) {
+            numbers.keep(name.at, number);
+        }
     }
 }

@@ -15,12 +15,12 @@ ghost use Rattle.pou_scope.specs.AllSeen.{seen_in};
 
 use crate::declared::declared_variables;
 use crate::in_file::all_seen;
-use crate::slots::{Slots, is_fault, numbered, slot_at, slots};
+use crate::slots::{Slots, is_fault, slot_at, slots};
 use crate::slotted::Slotted;
 use crate::use_numbers::UseNumbers;
 use crate::variable_uses::variable_circles;
 use call_order::uses_in_circle;
-use file_scope::FileScope;
+use file_scope::{FileScope, numbered};
 use naming::{Declared, Seen, Slot, number_by};
 use rules::Outcome;
 use source_tree::{Name, Pou, PouKind};

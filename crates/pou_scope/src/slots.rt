@@ -1,5 +1,5 @@
 // The names of a POU, each with the first variable of that name.
-ghost use Rattle.std.specs.Prelude.{◌≡◌, ◌||◌, [], IfOk, IfSome, Some, is_some, option_map, if◌then◌else◌};
+ghost use Rattle.std.specs.Prelude.{◌≡◌, ◌||◌, [], IfOk, is_some, if◌then◌else◌};
 ghost use Rattle.std.specs.HashMap.{get_by_text};
 ghost use Rattle.source_tree.specs.SyntaxView.{name_view};
 ghost use Rattle.naming.specs.Broken.{twice, variables_twice};
@@ -9,7 +9,6 @@ ghost use Rattle.naming.specs.Scopes.{is_fault};
 ghost use Rattle.naming.specs.ScopeView.{variable_view, variables_view};
 ghost use Rattle.naming.specs.Slots.{slot_among, entered};
 ghost use Rattle.naming.specs.Table.{Holds};
-ghost use Rattle.pou_scope.specs.UseNumbers.{text_at};
 
 use file_scope::twice;
 use indexmap::IndexMap;
@@ -60,37 +59,6 @@ pub fn slot_at(slots: &Slots, text: &str) -> Option<Slot>
     ensures { result ≡ get_by_text slots.now text.now }
 {
     slots.get(text).copied()
-}
-
-/// The slot of a name, and the number of its entry.
-pub fn numbered(slots: &Slots, text: &str) -> Option<(usize, Slot)>
-    ensures slot { option_map (λ r. r.1) result ≡ get_by_text slots.now text.now }
-    ensures number { IfSome result (λ r. text_at slots.now r.0 ≡ Some text.now) }
-{
-    let (number, _, slot) = slots.get_full(text)?;
-    Some((number, *slot))
-}
-
-// The slot of the entry of a number, where it is that of a name.
-fn slot_numbered(slots: &Slots, number: Option<usize>, text: &str) -> Option<Slot>
-    ensures { IfSome result (λ slot. Some slot ≡ get_by_text slots.now text.now) }
-{
-    let (own, slot) = slots.get_index(number?)?;
-    if own.as_str() == text {
-        Some(*slot)
-    } else {
-        None
-    }
-}
-
-/// The slot of a name, of whose entry this is the number; where there is none, or another's, the name is looked up.
-pub fn slot_by(slots: &Slots, number: Option<usize>, text: &str) -> Option<Slot>
-    ensures { result ≡ get_by_text slots.now text.now }
-{
-    match slot_numbered(slots, number, text) {
-        Some(slot) => Some(slot),
-        None => slot_at(slots, text),
-    }
 }
 
 /// The slots of a POU's variables, and whether each name is declared once.

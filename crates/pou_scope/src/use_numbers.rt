@@ -1,4 +1,4 @@
-// The numbers of a file's uses of variables, each of the entry of its name in the slots in which it was looked up.
+// The numbers of a file's uses of names, each of the entry of its name in the table in which it was found.
 ghost use Rattle.std.specs.Prelude.{◌≡◌, ◌⊎◌, []};
 ghost use Rattle.pou_scope.specs.UseNumbers.{number_at, IsKept};
 
@@ -8,8 +8,9 @@ use std::marker::Model;
 // Half of the bytes that a text has at most.
 const MOST_PLACES: usize = 524_288;
 
-/// The numbers of a file's uses of variables, by half of the place of the name, since two names never stand so near. Contracts see
-/// the list of them. Whoever reads one compares the name of its entry.
+/// The numbers of a file's uses of names, by half of the place of the name, since two names never stand so near: for a variable that
+/// of its slot, else that of its entry among the names of the file. Contracts see the list of them. Whoever reads one compares the
+/// name of its entry.
 #[derive(Drop)]
 pub struct UseNumbers {
     by_place: Vec<Option<u32>>,

@@ -6,9 +6,9 @@ ghost use Rattle.st_names.specs.BoundBy.{bound_by};
 ghost use Rattle.naming.specs.Broken.{is_program_pou};
 ghost use Rattle.naming.specs.FileScope.{pous_of};
 
-use file_scope::{Table, end_at, standing_at};
+use file_scope::{Table, end_at, standing_at, standing_by_number, value_by};
 use naming::{Declared, Role, Slot, Standing};
-use pou_scope::{NamesOfPou, UseNumbers, slot_by};
+use pou_scope::{NamesOfPou, UseNumbers};
 use source_tree::{Item, Name, Pou, SourceFile, TypeDeclaration};
 
 /// A variable that a name is bound to: its number in declared order, from 1, and what it is for.
@@ -18,7 +18,7 @@ pub struct Bound {
     pub role: Role,
 }
 
-/// The names of each POU, the types, the numbers of all uses of variables, the places of POUs among the items of a file, which POUs
+/// The names of each POU, the types, the numbers of all uses of names, the places of POUs among the items of a file, which POUs
 /// each uses, their order, the number of the PROGRAM, the table of all names, and where types lead to.
 #[derive(Drop)]
 pub struct Bindings<'f> {
@@ -136,7 +136,7 @@ impl<'f> Resolved<'f> {
     {
         let number = self.bindings.numbers.get(name.at);
         match self.bindings.names.as_slice().get(pou) {
-            Some(names) => slot_by(&names.slots, number, name.text.as_str()),
+            Some(names) => value_by(&names.slots, number, name.text.as_str()),
             None => None,
         }
     }
@@ -170,6 +170,14 @@ impl<'f> Resolved<'f> {
         ensures { result ≡ standing (file_view self.now.file.now) name.now }
     {
         standing_at(&self.bindings.table, name)
+    }
+
+    /// What a name that is used stands for in the file's scope, where it is declared there once, by the number that is kept of its use.
+    pub fn standing_of_use(&self, name: &Name) -> Option<Standing>
+        ensures { result ≡ standing (file_view self.now.file.now) (name_view name.now).text }
+    {
+        let number = self.bindings.numbers.get(name.at);
+        standing_by_number(&self.bindings.table, number, name.text.as_str())
     }
 
     /// The type at the end of the way of a type, by their numbers, in constant time.

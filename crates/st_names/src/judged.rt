@@ -19,7 +19,7 @@ use rules::{Outcome, Refusal};
 use source_tree::Pou;
 use std::alloc::{AllocError, Global};
 
-/// Which POUs of a file are whole, which POUs each uses, and the numbers of their uses of variables.
+/// Which POUs of a file are whole, which POUs each uses, and the numbers of their uses of names.
 #[derive(Drop)]
 pub struct Judged {
     pub wholes: Vec<bool>,
@@ -44,7 +44,7 @@ pub fn all_names<'a>(
     Ok(all)
 }
 
-// What a POU breaks, and which POUs it uses. Keeps the numbers of its uses of variables.
+// What a POU breaks, and which POUs it uses. Keeps the numbers of its uses of names.
 fn judge_pou(
     alloc: Global,
     scope: &Scope<'_, '_>,

@@ -148,7 +148,7 @@ fn synthesized_of_call<S: Scope>(scope: &S, name: &Name, arguments: &[Argument])
     ensures { result ≡ synthesized_of_call (standard_function (name_view name.now).text) ((S.means scope.now).signature (name_view name.now).text) (λ f. synthesized_of_arguments (S.means scope.now) f 0 (arguments_view arguments.now)) }
 {
     let Some(function) = standard_function(name.text.as_str()) else {
-        return synthesized_of_answer(scope.signature(name.text.as_str()));
+        return synthesized_of_answer(scope.signature(name));
     };
     match result_of(function) {
         Some(kind) => Some(kind),

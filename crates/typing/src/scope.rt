@@ -62,9 +62,9 @@ pub trait Scope {
     fn value(&self, name: &Name) -> Option<Meaning>
         ensures { result ≡ (means self.now).means (by_value (name_view name.now)) };
 
-    /// The FUNCTION of a name in upper case.
-    fn signature(&self, name: &str) -> Option<Signature>
-        ensures { result ≡ (means self.now).signature name.now };
+    /// The FUNCTION of a name.
+    fn signature(&self, name: &Name) -> Option<Signature>
+        ensures { result ≡ (means self.now).signature (name_view name.now).text };
 
     /// The input at a place among those of a FUNCTION, by the number of its POU.
     fn port(&self, function: usize, place: usize) -> Option<Port>

@@ -3,6 +3,7 @@ use Rattle.std.specs.List.{slice_get}
 use Rattle.std.proofs.lemmas.Option.{slice_get_read, slice_get_past}
 use Rattle.std.proofs.Math.Logic.{∥∥₁_elim}
 use Rattle.std.proofs.Props.{props}
+use Rattle.source_tree.specs.SyntaxView.{name_view}
 use Rattle.naming.specs.declared.standing.Standing.TheVariants as standings
 use Rattle.naming.specs.FileScope.{standing}
 use Rattle.naming.specs.ScopeView.{types_view}
@@ -14,7 +15,7 @@ use Rattle.decl_types.proofs.file_types.FileTypes.value_of.Goals as goal
 pub returns-in_err-declaration-in-Some-Value : goal.returns-in_err-declaration-in-Some-Value
 returns-in_err-declaration-in-Some-Value c =
     let f = file_of c.args.self.now in
-    let text = c.args.name.now in
+    let text = (name_view c.args.name.now).text in
     let ts = c.args.self.now.types.now in
     let v = c.in-Some-Value in
     let got : slice_get ts v.kind ≡ None = slice_get_past ts v.kind c.in_err-declaration-in-Some-Value.ensures.lookup.3 in
@@ -24,7 +25,7 @@ returns-in_err-declaration-in-Some-Value c =
 pub value_of_type-requires : goal.value_of_type-requires
 value_of_type-requires c =
     let f = file_of c.args.self.now in
-    let text = c.args.name.now in
+    let text = (name_view c.args.name.now).text in
     let ts = c.args.self.now.types.now in
     let v = c.in-Some-Value in
     let d = c.in_ok-declaration-in-Some-Value in
@@ -35,7 +36,7 @@ value_of_type-requires c =
 pub returns-in_ok-declaration-in-Some-Value : goal.returns-in_ok-declaration-in-Some-Value
 returns-in_ok-declaration-in-Some-Value c =
     let f = file_of c.args.self.now in
-    let text = c.args.name.now in
+    let text = (name_view c.args.name.now).text in
     let ts = c.args.self.now.types.now in
     let v = c.in-Some-Value in
     let d = c.in_ok-declaration-in-Some-Value in

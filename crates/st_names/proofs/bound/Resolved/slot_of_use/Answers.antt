@@ -14,7 +14,7 @@ returns-in-Some c =
     let q = (name_view c.args.name.now).text in
     let lookup = c.in-Some.ensures.lookup in
     let there : slice_get all c.args.pou ≡ Some c.in-Some.names.now = slice_get_read all (length all) c.args.pou c.in-Some.names.now refl lookup.3.0 lookup.1 in
-    c.slot_by.ensures ∙ ap (get_by_text c.in-Some.names.now.slots) c.as_str.ensures.value ∙ ap (option_and_then (λ (n : NamesOfPou). get_by_text n.slots q)) (sym there) ∙ ap (λ (xs : List NamesOfPou). option_and_then (λ (n : NamesOfPou). get_by_text n.slots q) (slice_get xs c.args.pou)) c.as_slice.ensures.value ∙ r.bound.slots c.args.pou q
+    c.value_by.ensures ∙ ap (get_by_text c.in-Some.names.now.slots) c.as_str.ensures.value ∙ ap (option_and_then (λ (n : NamesOfPou). get_by_text n.slots q)) (sym there) ∙ ap (λ (xs : List NamesOfPou). option_and_then (λ (n : NamesOfPou). get_by_text n.slots q) (slice_get xs c.args.pou)) c.as_slice.ensures.value ∙ r.bound.slots c.args.pou q
 
 pub returns-in-None : goal.returns-in-None
 returns-in-None c =

@@ -3,11 +3,11 @@ use Rattle.std.specs.String.{string_bytes}
 use Rattle.std.proofs.lemmas.Map.Made.{lookup_key_passes}
 use Rattle.std.proofs.lemmas.Option.{slice_get-map}
 use Rattle.std.proofs.lemmas.Slice.Eq.{bytes_eq-Decides}
-use Rattle.pou_scope.proofs.slots.numbered.Goals as goal
+use Rattle.file_scope.proofs.entries.numbered.Goals as goal
 
 pub returns-clause-number : goal.returns-clause-number
-returns-clause-number c =
-    let entries = c.args.slots.now.entries in
+returns-clause-number g c =
+    let entries = c.args.table.now.entries in
     let key = c.in_ok-number.field-0-1.now in
     let text = c.args.text.now in
     let same : text ≡ string_bytes key = (bytes_eq-Decides text (string_bytes key)).0 (lookup_key_passes _ entries key (sym c.in_ok-number.ensures.key)) in

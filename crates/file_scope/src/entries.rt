@@ -1,0 +1,45 @@
+// The entries of a table by names, and by the numbers that are kept of them.
+ghost use Rattle.std.specs.Prelude.{◌≡◌, Some, IfSome, option_map};
+ghost use Rattle.std.specs.HashMap.{get_by_text};
+ghost use Rattle.file_scope.specs.Entries.{text_at};
+
+use indexmap::IndexMap;
+
+/// What a table has of a name, and the number of its entry.
+pub fn numbered<V: Copy>(table: &IndexMap<String, V>, text: &str) -> Option<(usize, V)>
+    ensures value { option_map (λ r. r.1) result ≡ get_by_text table.now text.now }
+    ensures number { IfSome result (λ r. text_at table.now r.0 ≡ Some text.now) }
+{
+    let (number, _, value) = table.get_full(text)?;
+    Some((number, *value))
+}
+
+// What the entry of a number has, where it is that of a name.
+fn value_numbered<V: Copy>(
+    table: &IndexMap<String, V>,
+    number: Option<usize>,
+    text: &str,
+) -> Option<V>
+    ensures { IfSome result (λ value. Some value ≡ get_by_text table.now text.now) }
+{
+    let (own, value) = table.get_index(number?)?;
+    if own.as_str() == text {
+        Some(*value)
+    } else {
+        None
+    }
+}
+
+/// What a table has of a name, of whose entry this is the number; where there is none, or another's, the name is looked up.
+pub fn value_by<V: Copy>(
+    table: &IndexMap<String, V>,
+    number: Option<usize>,
+    text: &str,
+) -> Option<V>
+    ensures { result ≡ get_by_text table.now text.now }
+{
+    match value_numbered(table, number, text) {
+        Some(value) => Some(value),
+        None => table.get(text).copied(),
+    }
+}
