@@ -8,7 +8,7 @@ ghost use Rattle.typing.specs.Members.{is_function, function_number};
 
 use naming::{Declared, Role, Standing};
 use source_tree::{Name, Pou, PouKind, TypeName};
-use st_names::Resolved;
+use file_bindings::Resolved;
 
 /// The POU of a number, where there is one.
 pub fn pou_at<'a>(names: &'a Resolved<'_>, number: usize) -> Option<&'a Pou>

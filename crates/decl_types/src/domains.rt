@@ -9,7 +9,7 @@ use crate::elementary_domains::no_domain;
 use crate::file_types::FileTypes;
 use crate::own_domains::{Spelled, own_domains};
 use naming::Standing;
-use st_names::Resolved;
+use file_bindings::Resolved;
 use std::alloc::{AllocError, Global};
 use typing::Domain;
 

@@ -10,7 +10,7 @@ use crate::elementary_domains::has_few;
 use expr_types::valued;
 use naming::Standing;
 use source_tree::{Name, Path, Specification, TypeDeclaration};
-use st_names::Resolved;
+use file_bindings::Resolved;
 use typing::{Instance, Meaning, Port, Scope, Signature};
 
 /// A file whose names are bound, and the types that it declares, by their numbers.

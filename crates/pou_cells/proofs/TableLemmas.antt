@@ -6,8 +6,8 @@ use Rattle.std.specs.List.{slice_get}
 use Rattle.std.proofs.lemmas.Option.{slice_get-map, slice_get_cases}
 use Rattle.std.proofs.lemmas.List.{map-append}
 use Rattle.source_tree.specs.Syntax.{PouData, FileData}
-use Rattle.st_names.specs.declared.bound.Bound.{Bound}
-use Rattle.st_names.specs.Bound.{bound_of, bound_named, variables_at as kept_at}
+use Rattle.file_bindings.specs.declared.bound.Bound.{Bound}
+use Rattle.file_bindings.specs.Bound.{bound_of, bound_named, variables_at as kept_at}
 use Rattle.naming.specs.FileScope.{pous_of, pou_at}
 use Rattle.naming.specs.Scopes.{Variable, variables_in_pou}
 use Rattle.naming.specs.Slots.{found}

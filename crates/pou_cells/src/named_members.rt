@@ -2,7 +2,7 @@
 ghost use Rattle.std.specs.Prelude.{◌≡◌, ◌-◌, option_and_then};
 ghost use Rattle.std.specs.List.{slice_get};
 
-use st_names::Bound;
+use file_bindings::Bound;
 use typing::Member;
 
 // The variable of a number in declared order, from 1.

@@ -15,7 +15,7 @@ use crate::tables::{all_members, all_told, told_of_pou};
 use decl_types::{Domains, Told, function_number, pou_at};
 use plc_types::DataType;
 use source_tree::{Name, Pou, PouKind};
-use st_names::Resolved;
+use file_bindings::Resolved;
 use std::alloc::{AllocError, Global};
 use typing::{Instance, Meaning, Member, Port, Signature};
 

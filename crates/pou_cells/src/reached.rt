@@ -7,7 +7,7 @@ ghost use Rattle.naming.specs.FileScope.{pous_of};
 ghost use Rattle.typing.specs.Reached.{with_marks, mark_uses, reached, reached_order};
 
 use source_tree::{Pou, PouKind};
-use st_names::Resolved;
+use file_bindings::Resolved;
 use std::alloc::{AllocError, Global};
 
 fn is_program(pou: &Pou) -> bool

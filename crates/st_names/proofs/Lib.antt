@@ -4,5 +4,4 @@ pub mod WholeVariables
 pub mod WholePous
 pub mod WholeNames
 pub mod PouUses
-pub mod BindingLemmas
 pub mod Kept

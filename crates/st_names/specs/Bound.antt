@@ -1,27 +1,14 @@
--- What the names of a POU are bound to, and what a file's answer is.
-use Rattle.std.specs.Prelude.{ℕ, ◌+◌, List, [], ◌∷◌, Bool, Option, option_map, unwrap_or}
-use Rattle.std.specs.List.{list_all, position_from}
+-- Which variables have a type that breaks no rule, and what the answer on a file is.
+use Rattle.std.specs.Prelude.{List, Bool}
+use Rattle.std.specs.List.{list_all}
 use Rattle.rules.specs.Rules.{IsFirst}
-use Rattle.source_tree.specs.Syntax.{types, pou, FileData}
-use Rattle.st_names.specs.declared.bound.Bound.{Bound}
 use Rattle.rules.specs.declared.fault.Fault.{Fault}
 use Rattle.rules.specs.declared.fault.Fault.TheVariants.{Refused, Memory}
-use Rattle.naming.specs.Broken.{is_program_pou}
+use Rattle.source_tree.specs.Syntax.{FileData}
 use Rattle.naming.specs.Circles.{IsBroken}
-use Rattle.naming.specs.FileScope.{pous_of, pou_at}
+use Rattle.naming.specs.FileScope.{pous_of}
 use Rattle.naming.specs.Scopes.{Variable, variables_in_pou, is_typed}
-use Rattle.naming.specs.Slots.{found}
-
-abbrev pub bound_of : ℕ × Variable → Bound
-bound_of f = record { number = f.0; role = f.1.role }
-
--- a name is bound to the first variable of that name
-abbrev pub bound_named : List Variable → List ℕ → Option Bound
-bound_named vs text = option_map bound_of (found text 1 vs)
-
--- the variables of the POU of a number, in declared order; none where there is no such POU
-abbrev pub variables_at : FileData → ℕ → List Variable
-variables_at f number = unwrap_or (option_map variables_in_pou (pou_at f number)) []
+pub use Rattle.file_bindings.specs.Bound.{places_from, program_number, variables_at}
 
 -- each variable is an instance of a block, or its type, where it is one by name, breaks no rule
 abbrev pub are_typed : FileData → List Variable → Bool
@@ -29,16 +16,6 @@ are_typed f vs = list_all (is_typed f) vs
 
 abbrev pub are_pous_typed : FileData → Bool
 are_pous_typed f = list_all (λ p. are_typed f (variables_in_pou p)) (pous_of f)
-
--- the number of the first PROGRAM of a file
-abbrev pub program_number : FileData → Option ℕ
-program_number f = position_from is_program_pou 0 (pous_of f)
-
--- the places of POUs among items, which are counted from a number on
-abbrev pub places_from : ℕ → FileData → List ℕ
-places_from number [] = []
-places_from number (types ds ∷ is) = places_from (number + 1) is
-places_from number (pou p ∷ is) = number ∷ places_from (number + 1) is
 
 -- a file is refused by the first rule on names that it breaks
 abbrev pub IsFaultOf : FileData → Fault → Type 0

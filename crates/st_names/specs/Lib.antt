@@ -1,3 +1,1 @@
 pub mod Bound
-pub mod BoundBy
-pub mod Bindings

@@ -2,10 +2,9 @@
 // first rule on names that the file breaks.
 #![tactic(auto)]
 
-mod bound;
 mod circles;
 mod judged;
 mod resolution;
 
-pub use bound::{Bound, Resolved};
+pub use file_bindings::{Bound, Resolved};
 pub use resolution::resolve;

@@ -4,7 +4,7 @@ ghost use Rattle.std.specs.List.{position_from};
 ghost use Rattle.call_order.specs.Uses.{graph_of, order_of, Reaches};
 ghost use Rattle.rules.specs.Rules.{first_in};
 ghost use Rattle.source_tree.specs.SyntaxView.{items_view, pou_view, file_view};
-ghost use Rattle.st_names.specs.Bindings.{AreBindings};
+ghost use Rattle.file_bindings.specs.Bindings.{AreBindings};
 ghost use Rattle.st_names.specs.Bound.{are_pous_typed, places_from, program_number, IsFaultOf};
 ghost use Rattle.naming.specs.Broken.{is_program_pou, in_pou, not_one, names_twice, broken_names};
 ghost use Rattle.naming.specs.Circles.{uses_of, IsBroken};
@@ -16,10 +16,10 @@ ghost use Rattle.naming.specs.Scopes.{scope_of};
 ghost use Rattle.naming.specs.ScopeView.{types_view, pous_view};
 ghost use Rattle.naming.specs.Types.{are_whole_types};
 
-use crate::bound::{Bindings, Resolved};
 use crate::circles::walk_circles;
 use crate::judged::{Judged, all_names, judge_pous};
 use call_order::order;
+use file_bindings::{Bindings, Resolved};
 use file_scope::{
     Declarations, FileScope, file_scope, list_declarations, walk_results, walk_types,
 };

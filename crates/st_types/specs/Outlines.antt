@@ -6,7 +6,7 @@ use Rattle.source_tree.specs.Syntax.{PouKindData, function, function_block, prog
 use Rattle.program_tree.specs.declared.typed.Turns.{Turns}
 use Rattle.program_tree.specs.Tree.{repeat, Statements, no_statements, statement, CalledData, block as typed_block, function as typed_function, ProgramData}
 use Rattle.naming.specs.FileScope.{pou_at}
-use Rattle.st_names.specs.Bound.{program_number}
+use Rattle.file_bindings.specs.Bound.{program_number}
 use Rattle.typing.specs.Members.{called_order, scope_of}
 use Rattle.typing.specs.Places.{size_among, sizes_of}
 use Rattle.typing.specs.Pous.{broken_types, has_room}

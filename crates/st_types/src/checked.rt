@@ -1,6 +1,6 @@
 // A file whose names are bound and that breaks no rule on types.
 ghost use Rattle.std.specs.Prelude.{◌≡◌, [], map, true, Some};
-ghost use Rattle.st_names.specs.Bound.{program_number};
+ghost use Rattle.file_bindings.specs.Bound.{program_number};
 ghost use Rattle.decl_types.specs.Bodies.{file_in};
 ghost use Rattle.pou_cells.specs.Placing.{capped};
 ghost use Rattle.typing.specs.Places.{sizes_of};

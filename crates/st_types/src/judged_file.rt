@@ -2,7 +2,7 @@
 ghost use Rattle.std.specs.Prelude.{◌≡◌, ℕ, [], map, true, Some, IfOk, IfErr, OnOk};
 ghost use Rattle.rules.specs.Rules.{first_in};
 ghost use Rattle.source_tree.specs.SyntaxView.{file_view};
-ghost use Rattle.st_names.specs.Bound.{program_number};
+ghost use Rattle.file_bindings.specs.Bound.{program_number};
 ghost use Rattle.decl_types.specs.Bodies.{file_in};
 ghost use Rattle.pou_cells.specs.Placing.{capped};
 ghost use Rattle.typing.specs.Places.{sizes_of};
@@ -15,7 +15,7 @@ use crate::checked::Checked;
 use decl_types::judge_types;
 use pou_cells::{Pous, capped_sizes, has_room};
 use rules::{Fault, Refusal, Rule};
-use st_names::Resolved;
+use file_bindings::Resolved;
 use std::alloc::{AllocError, Global};
 
 // What a file breaks first.

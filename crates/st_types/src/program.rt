@@ -44,7 +44,7 @@ impl Checked<'_> {
     ghost use Rattle.std.specs.Prelude.{ℕ, [], true, OnOk};
     ghost use Rattle.source_tree.specs.Syntax.{PouData};
     ghost use Rattle.scan_model.specs.InRange.{IsFitToRun};
-    ghost use Rattle.st_names.specs.Bound.{program_number};
+    ghost use Rattle.file_bindings.specs.Bound.{program_number};
     ghost use Rattle.typing.specs.Pous.{broken_types, has_room};
     ghost use Rattle.st_types.specs.CheckedFiles.{file_checked};
 

@@ -1,5 +1,5 @@
 use Rattle.source_tree.specs.SyntaxView.{file_view}
-use Rattle.st_names.proofs.BindingLemmas.{slots_of, variables_of}
+use Rattle.file_bindings.proofs.BindingLemmas.{slots_of, variables_of}
 use Rattle.st_names.proofs.resolution.bindings_of.Goals as goal
 
 pub returns : goal.returns

@@ -1,7 +1,7 @@
 use Rattle.std.proofs.Common.{◌≡◌, ℕ, Ok, [], true, subst}
 use Rattle.source_tree.specs.Syntax.{FileData}
 use Rattle.source_tree.specs.SyntaxView.{file_view}
-use Rattle.st_names.specs.Bound.{program_number}
+use Rattle.file_bindings.specs.Bound.{program_number}
 use Rattle.typing.specs.Pous.{broken_types, has_room}
 use Rattle.typing_laws.proofs.OnlyPou.{ok_each}
 use Rattle.st_types.proofs.judged_file.check.Goals as goal

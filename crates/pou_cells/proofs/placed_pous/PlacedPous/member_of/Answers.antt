@@ -2,7 +2,7 @@ use Rattle.std.proofs.Common.{List, ◌-◌, ap, ◌∙◌}
 use Rattle.std.specs.Prelude.{option_and_then}
 use Rattle.std.specs.List.{slice_get}
 use Rattle.source_tree.specs.SyntaxView.{name_view}
-use Rattle.st_names.specs.declared.bound.Bound.{Bound}
+use Rattle.file_bindings.specs.declared.bound.Bound.{Bound}
 use Rattle.typing.specs.declared.member.Member.{Member}
 use Rattle.typing.specs.Places.{sizes_of}
 use Rattle.decl_types.specs.Bodies.{file_in}

@@ -4,7 +4,7 @@ use Rattle.source_tree.specs.Syntax.{PouData, FileData}
 use Rattle.source_tree.specs.SyntaxView.{pou_view}
 use Rattle.program_tree.specs.View.{program_view}
 use Rattle.scan_model.specs.InRange.{IsFitToRun}
-use Rattle.st_names.specs.Bound.{program_number}
+use Rattle.file_bindings.specs.Bound.{program_number}
 use Rattle.naming.specs.Broken.{is_program_pou}
 use Rattle.naming.specs.FileScope.{pous_of, pou_at}
 use Rattle.decl_types.specs.Bodies.{file_in}

@@ -5,7 +5,7 @@ use Rattle.std.specs.Option.{option_and_then}
 use Rattle.std.proofs.lemmas.Option.{slice_get_read, slice_get_past}
 use Rattle.source_tree.specs.SyntaxView.{name_view}
 use Rattle.pou_scope.specs.declared.pou_names.NamesOfPou.{NamesOfPou}
-use Rattle.st_names.proofs.bound.Resolved.slot_of_use.Goals as goal
+use Rattle.file_bindings.proofs.bound.Resolved.slot_of_use.Goals as goal
 
 pub returns-in-Some : goal.returns-in-Some
 returns-in-Some c =

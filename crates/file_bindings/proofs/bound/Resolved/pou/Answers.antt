@@ -1,8 +1,8 @@
 use Rattle.std.proofs.Common.{◌≡◌, ◌<◌, Some, length, get_or, refl, ap, sym, ◌∙◌, arith}
 use Rattle.source_tree.specs.Syntax.{PouData, types, pou}
 use Rattle.source_tree.specs.SyntaxView.{item_view, type_declarations_view, pou_view, file_view}
-use Rattle.st_names.proofs.BindingLemmas.{reads_pou}
-use Rattle.st_names.proofs.bound.Resolved.pou.Goals as goal
+use Rattle.file_bindings.proofs.BindingLemmas.{reads_pou}
+use Rattle.file_bindings.proofs.bound.Resolved.pou.Goals as goal
 
 pub bounds-places-number : goal.bounds-places-number
 bounds-places-number c =

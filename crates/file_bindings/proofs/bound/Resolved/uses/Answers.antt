@@ -2,8 +2,8 @@ use Rattle.std.proofs.Common.{◌≡◌, Some, None, length, refl, ap, sym, ◌�
 use Rattle.std.specs.List.{slice_get}
 use Rattle.std.proofs.lemmas.Option.{slice_get_read, slice_get_past}
 use Rattle.call_order.specs.Uses.{graph_of, uses_at}
-use Rattle.st_names.proofs.BindingLemmas.{uses_there, uses_past}
-use Rattle.st_names.proofs.bound.Resolved.uses.Goals as goal
+use Rattle.file_bindings.proofs.BindingLemmas.{uses_there, uses_past}
+use Rattle.file_bindings.proofs.bound.Resolved.uses.Goals as goal
 
 pub returns-in-Some : goal.returns-in-Some
 returns-in-Some c =

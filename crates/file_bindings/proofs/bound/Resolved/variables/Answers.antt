@@ -6,8 +6,8 @@ use Rattle.std.proofs.Math.Logic.{∥∥₁_elim}
 use Rattle.std.proofs.Props.{props}
 use Rattle.naming.specs.ScopeView.{variables_view}
 use Rattle.pou_scope.specs.declared.pou_names.NamesOfPou.{NamesOfPou}
-use Rattle.st_names.specs.Bindings.{variables_kept}
-use Rattle.st_names.proofs.bound.Resolved.variables.Goals as goal
+use Rattle.file_bindings.specs.Bindings.{variables_kept}
+use Rattle.file_bindings.proofs.bound.Resolved.variables.Goals as goal
 
 pub returns : goal.returns
 returns c =

@@ -4,7 +4,7 @@ use Rattle.source_tree.specs.SyntaxView.{name_view, file_view}
 use Rattle.naming.specs.Library.{is_library}
 use Rattle.naming.specs.Table.{standing_by}
 use Rattle.naming.proofs.TableLemmas.{standing-named}
-use Rattle.st_names.proofs.bound.Resolved.standing_of_use.Goals as goal
+use Rattle.file_bindings.proofs.bound.Resolved.standing_of_use.Goals as goal
 
 pub returns : goal.returns
 returns c =

@@ -4,8 +4,8 @@ use Rattle.std.specs.HashMap.{get_by_text}
 use Rattle.std.specs.List.{slice_get}
 use Rattle.call_order.specs.Uses.{graph_of, order_of}
 use Rattle.source_tree.specs.Syntax.{FileData}
-use Rattle.st_names.specs.declared.bound.Bindings.{Bindings}
-use Rattle.st_names.specs.Bound.{program_number, places_from, variables_at}
+use Rattle.file_bindings.specs.declared.bound.Bindings.{Bindings}
+use Rattle.file_bindings.specs.Bound.{program_number, places_from, variables_at}
 use Rattle.naming.specs.Circles.{uses_of}
 use Rattle.naming.specs.Ends.{Leads}
 use Rattle.naming.specs.FileScope.{types_of, pou_at, names_of}

@@ -1,7 +1,7 @@
 use Rattle.std.proofs.Common.{length, ap, ◌∙◌}
 use Rattle.source_tree.specs.SyntaxView.{file_view}
-use Rattle.st_names.proofs.BindingLemmas.{count_places}
-use Rattle.st_names.proofs.bound.Resolved.pou_count.Goals as goal
+use Rattle.file_bindings.proofs.BindingLemmas.{count_places}
+use Rattle.file_bindings.proofs.bound.Resolved.pou_count.Goals as goal
 
 pub returns : goal.returns
 returns c =

@@ -1,8 +1,8 @@
 // A file whose names are bound.
 ghost use Rattle.std.specs.Prelude.{◌≡◌, ◌<◌, [], Some, length, count_by, option_map};
 ghost use Rattle.source_tree.specs.SyntaxView.{file_view};
-ghost use Rattle.st_names.specs.Bindings.{AreBindings};
-ghost use Rattle.st_names.specs.BoundBy.{bound_by};
+ghost use Rattle.file_bindings.specs.Bindings.{AreBindings};
+ghost use Rattle.file_bindings.specs.BoundBy.{bound_by};
 ghost use Rattle.naming.specs.Broken.{is_program_pou};
 ghost use Rattle.naming.specs.FileScope.{pous_of};
 
@@ -66,7 +66,7 @@ impl<'f> Resolved<'f> {
     ghost use Rattle.std.specs.Prelude.{option_and_then};
     ghost use Rattle.call_order.specs.Uses.{uses_at, order_of};
     ghost use Rattle.source_tree.specs.SyntaxView.{name_view, pou_view};
-    ghost use Rattle.st_names.specs.Bound.{bound_named, program_number, variables_at};
+    ghost use Rattle.file_bindings.specs.Bound.{bound_named, program_number, variables_at};
     ghost use Rattle.naming.specs.Circles.{uses_of};
     ghost use Rattle.naming.specs.FileScope.{types_of, pou_at, standing};
     ghost use Rattle.naming.specs.Scopes.{scope_of, variables_in_pou};

@@ -10,9 +10,9 @@ use Rattle.source_tree.specs.declared.syntax.Item.{Item}
 use Rattle.source_tree.specs.SyntaxView.{item_view, items_view}
 use Rattle.source_tree.specs.Syntax.{PouData, ItemData, types, pou, FileData}
 use Rattle.pou_scope.specs.declared.pou_names.NamesOfPou.{NamesOfPou}
-use Rattle.st_names.specs.Bindings.{variables_kept}
-use Rattle.st_names.specs.Bound.{bound_of, bound_named, places_from, variables_at}
-use Rattle.st_names.specs.BoundBy.{bound_by}
+use Rattle.file_bindings.specs.Bindings.{variables_kept}
+use Rattle.file_bindings.specs.Bound.{bound_of, bound_named, places_from, variables_at}
+use Rattle.file_bindings.specs.BoundBy.{bound_by}
 use Rattle.naming.specs.FileScope.{pous_of, pou_at, is_program}
 use Rattle.pou_scope.specs.NamesView.{scope_named, scopes_named}
 use Rattle.naming.specs.Scopes.{Variable, PouScope, scope_of, variables_in_pou, is_doubled_among}

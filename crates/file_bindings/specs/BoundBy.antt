@@ -1,5 +1,5 @@
 -- What a slot binds its name to.
-use Rattle.st_names.specs.declared.bound.Bound.{Bound}
+use Rattle.file_bindings.specs.declared.bound.Bound.{Bound}
 use Rattle.naming.specs.declared.slot.Slot.{Slot}
 
 abbrev pub bound_by : Slot → Bound

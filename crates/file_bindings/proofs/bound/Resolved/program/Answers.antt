@@ -2,8 +2,8 @@ use Rattle.std.proofs.Common.{◌≡◌, count_by, sym, ◌∙◌, arith}
 use Rattle.source_tree.specs.SyntaxView.{file_view}
 use Rattle.naming.specs.Broken.{is_program_pou}
 use Rattle.naming.specs.FileScope.{pous_of}
-use Rattle.st_names.proofs.BindingLemmas.{none_passes}
-use Rattle.st_names.proofs.bound.Resolved.program.Goals as goal
+use Rattle.file_bindings.proofs.BindingLemmas.{none_passes}
+use Rattle.file_bindings.proofs.bound.Resolved.program.Goals as goal
 
 pub unreachable-requires : goal.unreachable-requires
 unreachable-requires c =
