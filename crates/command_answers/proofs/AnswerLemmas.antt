@@ -5,7 +5,7 @@ use Rattle.command_answers.specs.declared.status.Status.{Status}
 use Rattle.command_answers.specs.declared.status.Status.TheVariants.{Related, Different, Open, Vacuous, Spent, Valid, Invalid, Replayed, Unrelated, NotAllowed, Usage, Refused, ReadFault, WriteFault, Memory}
 use Rattle.command_answers.specs.Puts.{PutsPart}
 use Rattle.command_answers.specs.Reports.{Report}
-use Rattle.command_answers.specs.Answers.{Answers, AnswersSoFar, Extent, part_put, fault_told, all_put, extent_of, HasPut, IsExact, PutsFront, MayPut, a_report, a_read_fault, no_memory, no_memory_behind, memory_line, read_fault_line}
+use Rattle.command_answers.specs.Answers.{Answers, AnswersSoFar, Extent, part_put, fault_told, all_put, extent_of, HasPut, IsExact, MayPut, a_report, a_read_fault, no_memory, no_memory_behind, memory_line, read_fault_line}
 use Rattle.command_answers.proofs.PutLemmas.{extended-twice}
 
 -- ---- the statuses behind which only a front is put

@@ -1,5 +1,5 @@
 // The last text of a run, and refusals.
-ghost use Rattle.std.specs.Prelude.{◌≡◌, ◌≢◌, ◌≤◌, ◌++◌, IfOk, string_bytes};
+ghost use Rattle.std.specs.Prelude.{false, ◌≡◌, ◌≢◌, ◌≤◌, ◌++◌, IfOk, string_bytes};
 ghost use Rattle.outside.specs.Causes.{Rose};
 ghost use Rattle.command_answers.specs.Reports.{Report, source_word, refusal_line, refusal_report, limit_name, limit_line, limit_report};
 ghost use Rattle.command_answers.specs.Answers.{Answers, HasPut, extent_of, all_put};
@@ -15,6 +15,7 @@ use std::alloc::{AllocError, Global};
 
 /// Puts the last text of a run, and says with which status the run ends.
 pub fn put_last<K: Sink>(out: &mut K, text: &str, status: Status) -> Status
+    requires unfailed { K.put_failed out.old ≡ false }
     ensures put { HasPut text.now status result (K.taken out.old) (K.taken out.new) }
     ensures ends { result ≢ Status.WriteFault → result ≢ Status.Memory → result ≡ status }
     ensures cause { result ≡ Status.WriteFault → status ≢ Status.WriteFault → Rose (K.faults out.old) (K.faults out.new) }
@@ -55,7 +56,8 @@ fn refusal_line(alloc: Global, source: Source, refusal: Refusal) -> Result<Strin
 
 /// Puts a whole report, or says that there was no memory for its text.
 pub fn put_report<K: Sink>(out: &mut K, text: Result<String, AllocError>, status: Status) -> Status
-    requires { extent_of status ≡ all_put }
+    requires extent { extent_of status ≡ all_put }
+    requires unfailed { K.put_failed out.old ≡ false }
     ensures answer { (r : Report) → r.status ≡ status → IfOk text (λ made. string_bytes made ≡ r.text) → Answers (λ x. x ≡ r) ⊥ result (K.taken out.old) (K.taken out.new) }
     ensures ends { result ≢ Status.WriteFault → result ≢ Status.Memory → result ≡ status }
     ensures cause { result ≡ Status.WriteFault → Rose (K.faults out.old) (K.faults out.new) }
@@ -69,6 +71,7 @@ pub fn put_report<K: Sink>(out: &mut K, text: Result<String, AllocError>, status
 
 /// Puts the line on a refusal.
 pub fn put_refusal<K: Sink>(alloc: Global, source: Source, refusal: Refusal, out: &mut K) -> Status
+    requires unfailed { K.put_failed out.old ≡ false }
     ensures answer { Answers (λ r. r ≡ refusal_report source refusal) ⊥ result (K.taken out.old) (K.taken out.new) }
     ensures no_usage { result ≢ Status.Usage }
     ensures no_read_fault { result ≢ Status.ReadFault }
@@ -101,6 +104,7 @@ fn limit_line(alloc: Global, source: Source, limit: Limit) -> Result<String, All
 
 /// Puts the line on a limit that is passed.
 pub fn put_limit<K: Sink>(alloc: Global, source: Source, limit: Limit, out: &mut K) -> Status
+    requires unfailed { K.put_failed out.old ≡ false }
     ensures answer { Answers (λ r. r ≡ limit_report source limit) ⊥ result (K.taken out.old) (K.taken out.new) }
     ensures no_usage { result ≢ Status.Usage }
     ensures no_read_fault { result ≢ Status.ReadFault }

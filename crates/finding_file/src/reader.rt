@@ -1,5 +1,5 @@
 // Lines read one after another, in pieces.
-ghost use Rattle.std.specs.Prelude.{◌≡◌, ◌==◌, ◌+◌, ◌++◌, ◌<◌, ◌≤◌, length, take, IfOk, IfSome, OnErr, MatchOption, MatchResult};
+ghost use Rattle.std.specs.Prelude.{false, ◌≡◌, ◌≢◌, ◌==◌, ◌+◌, ◌++◌, ◌<◌, ◌≤◌, length, take, IfOk, IfSome, OnErr, OnOk, MatchOption, MatchResult};
 ghost use Rattle.outside.specs.Causes.{HasFileCause, NoneFell};
 ghost use Rattle.finding_lines.specs.Spelling.{written};
 ghost use Rattle.finding_lines.specs.Reading.{ReadsLine};
@@ -105,7 +105,8 @@ impl FindingReader {
 
     // Reads one more piece.
     fn read_piece<S: Shelf>(&mut self, shelf: &mut S) -> Result<Piece, OutErr>
-        requires { IfSome (S.file shelf.old self.old.name) (Agrees self.old) }
+        requires agrees { IfSome (S.file shelf.old self.old.name) (Agrees self.old) }
+        requires unfailed { S.read_failed shelf.old ≡ false }
         ensures place { IsSamePlace self.old self.new }
         ensures agrees { IfSome (S.file shelf.old self.old.name) (Agrees self.new) }
         ensures within { self.new.at + length self.new.held ≤ self.new.limit }
@@ -114,6 +115,7 @@ impl FindingReader {
         ensures kept { S.file shelf.new ≡ S.file shelf.old }
         ensures cause { HasFileCause (S.read_faults shelf.old) (S.read_faults shelf.new) self.old.name result }
         ensures writes { NoneFell (S.write_faults shelf.old) (S.write_faults shelf.new) }
+        ensures unfailed { OnOk result (S.read_failed shelf.new ≡ false) }
     {
         let from = self.at + self.window.bytes().len() as u64;
         let room = self.limit - from;
@@ -132,7 +134,8 @@ impl FindingReader {
 
     // Reads on to the next line feed.
     fn find_line<S: Shelf>(&mut self, shelf: &mut S) -> Result<Found, OutErr>
-        requires { IfSome (S.file shelf.old self.old.name) (Agrees self.old) }
+        requires agrees { IfSome (S.file shelf.old self.old.name) (Agrees self.old) }
+        requires unfailed { S.read_failed shelf.old ≡ false }
         ensures place { IsSamePlace self.old self.new }
         ensures agrees { IfSome (S.file shelf.old self.old.name) (Agrees self.new) }
         ensures within { self.new.at + length self.new.held ≤ self.new.limit }
@@ -141,6 +144,7 @@ impl FindingReader {
         ensures kept { S.file shelf.new ≡ S.file shelf.old }
         ensures cause { HasFileCause (S.read_faults shelf.old) (S.read_faults shelf.new) self.old.name result }
         ensures writes { NoneFell (S.write_faults shelf.old) (S.write_faults shelf.new) }
+        ensures unfailed { OnOk result (S.read_failed shelf.new ≡ false) }
     {
         'pieces: loop {
             if let Some(end) = self.find_feed() {
@@ -172,7 +176,8 @@ impl FindingReader {
 
     /// The next line, or none at the file's end. After an error the reader stands before the same line.
     pub fn next<S: Shelf>(&mut self, shelf: &mut S) -> Result<Option<Line>, ReadErr>
-        requires { IfSome (S.file shelf.old self.old.name) (Agrees self.old) }
+        requires agrees { IfSome (S.file shelf.old self.old.name) (Agrees self.old) }
+        requires unfailed { S.read_failed shelf.old ≡ false }
         ensures answer { IfSome (S.file shelf.old self.old.name) (λ bytes. IsAnswer self.old (ahead (rest_of self.old bytes)) result) }
         ensures rest { IfSome (S.file shelf.old self.old.name) (λ bytes. IfOk result (λ answer. IfSome answer (λ line. rest_of self.old bytes ≡ written line ++ rest_of self.new bytes))) }
         ensures place { MatchResult result (λ answer. MatchOption answer (IsSamePlace self.old self.new) (λ line. IsPast self.old self.new line)) (λ _. IsSamePlace self.old self.new) }
@@ -180,6 +185,7 @@ impl FindingReader {
         ensures kept { S.file shelf.new ≡ S.file shelf.old }
         ensures cause { IsCausedBy ReadErr.Fault (S.read_faults shelf.old) (S.read_faults shelf.new) self.old.name result }
         ensures writes { NoneFell (S.write_faults shelf.old) (S.write_faults shelf.new) }
+        ensures unfailed { result ≢ Err ReadErr.Fault → result ≢ Err ReadErr.Memory → S.read_failed shelf.new ≡ false }
     {
         match self.find_line(shelf)? {
             Found::Past => Err(ReadErr::M8),

@@ -1,5 +1,5 @@
 // A finding read in pieces.
-ghost use Rattle.std.specs.Prelude.{◌<◌, IfSome};
+ghost use Rattle.std.specs.Prelude.{false, ◌≡◌, ◌<◌, IfSome};
 ghost use Rattle.finding_file.specs.Reading.{Agrees};
 
 use crate::short_shelf::ShortShelf;
@@ -31,14 +31,16 @@ fn answer_of(answer: Result<Option<Line>, ReadErr>) -> Got {
 }
 
 fn next<S: Shelf>(reader: &mut FindingReader, shelf: &mut S) -> Got
-    requires { IfSome (S.file shelf.old reader.old.name) (Agrees reader.old) }
+    requires agrees { IfSome (S.file shelf.old reader.old.name) (Agrees reader.old) }
+    requires unfailed { (s : S) → S.read_failed s ≡ false }
     ensures { IfSome (S.file shelf.new reader.new.name) (Agrees reader.new) }
 {
     answer_of(reader.next(shelf))
 }
 
 fn three<S: Shelf>(reader: &mut FindingReader, shelf: &mut S) -> [Got; 3]
-    requires { IfSome (S.file shelf.old reader.old.name) (Agrees reader.old) }
+    requires agrees { IfSome (S.file shelf.old reader.old.name) (Agrees reader.old) }
+    requires unfailed { (s : S) → S.read_failed s ≡ false }
 {
     let first = next(reader, shelf);
     let second = next(reader, shelf);
@@ -53,7 +55,8 @@ fn answers<S: Shelf>(
     limit: u64,
     piece: usize,
 ) -> Result<[Got; 3], AllocError>
-    requires { 0 < piece }
+    requires piece { 0 < piece }
+    requires unfailed { (s : S) → S.read_failed s ≡ false }
 {
     let mut reader = FindingReader::new(alloc, "finding", limit, piece)?;
     Ok(three(&mut reader, shelf))

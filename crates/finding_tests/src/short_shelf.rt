@@ -9,7 +9,7 @@ pub struct ShortShelf {
 }
 
 impl Shelf for ShortShelf {
-    ghost use Rattle.std.specs.Prelude.{Some};
+    ghost use Rattle.std.specs.Prelude.{false, Some};
     ghost use Rattle.outside.specs.Shelves.{bytes_of, read_faults_of, write_faults_of};
 
     ghost file = { λ s name. Some (bytes_of s.inner name) };
@@ -17,6 +17,10 @@ impl Shelf for ShortShelf {
     ghost read_faults = { λ s name. read_faults_of s.inner };
 
     ghost write_faults = { λ s name. write_faults_of s.inner };
+
+    ghost read_failed = { λ s. false };
+
+    ghost reach = { λ s name. 0 };
 
     fn read_at(&mut self, name: &str, from: u64, buf: &mut [u8]) -> Result<usize, OutErr> {
         self.inner.read_at(name, from, &mut buf[..1])

@@ -10,7 +10,7 @@ returns-in-Ok-clause-answer g c = λ r status told.
     let new = g.K.Sink.taken c.put_last.new.out in
     let line = subst (λ l. HasPut l c.args.status c.put_last.result old new) (c.as_str.ensures.value ∙ text) c.put_last.ensures.put in
     let put = subst (λ s. HasPut r.text s c.put_last.result old new) (sym status) line in
-    answered (λ x. x ≡ r) ⊥ r c.put_last.result old new refl (ap extent_of status ∙ c.requires) put
+    answered (λ x. x ≡ r) ⊥ r c.put_last.result old new refl (ap extent_of status ∙ c.requires.extent) put
 
 pub returns-in-Err-clause-answer : goal.returns-in-Err-clause-answer
 returns-in-Err-clause-answer g c = λ r status text.

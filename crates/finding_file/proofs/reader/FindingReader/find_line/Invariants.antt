@@ -1,4 +1,4 @@
-use Rattle.std.proofs.Common.{◌≡◌, ◌+◌, ◌-◌, length, IfSome}
+use Rattle.std.proofs.Common.{false, ◌≡◌, ◌+◌, ◌-◌, length, IfSome}
 use Rattle.outside.specs.Causes.{NoneFell}
 use Rattle.finding_file.specs.Reading.{Agrees, IsSamePlace}
 use Rattle.finding_file.proofs.reader.FindingReader.find_line.Given as goal
@@ -10,6 +10,7 @@ invariant-pieces g l = record {
   kept : g.S.Shelf.file l.shelf ≡ g.S.Shelf.file l.initial.shelf;
   reads : NoneFell (g.S.Shelf.read_faults l.initial.shelf) (g.S.Shelf.read_faults l.shelf);
   writes : NoneFell (g.S.Shelf.write_faults l.initial.shelf) (g.S.Shelf.write_faults l.shelf);
+  unfailed : g.S.Shelf.read_failed l.shelf ≡ false;
 }
 
 abbrev pub decreases-pieces : goal.decreases-pieces

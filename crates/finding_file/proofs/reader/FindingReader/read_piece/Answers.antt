@@ -22,5 +22,5 @@ returns-clause-agrees g c =
     let place : from ≡ old.at + length old.held = omega (arith, at, lengths) in
     let added : c.add.new.self ≡ c.self.inside.window ++ take count buf =
     c.in_ok-add.ensures.ok ∙ ap (λ (m : List ℕ). c.self.inside.window ++ m) (take-append-le count buf _ c.in_ok-count.ensures.within) in
-    told-both (g.S.Shelf.file c.args.shelf.now old.name) (Agrees old) (λ bytes. IsRead bytes from buf count) (Agrees new) c.requires read
+    told-both (g.S.Shelf.file c.args.shelf.now old.name) (Agrees old) (λ bytes. IsRead bytes from buf count) (Agrees new) c.requires.agrees read
     (λ bytes a r. agrees-added old new bytes buf from count a r place at (added ∙ ap (λ (h : List ℕ). h ++ take count buf) window))
