@@ -1,2 +1,3 @@
+pub mod ArgumentCounts
 pub mod FitLemmas
 pub mod SameTypes

@@ -84,7 +84,7 @@ fn has_all_below(alloc: Global, count: usize, numbers: &[usize]) -> Result<bool,
 }
 
 // Whether there are as many arguments as inputs, and one for each.
-#[tactic(auto, using(typing_laws::proofs::Judging::count_of_arguments))]
+#[tactic(auto, using(crate::proofs::ArgumentCounts::count_of_arguments))]
 fn gives_all<S: Scope>(
     alloc: Global,
     scope: &S,

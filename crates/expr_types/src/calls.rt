@@ -52,7 +52,7 @@ fn is_fitting(parameter: Parameter, kind: DataType, judged: JudgedExpr) -> bool
 }
 
 // Whether a function takes as many arguments as there are.
-#[tactic(auto, using(typing_laws::proofs::Judging::count_of_arguments))]
+#[tactic(auto, using(crate::proofs::ArgumentCounts::count_of_arguments))]
 fn takes_all(function: StandardFunction, arguments: &[Argument]) -> bool
     ensures { result ≡ takes_count function (count_of (arguments_view arguments.now)) }
 {
