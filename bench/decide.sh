@@ -6,8 +6,8 @@
 set -u
 top=$(dirname -- "$(dirname -- "$(readlink -f -- "$0")")")
 seconds=${1:-60}
-(cd "$top/crates/bench_run" && rt run >/dev/null 2>&1) || exit 1
-program=$top/crates/bench_run/out/bench_run
+(cd "$top/crates/case_runner" && rt run -- bench decide /dev/null >/dev/null 2>&1) || exit 1
+program=$top/crates/case_runner/out/case_runner
 formulas=$(mktemp -d)
 trap 'rm -rf "$formulas"' EXIT
 if [ $# -gt 1 ]; then
@@ -17,7 +17,7 @@ else
 fi
 
 ours() {
-    timeout "$seconds" "$program" "$1" "$2" time | awk '
+    timeout "$seconds" "$program" bench "$1" "$2" | awk '
         /^s /{answer = $2} /^c steps/{steps = $3} /^c refused/{refused = $4} / ms$/{ms = $2}
         END{if (answer == "") print "-"; else print answer, steps + 0, "steps", ms, "ms, refused", refused}'
 }

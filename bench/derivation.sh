@@ -12,11 +12,11 @@ rustc -O -o "$work/checker" "$here/derivation/checker.rs"
 "$work/make_log" 9 "$steps" > "$work/whole.log"
 clauses=$(head -1 "$work/whole.log" | cut -d' ' -f4)
 head -$((1 + clauses + steps / 2)) "$work/whole.log" > "$work/half.log"
-bench=$here/../crates/bench_run
-(cd "$bench" && rt run > "$work/build.log" 2>&1)
+runner=$here/../crates/case_runner
+(cd "$runner" && rt run -- bench derivation /dev/null > "$work/build.log" 2>&1)
 for log in half whole; do
   for _ in 1 2 3; do
-    echo "$log proved $("$bench/out/bench_run" derivation "$work/$log.log" time | tail -1)" \
+    echo "$log proved $("$runner/out/case_runner" bench derivation "$work/$log.log" | tail -1)" \
       "ordinary $("$work/checker" "$work/$log.log" | tail -1)"
   done
 done

@@ -11,5 +11,5 @@ trap 'rm -rf "$folder"' EXIT
 ulimit -S -s 8192
 
 python3 "$top/bench/${2:-front}/make_programs.py" "$folder"
-(cd "$top/crates/bench_run" && rt run >"$folder/build.log" 2>&1) || { cat "$folder/build.log" >&2; exit 1; }
-python3 "$top/bench/front/measure.py" "$top/crates/bench_run/out/bench_run" "$folder" "${1:-10}" "${@:3}"
+(cd "$top/crates/case_runner" && rt run -- bench front /dev/null >"$folder/build.log" 2>&1) || { cat "$folder/build.log" >&2; exit 1; }
+python3 "$top/bench/front/measure.py" "$top/crates/case_runner/out/case_runner" "$folder" "${1:-10}" "${@:3}"

@@ -8,7 +8,7 @@ folder=$(mktemp -d)
 trap 'rm -rf "$folder"' EXIT
 
 python3 "$top/bench/flat/make_programs.py" "$folder"
-(cd "$top/crates/bench_run" && rt run >"$folder/build.log" 2>&1) || { cat "$folder/build.log" >&2; exit 1; }
+(cd "$top/crates/case_runner" && rt run -- bench gates /dev/null >"$folder/build.log" 2>&1) || { cat "$folder/build.log" >&2; exit 1; }
 for size in half whole; do
-    python3 "$top/bench/gates/measure.py" "$top/crates/bench_run/out/bench_run" "$folder/products.$size.st" "${1:-5}"
+    python3 "$top/bench/gates/measure.py" "$top/crates/case_runner/out/case_runner" "$folder/products.$size.st" "${1:-5}"
 done

@@ -15,7 +15,7 @@ def run(program, text):
     """The milliseconds of each stage and of the processor, and what else was printed."""
     with tempfile.TemporaryFile() as out:
         child = os.posix_spawn(
-            program, [program, "front", str(text), "time"], os.environ, file_actions=[(os.POSIX_SPAWN_DUP2, out.fileno(), 1)]
+            program, [program, "bench", "front", str(text)], os.environ, file_actions=[(os.POSIX_SPAWN_DUP2, out.fileno(), 1)]
         )
         _, status, usage = os.wait4(child, 0)
         out.seek(0)

@@ -12,7 +12,7 @@ def run(program, text):
     """The milliseconds that the gates took, the most memory in bytes, and what else was printed."""
     with tempfile.TemporaryFile() as out:
         child = os.posix_spawn(
-            program, [program, "gates", text, "time"], os.environ, file_actions=[(os.POSIX_SPAWN_DUP2, out.fileno(), 1)]
+            program, [program, "bench", "gates", text], os.environ, file_actions=[(os.POSIX_SPAWN_DUP2, out.fileno(), 1)]
         )
         _, status, usage = os.wait4(child, 0)
         out.seek(0)

@@ -3,7 +3,7 @@ use crate::section::Door;
 use std::fmt;
 
 /// How many cases there are of each door, and how many there are in all and have failed.
-#[derive(Clone, Copy, Debug, PartialEq, Eq)]
+#[derive(Clone, Copy)]
 pub struct Counts {
     pub cases: u64,
     pub accept: u64,
@@ -15,6 +15,10 @@ pub struct Counts {
     pub scan: u64,
     pub relation: u64,
     pub query: u64,
+    pub words: u64,
+    pub generated: u64,
+    pub suggest: u64,
+    pub formula: u64,
     pub failed: u64,
 }
 
@@ -31,6 +35,10 @@ impl Counts {
         scan: 0,
         relation: 0,
         query: 0,
+        words: 0,
+        generated: 0,
+        suggest: 0,
+        formula: 0,
         failed: 0,
     };
 
@@ -54,6 +62,10 @@ impl Counts {
             Door::Scan => self.scan = self.scan.saturating_add(1),
             Door::Relation => self.relation = self.relation.saturating_add(1),
             Door::Query => self.query = self.query.saturating_add(1),
+            Door::Words => self.words = self.words.saturating_add(1),
+            Door::Gen => self.generated = self.generated.saturating_add(1),
+            Door::Suggest => self.suggest = self.suggest.saturating_add(1),
+            Door::Formula => self.formula = self.formula.saturating_add(1),
         }
     }
 }
@@ -65,6 +77,8 @@ impl fmt::Display for Counts {
         let (check, explain, verify) = (self.check, self.explain, self.verify);
         let (flat, scan) = (self.flat, self.scan);
         let (relation, query) = (self.relation, self.query);
+        let (words, generated) = (self.words, self.generated);
+        let (suggest, formula) = (self.suggest, self.formula);
         write!(
             f,
             "{cases} cases: {accept} accept, {replay} replay, {check} check, {explain} explain, "
@@ -72,6 +86,10 @@ impl fmt::Display for Counts {
         write!(
             f,
             "{verify} verify, {flat} flat, {scan} scan, {relation} relation, {query} query, "
+        )?;
+        write!(
+            f,
+            "{words} words, {generated} gen, {suggest} suggest, {formula} formula, "
         )?;
         write!(f, "{failed} failed")
     }

@@ -29,6 +29,14 @@ pub enum Word {
     Query,
     Satisfiable,
     Unsatisfiable,
+    Words,
+    Gen,
+    Queries,
+    Failing,
+    Suggested,
+    Formula,
+    Decided,
+    Checked,
     Shared,
 }
 
@@ -44,6 +52,10 @@ pub enum Door {
     Scan,
     Relation,
     Query,
+    Words,
+    Gen,
+    Suggest,
+    Formula,
 }
 
 impl Word {
@@ -84,6 +96,21 @@ impl Word {
             "finding" => Some(Word::Finding),
             "explain" => Some(Word::Explain),
             "verdict" => Some(Word::Verdict),
+            _ => Word::of_calls_and_formulas(text),
+        }
+    }
+
+    // The rest of them.
+    fn of_calls_and_formulas(text: &str) -> Option<Word> {
+        match text {
+            "words" => Some(Word::Words),
+            "gen" => Some(Word::Gen),
+            "queries" => Some(Word::Queries),
+            "failing" => Some(Word::Failing),
+            "suggested" => Some(Word::Suggested),
+            "formula" => Some(Word::Formula),
+            "decided" => Some(Word::Decided),
+            "checked" => Some(Word::Checked),
             _ => None,
         }
     }
@@ -117,6 +144,14 @@ impl Word {
             Word::Query => "query",
             Word::Satisfiable => "satisfiable",
             Word::Unsatisfiable => "unsatisfiable",
+            Word::Words => "words",
+            Word::Gen => "gen",
+            Word::Queries => "queries",
+            Word::Failing => "failing",
+            Word::Suggested => "suggested",
+            Word::Formula => "formula",
+            Word::Decided => "decided",
+            Word::Checked => "checked",
             Word::Shared => "shared",
         }
     }
@@ -135,22 +170,29 @@ impl Word {
             Word::Candidates | Word::Clauses | Word::Parts => Some(Door::Relation),
             Word::Lines | Word::Along | Word::Held => Some(Door::Relation),
             Word::Query | Word::Satisfiable | Word::Unsatisfiable => Some(Door::Query),
+            Word::Words => Some(Door::Words),
+            Word::Gen => Some(Door::Gen),
+            Word::Suggested => Some(Door::Suggest),
+            Word::Formula | Word::Decided | Word::Checked => Some(Door::Formula),
             Word::Old | Word::New | Word::Relation => None,
-            Word::Answer | Word::Shared => None,
+            Word::Answer | Word::Queries | Word::Failing | Word::Shared => None,
         }
     }
 
     /// Whether a case may have several such sections.
     pub fn may_repeat(self) -> bool {
-        matches!(self, Word::Before | Word::After | Word::Query)
+        matches!(
+            self,
+            Word::Before | Word::After | Word::Query | Word::Decided
+        )
     }
 
     /// Whether a section may have this behind its word; it is empty where nothing stands there.
     pub fn takes(self, argument: &str) -> bool {
         match self {
-            Word::Answer | Word::Verdict => argument.parse::<u8>().is_ok(),
-            Word::Query => !argument.is_empty(),
-            Word::Statements => argument.parse::<u64>().is_ok(),
+            Word::Answer | Word::Verdict | Word::Suggested => argument.parse::<u8>().is_ok(),
+            Word::Query | Word::Gen | Word::Decided => !argument.is_empty(),
+            Word::Statements | Word::Queries => argument.parse::<u64>().is_ok(),
             Word::New => argument.is_empty() || argument == "same",
             Word::Shared => argument.is_empty() || argument == "none",
             Word::Finding | Word::Explain => argument.is_empty() || argument == "unended",
@@ -171,7 +213,13 @@ impl Word {
         argument.is_empty()
             || matches!(
                 self,
-                Word::Answer | Word::Verdict | Word::Finding | Word::Explain | Word::Query
+                Word::Answer
+                    | Word::Verdict
+                    | Word::Finding
+                    | Word::Explain
+                    | Word::Query
+                    | Word::Suggested
+                    | Word::Decided
             )
     }
 }

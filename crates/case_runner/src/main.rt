@@ -1,16 +1,18 @@
 // Reads the case files that `index` lists, runs every case, prints where something else comes than a case expects, and counts the cases.
-// It ends with status 1 where a case has failed.
+// It ends with status 1 where a case has failed. By the words `bench WHAT FILE` it does what a script under bench/ measures.
 #![tactic(auto)]
 
+mod bench;
 mod run;
 
+use bench::run_bench;
 use case_files::{Case, CaseFault, CaseFile, Counts, Mismatch, read_case_file};
 use run::{door_of, run_case};
 use std::alloc::{AllocError, Global};
 use std::io::Print;
 use std::process::ExitCode;
 use std::rt::Files;
-use std::{fs, io};
+use std::{env, fs, io};
 
 fn print_failed(rt: &impl Print, file: &str, title: &str, fault: &str) -> io::Result<()> {
     println!(rt; "FAILED {file}: {title}")?;
@@ -109,14 +111,25 @@ fn run_all(
     Ok(counts)
 }
 
-fn run_index(rt: &(impl Files + Print + AllocGlobal)) -> io::Result<Counts> {
+fn run_index(rt: &(impl Files + Print + AllocGlobal)) -> io::Result<ExitCode> {
     let index = fs::read_to_string(rt, "index")?;
     let counts = run_all(rt, rt.alloc(), index.as_str())?;
     println!(rt; "{counts}")?;
-    Ok(counts)
+    Ok(ExitCode::from(if counts.failed > 0 { 1 } else { 0 }))
 }
 
 fn main(rt: HostRuntime) -> io::Result<ExitCode> {
-    let counts = run_index(&rt)?;
-    Ok(ExitCode::from(if counts.failed > 0 { 1 } else { 0 }))
+    let mut words = env::args(&rt)?;
+    let _program = words.next();
+    match (words.next(), words.next(), words.next()) {
+        (None, _, _) => run_index(&rt),
+        (Some(_), Some(what), Some(path)) => {
+            run_bench(&rt, what.as_str(), path.as_str(), words.next())?;
+            Ok(ExitCode::SUCCESS)
+        }
+        _ => {
+            println!(rt; "usage: case_runner [bench WHAT FILE [CLAUSES]]")?;
+            Ok(ExitCode::from(2))
+        }
+    }
 }

@@ -1,10 +1,12 @@
 // A case through its door.
 use case_files::{Case, CaseFault, Door, Mismatch, malformed};
-use command_doors::{run_check, run_explain, run_replay, run_verify};
+use command_doors::{run_check, run_explain, run_gen, run_replay, run_verify, run_words};
 use flat_doors::run_flat;
+use formula_doors::run_formula;
 use query_doors::run_query;
 use scan_doors::run_scan;
 use std::alloc::Global;
+use suggest_doors::run_suggest;
 use text_doors::{run_accept, run_relation};
 
 /// The door of a case: the one that its sections name, or that of replays where they are among those that several doors have.
@@ -44,5 +46,9 @@ pub fn run_case(
         Door::Scan => run_scan(alloc, head, case, found),
         Door::Relation => run_relation(alloc, head, case, found),
         Door::Query => run_query(alloc, head, case, found),
+        Door::Words => run_words(alloc, head, case, found),
+        Door::Gen => run_gen(alloc, head, case, found),
+        Door::Suggest => run_suggest(alloc, head, case, found),
+        Door::Formula => run_formula(alloc, head, case, found),
     }
 }

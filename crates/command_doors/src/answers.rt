@@ -3,15 +3,6 @@ use crate::files::TextFile;
 use case_files::{Case, CaseFault, Word, expected_of, malformed, section_of};
 use std::alloc::{AllocError, Global};
 
-/// The words of a command on four files.
-pub(crate) fn words(alloc: Global, command: &str, last: &str) -> Result<Vec<String>, AllocError> {
-    let mut words = Vec::new(alloc);
-    for word in ["regver", command, "old", "new", "relation", last] {
-        words.push(String::from_str(alloc, word)?)?;
-    }
-    Ok(words)
-}
-
 /// A status, and below it what is put.
 pub(crate) fn answer(alloc: Global, status: u8, lines: &[u8]) -> Result<Vec<u8>, AllocError> {
     let head = format!(in alloc; "status {status}\n")?;

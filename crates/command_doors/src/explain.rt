@@ -1,7 +1,5 @@
 // The door `explain`: what the command explain puts for OLD, NEW, a relation and a finding, and the status that it ends with.
-use crate::answers::expected_of_case;
-use crate::check::judged_files;
-use crate::files::compare_command;
+use crate::check::run_judging;
 use case_files::{Case, CaseFault, Mismatch, Word};
 use std::alloc::Global;
 
@@ -12,8 +10,5 @@ pub fn run_explain(
     case: &Case,
     found: &mut Vec<Mismatch>,
 ) -> Result<(), CaseFault> {
-    let files = judged_files(alloc, head, case, Word::Explain)?;
-    let expected = expected_of_case(alloc, head, case, Word::Answer, &files)?;
-    compare_command(alloc, "explain", "finding", &files, &expected, found)?;
-    Ok(())
+    run_judging(alloc, head, case, "explain", Word::Explain, found)
 }

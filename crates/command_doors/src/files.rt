@@ -1,9 +1,9 @@
-// The files that a command reads, and what it makes of them.
-use crate::answers::{answer, words};
+// The files of a command, and what it makes of them.
+use crate::answers::answer;
 use case_files::{
     Case, CaseFault, Marked, Mismatch, Word, compare_bytes, new_program_of, program_of, text_of,
 };
-use outside::{MemShelf, MemSink};
+use outside::{Failure, MemShelf, MemSink};
 use regver_top::{Status, regver};
 use std::alloc::{AllocError, Global};
 
@@ -13,6 +13,14 @@ pub(crate) struct TextFile {
     pub name: &'static str,
     pub source: &'static str,
     pub text: Marked,
+}
+
+/// A run of the program: its words, the files that it reads, and the names of those that it may save.
+#[derive(Clone, Copy)]
+pub(crate) struct Run<'a> {
+    pub words: &'a [&'a str],
+    pub files: &'a [TextFile],
+    pub saved: &'a [&'a str],
 }
 
 /// The files of OLD, NEW and the relation.
@@ -40,34 +48,49 @@ pub(crate) fn compared_files(
     Ok(files)
 }
 
-/// A shelf with these files.
-pub(crate) fn shelf_of(alloc: Global, files: &[TextFile]) -> Result<MemShelf, AllocError> {
-    let mut shelf = MemShelf::new(alloc, Vec::new(alloc));
+/// Puts these files on a shelf.
+pub(crate) fn fill(shelf: &mut MemShelf, files: &[TextFile]) -> Result<(), AllocError> {
     for file in files {
         shelf.fill(file.name, &file.text.bytes)?;
     }
+    Ok(())
+}
+
+/// A shelf with these files.
+pub(crate) fn shelf_of(alloc: Global, files: &[TextFile]) -> Result<MemShelf, AllocError> {
+    let mut shelf = MemShelf::new(alloc, Vec::new(alloc));
+    fill(&mut shelf, files)?;
     Ok(shelf)
 }
 
-/// The status that a command ends with, and the bytes that it puts.
+/// The status that a command ends with, the bytes that it puts, and by how many puts.
 #[derive(Drop)]
 pub(crate) struct Ended {
     pub status: Status,
     pub lines: Vec<u8>,
+    pub puts: u64,
 }
 
-/// Runs a command on the files old, new, relation and a last one.
-pub(crate) fn run_command(
+/// Runs the program by these words, on a sink whose puts may fail.
+pub(crate) fn run_program(
     alloc: Global,
-    command: &str,
-    last: &str,
+    words: &[&str],
     shelf: &mut MemShelf,
+    failures: Vec<Failure>,
 ) -> Result<Ended, AllocError> {
-    let words = words(alloc, command, last)?;
-    let mut out = MemSink::new(alloc, Vec::new(alloc));
-    let status = regver(alloc, words, shelf, &mut out);
+    let mut owned = Vec::new(alloc);
+    for word in words {
+        owned.push(String::from_str(alloc, word)?)?;
+    }
+    let mut out = MemSink::new(alloc, failures);
+    let status = regver(alloc, owned, shelf, &mut out);
     let lines = Vec::from_slice(alloc, out.bytes())?;
-    Ok(Ended { status, lines })
+    let puts = out.counts().puts;
+    Ok(Ended {
+        status,
+        lines,
+        puts,
+    })
 }
 
 /// Adds a mismatch where a command ends otherwise than expected.
@@ -97,16 +120,14 @@ pub(crate) fn compare_files(
 }
 
 /// Runs a command that only reads files, and compares what it ends with.
-pub(crate) fn compare_command(
+pub(crate) fn compare_run(
     alloc: Global,
-    command: &str,
-    last: &str,
-    files: &[TextFile],
+    reading: &Run<'_>,
     expected: &[u8],
     found: &mut Vec<Mismatch>,
 ) -> Result<(), AllocError> {
-    let mut shelf = shelf_of(alloc, files)?;
-    let ended = run_command(alloc, command, last, &mut shelf)?;
+    let mut shelf = shelf_of(alloc, reading.files)?;
+    let ended = run_program(alloc, reading.words, &mut shelf, Vec::new(alloc))?;
     compare_ended(alloc, "status and output", expected, &ended, found)?;
-    compare_files(alloc, files, &shelf, found)
+    compare_files(alloc, reading.files, &shelf, found)
 }

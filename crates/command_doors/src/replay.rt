@@ -1,6 +1,7 @@
 // The door `replay`: what the command replay puts for OLD, NEW, a relation and a trace, and the status that it ends with.
 use crate::answers::expected_of_case;
-use crate::files::{TextFile, compare_command, compared_files};
+use crate::failing::compare_failing;
+use crate::files::{Run, TextFile, compare_run, compared_files};
 use case_files::{Case, CaseFault, Mismatch, Word, text_of};
 use std::alloc::Global;
 
@@ -18,6 +19,11 @@ pub fn run_replay(
         text: text_of(alloc, head, case, Word::Trace)?,
     })?;
     let expected = expected_of_case(alloc, head, case, Word::Answer, &files)?;
-    compare_command(alloc, "replay", "trace", &files, &expected, found)?;
-    Ok(())
+    let reading = Run {
+        words: &["regver", "replay", "old", "new", "relation", "trace"],
+        files: &files,
+        saved: &[],
+    };
+    compare_run(alloc, &reading, &expected, found)?;
+    compare_failing(alloc, case, &reading, found)
 }
