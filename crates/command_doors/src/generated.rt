@@ -4,7 +4,7 @@ use crate::answers::expected_of_case;
 use crate::failing::compare_failing;
 use crate::files::{Run, compare_ended, run_program};
 use crate::judged::compare_judged;
-use crate::queries::compare_gen_queries;
+use crate::query_counts::compare_gen_queries;
 use case_files::{Case, CaseFault, Mismatch, Word, compare_bytes, expected_of, section_of};
 use outside::MemShelf;
 use std::alloc::{AllocError, Global};

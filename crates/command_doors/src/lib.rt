@@ -3,7 +3,7 @@
 //   files    the files of a command, and what it makes of them
 //   failing  calls that fail in turn
 //   judged   findings that were saved, judged by check
-//   queries  how many queries are decided
+//   query_counts  how many queries are decided
 //   replay, check, explain, verify, generated, words  the doors
 #![tactic(auto)]
 
@@ -14,7 +14,7 @@ mod failing;
 mod files;
 mod generated;
 mod judged;
-mod queries;
+mod query_counts;
 mod replay;
 mod verify;
 mod words;

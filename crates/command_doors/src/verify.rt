@@ -4,7 +4,7 @@ use crate::answers::expected_of_case;
 use crate::failing::compare_failing;
 use crate::files::{Run, compare_ended, compare_files, compared_files, run_program, shelf_of};
 use crate::judged::compare_judged;
-use crate::queries::compare_verify_queries;
+use crate::query_counts::compare_verify_queries;
 use case_files::{Case, CaseFault, Mismatch, Word};
 use std::alloc::Global;
 
