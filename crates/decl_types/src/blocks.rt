@@ -6,9 +6,9 @@ ghost use Rattle.naming.specs.Scopes.{block_of, block_of_type};
 ghost use Rattle.naming.specs.ScopeView.{variable_view};
 ghost use Rattle.typing.specs.Members.{is_function, function_number};
 
+use file_bindings::Resolved;
 use naming::{Declared, Role, Standing};
 use source_tree::{Name, Pou, PouKind, TypeName};
-use file_bindings::Resolved;
 
 /// The POU of a number, where there is one.
 pub fn pou_at<'a>(names: &'a Resolved<'_>, number: usize) -> Option<&'a Pou>

@@ -8,8 +8,8 @@ ghost use Rattle.decl_types.specs.Spelled.{spelled_outcome, declared_outcomes};
 use crate::elementary_domains::no_domain;
 use crate::file_types::FileTypes;
 use crate::own_domains::{Spelled, own_domains};
-use naming::Standing;
 use file_bindings::Resolved;
+use naming::Standing;
 use std::alloc::{AllocError, Global};
 use typing::Domain;
 

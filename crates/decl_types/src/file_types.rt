@@ -8,9 +8,9 @@ ghost use Rattle.typing.specs.OwnDomains.{count_of_values};
 
 use crate::elementary_domains::has_few;
 use expr_types::valued;
+use file_bindings::Resolved;
 use naming::Standing;
 use source_tree::{Name, Path, Specification, TypeDeclaration};
-use file_bindings::Resolved;
 use typing::{Instance, Meaning, Port, Scope, Signature};
 
 /// A file whose names are bound, and the types that it declares, by their numbers.

@@ -13,9 +13,9 @@ use crate::named_members::member_bound;
 use crate::reached::reached_order;
 use crate::tables::{all_members, all_told, told_of_pou};
 use decl_types::{Domains, Told, function_number, pou_at};
+use file_bindings::Resolved;
 use plc_types::DataType;
 use source_tree::{Name, Pou, PouKind};
-use file_bindings::Resolved;
 use std::alloc::{AllocError, Global};
 use typing::{Instance, Meaning, Member, Port, Signature};
 

@@ -6,8 +6,8 @@ ghost use Rattle.naming.specs.Broken.{is_program_pou};
 ghost use Rattle.naming.specs.FileScope.{pous_of};
 ghost use Rattle.typing.specs.Reached.{with_marks, mark_uses, reached, reached_order};
 
-use source_tree::{Pou, PouKind};
 use file_bindings::Resolved;
+use source_tree::{Pou, PouKind};
 use std::alloc::{AllocError, Global};
 
 fn is_program(pou: &Pou) -> bool

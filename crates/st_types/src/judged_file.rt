@@ -13,9 +13,9 @@ ghost use Rattle.st_types.specs.CheckedFiles.{file_checked};
 use crate::bodies::judge_pous;
 use crate::checked::Checked;
 use decl_types::judge_types;
+use file_bindings::Resolved;
 use pou_cells::{Pous, capped_sizes, has_room};
 use rules::{Fault, Refusal, Rule};
-use file_bindings::Resolved;
 use std::alloc::{AllocError, Global};
 
 // What a file breaks first.
