@@ -1,6 +1,7 @@
 // The texts of OLD, NEW and REL.
-ghost use Rattle.std.specs.Prelude.{◌≡◌, IfOk, IsErrOf};
+ghost use Rattle.std.specs.Prelude.{false, ◌≡◌, IfOk, IsErrOf, OnOk};
 ghost use Rattle.outside.specs.Causes.{NoneFell};
+ghost use Rattle.outside.specs.Reach.{ReachesAtMost};
 ghost use Rattle.command_files.specs.Texts.{Texts, AreThreeTold, OneOfThreeRose};
 ghost use Rattle.command_files.specs.KeptTexts.{AreKept};
 
@@ -24,11 +25,14 @@ pub fn read_texts<S: Shelf>(
     relation: &str,
     shelf: &mut S,
 ) -> Result<KeptTexts, OutErr>
+    requires unfailed { S.read_failed shelf.old ≡ false }
     ensures texts { (t : Texts) → AreThreeTold (S.file shelf.old) old.now new.now relation.now t → IfOk result (λ kept. AreKept kept t) }
     ensures kept { S.file shelf.new ≡ S.file shelf.old }
     ensures fault { IsErrOf result OutErr.Fault → OneOfThreeRose (S.read_faults shelf.old) (S.read_faults shelf.new) old.now new.now relation.now }
     ensures reads { NoneFell (S.read_faults shelf.old) (S.read_faults shelf.new) }
     ensures writes { NoneFell (S.write_faults shelf.old) (S.write_faults shelf.new) }
+    ensures unfailed { OnOk result (S.read_failed shelf.new ≡ false) }
+    ensures reach { ReachesAtMost 1048577 (S.reach shelf.old) (S.reach shelf.new) }
 {
     let old = read_text(alloc, shelf, old)?;
     let new = read_text(alloc, shelf, new)?;
