@@ -1,4 +1,6 @@
 // Files and outputs in memory whose calls fail: calls that were worked by hand.
+ghost use Rattle.std.specs.Prelude.{false, ◌≡◌};
+
 use outside::{CallKind, Failure, MemShelf, MemSink, OutErr, Shelf, Sink, SureShelf, SureSink};
 use std::alloc::Global;
 use std::process::Abort;
@@ -13,14 +15,16 @@ fn listed(alloc: Global, listed: &[(CallKind, u64, usize)]) -> Result<Vec<Failur
 }
 
 // What a read of four bytes answers, and the bytes that it gives.
-fn reads(
+fn reads<S: Shelf>(
     rt: &impl Abort,
-    shelf: &mut impl Shelf,
+    shelf: &mut S,
     name: &str,
     from: u64,
     answer: Result<usize, OutErr>,
     bytes: [u8; 4],
-) {
+)
+    requires { S.read_failed shelf.old ≡ false }
+{
     let mut buf = [0u8; 4];
     assert_eq!(rt;
         shelf.read_at(name, from, &mut buf),

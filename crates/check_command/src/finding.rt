@@ -1,5 +1,5 @@
 // A finding judged, and what is said of it on the sink.
-ghost use Rattle.std.specs.Prelude.{◌≡◌, IfSome};
+ghost use Rattle.std.specs.Prelude.{false, ◌≡◌, IfSome};
 ghost use Rattle.outside.specs.Causes.{NoneFell};
 ghost use Rattle.finding_file.specs.Causes.{IsCausedBy};
 ghost use Rattle.queries.specs.Settings.{setting_of};
@@ -24,7 +24,8 @@ fn judge_finding<Q: Queries, S: Shelf>(
     finding: &str,
     shelf: &mut S,
 ) -> Result<Judged, JudgeErr>
-    requires { Q.compared queries.now ≡ comparison_in compared.now }
+    requires compared { Q.compared queries.now ≡ comparison_in compared.now }
+    requires unfailed { S.read_failed shelf.old ≡ false }
     ensures exact { IfSome (S.file shelf.old finding.now) (λ file. IsJudged (setting_of (comparison_in compared.now)) (Q.formula queries.now) most_bytes file result) }
     ensures sound { ShowsVerdict (comparison_in compared.now) (Q.formula queries.now) result }
     ensures kept { S.file shelf.new ≡ S.file shelf.old }

@@ -1,5 +1,5 @@
 // Texts that are not compared, on the sink.
-ghost use Rattle.std.specs.Prelude.{◌≡◌, ◌≢◌, ◌≤◌};
+ghost use Rattle.std.specs.Prelude.{false, ◌≡◌, ◌≢◌, ◌≤◌};
 ghost use Rattle.outside.specs.Causes.{Rose};
 ghost use Rattle.command_answers.specs.Answers.{Answers};
 ghost use Rattle.command_files.specs.Texts.{Texts};
@@ -14,6 +14,7 @@ use std::alloc::Global;
 
 /// Puts why texts are not compared.
 pub fn put_fault<K: Sink>(alloc: Global, fault: CompareFault, out: &mut K) -> Status
+    requires unfailed { K.put_failed out.old ≡ false }
     ensures answer { (t : Texts) → IfFault (IsRefused t) (IsTooLarge t) fault → Answers (ReportsRefusal t) ⊥ result (K.taken out.old) (K.taken out.new) }
     ensures usage { result ≢ Status.Usage }
     ensures read_fault { result ≢ Status.ReadFault }

@@ -1,5 +1,5 @@
 // The command `explain`.
-ghost use Rattle.std.specs.Prelude.{◌≡◌, ◌≢◌, ◌≤◌};
+ghost use Rattle.std.specs.Prelude.{false, ◌≡◌, ◌≢◌, ◌≤◌};
 ghost use Rattle.outside.specs.Causes.{Rose, NoneFell};
 ghost use Rattle.command_answers.specs.Answers.{Answers, IsExact};
 ghost use Rattle.finding_commands.specs.Texts.{Texts, AreFourTold, OneOfFourRose};
@@ -22,6 +22,10 @@ pub fn answer_explain<S: Shelf, K: Sink>(
     shelf: &mut S,
     out: &mut K,
 ) -> Status
+    // No read and no put has failed before, and none follows one that failed.
+    requires reads { S.read_failed shelf.old ≡ false }
+    requires puts { K.put_failed out.old ≡ false }
+
     // No file changes.
     ensures kept { S.file shelf.new ≡ S.file shelf.old }
 

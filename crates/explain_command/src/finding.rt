@@ -1,5 +1,5 @@
 // A finding judged and explained, and what is said of it on the sink.
-ghost use Rattle.std.specs.Prelude.{◌≡◌, IfSome};
+ghost use Rattle.std.specs.Prelude.{false, ◌≡◌, IfSome};
 ghost use Rattle.outside.specs.Causes.{NoneFell};
 ghost use Rattle.finding_file.specs.Causes.{IsCausedBy};
 ghost use Rattle.finding_commands.specs.Held.{comparison_in};
@@ -24,7 +24,8 @@ fn explain_file<Q: Queries, S: Shelf>(
     finding: &str,
     shelf: &mut S,
 ) -> Result<Explained, JudgeErr>
-    requires { Q.compared queries.now ≡ comparison_in compared.now }
+    requires compared { Q.compared queries.now ≡ comparison_in compared.now }
+    requires unfailed { S.read_failed shelf.old ≡ false }
     ensures exact { IfSome (S.file shelf.old finding.now) (λ file. IsExplained (comparison_in compared.now) (Q.formula queries.now) most_bytes file result) }
     ensures kept { S.file shelf.new ≡ S.file shelf.old }
     ensures cause { IsCausedBy JudgeErr.Fault (S.read_faults shelf.old) (S.read_faults shelf.new) finding.now result }

@@ -1,5 +1,5 @@
 // What is said of a finding that was to be explained, on the sink.
-ghost use Rattle.std.specs.Prelude.{◌≡◌, ◌≢◌, ◌≤◌, ◌++◌, IfOk, codes, string_bytes};
+ghost use Rattle.std.specs.Prelude.{false, ◌≡◌, ◌≢◌, ◌≤◌, ◌++◌, IfOk, codes, string_bytes};
 ghost use Rattle.outside.specs.Causes.{Rose};
 ghost use Rattle.command_answers.specs.Answers.{Answers};
 ghost use Rattle.explain_command.specs.Lines.{explained_report};
@@ -22,6 +22,7 @@ fn line_of(text: String) -> Result<String, AllocError>
 
 /// Puts the report on a valid finding, or what the judge says.
 pub(crate) fn put_explained<K: Sink>(alloc: Global, explained: Explained, out: &mut K) -> Status
+    requires unfailed { K.put_failed out.old ≡ false }
     ensures answer { Answers (λ r. r ≡ explained_report explained) ⊥ result (K.taken out.old) (K.taken out.new) }
     ensures usage { result ≢ Status.Usage }
     ensures read_fault { result ≢ Status.ReadFault }

@@ -1,6 +1,6 @@
 -- Lines that were read, and what is said where one fails or none follows.
 use Rattle.std.proofs.Common.{◌≡◌, ◌≢◌, ℕ, ◌+◌, ◌<◌, ◌≤◌, List, [], ◌∷◌, ◌++◌, length, drop, refl, sym, ap, ◌∙◌, subst, arith, inl, inr, append_assoc, length-append, true, false, Bool}
-use Rattle.std.specs.Prelude.{Option, Some, None, Result, Ok, Err, IfSome, IfOk, if◌then◌else◌, ◌==◌, min, ◌^◌, ◌-◌}
+use Rattle.std.specs.Prelude.{Option, Some, None, Result, Ok, Err, IfSome, IfOk, OnOk, if◌then◌else◌, ◌==◌, min, ◌^◌, ◌-◌}
 use Rattle.clause_core.specs.Formula.{Formula}
 use Rattle.outside.specs.Causes.{Rose}
 use Rattle.finding_lines.specs.declared.line.Line.{Line}
@@ -155,6 +155,14 @@ stopped-fault place line read.Memory e = cc
 stopped-fault place line read.M8 e = cc
 stopped-fault place line (read.Spelling n) e = cc
 stopped-fault place line (read.Unended n) e = cc
+
+-- and only a read that failed is answered by an error, or a file that is too long
+pub stopped-unfailed : {Unfailed : Type 0} (place : Place) (line : ℕ) (error : ReadErr) → (error ≢ read.Fault → error ≢ read.Memory → Unfailed) → OnOk (stopped place line error) Unfailed
+stopped-unfailed place line read.Fault h = tt
+stopped-unfailed place line read.Memory h = tt
+stopped-unfailed place line read.M8 h = tt
+stopped-unfailed place line (read.Spelling n) h = h (λ e. cc) (λ e. cc)
+stopped-unfailed place line (read.Unended n) h = h (λ e. cc) (λ e. cc)
 
 -- what is told of a file, where it is told
 module _ (s : Setting) (formula : QueryData → Formula) (limit : ℕ) (told : Option (List ℕ)) (reader : Reading) (before : ℕ) (place : Place) (result : Result (Option Line) ReadErr) where

@@ -1,5 +1,5 @@
 // A finding in a file.
-ghost use Rattle.std.specs.Prelude.{◌≡◌, ◌≤◌, ◌<◌, ◌^◌, IfSome};
+ghost use Rattle.std.specs.Prelude.{false, ◌≡◌, ◌≤◌, ◌<◌, ◌^◌, IfSome, OnOk};
 ghost use Rattle.outside.specs.Causes.{NoneFell};
 ghost use Rattle.finding_file.specs.Causes.{IsCausedBy};
 ghost use Rattle.queries.specs.Comparisons.{IsComparison};
@@ -40,11 +40,13 @@ pub fn judge_file<Q: Queries, S: Shelf>(
     requires comparison { IsComparison (comparison_between old.now new.now relation.now) }
     requires limit { finding.now.limit ≤ 2 ^ 30 }
     requires piece { 0 < finding.now.piece }
+    requires unfailed { S.read_failed shelf.old ≡ false }
     ensures exact { IfSome (S.file shelf.old finding.now.name.now) (λ file. IsJudged (setting_of (comparison_between old.now new.now relation.now)) (Q.formula queries.now) finding.now.limit file result) }
     ensures sound { ShowsVerdict (comparison_between old.now new.now relation.now) (Q.formula queries.now) result }
     ensures kept { S.file shelf.new ≡ S.file shelf.old }
     ensures cause { IsCausedBy JudgeErr.Fault (S.read_faults shelf.old) (S.read_faults shelf.new) finding.now.name.now result }
     ensures writes { NoneFell (S.write_faults shelf.old) (S.write_faults shelf.new) }
+    ensures unfailed { OnOk result (S.read_failed shelf.new ≡ false) }
 {
     let mut trial = Trial::new(alloc, old, new, relation)?;
     let mut reader = FindingReader::new(alloc, finding.name, finding.limit, finding.piece)?;

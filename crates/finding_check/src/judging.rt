@@ -1,5 +1,5 @@
 // A whole finding.
-ghost use Rattle.std.specs.Prelude.{◌≡◌, ◌≤◌, ◌^◌, IfSome};
+ghost use Rattle.std.specs.Prelude.{false, ◌≡◌, ◌≤◌, ◌^◌, IfSome, OnOk};
 ghost use Rattle.outside.specs.Causes.{NoneFell};
 ghost use Rattle.finding_file.specs.Reading.{Agrees};
 ghost use Rattle.finding_file.specs.Causes.{IsCausedBy};
@@ -80,11 +80,13 @@ pub fn judge<Q: Queries, S: Shelf>(
     requires first_byte { reader.old.at ≡ 0 }
     requires first_line { reader.old.number ≡ 1 }
     requires agrees { IfSome (S.file shelf.old reader.old.name) (Agrees reader.old) }
+    requires unfailed { S.read_failed shelf.old ≡ false }
     ensures exact { IfSome (S.file shelf.old reader.old.name) (λ file. IsJudged (setting_in trial.old) (Q.formula queries.now) reader.old.limit file result) }
     ensures sound { ShowsVerdict (comparison_of trial.old) (Q.formula queries.now) result }
     ensures kept { S.file shelf.new ≡ S.file shelf.old }
     ensures cause { IsCausedBy JudgeErr.Fault (S.read_faults shelf.old) (S.read_faults shelf.new) reader.old.name result }
     ensures writes { NoneFell (S.write_faults shelf.old) (S.write_faults shelf.new) }
+    ensures unfailed { OnOk result (S.read_failed shelf.new ≡ false) }
 {
     queries.laws();
     let mut stage = Stage::Top;

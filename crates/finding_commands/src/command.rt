@@ -1,5 +1,5 @@
 // What a command on a finding does with the four files.
-ghost use Rattle.std.specs.Prelude.{◌≡◌, ◌≢◌, ◌≤◌, Some};
+ghost use Rattle.std.specs.Prelude.{false, ◌≡◌, ◌≢◌, ◌≤◌, Some};
 ghost use Rattle.outside.specs.Causes.{Rose, NoneFell};
 ghost use Rattle.command_answers.specs.Answers.{Answers};
 ghost use Rattle.comparison_files.specs.Texts.{Texts, AreFourTold, OneOfFourRose};
@@ -27,7 +27,9 @@ fn answer_compared<C: FindingCommand, S: Shelf, K: Sink>(
     shelf: &mut S,
     out: &mut K,
 ) -> Status
-    requires { AreScansOf (comparison_in compared.now) scans }
+    requires scans { AreScansOf (comparison_in compared.now) scans }
+    requires reads { S.read_failed shelf.old ≡ false }
+    requires puts { K.put_failed out.old ≡ false }
     ensures kept { S.file shelf.new ≡ S.file shelf.old }
     ensures answer { (t : Texts) → AreStated t (comparison_in compared.now) → S.file shelf.old finding.now ≡ Some t.finding
         → Answers (ReportsOn C.reports t) (Rose (S.read_faults shelf.old finding.now) (S.read_faults shelf.new finding.now)) result (K.taken out.old) (K.taken out.new) }
@@ -53,6 +55,8 @@ fn answer_texts<C: FindingCommand, S: Shelf, K: Sink>(
     shelf: &mut S,
     out: &mut K,
 ) -> Status
+    requires reads { S.read_failed shelf.old ≡ false }
+    requires puts { K.put_failed out.old ≡ false }
     ensures kept { S.file shelf.new ≡ S.file shelf.old }
     ensures answer { (t : Texts) → AreKept texts.now t → S.file shelf.old finding.now ≡ Some t.finding
         → Answers (ReportsOn C.reports t) (Rose (S.read_faults shelf.old finding.now) (S.read_faults shelf.new finding.now)) result (K.taken out.old) (K.taken out.new) }
@@ -83,6 +87,10 @@ pub fn answer_on_finding<C: FindingCommand, S: Shelf, K: Sink>(
     shelf: &mut S,
     out: &mut K,
 ) -> Status
+    // No read and no put has failed before, and none follows one that failed.
+    requires reads { S.read_failed shelf.old ≡ false }
+    requires puts { K.put_failed out.old ≡ false }
+
     // No file changes.
     ensures kept { S.file shelf.new ≡ S.file shelf.old }
 

@@ -1,5 +1,5 @@
 // What a command does with its finding.
-ghost use Rattle.std.specs.Prelude.{◌≡◌, ◌≢◌, ◌≤◌, List, ℕ, Some};
+ghost use Rattle.std.specs.Prelude.{false, ◌≡◌, ◌≢◌, ◌≤◌, List, ℕ, Some};
 ghost use Rattle.outside.specs.Causes.{Rose, NoneFell};
 ghost use Rattle.clause_core.specs.Formula.{Formula};
 ghost use Rattle.queries.specs.Comparisons.{Comparison};
@@ -29,7 +29,9 @@ pub trait FindingCommand {
         shelf: &mut S,
         out: &mut K,
     ) -> Status
-        requires { Q.compared queries.now ≡ comparison_in compared.now }
+        requires compared { Q.compared queries.now ≡ comparison_in compared.now }
+        requires reads { S.read_failed shelf.old ≡ false }
+        requires puts { K.put_failed out.old ≡ false }
         ensures kept { S.file shelf.new ≡ S.file shelf.old }
         ensures answer { (file : List ℕ) → S.file shelf.old finding.now ≡ Some file
             → Answers (reports (comparison_in compared.now) (Q.formula queries.now) file) (Rose (S.read_faults shelf.old finding.now) (S.read_faults shelf.new finding.now)) result (K.taken out.old) (K.taken out.new) }

@@ -1,5 +1,5 @@
 // The lines of a finding that was judged valid, read once more.
-ghost use Rattle.std.specs.Prelude.{◌≡◌, ◌≤◌, ◌^◌, List, [], IfOk, IfSome};
+ghost use Rattle.std.specs.Prelude.{false, ◌≡◌, ◌≤◌, ◌^◌, List, [], IfOk, IfSome};
 ghost use Rattle.outside.specs.Causes.{NoneFell};
 ghost use Rattle.finding_lines.specs.declared.line.Line.{Line};
 ghost use Rattle.finding_file.specs.Reading.{Agrees};
@@ -43,6 +43,7 @@ pub(crate) fn collect<S: Shelf>(
     requires limit { reader.old.limit ≤ 2 ^ 30 }
     requires first_byte { reader.old.at ≡ 0 }
     requires agrees { IfSome (S.file shelf.old reader.old.name) (Agrees reader.old) }
+    requires unfailed { S.read_failed shelf.old ≡ false }
     ensures noted { IfSome (S.file shelf.old reader.old.name) (λ file. (ls : List Line) → IsFileOf (setting_in trial.old) reader.old.limit file ls → IsCollected (setting_in trial.old) ls result) }
     ensures kept { S.file shelf.new ≡ S.file shelf.old }
     ensures cause { IsCausedBy ReadErr.Fault (S.read_faults shelf.old) (S.read_faults shelf.new) reader.old.name result }

@@ -1,5 +1,5 @@
 // A finding, judged and explained.
-ghost use Rattle.std.specs.Prelude.{◌≡◌, ◌≤◌, ◌<◌, ◌^◌, List, IfSome};
+ghost use Rattle.std.specs.Prelude.{false, ◌≡◌, ◌≤◌, ◌<◌, ◌^◌, List, IfSome};
 ghost use Rattle.outside.specs.Causes.{NoneFell};
 ghost use Rattle.finding_lines.specs.declared.line.Line.{Line};
 ghost use Rattle.finding_file.specs.Causes.{IsCausedBy};
@@ -31,6 +31,7 @@ fn collect_file<S: Shelf>(
     requires comparison { IsComparison (comparison_in compared.now) }
     requires limit { finding.now.limit ≤ 2 ^ 30 }
     requires piece { 0 < finding.now.piece }
+    requires unfailed { S.read_failed shelf.old ≡ false }
     ensures noted { IfSome (S.file shelf.old finding.now.name.now) (λ file. (ls : List Line) → IsFileOf (setting_of (comparison_in compared.now)) finding.now.limit file ls → IsCollected (setting_of (comparison_in compared.now)) ls result) }
     ensures kept { S.file shelf.new ≡ S.file shelf.old }
     ensures cause { IsCausedBy ReadErr.Fault (S.read_faults shelf.old) (S.read_faults shelf.new) finding.now.name.now result }
@@ -71,6 +72,7 @@ fn report_file<S: Shelf>(
     requires comparison { IsComparison (comparison_in compared.now) }
     requires limit { finding.now.limit ≤ 2 ^ 30 }
     requires piece { 0 < finding.now.piece }
+    requires unfailed { S.read_failed shelf.old ≡ false }
     ensures exact { IfSome (S.file shelf.old finding.now.name.now) (λ file. (ls : List Line) → IsFileOf (setting_of (comparison_in compared.now)) finding.now.limit file ls → IsReported (comparison_in compared.now) ls verdict result) }
     ensures report { HasVerdict (comparison_in compared.now) verdict result }
     ensures kept { S.file shelf.new ≡ S.file shelf.old }
@@ -96,6 +98,7 @@ pub fn explain_finding<Q: Queries, S: Shelf>(
     requires comparison { IsComparison (comparison_in compared.now) }
     requires limit { finding.now.limit ≤ 2 ^ 30 }
     requires piece { 0 < finding.now.piece }
+    requires unfailed { S.read_failed shelf.old ≡ false }
     ensures exact { IfSome (S.file shelf.old finding.now.name.now) (λ file. IsExplained (comparison_in compared.now) (Q.formula queries.now) finding.now.limit file result) }
     ensures sound { ShowsReport (comparison_in compared.now) (Q.formula queries.now) result }
     ensures kept { S.file shelf.new ≡ S.file shelf.old }

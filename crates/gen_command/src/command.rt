@@ -1,5 +1,5 @@
 // The command `gen`.
-ghost use Rattle.std.specs.Prelude.{◌≡◌, ◌≢◌, ◌≤◌, ◌⊎◌};
+ghost use Rattle.std.specs.Prelude.{false, ◌≡◌, ◌≢◌, ◌≤◌, ◌⊎◌};
 ghost use Rattle.outside.specs.Causes.{Rose, NoneFell};
 ghost use Rattle.command_answers.specs.Answers.{Answers, IsExact};
 ghost use Rattle.verify_command.specs.comparison_files.Accepting.{AreStated};
@@ -34,6 +34,7 @@ fn answer_compared<D: Decider, S: Shelf, K: Sink>(
     requires made { IsMade count made.now }
     requires stated { AreStated (texts_of count) (comparison_in compared.now) }
     requires scans { AreScansOf (comparison_in compared.now) scans }
+    requires unfailed { K.put_failed out.old ≡ false }
     ensures others { KeepsOthers count (S.file shelf.old) (S.file shelf.new) }
     ensures left { LeavesFiles count (saving (S.file shelf.old) (S.file shelf.new) (S.write_faults shelf.old) (S.write_faults shelf.new) (finding_name count)) }
     ensures answer { Answers (GenReports count (saving (S.file shelf.old) (S.file shelf.new) (S.write_faults shelf.old) (S.write_faults shelf.new) (finding_name count))) ⊥ result (K.taken out.old) (K.taken out.new) }
@@ -65,6 +66,7 @@ fn answer_made<D: Decider, S: Shelf, K: Sink>(
     out: &mut K,
 ) -> Status
     requires made { IsMade count made.now }
+    requires unfailed { K.put_failed out.old ≡ false }
     ensures others { KeepsOthers count (S.file shelf.old) (S.file shelf.new) }
     ensures left { LeavesFiles count (saving (S.file shelf.old) (S.file shelf.new) (S.write_faults shelf.old) (S.write_faults shelf.new) (finding_name count)) }
     ensures answer { Answers (GenReports count (saving (S.file shelf.old) (S.file shelf.new) (S.write_faults shelf.old) (S.write_faults shelf.new) (finding_name count))) ⊥ result (K.taken out.old) (K.taken out.new) }
@@ -92,6 +94,7 @@ fn answer_count<D: Decider, S: Shelf, K: Sink>(
     shelf: &mut S,
     out: &mut K,
 ) -> Status
+    requires unfailed { K.put_failed out.old ≡ false }
     ensures others { KeepsOthers count (S.file shelf.old) (S.file shelf.new) }
     ensures left { LeavesFiles count (saving (S.file shelf.old) (S.file shelf.new) (S.write_faults shelf.old) (S.write_faults shelf.new) (finding_name count)) }
     ensures answer { Answers (GenReports count (saving (S.file shelf.old) (S.file shelf.new) (S.write_faults shelf.old) (S.write_faults shelf.new) (finding_name count))) ⊥ result (K.taken out.old) (K.taken out.new) }
@@ -117,6 +120,9 @@ pub fn answer_gen<D: Decider, S: Shelf, K: Sink>(
     shelf: &mut S,
     out: &mut K,
 ) -> Status
+    // No put has failed before, and none follows one that failed.
+    requires unfailed { K.put_failed out.old ≡ false }
+
     // No file changes but the three of the texts and the finding.
     ensures others { KeepsOthers count (S.file shelf.old) (S.file shelf.new) }
 

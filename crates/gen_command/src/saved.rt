@@ -1,5 +1,5 @@
 // Texts that are accepted: saved, told of, and verified.
-ghost use Rattle.std.specs.Prelude.{◌≡◌, ◌≢◌, ◌≤◌, ◌⊎◌};
+ghost use Rattle.std.specs.Prelude.{false, ◌≡◌, ◌≢◌, ◌≤◌, ◌⊎◌};
 ghost use Rattle.outside.specs.Causes.{Rose, NoneFell};
 ghost use Rattle.outside.specs.Contents.{OthersStay};
 ghost use Rattle.verify_command.specs.comparison_files.Held.{comparison_in};
@@ -37,6 +37,7 @@ fn answer_behind<D: Decider, Q: Queries, G: Guesses, S: Shelf, K: Sink>(
 ) -> Status
     requires compared { Q.compared queries.now ≡ comparison_in compared.now }
     requires line { line.now ≡ made_line count (comparison_in compared.now) }
+    requires unfailed { K.put_failed out.old ≡ false }
     ensures others { OthersStay (S.file shelf.old) (S.file shelf.new) finding.now }
     ensures left { LeavesPart (comparison_in compared.now) (Q.formula queries.now) (saving (S.file shelf.old) (S.file shelf.new) (S.write_faults shelf.old) (S.write_faults shelf.new) finding.now) }
     ensures answer { Answers (ReportsBehind count (comparison_in compared.now) (Q.formula queries.now) (saving (S.file shelf.old) (S.file shelf.new) (S.write_faults shelf.old) (S.write_faults shelf.new) finding.now)) ⊥ result (K.taken out.old) (K.taken out.new) }
@@ -69,6 +70,7 @@ fn answer_saved<D: Decider, Q: Queries, G: Guesses, S: Shelf, K: Sink>(
     out: &mut K,
 ) -> Status
     requires compared { Q.compared queries.now ≡ comparison_in compared.now }
+    requires unfailed { K.put_failed out.old ≡ false }
     ensures others { OthersStay (S.file shelf.old) (S.file shelf.new) finding.now }
     ensures left { LeavesPart (comparison_in compared.now) (Q.formula queries.now) (saving (S.file shelf.old) (S.file shelf.new) (S.write_faults shelf.old) (S.write_faults shelf.new) finding.now) }
     ensures answer { Answers (ReportsBehind count (comparison_in compared.now) (Q.formula queries.now) (saving (S.file shelf.old) (S.file shelf.new) (S.write_faults shelf.old) (S.write_faults shelf.new) finding.now)) ⊥ result (K.taken out.old) (K.taken out.new) }
@@ -110,6 +112,7 @@ pub(crate) fn answer_accepted<D: Decider, Q: Queries, G: Guesses, S: Shelf, K: S
 ) -> Status
     requires made { IsMade count made.now }
     requires compared { Q.compared queries.now ≡ comparison_in compared.now }
+    requires unfailed { K.put_failed out.old ≡ false }
     ensures others { KeepsOthers count (S.file shelf.old) (S.file shelf.new) }
     ensures texts { LeaveTexts count (S.file shelf.old) (S.file shelf.new) }
     ensures left { LeavesPart (comparison_in compared.now) (Q.formula queries.now) (saving (S.file shelf.old) (S.file shelf.new) (S.write_faults shelf.old) (S.write_faults shelf.new) (finding_name count)) }

@@ -1,5 +1,5 @@
 // The files that the system has. What they hold is not told.
-ghost use Rattle.std.specs.Prelude.{◌≡◌, List, ℕ, None, IfOk, ◌≤◌, length};
+ghost use Rattle.std.specs.Prelude.{false, ◌≡◌, List, ℕ, None, IfOk, ◌≤◌, length};
 
 use crate::fault::counted;
 use crate::progress::Progress;
@@ -56,6 +56,10 @@ impl<R: Eprint + Files + Clock> Shelf for FileShelf<'_, R> {
     ghost read_faults = { λ s name. s.read_faults };
 
     ghost write_faults = { λ s name. s.write_faults };
+
+    ghost read_failed = { λ s. false };
+
+    ghost reach = { λ s name. 0 };
 
     fn read_at(&mut self, name: &str, from: u64, buf: &mut [u8]) -> Result<usize, OutErr> {
         let answer = read_from(self.progress.system(), name, from, buf);

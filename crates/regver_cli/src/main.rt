@@ -1,6 +1,8 @@
 // The program: it hands the real files and the standard output to the regression verifier.
 #![tactic(auto)]
 
+ghost use Rattle.std.specs.Prelude.{false, ◌≡◌};
+
 mod fault;
 mod file_shelf;
 mod progress;
@@ -23,7 +25,10 @@ fn answer<S: Shelf, K: Sink>(
     words: io::Result<Vec<String>>,
     shelf: &mut S,
     out: &mut K,
-) -> Status {
+) -> Status
+    requires reads { S.read_failed shelf.old ≡ false }
+    requires puts { K.put_failed out.old ≡ false }
+{
     match words {
         Ok(words) => regver(alloc, words, shelf, out),
         Err(error) if error.kind() == ErrorKind::InvalidData => {

@@ -1,5 +1,5 @@
 // Standard output. What it has taken is not told.
-ghost use Rattle.std.specs.Prelude.{◌≡◌, None};
+ghost use Rattle.std.specs.Prelude.{false, ◌≡◌, None};
 
 use crate::fault::counted;
 use crate::progress::Progress;
@@ -29,6 +29,8 @@ impl<R: Eprint + Print + Clock> Sink for StdSink<'_, R> {
     ghost taken = { λ s. None };
 
     ghost faults = { λ s. s.faults };
+
+    ghost put_failed = { λ s. false };
 
     fn put(&mut self, bytes: &[u8]) -> Result<(), OutErr> {
         self.progress.clear();

@@ -37,6 +37,8 @@ fn answer_saving<S: Shelf, K: Sink>(
     shelf: &mut S,
     out: &mut K,
 ) -> Status
+    requires reads { S.read_failed shelf.old ≡ false }
+    requires puts { K.put_failed out.old ≡ false }
     ensures kept { let k = change (S.file shelf.old) (S.file shelf.new) (S.read_faults shelf.old) (S.read_faults shelf.new) (S.write_faults shelf.old) (S.write_faults shelf.new) in KeepsFiles k (settled (asked_of verifies (words_of words.now))) }
     ensures untouched { (result ≡ Status.ReadFault) ⊎ (result ≡ Status.Usage) → S.file shelf.new ≡ S.file shelf.old }
     ensures left { let k = change (S.file shelf.old) (S.file shelf.new) (S.read_faults shelf.old) (S.read_faults shelf.new) (S.write_faults shelf.old) (S.write_faults shelf.new) in let asked = settled (asked_of verifies (words_of words.now)) in
@@ -74,6 +76,7 @@ fn answer_making<S: Shelf, K: Sink>(
     shelf: &mut S,
     out: &mut K,
 ) -> Status
+    requires unfailed { K.put_failed out.old ≡ false }
     ensures kept { let k = change (S.file shelf.old) (S.file shelf.new) (S.read_faults shelf.old) (S.read_faults shelf.new) (S.write_faults shelf.old) (S.write_faults shelf.new) in KeepsFiles k (settled (gen count.now)) }
     ensures untouched { (result ≡ Status.ReadFault) ⊎ (result ≡ Status.Usage) → S.file shelf.new ≡ S.file shelf.old }
     ensures left { let k = change (S.file shelf.old) (S.file shelf.new) (S.read_faults shelf.old) (S.read_faults shelf.new) (S.write_faults shelf.old) (S.write_faults shelf.new) in let asked = settled (gen count.now) in
@@ -104,6 +107,8 @@ fn answer_command<S: Shelf, K: Sink>(
     shelf: &mut S,
     out: &mut K,
 ) -> Status
+    requires reads { S.read_failed shelf.old ≡ false }
+    requires puts { K.put_failed out.old ≡ false }
     ensures kept { let k = change (S.file shelf.old) (S.file shelf.new) (S.read_faults shelf.old) (S.read_faults shelf.new) (S.write_faults shelf.old) (S.write_faults shelf.new) in KeepsFiles k (settled (read_as (Some command.now))) }
     ensures untouched { (result ≡ Status.ReadFault) ⊎ (result ≡ Status.Usage) → S.file shelf.new ≡ S.file shelf.old }
     ensures left { let k = change (S.file shelf.old) (S.file shelf.new) (S.read_faults shelf.old) (S.read_faults shelf.new) (S.write_faults shelf.old) (S.write_faults shelf.new) in let asked = settled (read_as (Some command.now)) in
@@ -158,6 +163,8 @@ fn answer_words<S: Shelf, K: Sink>(
     shelf: &mut S,
     out: &mut K,
 ) -> Status
+    requires reads { S.read_failed shelf.old ≡ false }
+    requires puts { K.put_failed out.old ≡ false }
     ensures kept { let k = change (S.file shelf.old) (S.file shelf.new) (S.read_faults shelf.old) (S.read_faults shelf.new) (S.write_faults shelf.old) (S.write_faults shelf.new) in KeepsFiles k (settled (asked (map string_bytes words.items))) }
     ensures untouched { (result ≡ Status.ReadFault) ⊎ (result ≡ Status.Usage) → S.file shelf.new ≡ S.file shelf.old }
     ensures left { let k = change (S.file shelf.old) (S.file shelf.new) (S.read_faults shelf.old) (S.read_faults shelf.new) (S.write_faults shelf.old) (S.write_faults shelf.new) in let asked = settled (asked (map string_bytes words.items)) in
@@ -186,6 +193,10 @@ pub fn regver<S: Shelf, K: Sink>(
     shelf: &mut S,
     out: &mut K,
 ) -> Status
+    // No read and no put has failed before, and none follows one that failed.
+    requires reads { S.read_failed shelf.old ≡ false }
+    requires puts { K.put_failed out.old ≡ false }
+
     // No file changes but the finding that `verify` writes and the four files of `gen`, and none where a read failed or the command line is
     // none that there is.
     ensures kept { let k = change (S.file shelf.old) (S.file shelf.new) (S.read_faults shelf.old) (S.read_faults shelf.new) (S.write_faults shelf.old) (S.write_faults shelf.new) in KeepsFiles k (settled (asked (map string_bytes words.items))) }

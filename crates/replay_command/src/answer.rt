@@ -1,5 +1,5 @@
 // What is answered: the last text of a run, and a whole replay on the sink.
-ghost use Rattle.std.specs.Prelude.{◌≡◌, ◌≢◌, ◌≤◌, List, ℕ, Option, IfOk, string_bytes};
+ghost use Rattle.std.specs.Prelude.{false, ◌≡◌, ◌≢◌, ◌≤◌, List, ℕ, Option, IfOk, string_bytes};
 ghost use Rattle.outside.specs.Causes.{Rose};
 ghost use Rattle.outside.specs.Contents.{extended};
 ghost use Rattle.program_tree.specs.View.{program_view};
@@ -42,6 +42,7 @@ fn ending_line(alloc: Global, ending: Ending) -> Result<String, AllocError>
 
 // Puts the line on how a replay ended, behind its other lines.
 fn put_ending<K: Sink>(alloc: Global, ending: Ending, out: &mut K) -> Status
+    requires unfailed { K.put_failed out.old ≡ false }
     ensures answer { (told : Option (List ℕ)) (o : Outcome) → K.taken out.old ≡ extended told o.lines → ending ≡ o.ending → Answers (λ r. r ≡ outcome_report o) ⊥ result told (K.taken out.new) }
     ensures no_usage { result ≢ Status.Usage }
     ensures no_read_fault { result ≢ Status.ReadFault }
@@ -56,7 +57,8 @@ fn put_ending<K: Sink>(alloc: Global, ending: Ending, out: &mut K) -> Status
 
 // Runs the rows, and puts the lines of the run.
 fn put_replay<K: Sink>(alloc: Global, replay: &Replay, out: &mut K) -> Status
-    requires { AreComparable replay.now.old replay.now.new replay.now.relation }
+    requires comparable { AreComparable replay.now.old replay.now.new replay.now.relation }
+    requires unfailed { K.put_failed out.old ≡ false }
     ensures answer { Answers (λ r. r ≡ outcome_report (outcome_of (program_view replay.now.old) (program_view replay.now.new) (relation_view replay.now.relation) replay.now.rows)) ⊥ result (K.taken out.old) (K.taken out.new) }
     ensures no_usage { result ≢ Status.Usage }
     ensures no_read_fault { result ≢ Status.ReadFault }
@@ -80,6 +82,7 @@ fn put_replay<K: Sink>(alloc: Global, replay: &Replay, out: &mut K) -> Status
 
 /// Puts the report on four texts.
 pub fn put_answer<K: Sink>(alloc: Global, texts: &ReplayTexts, out: &mut K) -> Status
+    requires unfailed { K.put_failed out.old ≡ false }
     ensures answer { (t : Texts) → AreAllKept texts.now t → Answers (Reports t) ⊥ result (K.taken out.old) (K.taken out.new) }
     ensures no_usage { result ≢ Status.Usage }
     ensures no_read_fault { result ≢ Status.ReadFault }

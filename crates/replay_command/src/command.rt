@@ -1,5 +1,5 @@
 // The command `replay`.
-ghost use Rattle.std.specs.Prelude.{◌≡◌, ◌≢◌, ◌≤◌, IfOk, IsErrOf};
+ghost use Rattle.std.specs.Prelude.{false, ◌≡◌, ◌≢◌, ◌≤◌, IfOk, IsErrOf};
 ghost use Rattle.outside.specs.Causes.{Rose, NoneFell};
 ghost use Rattle.command_answers.specs.Answers.{Answers, IsExact};
 ghost use Rattle.command_files.specs.Texts.{Texts, AreFourTold, OneOfFourRose};
@@ -22,6 +22,7 @@ fn read_all<S: Shelf>(
     trace: &str,
     shelf: &mut S,
 ) -> Result<ReplayTexts, OutErr>
+    requires unfailed { S.read_failed shelf.old ≡ false }
     ensures texts { (t : Texts) → AreFourTold (S.file shelf.old) old.now new.now relation.now trace.now t t.trace → IfOk result (λ kept. AreAllKept kept t) }
     ensures kept { S.file shelf.new ≡ S.file shelf.old }
     ensures fault { IsErrOf result OutErr.Fault → OneOfFourRose (S.read_faults shelf.old) (S.read_faults shelf.new) old.now new.now relation.now trace.now }
@@ -43,6 +44,8 @@ fn answer_files<S: Shelf, K: Sink>(
     shelf: &mut S,
     out: &mut K,
 ) -> Status
+    requires reads { S.read_failed shelf.old ≡ false }
+    requires puts { K.put_failed out.old ≡ false }
     ensures kept { S.file shelf.new ≡ S.file shelf.old }
     ensures answer { (t : Texts) → AreFourTold (S.file shelf.old) old.now new.now relation.now trace.now t t.trace
         → Answers (Reports t) (OneOfFourRose (S.read_faults shelf.old) (S.read_faults shelf.new) old.now new.now relation.now trace.now) result (K.taken out.old) (K.taken out.new) }
@@ -70,6 +73,10 @@ pub fn answer_replay<S: Shelf, K: Sink>(
     shelf: &mut S,
     out: &mut K,
 ) -> Status
+    // No read and no put has failed before, and none follows one that failed.
+    requires reads { S.read_failed shelf.old ≡ false }
+    requires puts { K.put_failed out.old ≡ false }
+
     // No file changes.
     ensures kept { S.file shelf.new ≡ S.file shelf.old }
 

@@ -1,5 +1,5 @@
 // A replay on the sink: each scan's line is put as soon as the scan is done.
-ghost use Rattle.std.specs.Prelude.{◌≡◌, ◌≤◌, ◌+◌, IfOk, OnOk, OnErr, Err};
+ghost use Rattle.std.specs.Prelude.{false, ◌≡◌, ◌≤◌, ◌+◌, IfOk, OnOk, OnErr, Err};
 ghost use Rattle.outside.specs.Causes.{Rose};
 ghost use Rattle.outside.specs.Contents.{extended};
 ghost use Rattle.outside.specs.declared.OutErr.TheVariants.{Fault};
@@ -48,10 +48,13 @@ fn put_scan<K: Sink>(
     new: &Program,
     duo: &Duo<'_>,
 ) -> Result<(), PlayError>
+    requires unfailed { K.put_failed out.old ≡ false }
     ensures whole { OnOk result (K.taken out.new ≡ extended (K.taken out.old) (scan_line (program_view old.now) (program_view new.now) number duo.now.pair)) }
     ensures part { OnErr result (PutsPart (K.taken out.old) (K.taken out.new) (scan_line (program_view old.now) (program_view new.now) number duo.now.pair)) }
     ensures later { K.faults out.old ≤ K.faults out.new }
     ensures cause { result ≡ Err (PlayError.Sink Fault) → Rose (K.faults out.old) (K.faults out.new) }
+    ensures unfailed { OnOk result (K.put_failed out.new ≡ false) }
+    ensures memory { result ≡ Err PlayError.Memory → K.put_failed out.new ≡ false }
 {
     line.clear();
     show_scan(
@@ -77,11 +80,14 @@ pub fn play<K: Sink>(
     rows: &TraceRows,
     out: &mut K,
 ) -> Result<Ending, PlayError>
-    requires { AreComparable old.now new.now relation.now }
+    requires comparable { AreComparable old.now new.now relation.now }
+    requires unfailed { K.put_failed out.old ≡ false }
     ensures whole { IfOk result (λ e. let o = outcome_of (program_view old.now) (program_view new.now) (relation_view relation.now) rows.now in (K.taken out.new ≡ extended (K.taken out.old) o.lines) × (e ≡ o.ending)) }
     ensures part { OnErr result (PutsPart (K.taken out.old) (K.taken out.new) (outcome_of (program_view old.now) (program_view new.now) (relation_view relation.now) rows.now).lines) }
     ensures later { K.faults out.old ≤ K.faults out.new }
     ensures cause { result ≡ Err (PlayError.Sink Fault) → Rose (K.faults out.old) (K.faults out.new) }
+    ensures unfailed { OnOk result (K.put_failed out.new ≡ false) }
+    ensures memory { result ≡ Err PlayError.Memory → K.put_failed out.new ≡ false }
 {
     let mut duo = Duo::new(alloc, old, new, relation)?;
     let mut line = String::new(alloc);

@@ -1,5 +1,5 @@
 // The command `verify`.
-ghost use Rattle.std.specs.Prelude.{◌≡◌, ◌≢◌, ◌≤◌, ◌⊎◌};
+ghost use Rattle.std.specs.Prelude.{false, ◌≡◌, ◌≢◌, ◌≤◌, ◌⊎◌};
 ghost use Rattle.outside.specs.Causes.{Rose, NoneFell};
 ghost use Rattle.outside.specs.Contents.{OthersStay};
 ghost use Rattle.command_answers.specs.Answers.{Answers, IsExact};
@@ -31,7 +31,8 @@ fn answer_compared<D: Decider, S: Shelf, K: Sink>(
     shelf: &mut S,
     out: &mut K,
 ) -> Status
-    requires { AreScansOf (comparison_in compared.now) scans }
+    requires scans { AreScansOf (comparison_in compared.now) scans }
+    requires unfailed { K.put_failed out.old ≡ false }
     ensures others { OthersStay (S.file shelf.old) (S.file shelf.new) finding.now }
     ensures left { (t : Texts) → AreStated t (comparison_in compared.now) → IsLeft t (saving (S.file shelf.old) (S.file shelf.new) (S.write_faults shelf.old) (S.write_faults shelf.new) finding.now) }
     ensures answer { (t : Texts) → AreStated t (comparison_in compared.now)
@@ -63,6 +64,7 @@ fn answer_texts<D: Decider, S: Shelf, K: Sink>(
     shelf: &mut S,
     out: &mut K,
 ) -> Status
+    requires unfailed { K.put_failed out.old ≡ false }
     ensures others { OthersStay (S.file shelf.old) (S.file shelf.new) finding.now }
     ensures left { (t : Texts) → AreKept texts.now t → IsLeft t (saving (S.file shelf.old) (S.file shelf.new) (S.write_faults shelf.old) (S.write_faults shelf.new) finding.now) }
     ensures answer { (t : Texts) → AreKept texts.now t
@@ -94,6 +96,8 @@ fn answer_files<D: Decider, S: Shelf, K: Sink>(
     shelf: &mut S,
     out: &mut K,
 ) -> Status
+    requires reads { S.read_failed shelf.old ≡ false }
+    requires puts { K.put_failed out.old ≡ false }
     ensures others { OthersStay (S.file shelf.old) (S.file shelf.new) finding.now }
     ensures unread { result ≡ Status.ReadFault → S.file shelf.new ≡ S.file shelf.old }
     ensures left { (t : Texts) → AreThreeTold (S.file shelf.old) old.now new.now relation.now t → IsLeft t (saving (S.file shelf.old) (S.file shelf.new) (S.write_faults shelf.old) (S.write_faults shelf.new) finding.now) }
@@ -125,6 +129,10 @@ pub fn answer_verify<D: Decider, S: Shelf, K: Sink>(
     shelf: &mut S,
     out: &mut K,
 ) -> Status
+    // No read and no put has failed before, and none follows one that failed.
+    requires reads { S.read_failed shelf.old ≡ false }
+    requires puts { K.put_failed out.old ≡ false }
+
     // No file but the finding changes, and none where a read failed.
     ensures others { OthersStay (S.file shelf.old) (S.file shelf.new) finding.now }
     ensures unread { result ≡ Status.ReadFault → S.file shelf.new ≡ S.file shelf.old }

@@ -1,5 +1,5 @@
 // A finding saved, and what is answered.
-ghost use Rattle.std.specs.Prelude.{◌≡◌, ◌≢◌, ◌≤◌, ◌⊎◌, IfOk, OnErr};
+ghost use Rattle.std.specs.Prelude.{false, ◌≡◌, ◌≢◌, ◌≤◌, ◌⊎◌, IfOk, OnErr};
 ghost use Rattle.outside.specs.Causes.{Rose, NoneFell};
 ghost use Rattle.outside.specs.Contents.{OthersStay};
 ghost use Rattle.finding_file.specs.Causes.{IsCausedBy};
@@ -66,6 +66,7 @@ fn save<D: Decider, Q: Queries, G: Guesses, S: Shelf>(
 
 // Puts how the saving of a finding ended.
 fn put_saved<K: Sink>(alloc: Global, saved: Result<Conclusion, WriteErr>, out: &mut K) -> Status
+    requires unfailed { K.put_failed out.old ≡ false }
     ensures answer { Answers (ReportsSaved saved) ⊥ result (K.taken out.old) (K.taken out.new) }
     ensures usage { result ≢ Status.Usage }
     ensures read_fault { result ≢ Status.ReadFault }
@@ -91,7 +92,8 @@ pub fn answer_finding<D: Decider, Q: Queries, G: Guesses, S: Shelf, K: Sink>(
     shelf: &mut S,
     out: &mut K,
 ) -> Status
-    requires { Q.compared queries.now ≡ comparison_in compared.now }
+    requires compared { Q.compared queries.now ≡ comparison_in compared.now }
+    requires unfailed { K.put_failed out.old ≡ false }
     ensures others { OthersStay (S.file shelf.old) (S.file shelf.new) finding.now }
     ensures left { LeavesPart (comparison_in compared.now) (Q.formula queries.now) (saving (S.file shelf.old) (S.file shelf.new) (S.write_faults shelf.old) (S.write_faults shelf.new) finding.now) }
     ensures answer { Answers (ReportsVerdict (comparison_in compared.now) (Q.formula queries.now) (saving (S.file shelf.old) (S.file shelf.new) (S.write_faults shelf.old) (S.write_faults shelf.new) finding.now)) ⊥ result (K.taken out.old) (K.taken out.new) }

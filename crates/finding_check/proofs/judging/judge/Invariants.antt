@@ -1,4 +1,4 @@
-use Rattle.std.proofs.Common.{◌≡◌}
+use Rattle.std.proofs.Common.{false, ◌≡◌}
 use Rattle.std.specs.Prelude.{IfSome}
 use Rattle.outside.specs.Causes.{NoneFell}
 use Rattle.scan_replay.specs.Duos.{with_pair}
@@ -23,4 +23,5 @@ invariant-lines g l = record {
   files : g.S.Shelf.file l.shelf ≡ g.S.Shelf.file l.initial.shelf;
   reads : NoneFell (g.S.Shelf.read_faults l.initial.shelf) (g.S.Shelf.read_faults l.shelf);
   writes : NoneFell (g.S.Shelf.write_faults l.initial.shelf) (g.S.Shelf.write_faults l.shelf);
+  unfailed : g.S.Shelf.read_failed l.shelf ≡ false;
 }

@@ -31,6 +31,7 @@ lines-init g c = record {
   files = refl;
   reads = λ name. omega arith;
   writes = λ name. omega arith;
+  unfailed = c.requires.unfailed;
 }
 
 pub returns-in-Err-clause-noted : goal.returns-in-Err-clause-noted
@@ -100,4 +101,5 @@ lines-preserved g c =
       files = c.next.ensures.kept ∙ c.lines.invariant.files;
       reads = λ name. let first = c.lines.invariant.reads name in let more = c.next.ensures.cause.later name in omega (arith, first, more);
       writes = λ name. let first = c.lines.invariant.writes name in let more = c.next.ensures.writes name in omega (arith, first, more);
+      unfailed = c.next.ensures.unfailed (λ e. cc) (λ e. cc);
     }

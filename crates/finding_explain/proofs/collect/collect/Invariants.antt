@@ -1,4 +1,4 @@
-use Rattle.std.proofs.Common.{◌≡◌, List}
+use Rattle.std.proofs.Common.{false, ◌≡◌, List}
 use Rattle.std.specs.Prelude.{IfSome}
 use Rattle.outside.specs.Causes.{NoneFell}
 use Rattle.finding_lines.specs.declared.line.Line.{Line}
@@ -20,4 +20,5 @@ invariant-lines g l = record {
   files : g.S.Shelf.file l.shelf ≡ g.S.Shelf.file l.fn.shelf;
   reads : NoneFell (g.S.Shelf.read_faults l.fn.shelf) (g.S.Shelf.read_faults l.shelf);
   writes : NoneFell (g.S.Shelf.write_faults l.fn.shelf) (g.S.Shelf.write_faults l.shelf);
+  unfailed : g.S.Shelf.read_failed l.shelf ≡ false;
 }

@@ -30,6 +30,7 @@ loop-done-preserved g c =
       same = still;
       played = row_related _ _ _ _ _ _ _ _ _ _ run c.in_ok-put_scan.ensures.whole (are_related c.args.old.now c.args.new.now c.args.relation.now c.step.new.self c.related.result _ still c.related.ensures c.if-not-related.false);
       later = omega (arith, c.loop-done.invariant.later, c.in_ok-put_scan.ensures.later);
+      unfailed = c.in_ok-put_scan.ensures.unfailed;
     }
 
 pub returns-in_err-duo-clause-part : goal.returns-in_err-duo-clause-part

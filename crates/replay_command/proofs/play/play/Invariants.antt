@@ -1,4 +1,4 @@
-use Rattle.std.proofs.Common.{◌≤◌, drop}
+use Rattle.std.proofs.Common.{false, ◌≡◌, ◌≤◌, drop}
 use Rattle.program_tree.specs.View.{program_view}
 use Rattle.scan_model.specs.Pairs.{relation_view}
 use Rattle.replay_command.specs.Outcomes.{outcome_from, outcome_of}
@@ -12,4 +12,5 @@ invariant-loop-done g l = record {
       (outcome_of (program_view l.old) (program_view l.new) (relation_view l.relation) l.rows)
       (outcome_from (program_view l.old) (program_view l.new) (relation_view l.relation) l.done l.duo.pair (drop l.done l.rows));
   later : g.K.Sink.faults l.initial.out ≤ g.K.Sink.faults l.out;
+  unfailed : g.K.Sink.put_failed l.out ≡ false;
 }
