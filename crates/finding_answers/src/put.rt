@@ -1,5 +1,5 @@
 // What is said of a finding, on the sink.
-ghost use Rattle.std.specs.Prelude.{◌≡◌, ◌≢◌, ◌≤◌};
+ghost use Rattle.std.specs.Prelude.{false, ◌≡◌, ◌≢◌, ◌≤◌};
 ghost use Rattle.outside.specs.Causes.{Rose};
 ghost use Rattle.command_answers.specs.Answers.{Answers};
 ghost use Rattle.finding_answers.specs.Lines.{judged_report, too_long_report};
@@ -12,6 +12,7 @@ use std::alloc::Global;
 
 /// Puts what is said of a finding.
 pub fn put_judged<K: Sink>(alloc: Global, judged: Judged, out: &mut K) -> Status
+    requires unfailed { K.put_failed out.old ≡ false }
     ensures answer { Answers (λ r. r ≡ judged_report judged) ⊥ result (K.taken out.old) (K.taken out.new) }
     ensures usage { result ≢ Status.Usage }
     ensures read_fault { result ≢ Status.ReadFault }
@@ -23,6 +24,7 @@ pub fn put_judged<K: Sink>(alloc: Global, judged: Judged, out: &mut K) -> Status
 
 /// Puts why a finding was not judged: it is too long, a read of it failed, or memory was wanting.
 pub fn put_unjudged<K: Sink>(alloc: Global, error: JudgeErr, out: &mut K) -> Status
+    requires unfailed { K.put_failed out.old ≡ false }
     ensures answer { Answers (λ r. (error ≡ JudgeErr.M8) × (r ≡ too_long_report)) (error ≡ JudgeErr.Fault) result (K.taken out.old) (K.taken out.new) }
     ensures usage { result ≢ Status.Usage }
     ensures read_fault { result ≡ Status.ReadFault → error ≡ JudgeErr.Fault }

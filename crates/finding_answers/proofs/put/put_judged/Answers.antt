@@ -5,8 +5,8 @@ use Rattle.finding_answers.specs.Lines.{judged_report}
 use Rattle.finding_answers.proofs.LineLemmas.{whole-judged_status, no_other}
 use Rattle.finding_answers.proofs.put.put_judged.Goals as goal
 
-pub put_report-requires : goal.put_report-requires
-put_report-requires g c = ap extent_of c.judged_status.ensures ∙ whole-judged_status c.args.judged
+pub put_report-requires-clause-extent : goal.put_report-requires-clause-extent
+put_report-requires-clause-extent g c = ap extent_of c.judged_status.ensures ∙ whole-judged_status c.args.judged
 
 pub returns-clause-answer : goal.returns-clause-answer
 returns-clause-answer g c = c.put_report.ensures.answer (judged_report c.args.judged) (sym c.judged_status.ensures) c.judged_line.ensures

@@ -1,9 +1,9 @@
-use Rattle.std.proofs.Common.{◌≡◌, ◌∙◌, ℕ, ◌+◌, ◌<◌, ◌^◌, List, ◌++◌, length, ap, sym, subst, arith, refl}
-use Rattle.std.specs.Prelude.{Option, Some, Ok, Err, IfSome, IfOk, MatchOption, MatchResult}
+use Rattle.std.proofs.Common.{false, ◌≡◌, ◌∙◌, ℕ, ◌+◌, ◌<◌, ◌^◌, List, ◌++◌, length, ap, sym, subst, arith, refl}
+use Rattle.std.specs.Prelude.{Option, Some, Ok, Err, IfSome, IfOk, OnOk, MatchOption, MatchResult}
 use Rattle.outside.specs.Causes.{Rose}
 use Rattle.finding_lines.specs.Spelling.{written}
 use Rattle.finding_file.specs.Ahead.{ahead}
-use Rattle.finding_file.specs.declared.errors.ReadErr.TheVariants.{Memory}
+use Rattle.finding_file.specs.declared.errors.ReadErr.TheVariants.{Fault, Memory}
 use Rattle.judgement.specs.declared.answers.JudgeErr.TheVariants.{M8}
 use Rattle.finding_file.specs.Answering.{IsAnswer}
 use Rattle.finding_file.specs.Reading.{rest_of, Agrees, IsSamePlace, IsPast}
@@ -20,7 +20,7 @@ use Rattle.judgement.proofs.Soundness.{known_moved}
 use Rattle.finding_check.specs.Rooms.{IsSmall, HasRoomAfter}
 use Rattle.finding_check.specs.Stages.{place_of, moved_of}
 use Rattle.finding_check.proofs.RoomLemmas.{small, room_next}
-use Rattle.finding_check.proofs.Standing.{IfSome-all, read_none, told_end, told_stopped, told_fails, told_on, told_never, shows_end, shows_stopped, stopped-fault, Rose-before}
+use Rattle.finding_check.proofs.Standing.{IfSome-all, read_none, told_end, told_stopped, told_fails, told_on, told_never, shows_end, shows_stopped, stopped-fault, stopped-unfailed, Rose-before}
 use Rattle.finding_check.proofs.judging.judge.Goals as goal
 
 pub lines-init : goal.lines-init
@@ -70,6 +70,14 @@ returns-in-Err-clause-cause g c = record {
       Rose-before _ _ _ (c.lines.invariant.reads c.args.reader.now.name)
       (subst (λ (name : List ℕ). Rose (g.S.Shelf.read_faults c.lines.shelf name) (g.S.Shelf.read_faults c.next.new.shelf name)) c.lines.invariant.name rose);
 }
+
+pub returns-in-Err-clause-unfailed : goal.returns-in-Err-clause-unfailed
+returns-in-Err-clause-unfailed g c =
+    subst (λ r. OnOk r (g.S.Shelf.read_failed c.next.new.shelf ≡ false)) (sym (c.stopped.ensures c.lines.trial.pair))
+    (stopped-unfailed (place_of c.lines.stage c.lines.trial.pair) (c.lines.before + 1) c.in-Err.error
+    (λ fault memory. c.next.ensures.unfailed
+    (λ e. let both : Err c.in-Err.error ≡ Err Fault = sym c.in-Err.is ∙ e in let same : c.in-Err.error ≡ Fault = cc in fault same)
+    (λ e. let both : Err c.in-Err.error ≡ Err Memory = sym c.in-Err.is ∙ e in let same : c.in-Err.error ≡ Memory = cc in memory same)))
 
 pub returns-in_default-clause-exact : goal.returns-in_default-clause-exact
 returns-in_default-clause-exact g c =
