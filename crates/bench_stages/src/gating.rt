@@ -46,7 +46,11 @@ impl From<GateFault> for GateStop {
 }
 
 /// How many gates a scan of the program of a text has, whose cells before it are free bits.
-pub fn gate_count<T: Stages>(alloc: Global, text: &[u8], stages: &mut T) -> Result<usize, GateStop> {
+pub fn gate_count<T: Stages>(
+    alloc: Global,
+    text: &[u8],
+    stages: &mut T,
+) -> Result<usize, GateStop> {
     let accepted = accept(alloc, text)?;
     stages.done("accept");
     let (words, free) = free_words(alloc, &accepted.program)?;
