@@ -30,10 +30,10 @@ impl Names {
 }
 
 /// Runs a case of this door.
-pub fn run_gen(
+pub fn run_gen<'c>(
     alloc: Global,
-    head: &Case,
-    case: &Case,
+    head: &'c Case,
+    case: &'c Case,
     found: &mut Vec<Mismatch>,
 ) -> Result<(), CaseFault> {
     let section = section_of(alloc, head, case, Word::Gen)?;
