@@ -46,13 +46,9 @@ pub fn run_gen<'c>(
         names.relation.as_str(),
         names.finding.as_str(),
     ];
-    let tried = Run {
-        words: &["regver", "gen", number],
-        files: &[],
-        saved: &saved,
-    };
+    let words = ["regver", "gen", number];
     let mut shelf = MemShelf::new(alloc, Vec::new(alloc));
-    let ended = run_program(alloc, tried.words, &mut shelf, Vec::new(alloc))?;
+    let ended = run_program(alloc, &words, &mut shelf, Vec::new(alloc))?;
     compare_ended(alloc, "status and output", &expected, &ended, found)?;
     compare_text(alloc, case, Word::Old, shelf.bytes(&names.old), found)?;
     compare_text(alloc, case, Word::New, shelf.bytes(&names.new), found)?;
@@ -66,6 +62,11 @@ pub fn run_gen<'c>(
     let verdict = behind_first(&ended.lines);
     compare_judged(alloc, saved, &ended, verdict, &mut shelf, found)?;
     compare_gen_queries(alloc, case, number, found)?;
+    let tried = Run {
+        words: &words,
+        files: &[],
+        saved: &saved,
+    };
     compare_failing(alloc, case, &tried, found)
 }
 
