@@ -9,7 +9,7 @@ use crate::status::{Status, clause_status};
 use crate::truth::{Truth, put_true};
 
 /// What a pass over the held clauses came to.
-#[derive(Clone, Copy, PartialEq, Eq, Debug)]
+#[derive(Clone, Copy, PartialEq, Eq)]
 pub enum Pass {
     Conflict,
     Changed,

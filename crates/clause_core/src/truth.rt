@@ -7,7 +7,7 @@ use crate::literal::Lit;
 use std::alloc::{AllocError, Global};
 
 /// What a partial assignment gives a variable.
-#[derive(Clone, Copy, PartialEq, Eq, Debug)]
+#[derive(Clone, Copy, PartialEq, Eq)]
 pub enum Truth {
     /// No value yet.
     Open,

@@ -12,7 +12,7 @@ use std::alloc::{AllocError, Global};
 use typing::Meaning;
 
 /// A value of an enumeration: the number of its type, and its own.
-#[derive(Clone, Copy, Debug, PartialEq, Eq)]
+#[derive(Clone, Copy, PartialEq, Eq)]
 pub struct EnumerationValue {
     pub kind: usize,
     pub value: i64,

@@ -7,7 +7,7 @@ use node_end::AcceptFault;
 use rules::{Fault, Refusal};
 
 /// Why texts are not compared: a file breaks a rule, what is made of one is too large, or memory was wanting.
-#[derive(Debug, Drop)]
+#[derive(Drop)]
 pub enum CompareFault {
     Refused(Source, Refusal),
     TooLarge(Source, Limit),

@@ -2,7 +2,7 @@
 use crate::numbers::Numbers;
 
 /// Which query a line speaks of.
-#[derive(Clone, Copy, Debug, PartialEq, Eq)]
+#[derive(Clone, Copy, PartialEq, Eq)]
 pub enum Asked {
     /// For a first row that is allowed.
     First,
@@ -15,7 +15,7 @@ pub enum Asked {
 }
 
 /// The verdict at a finding's end, with its numbers as they are written.
-#[derive(Clone, Copy, Debug, PartialEq, Eq)]
+#[derive(Clone, Copy, PartialEq, Eq)]
 pub enum Conclusion {
     /// No first row is allowed.
     Vacuous,

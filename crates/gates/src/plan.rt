@@ -5,7 +5,7 @@ use crate::literals::{FALSE, are_opposite, are_same, is_false, is_true, plain};
 use clause_core::{Gate, Lit};
 
 /// What a rule comes to: a literal that is there already, or a gate to ask for, negated or not.
-#[derive(Clone, Copy, Debug)]
+#[derive(Clone, Copy)]
 pub enum Plan {
     Ready(Lit),
     Ask(Gate, bool),

@@ -5,7 +5,7 @@ ghost use Rattle.gates.specs.Stored.{gate_of, stored_of, of_operands};
 use clause_core::{Gate, Lit};
 
 /// The kind of a gate.
-#[derive(Clone, Copy, PartialEq, Eq, Debug, Hash)]
+#[derive(Clone, Copy, PartialEq, Eq, Hash)]
 pub enum Form {
     And,
     Xor,
@@ -13,7 +13,7 @@ pub enum Form {
 }
 
 /// A gate, its variables and signs apart; a gate of two operands has no third.
-#[derive(Clone, Copy, PartialEq, Eq, Debug, Hash)]
+#[derive(Clone, Copy, PartialEq, Eq, Hash)]
 pub struct StoredGate {
     pub form: Form,
     pub negative_one: bool,

@@ -6,7 +6,7 @@ use itoa::Buffer;
 use std::alloc::{AllocError, Global};
 
 /// The names of the files that are made: three texts and the finding.
-#[derive(Debug, Drop)]
+#[derive(Drop)]
 pub struct FileNames {
     pub old: String,
     pub new: String,

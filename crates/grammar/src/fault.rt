@@ -3,7 +3,7 @@ use rules::{Fault, Refusal, Rule};
 use std::alloc::{AllocError, AllocFailed};
 
 /// Why reading stopped: no tree goes on at a place, in bytes from 0, or memory ran out.
-#[derive(Debug, Drop)]
+#[derive(Drop)]
 pub enum Stop {
     NoTree(usize),
     Memory,

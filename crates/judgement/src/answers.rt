@@ -4,7 +4,7 @@ use std::alloc::AllocError;
 use thiserror::Error;
 
 /// The test that a line fails.
-#[derive(Clone, Copy, Debug, PartialEq, Eq)]
+#[derive(Clone, Copy, PartialEq, Eq)]
 pub enum Reason {
     /// It is none of the forms.
     B1,
@@ -35,7 +35,7 @@ pub enum Reason {
 }
 
 /// What is said of a finding.
-#[derive(Clone, Copy, Debug, PartialEq, Eq)]
+#[derive(Clone, Copy, PartialEq, Eq)]
 pub enum Judged {
     /// Every line passes; the verdict is that of the END line.
     Valid(Conclusion),

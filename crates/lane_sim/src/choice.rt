@@ -5,7 +5,7 @@ use clause_core::{Gate, Lit};
 use gates::FALSE;
 
 /// `yes` where `condition` is true, else `no`.
-#[derive(Clone, Copy, Debug)]
+#[derive(Clone, Copy)]
 pub struct Choice {
     pub condition: Lit,
     pub yes: Lit,

@@ -11,7 +11,7 @@ use std::simd::u64x4;
 
 /// Writes a word: that at the place `yes`, turned or not, where the one at `condition` is set, else the one at `no`. All steps have one
 /// form, and 16 bytes: `code` is twice the place that is written, and one more where `yes` is turned.
-#[derive(Clone, Copy, Debug)]
+#[derive(Clone, Copy)]
 pub struct Step {
     condition: u32,
     yes: u32,

@@ -5,7 +5,7 @@ use plc_types::{Elementary, Operator, Range, Shift, UnaryOperator};
 /// numbers. The kind of a node is the type of its operands, and that of a `Constant` is the type of its number. `Divide` and
 /// `Mod` give 0 where the divisor is 0. `Mux` is `on` where the condition is TRUE, else `off`, and SEL is one. `Outside` tells whether a
 /// value lies outside of the range of a subrange.
-#[derive(Clone, Copy, Debug)]
+#[derive(Clone, Copy)]
 pub enum Node {
     Constant {
         kind: Elementary,

@@ -3,7 +3,7 @@ ghost use Rattle.std.specs.Prelude.{◌≡◌, ◌<◌, ◌≤◌};
 ghost use Rattle.plc_types.specs.Types.{width_of, is_signed, is_integer};
 
 /// An elementary type (IEC 61131-3, 2.3.1). Bit strings are read as unsigned numbers.
-#[derive(Clone, Copy, Debug, PartialEq, Eq)]
+#[derive(Clone, Copy, PartialEq, Eq)]
 pub enum Elementary {
     Bool,
     Sint,

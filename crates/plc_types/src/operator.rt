@@ -1,7 +1,7 @@
 // Operators.
 
 /// A binary operator (IEC 61131-3, 3.3.1). `&` is `And`.
-#[derive(Clone, Copy, Debug, PartialEq, Eq)]
+#[derive(Clone, Copy, PartialEq, Eq)]
 pub enum Operator {
     Or,
     Xor,
@@ -20,7 +20,7 @@ pub enum Operator {
 }
 
 /// A unary operator (IEC 61131-3, table 52).
-#[derive(Clone, Copy, Debug, PartialEq, Eq)]
+#[derive(Clone, Copy, PartialEq, Eq)]
 pub enum UnaryOperator {
     Minus,
     Not,

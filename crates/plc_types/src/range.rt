@@ -1,7 +1,7 @@
 // Ranges of values.
 
 /// The least and the greatest value of a cell.
-#[derive(Clone, Copy, Debug, PartialEq, Eq)]
+#[derive(Clone, Copy, PartialEq, Eq)]
 pub struct Range {
     pub low: i64,
     pub high: i64,

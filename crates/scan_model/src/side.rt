@@ -1,7 +1,7 @@
 // The two sides of a comparison.
 
 /// OLD or NEW.
-#[derive(Clone, Copy, Debug, PartialEq, Eq)]
+#[derive(Clone, Copy, PartialEq, Eq)]
 pub enum Side {
     Old,
     New,

@@ -4,7 +4,7 @@ ghost use Rattle.node_core.specs.Words.{word_at};
 ghost use Rattle.scan_ssa.specs.Held.{held_store};
 
 /// Which word each place holds: the places of a clause their start words, and those of a scan what the store has.
-#[derive(Clone, Copy, Debug)]
+#[derive(Clone, Copy)]
 pub enum Held<'a> {
     Starts(usize),
     Store(&'a [Option<usize>]),

@@ -6,7 +6,7 @@ ghost use Rattle.scan_ssa.specs.Trails.{with_changes, store_at, Keeps};
 use std::alloc::{AllocError, Global};
 
 /// A place, and the word that it is to hold, if any.
-#[derive(Clone, Copy, Debug)]
+#[derive(Clone, Copy)]
 pub struct Change {
     pub place: usize,
     pub word: Option<usize>,

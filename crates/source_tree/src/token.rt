@@ -2,7 +2,7 @@
 use plc_types::{Elementary, Operator};
 
 /// A reserved word or a sign of which trees keep neither the spelling nor the place.
-#[derive(Clone, Copy, Debug, PartialEq, Eq)]
+#[derive(Clone, Copy, PartialEq, Eq)]
 pub enum Mark {
     Close,
     Comma,
@@ -46,7 +46,7 @@ pub enum Mark {
 }
 
 /// A word that begins a part of a chart (IEC 61131-3, 2.6): INITIAL_STEP, STEP, TRANSITION or ACTION.
-#[derive(Clone, Copy, Debug, PartialEq, Eq)]
+#[derive(Clone, Copy, PartialEq, Eq)]
 pub enum PartWord {
     InitialStep,
     Step,
@@ -55,7 +55,7 @@ pub enum PartWord {
 }
 
 /// What a token is: a word, a number or a sign (IEC 61131-3, 2.1).
-#[derive(Clone, Copy, Debug, PartialEq, Eq)]
+#[derive(Clone, Copy, PartialEq, Eq)]
 pub enum Kind {
     Word,
     Number,
@@ -65,7 +65,7 @@ pub enum Kind {
 /// What a token is for the grammar (IEC 61131-3, annexes B and C): a name; a number, by its value; a truth
 /// value; an elementary type; NOT; a binary operator, `-` among them; `(`; FOR; a word that begins a part of a chart; another
 /// word or sign that is let in; or a word that is left out.
-#[derive(Clone, Copy, Debug, PartialEq, Eq)]
+#[derive(Clone, Copy, PartialEq, Eq)]
 pub enum Terminal {
     Name,
     Number(u64),

@@ -15,7 +15,7 @@ use std::alloc::{AllocError, Global};
 use typing::Scope;
 
 /// What judging the selector of a CASE tells, and its type.
-#[derive(Clone, Copy, Debug, PartialEq, Eq)]
+#[derive(Clone, Copy, PartialEq, Eq)]
 struct Selector {
     outcome: Outcome,
     kind: DataType,

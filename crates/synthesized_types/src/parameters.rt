@@ -9,7 +9,7 @@ use plc_types::{DataType, Elementary, StandardFunction};
 
 /// What a standard function takes at a place: a value of a type of its own, of the one type that its operands and
 /// its result share, or the amount of a shift.
-#[derive(Clone, Copy, Debug, PartialEq, Eq)]
+#[derive(Clone, Copy, PartialEq, Eq)]
 pub enum Parameter {
     Fixed(Elementary),
     Common,

@@ -11,7 +11,7 @@ use gates::{Circuit, GateFault, TRUE};
 use std::alloc::{AllocError, Global};
 
 /// A comparison of two words.
-#[derive(Clone, Copy, PartialEq, Eq, Debug)]
+#[derive(Clone, Copy, PartialEq, Eq)]
 pub enum Comparison {
     Equal,
     NotEqual,
