@@ -13,7 +13,7 @@ const FREE: u32 = 1_000_000;
 const GATES: u32 = 16_777_216;
 
 /// Why there are no gates.
-#[derive(Clone, Copy, PartialEq, Eq)]
+#[derive(Clone, Copy)]
 pub enum GateStop {
     Refused,
     TooManyCells,

@@ -17,7 +17,7 @@ use st_names::Resolved;
 use std::alloc::Global;
 
 /// Why reading stopped.
-#[derive(Clone, Copy, PartialEq, Eq)]
+#[derive(Clone, Copy)]
 pub enum Stop {
     Refused(Refusal),
     TooManyNodes,
@@ -43,7 +43,7 @@ impl From<NodeFault> for Stop {
 }
 
 /// What a text has.
-#[derive(Clone, Copy, PartialEq, Eq)]
+#[derive(Clone, Copy)]
 pub struct Counts {
     pub tokens: usize,
     pub cells: usize,

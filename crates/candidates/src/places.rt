@@ -10,7 +10,7 @@ use program_tree::{Cell, Part, Program};
 use std::alloc::{AllocError, Global};
 
 /// What is known of a cell: its place, the part that it plays, its type, its range, and whether its type is a subrange.
-#[derive(Clone, Copy, PartialEq, Eq)]
+#[derive(Clone, Copy)]
 pub struct Placed {
     pub place: usize,
     pub part: Part,

@@ -1,7 +1,7 @@
 // The words that begin a section of a case file.
 
 /// The word of a section.
-#[derive(Clone, Copy, PartialEq, Eq)]
+#[derive(Clone, Copy)]
 pub enum Word {
     Accept,
     Old,
@@ -41,7 +41,7 @@ pub enum Word {
 }
 
 /// What runs a case.
-#[derive(Clone, Copy, PartialEq, Eq)]
+#[derive(Clone, Copy)]
 pub enum Door {
     Accept,
     Replay,

@@ -8,7 +8,7 @@ use crate::status::{Status, clause_status};
 use crate::truth::{Truth, assume_false, put_true, reopen};
 
 /// What the hints of a step come to.
-#[derive(Clone, Copy, PartialEq, Eq)]
+#[derive(Clone, Copy)]
 pub enum Outcome {
     /// A hint is a false clause.
     Accepted,

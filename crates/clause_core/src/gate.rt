@@ -1,7 +1,7 @@
 use crate::literal::Lit;
 
 /// A gate of a Boolean circuit: it has a literal's value for each value of its operands.
-#[derive(Clone, Copy, PartialEq, Eq)]
+#[derive(Clone, Copy)]
 pub enum Gate {
     /// Both operands.
     And(Lit, Lit),

@@ -4,7 +4,7 @@ ghost use Rattle.clause_core.specs.Values.{negation};
 
 /// A literal: a variable, numbered from 1, or its negative. Variable 1 is the constant TRUE where a
 /// formula says so by the clause of it alone.
-#[derive(Clone, Copy, PartialEq, Eq)]
+#[derive(Clone, Copy, Default)]
 pub struct Lit {
     pub variable: u32,
     pub negative: bool,

@@ -9,7 +9,7 @@ use crate::status::{Status, clause_status};
 use crate::truth::{Truth, put_true};
 
 /// What a pass over the held clauses came to.
-#[derive(Clone, Copy, PartialEq, Eq)]
+#[derive(Clone, Copy)]
 pub enum Pass {
     Conflict,
     Changed,

@@ -6,7 +6,7 @@ use crate::literal::Lit;
 use crate::truth::{Truth, value};
 
 /// What a clause is under a partial assignment: false, unit with an open literal, or neither.
-#[derive(Clone, Copy, PartialEq, Eq)]
+#[derive(Clone, Copy)]
 pub enum Status {
     /// Each literal is false.
     Falsified,

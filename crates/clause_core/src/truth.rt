@@ -7,7 +7,7 @@ use crate::literal::Lit;
 use std::alloc::{AllocError, Global};
 
 /// What a partial assignment gives a variable.
-#[derive(Clone, Copy, PartialEq, Eq)]
+#[derive(Clone, Copy)]
 pub enum Truth {
     /// No value yet.
     Open,

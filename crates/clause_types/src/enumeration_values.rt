@@ -12,7 +12,7 @@ use std::alloc::{AllocError, Global};
 use typing::Meaning;
 
 /// A value of an enumeration: the number of its type, and its own.
-#[derive(Clone, Copy, PartialEq, Eq)]
+#[derive(Clone, Copy)]
 pub struct EnumerationValue {
     pub kind: usize,
     pub value: i64,

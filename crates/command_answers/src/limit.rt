@@ -1,7 +1,7 @@
 // Limits on what is made of files.
 
 /// A limit on what is made of a file. The place in its refusal is 0.
-#[derive(Clone, Copy, PartialEq, Eq)]
+#[derive(Clone, Copy)]
 pub enum Limit {
     /// M6: the scan of a program has more than 1,000,000 nodes.
     Nodes,

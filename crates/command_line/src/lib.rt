@@ -7,7 +7,7 @@ mod read;
 pub use read::read_words;
 
 /// The words that name four files: two programs, a relation, and a trace or a finding.
-#[derive(Drop, PartialEq, Eq)]
+#[derive(Drop)]
 pub struct FourWords {
     pub old: String,
     pub new: String,
@@ -16,7 +16,7 @@ pub struct FourWords {
 }
 
 /// A command that the words of the command line may ask for.
-#[derive(Drop, PartialEq, Eq)]
+#[derive(Drop)]
 pub enum Command {
     /// Judges a finding, the last of the files.
     Check(FourWords),

@@ -14,7 +14,7 @@ use std::marker::Model;
 use watched_propagation::Propagator;
 
 /// A step was accepted.
-#[derive(Clone, Copy, PartialEq, Eq)]
+#[derive(Clone, Copy)]
 pub struct Ack;
 
 /// Holds the clauses of a formula and those derived from it, in this order and numbered from 1.

@@ -1,7 +1,7 @@
 use thiserror::Error;
 
 /// Why a step is not taken, with the number of the hint that refuses it.
-#[derive(Drop, PartialEq, Eq, Error)]
+#[derive(Debug, Drop, Error)]
 pub enum StepFault {
     #[error("no clause {0} is held")]
     UnknownHint(u32),

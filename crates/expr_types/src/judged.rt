@@ -7,7 +7,7 @@ use rules::Outcome;
 use synthesized_types::or_dint;
 
 /// What judging an expression tells, and its synthesized type, where it has one.
-#[derive(Clone, Copy, PartialEq, Eq)]
+#[derive(Clone, Copy)]
 pub struct JudgedExpr {
     pub outcome: Outcome,
     pub synthesized: Option<DataType>,

@@ -12,7 +12,7 @@ use pou_scope::{NamesOfPou, UseNumbers};
 use source_tree::{Item, Name, Pou, SourceFile, TypeDeclaration};
 
 /// A variable that a name is bound to: its number in declared order, from 1, and what it is for.
-#[derive(Clone, Copy, PartialEq, Eq)]
+#[derive(Clone, Copy)]
 pub struct Bound {
     pub number: usize,
     pub role: Role,

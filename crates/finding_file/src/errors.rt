@@ -6,7 +6,7 @@ use std::alloc::AllocError;
 use thiserror::Error;
 
 /// Why the next line was not read.
-#[derive(Clone, Copy, Debug, PartialEq, Eq, Error)]
+#[derive(Clone, Copy, Debug, Error)]
 pub enum ReadErr {
     /// The file failed.
     #[error("the finding cannot be read")]
@@ -26,7 +26,7 @@ pub enum ReadErr {
 }
 
 /// Why a line was not written.
-#[derive(Clone, Copy, Debug, PartialEq, Eq, Error)]
+#[derive(Clone, Copy, Debug, Error)]
 pub enum WriteErr {
     /// The file failed.
     #[error("the finding cannot be written")]

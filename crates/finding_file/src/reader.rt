@@ -36,7 +36,7 @@ impl Model for FindingReader {
 }
 
 /// What a read of one more piece met.
-#[derive(Clone, Copy, PartialEq, Eq)]
+#[derive(Clone, Copy)]
 enum Piece {
     /// More bytes.
     Added,
@@ -47,7 +47,7 @@ enum Piece {
 }
 
 /// What stands ahead.
-#[derive(Clone, Copy, PartialEq, Eq)]
+#[derive(Clone, Copy)]
 enum Found {
     /// A line feed behind so many bytes.
     Feed(usize),

@@ -5,7 +5,7 @@ ghost use Rattle.finding_progress.specs.Counting.{more, answers_query, with_line
 use std::fmt::{self, Display, Formatter};
 
 /// What has been saved of a finding so far. A count stands still at its type's end.
-#[derive(Clone, Copy, PartialEq, Eq)]
+#[derive(Clone, Copy)]
 pub struct Saved {
     /// Lines that drop candidates.
     pub drops: u64,

@@ -4,7 +4,7 @@ use program_tree::TypedExpr;
 
 /// A cell that a scan sets before it reads it, so that no state has it: the elementary type whose numbers its values
 /// are, their range, and whether they are those of a subrange, which takes no others.
-#[derive(Clone, Copy, PartialEq, Eq)]
+#[derive(Clone, Copy)]
 pub struct Scratch {
     pub kind: Elementary,
     pub range: Range,

@@ -6,7 +6,7 @@ use derivation_check::Checker;
 use std::alloc::{AllocError, Global};
 
 /// Who decides.
-#[derive(Clone, Copy, PartialEq, Eq)]
+#[derive(Clone, Copy)]
 pub enum Way {
     Fast,
     Plain,

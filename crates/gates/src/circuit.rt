@@ -12,7 +12,7 @@ use std::alloc::Global;
 use std::marker::Model;
 
 /// Why a gate was not made.
-#[derive(Clone, Copy, PartialEq, Eq)]
+#[derive(Clone, Copy)]
 pub enum GateFault {
     /// The circuit has as many gates as it may have, and needs one more.
     TooMany,

@@ -17,7 +17,7 @@ use plc_types::{Elementary, Function, Operator};
 use program_tree::{Operand, TypedExpr};
 
 /// What an expression gives.
-#[derive(Clone, Copy, PartialEq, Eq)]
+#[derive(Clone, Copy)]
 pub struct Evaluated {
     pub value: i64,
     pub fault: bool,

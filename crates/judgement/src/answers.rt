@@ -4,7 +4,7 @@ use std::alloc::AllocError;
 use thiserror::Error;
 
 /// The test that a line fails.
-#[derive(Clone, Copy, PartialEq, Eq)]
+#[derive(Clone, Copy)]
 pub enum Reason {
     /// It is none of the forms.
     B1,
@@ -35,7 +35,7 @@ pub enum Reason {
 }
 
 /// What is said of a finding.
-#[derive(Clone, Copy, PartialEq, Eq)]
+#[derive(Clone, Copy)]
 pub enum Judged {
     /// Every line passes; the verdict is that of the END line.
     Valid(Conclusion),
@@ -44,7 +44,7 @@ pub enum Judged {
 }
 
 /// Why nothing is said.
-#[derive(Clone, Copy, Debug, PartialEq, Eq, Error)]
+#[derive(Clone, Copy, Debug, Error)]
 pub enum JudgeErr {
     /// The file failed.
     #[error("the finding cannot be read")]

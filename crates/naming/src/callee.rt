@@ -6,7 +6,7 @@ ghost use Rattle.naming.specs.DeclarationUses.{numbers_in};
 use std::alloc::AllocError;
 
 /// What a call in an expression calls: a standard function, the FUNCTION of a number, or nothing that is known.
-#[derive(Clone, Copy, PartialEq, Eq)]
+#[derive(Clone, Copy)]
 pub enum Callee {
     Standard,
     Function(usize),

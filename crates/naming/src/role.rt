@@ -7,7 +7,7 @@ use source_tree::Section;
 /// What a name of a POU is for: that of a variable of VAR_INPUT, VAR_OUTPUT, VAR, VAR_TEMP or VAR CONSTANT, or of the result of a
 /// FUNCTION, by its own name; or in a chart that of a step, which may be the initial one, of an action, which some step may set or
 /// reset so that it is stored, or of a transition.
-#[derive(Clone, Copy, PartialEq, Eq)]
+#[derive(Clone, Copy)]
 pub enum Role {
     Input,
     Output,

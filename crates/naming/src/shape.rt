@@ -1,7 +1,7 @@
 // What a type is.
 
 /// What a type is, where it is told apart: for an enumeration, whether the names of its values break no rule.
-#[derive(Clone, Copy, PartialEq, Eq)]
+#[derive(Clone, Copy)]
 pub enum Shape {
     Elementary,
     Subrange,

@@ -6,7 +6,7 @@ use crate::role::Role;
 
 /// What is known of a name: the number in declared order, from 1, and the role of the first variable of that name, and
 /// whether the name is declared twice.
-#[derive(Clone, Copy, PartialEq, Eq)]
+#[derive(Clone, Copy)]
 pub struct Slot {
     pub number: usize,
     pub role: Role,

@@ -6,7 +6,7 @@ ghost use Rattle.naming.specs.Types.{is_that_value, type_number};
 
 /// What a name of a file stands for: a type, by its number in declared order from 0; a value of an enumeration, by the
 /// numbers of its type and of itself; or a POU, by its number among those of the file in the order of the text, from 0.
-#[derive(Clone, Copy, PartialEq, Eq)]
+#[derive(Clone, Copy)]
 pub enum Standing {
     Type(usize),
     Value(usize, usize),

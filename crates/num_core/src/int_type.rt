@@ -5,7 +5,7 @@ ghost use Rattle.num_core.specs.Ranges.{lowest, highest};
 
 /// An integer type, as the elementary types of IEC 61131-3, table 10, and their subranges: a number
 /// of `width` bits, in two's complement if `signed`, from `lo` to `hi`. BOOL is one unsigned bit.
-#[derive(Clone, Copy, PartialEq, Eq)]
+#[derive(Clone, Copy)]
 pub struct IntType {
     pub width: u32,
     pub signed: bool,

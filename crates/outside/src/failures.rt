@@ -3,7 +3,7 @@ ghost use Rattle.std.specs.Prelude.{◌≡◌, ◌+◌, ◌-◌, ◌^◌, min};
 ghost use Rattle.outside.specs.Failures.{failure_of, count_of, counted, next_of};
 
 /// What a call does.
-#[derive(Clone, Copy, Debug, PartialEq, Eq)]
+#[derive(Clone, Copy, Debug)]
 pub enum CallKind {
     Read,
     Create,
@@ -13,7 +13,7 @@ pub enum CallKind {
 
 /// A call that fails: the number of the call within its kind, from 1, and how many of its bytes are kept.
 /// A create that keeps none leaves its file empty, any other leaves it as it was.
-#[derive(Clone, Copy, PartialEq, Eq)]
+#[derive(Clone, Copy)]
 pub struct Failure {
     pub kind: CallKind,
     pub number: u64,
@@ -21,7 +21,7 @@ pub struct Failure {
 }
 
 /// How many calls of each kind there were. A count stands still at its type's end.
-#[derive(Clone, Copy, PartialEq, Eq)]
+#[derive(Clone, Copy)]
 pub struct CallCounts {
     pub reads: u64,
     pub creates: u64,

@@ -9,7 +9,7 @@ use std::alloc::{AllocError, Global};
 
 /// What circuits have to know of a cell: the elementary type whose numbers its values are, whether a word of that type can lie
 /// outside of its range, its range, and the value that it begins with.
-#[derive(Clone, Copy, PartialEq, Eq)]
+#[derive(Clone, Copy)]
 pub struct CellShape {
     pub kind: Elementary,
     pub bounded: bool,

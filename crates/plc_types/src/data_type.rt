@@ -6,7 +6,7 @@ use crate::elementary::Elementary;
 
 /// A data type (IEC 61131-3, 2.3): an elementary one; an enumeration, by its number among the types that its file
 /// declares, from 0; or one whose declaration breaks a rule, which no cell of a program has.
-#[derive(Clone, Copy, PartialEq, Eq)]
+#[derive(Clone, Copy)]
 pub enum DataType {
     Elementary(Elementary),
     Enumeration(usize),

@@ -20,7 +20,7 @@ pub enum Operator {
 }
 
 /// A unary operator (IEC 61131-3, table 52).
-#[derive(Clone, Copy, PartialEq, Eq)]
+#[derive(Clone, Copy)]
 pub enum UnaryOperator {
     Minus,
     Not,

@@ -26,7 +26,7 @@ pub struct Operand {
 
 /// How an action is associated with a step (IEC 61131-3, table 45): it is not stored, by N or without a word; set by S; reset by R;
 /// runs once where the step becomes active, by P or P1; or once where it ceases to be, by P0.
-#[derive(Clone, Copy, PartialEq, Eq)]
+#[derive(Clone, Copy)]
 pub enum Qualifier {
     NonStored,
     Set,
@@ -36,14 +36,14 @@ pub enum Qualifier {
 }
 
 /// An association of an action with a step, by the step's number in the chart, from 0 (IEC 61131-3, 2.6.4.3).
-#[derive(Clone, Copy, PartialEq, Eq)]
+#[derive(Clone, Copy)]
 pub struct Association {
     pub qualifier: Qualifier,
     pub step: usize,
 }
 
 /// The cells of a step: whether it is active, and whether it was where the run before this one started.
-#[derive(Clone, Copy, PartialEq, Eq)]
+#[derive(Clone, Copy)]
 pub struct StepCells {
     pub active: usize,
     pub before: usize,
@@ -100,7 +100,7 @@ pub struct TypedEntry {
 
 /// The turns of a FOR: how many there are, the cell of the control variable, its first value, and what is added
 /// to it behind each turn.
-#[derive(Clone, Copy, PartialEq, Eq)]
+#[derive(Clone, Copy)]
 pub struct Turns {
     pub count: u16,
     pub control: usize,
@@ -109,7 +109,7 @@ pub struct Turns {
 }
 
 /// What part a cell plays in its program.
-#[derive(Clone, Copy, PartialEq, Eq)]
+#[derive(Clone, Copy)]
 pub enum Part {
     Fault,
     Input,
@@ -119,7 +119,7 @@ pub enum Part {
 
 /// A label of a CASE (IEC 61131-3, 3.3.2.3): one value, or each value from one to another. A range of one value stays a range,
 /// since its test compares twice.
-#[derive(Clone, Copy, PartialEq, Eq)]
+#[derive(Clone, Copy)]
 pub enum TypedLabel {
     Single(i64),
     Span(Range),
@@ -138,7 +138,7 @@ pub struct Cell {
 }
 
 /// The type of a cell that has no path: its data type, and whether it is a subrange of it.
-#[derive(Clone, Copy, PartialEq, Eq)]
+#[derive(Clone, Copy)]
 pub struct CellType {
     pub kind: DataType,
     pub is_subrange: bool,
@@ -155,7 +155,7 @@ pub struct Frame {
 
 /// Where the cells of a chart's steps stand, one step behind the other, each with two cells: the place of the first, and how many
 /// steps there are (IEC 61131-3, 2.6.2).
-#[derive(Clone, Copy, PartialEq, Eq)]
+#[derive(Clone, Copy)]
 pub struct ChartCells {
     pub first: usize,
     pub steps: usize,

@@ -30,7 +30,7 @@ impl ClauseRef {
 }
 
 /// A literal in one number, its rank: twice its variable, and one more for its negative.
-#[derive(Clone, Copy, PartialEq, Eq)]
+#[derive(Clone, Copy)]
 pub struct Code {
     pub number: u32,
 }

@@ -1,7 +1,7 @@
 // What may be proposed.
 
 /// How a BOOL cell is made of two others.
-#[derive(Clone, Copy, PartialEq, Eq)]
+#[derive(Clone, Copy)]
 pub enum Junction {
     And,
     Or,

@@ -7,7 +7,7 @@ use seen_values::mixed;
 use std::alloc::{AllocError, Global};
 
 /// What may be said of values of a type: of BOOL ones; of numbers, which may be added; and of others, which may be compared.
-#[derive(Clone, Copy, PartialEq, Eq)]
+#[derive(Clone, Copy)]
 pub enum Sort {
     Bool,
     Integer,

@@ -25,7 +25,7 @@ pub(crate) fn rank_of(content: &Content) -> usize
 }
 
 /// The kinds of the lines so far: the rank of the last one, and which ranks there were.
-#[derive(Clone, Copy, PartialEq, Eq)]
+#[derive(Clone, Copy)]
 pub(crate) struct Kinds {
     pub above: usize,
     pub had: [bool; 8],

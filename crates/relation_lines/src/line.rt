@@ -4,7 +4,7 @@ use scan_model::Side;
 use source_tree::{Expr, Name};
 
 /// A line that has a number: `RELATION n;`, `DEPTH n;` or `CONFLICTS n;`.
-#[derive(Clone, Copy, PartialEq, Eq)]
+#[derive(Clone, Copy)]
 pub enum Setting {
     /// The version of the file's form.
     Version,
@@ -16,7 +16,7 @@ pub enum Setting {
 
 /// What the clause of a line says: which inputs may come (`ENV`), what holds after a scan
 /// (`RELATE`), or what may help to show that it does (`INVARIANT`).
-#[derive(Clone, Copy, PartialEq, Eq)]
+#[derive(Clone, Copy)]
 pub enum Condition {
     Environment,
     Relate,

@@ -6,7 +6,7 @@ use crate::line::{Condition, Setting};
 use scan_model::Side;
 
 /// What the first word of a line asks for.
-#[derive(Clone, Copy, PartialEq, Eq)]
+#[derive(Clone, Copy)]
 pub enum FirstWord {
     Setting(Setting),
     Faults,

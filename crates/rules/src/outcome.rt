@@ -2,7 +2,7 @@
 use crate::rule::{Refusal, Rule};
 
 /// Whether a construct is whole, and the first rule that is broken in it.
-#[derive(Clone, Copy, PartialEq, Eq)]
+#[derive(Clone, Copy)]
 pub struct Outcome {
     pub whole: bool,
     pub first: Option<Refusal>,

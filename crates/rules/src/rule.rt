@@ -4,7 +4,7 @@ ghost use Rattle.rules.specs.Rules.{name_of};
 
 /// A rule that a program, a relation file or a trace may break, in the order in which passes test them and, in
 /// a pass, in the order that decides at one place.
-#[derive(Clone, Copy, Debug, PartialEq, Eq)]
+#[derive(Clone, Copy, Debug)]
 pub enum Rule {
     /// M1: a file has more than 1,048,576 bytes. Its place is 0.
     TooLong,
@@ -141,7 +141,7 @@ impl Rule {
 }
 
 /// A rule that a file breaks, and the place where it does, in bytes from 0.
-#[derive(Clone, Copy, Debug, PartialEq, Eq)]
+#[derive(Clone, Copy, Debug)]
 pub struct Refusal {
     pub rule: Rule,
     pub at: usize,

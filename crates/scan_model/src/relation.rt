@@ -62,7 +62,7 @@ impl Relation {
 
 /// One number of a row of inputs: its range, and the cells that it is put into, by their places: one of each
 /// program, one of OLD, or one of NEW.
-#[derive(Clone, Copy, PartialEq, Eq)]
+#[derive(Clone, Copy)]
 pub enum InputLine {
     Both {
         range: Range,
@@ -80,7 +80,7 @@ pub enum InputLine {
 }
 
 /// How a replay ends: after all of so many rows, or at a row, counted from 1.
-#[derive(Clone, Copy, PartialEq, Eq)]
+#[derive(Clone, Copy)]
 pub enum Ending {
     Related(usize),
     Unrelated(usize),

@@ -1,7 +1,7 @@
 // The two sides of a comparison.
 
 /// OLD or NEW.
-#[derive(Clone, Copy, PartialEq, Eq)]
+#[derive(Clone, Copy)]
 pub enum Side {
     Old,
     New,

@@ -1,7 +1,7 @@
 // What is said of two programs under a relation.
 
 /// A verdict, with the numbers of its line.
-#[derive(Clone, Copy, PartialEq, Eq)]
+#[derive(Clone, Copy)]
 pub enum Verdict {
     /// No first row is allowed.
     Vacuous,

@@ -4,7 +4,7 @@ use std::alloc::{AllocError, Global};
 
 /// What is kept of the values of a cell on all pairs: checksums of the values, of what each leaves to 1, of how far
 /// each lies above the first, and of how far it lies below; and the first, the least and the greatest value.
-#[derive(Clone, Copy, PartialEq, Eq)]
+#[derive(Clone, Copy)]
 pub struct Signature {
     pub values: u64,
     pub opposite: u64,

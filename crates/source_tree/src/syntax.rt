@@ -33,7 +33,7 @@ pub struct Path {
 
 /// A literal (IEC 61131-3, 2.2.1): a number or a truth value, with its type before it or without. A number
 /// behind a type may have a minus sign, whose place is `minus`.
-#[derive(Clone, Copy, PartialEq, Eq)]
+#[derive(Clone, Copy)]
 pub enum Literal {
     Number {
         value: u64,
@@ -187,7 +187,7 @@ pub struct Declaration {
 }
 
 /// What variables are for: VAR_INPUT, VAR_OUTPUT, VAR, VAR_TEMP or VAR CONSTANT.
-#[derive(Clone, Copy, PartialEq, Eq)]
+#[derive(Clone, Copy)]
 pub enum Section {
     Input,
     Output,
@@ -235,7 +235,7 @@ pub enum Steps {
 }
 
 /// `(PRIORITY := number)` behind TRANSITION: the places of the parenthesis and of the word, and the number with its own.
-#[derive(Clone, Copy, PartialEq, Eq)]
+#[derive(Clone, Copy)]
 pub struct Priority {
     pub at: usize,
     pub word_at: usize,

@@ -55,7 +55,7 @@ pub enum PartWord {
 }
 
 /// What a token is: a word, a number or a sign (IEC 61131-3, 2.1).
-#[derive(Clone, Copy, PartialEq, Eq)]
+#[derive(Clone, Copy)]
 pub enum Kind {
     Word,
     Number,

@@ -24,7 +24,7 @@ use std::alloc::{AllocError, Global};
 use typing::{Instance, Meaning, Scope};
 
 // What judging connections finds: what they break, and whether inputs are connected by `:=` and outputs by `=>`.
-#[derive(Clone, Copy, PartialEq, Eq)]
+#[derive(Clone, Copy)]
 struct JudgedConnections {
     judged: Outcome,
     right: bool,

@@ -23,7 +23,7 @@ use typing::{Meaning, Place, Scope};
 
 // What judging a bound finds: what it breaks, its value, or 0 where it has none, and whether it is of the control
 // variable's type.
-#[derive(Clone, Copy, PartialEq, Eq)]
+#[derive(Clone, Copy)]
 struct JudgedBound {
     judged: Outcome,
     value: i64,
@@ -31,7 +31,7 @@ struct JudgedBound {
 }
 
 /// What judging the turns of a FOR finds: what stands between FOR and DO breaks, and the rule that its turns break.
-#[derive(Clone, Copy, PartialEq, Eq)]
+#[derive(Clone, Copy)]
 pub(crate) struct JudgedTurns {
     pub judged: Outcome,
     pub rule: Option<Rule>,

@@ -21,7 +21,7 @@ use std::alloc::{AllocError, Global};
 use typing::{Meaning, Place, Scope};
 
 // What judging a constant finds: its value, what it breaks, and whether it is of the type that is expected.
-#[derive(Clone, Copy, PartialEq, Eq)]
+#[derive(Clone, Copy)]
 struct Constant {
     value: i64,
     judged: Outcome,
@@ -29,7 +29,7 @@ struct Constant {
 }
 
 // The same of a label: the values that it has, what its constants break, and whether they are of the selector's type.
-#[derive(Clone, Copy, PartialEq, Eq)]
+#[derive(Clone, Copy)]
 struct Constants {
     range: Range,
     judged: Outcome,

@@ -15,7 +15,7 @@ use std::alloc::{AllocError, Global};
 use typing::Scope;
 
 /// What judging the selector of a CASE tells, and its type.
-#[derive(Clone, Copy, PartialEq, Eq)]
+#[derive(Clone, Copy)]
 struct Selector {
     outcome: Outcome,
     kind: DataType,

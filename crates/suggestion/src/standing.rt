@@ -16,7 +16,7 @@ struct Statement {
 }
 
 // Where in a text a byte stands.
-#[derive(Clone, Copy, PartialEq, Eq)]
+#[derive(Clone, Copy)]
 enum Part {
     Statement,
     CommentOpening,

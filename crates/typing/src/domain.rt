@@ -3,7 +3,7 @@ use plc_types::{DataType, Range};
 
 /// What a type says of its values: their data type, their range, whether it is a subrange, the value that a variable
 /// begins with, and whether the type's declaration breaks no rule.
-#[derive(Clone, Copy, PartialEq, Eq)]
+#[derive(Clone, Copy)]
 pub struct Domain {
     pub kind: DataType,
     pub range: Range,

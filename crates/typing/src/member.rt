@@ -4,7 +4,7 @@ use naming::Role;
 
 /// A variable of a POU: the place of its first cell there, what it stands for, what it is for, and of an instance its block, by
 /// its number.
-#[derive(Clone, Copy, PartialEq, Eq)]
+#[derive(Clone, Copy)]
 pub struct Member {
     pub cell: u32,
     pub meaning: Meaning,

@@ -3,7 +3,7 @@ use plc_types::{DataType, Range};
 use source_tree::{Name, Path};
 
 /// Where a value is: in a cell, by its place, or fixed, as that of a constant or of a name of an enumeration.
-#[derive(Clone, Copy, PartialEq, Eq)]
+#[derive(Clone, Copy)]
 pub enum Place {
     Cell(usize),
     Value(i64),
@@ -11,7 +11,7 @@ pub enum Place {
 
 /// What a path or a value stands for: where its value is, its type, the values that it may have, whether its declaration
 /// breaks no rule, whether it may be assigned, and whether it may control a FOR.
-#[derive(Clone, Copy, PartialEq, Eq)]
+#[derive(Clone, Copy)]
 pub struct Meaning {
     pub place: Place,
     pub kind: DataType,
@@ -22,7 +22,7 @@ pub struct Meaning {
 }
 
 /// What goes into a FUNCTION, or comes out of it: its type, and whether its declaration breaks no rule.
-#[derive(Clone, Copy, PartialEq, Eq)]
+#[derive(Clone, Copy)]
 pub struct Port {
     pub kind: DataType,
     pub whole: bool,
@@ -30,7 +30,7 @@ pub struct Port {
 
 /// A FUNCTION that may be called: its numbers among the POUs of its file and among those that may be called, what it answers,
 /// and how many inputs it has.
-#[derive(Clone, Copy, PartialEq, Eq)]
+#[derive(Clone, Copy)]
 pub struct Signature {
     pub function: usize,
     pub number: usize,
@@ -40,7 +40,7 @@ pub struct Signature {
 
 /// An instance of a FUNCTION_BLOCK: the number of the block among the POUs that may be called, and the place where its cells
 /// begin.
-#[derive(Clone, Copy, PartialEq, Eq)]
+#[derive(Clone, Copy)]
 pub struct Instance {
     pub block: usize,
     pub offset: usize,

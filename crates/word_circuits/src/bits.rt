@@ -8,7 +8,7 @@ use gates::{Circuit, GateFault};
 use std::alloc::Global;
 
 /// An operator on bits.
-#[derive(Clone, Copy, PartialEq, Eq)]
+#[derive(Clone, Copy)]
 pub enum BitOperator {
     And,
     Or,

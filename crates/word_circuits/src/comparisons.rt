@@ -11,7 +11,7 @@ use gates::{Circuit, GateFault, TRUE};
 use std::alloc::{AllocError, Global};
 
 /// A comparison of two words.
-#[derive(Clone, Copy, PartialEq, Eq)]
+#[derive(Clone, Copy)]
 pub enum Comparison {
     Equal,
     NotEqual,

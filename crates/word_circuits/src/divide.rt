@@ -13,7 +13,7 @@ use gates::{Circuit, FALSE, GateFault};
 use std::alloc::Global;
 
 /// What is wanted of a division.
-#[derive(Clone, Copy, PartialEq, Eq)]
+#[derive(Clone, Copy)]
 pub enum Part {
     Quotient,
     Remainder,
