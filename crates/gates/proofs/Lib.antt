@@ -1,6 +1,5 @@
 pub mod Booleans
 pub mod PlanLaws
-pub mod GateTests
 pub mod NextGate
 pub mod Placing
 pub mod StoredGates
