@@ -1,10 +1,9 @@
-ghost use Rattle.std.specs.Prelude.{◌≡◌, ℕ, ◌<◌, ◌&&◌, length, if◌then◌else◌, IsTrue};
+ghost use Rattle.std.specs.Prelude.{◌≡◌, ℕ, ◌<◌, ◌&&◌, length, if◌then◌else◌};
 ghost use Rattle.clause_core.specs.Satisfaction.{literal_true, signed};
-ghost use Rattle.gates.specs.Meaning.{gate_true, exactly_one};
-ghost use Rattle.gates.specs.Order.{gate_below};
+ghost use Rattle.gates.specs.Meaning.{exactly_one};
 ghost use Rattle.lane_sim.specs.Lanes.{lane, assignment_of};
 
-use clause_core::{Gate, Lit};
+use clause_core::Lit;
 use std::simd::u64x4;
 
 #[inline(always)]
@@ -45,23 +44,6 @@ pub fn literal_word(words: &[u64x4], lit: Lit) -> u64x4
     ensures { (j : ℕ) → j < 256 → lane result j ≡ literal_true (assignment_of j words.now) lit }
 {
     signed_word(words[lit.variable as usize], lit.negative)
-}
-
-// The word of a gate, from those of its operands.
-#[inline(always)]
-pub(crate) fn gate_word(words: &[u64x4], gate: Gate) -> u64x4
-    requires { IsTrue (gate_below (length words.now) gate) }
-    ensures { (j : ℕ) → j < 256 → lane result j ≡ gate_true (assignment_of j words.now) gate }
-{
-    match gate {
-        Gate::And(a, b) => and_word(literal_word(words, a), literal_word(words, b)),
-        Gate::Xor(a, b) => xor_word(literal_word(words, a), literal_word(words, b)),
-        Gate::Mux(c, a, b) => choose_word(
-            literal_word(words, c),
-            literal_word(words, a),
-            literal_word(words, b),
-        ),
-    }
 }
 
 /// Whether a lane of a word is set.

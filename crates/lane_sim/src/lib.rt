@@ -1,20 +1,19 @@
 // 256 runs of a circuit side by side: bit j of the word of a variable is its value in run j.
 //
-// - `lanes`: words of 256 lanes, and the word of a gate;
-// - `runs`: a run that keeps the words of all variables;
+// - `lanes`: words of 256 lanes, and the word of a literal;
+// - `free_bits`: the words of the free bits of a run;
 // - `run_plan`: runs in few words, by a plan that is made once;
 // - `choice`, `step`: a gate as a choice between two literals, and the step that writes its word;
 // - `uses`, `layout`: how long each variable is read, and where its word is put.
 #![tactic(auto)]
 
 mod choice;
+mod free_bits;
 mod lanes;
 mod layout;
 mod run_plan;
-mod runs;
 mod step;
 mod uses;
 
 pub use lanes::{choose_word, is_set, literal_word};
 pub use run_plan::RunPlan;
-pub use runs::{simulate, simulate_again};

@@ -5,8 +5,8 @@ ghost use Rattle.gates.specs.Order.{IsOrdered, IsLiteralOf};
 ghost use Rattle.lane_sim.specs.Lanes.{assignment_of, IsRunOf};
 ghost use Rattle.lane_sim.specs.PlannedRuns.{place_of, ReadsAs};
 
+use crate::free_bits::put_free;
 use crate::layout::{Layout, lay_out, literal_in};
-use crate::runs::put_free;
 use crate::step::{Step, put_steps};
 use crate::uses::last_uses;
 use clause_core::Lit;

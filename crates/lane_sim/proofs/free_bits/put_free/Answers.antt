@@ -3,7 +3,7 @@ use Rattle.std.specs.Prelude.{slice_set}
 use borrow.Rule.Slice.PartMut.{put_mid}
 use Rattle.lane_sim.specs.Lanes.{lane}
 use Rattle.lane_sim.proofs.LaneLaws.{lane_ones}
-use Rattle.lane_sim.proofs.runs.put_free.Goals as goal
+use Rattle.lane_sim.proofs.free_bits.put_free.Goals as goal
 
 -- the words from place 2 on are others, and the one at place 1 stays
 second_stays : (k : ℕ) (words more : List (List ℕ)) (w : List ℕ) → 2 ≤ length words → get_or (put_mid 2 k (slice_set words 1 w) more) 1 [] ≡ w
