@@ -1,5 +1,6 @@
 // Reads the case files that `index` lists, runs every case, prints where something else comes than a case expects, and counts the cases.
-// It ends with status 1 where a case has failed. By the words `bench WHAT FILE` it does what a script under bench/ measures.
+// It ends with status 1 where a case has failed. By the words `bench WAY FILE` it decides a formula, as
+// bench/decide.sh measures.
 #![tactic(auto)]
 
 mod bench;
@@ -128,7 +129,7 @@ fn main(rt: HostRuntime) -> io::Result<ExitCode> {
             Ok(ExitCode::SUCCESS)
         }
         _ => {
-            println!(rt; "usage: case_runner [bench WHAT FILE [CLAUSES]]")?;
+            println!(rt; "usage: case_runner [bench WAY FILE [CLAUSES]]")?;
             Ok(ExitCode::from(2))
         }
     }

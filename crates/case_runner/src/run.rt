@@ -1,12 +1,8 @@
 // A case through its door.
 use case_files::{Case, CaseFault, Door, Mismatch, malformed};
 use command_doors::{run_check, run_explain, run_gen, run_replay, run_verify, run_words};
-use flat_doors::run_flat;
-use formula_doors::run_formula;
-use query_doors::run_query;
-use scan_doors::run_scan;
+use stage_doors::{run_flat, run_formula, run_query, run_scan, run_suggest};
 use std::alloc::Global;
-use suggest_doors::run_suggest;
 use text_doors::{run_accept, run_relation};
 
 /// The door of a case: the one that its sections name, or that of replays where they are among those that several doors have.

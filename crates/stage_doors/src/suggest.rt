@@ -1,6 +1,4 @@
 // The door `suggested`: how the program that suggests lines ends for OLD, NEW and a relation, and the line that it tells.
-#![tactic(auto)]
-
 use case_files::{
     Case, CaseFault, Mismatch, Word, compare, new_program_of, program_of, section_of, text_of,
 };
