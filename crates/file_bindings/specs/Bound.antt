@@ -2,17 +2,16 @@
 use Rattle.std.specs.Prelude.{ℕ, ◌+◌, List, [], ◌∷◌, Option, option_map, unwrap_or}
 use Rattle.std.specs.List.{position_from}
 use Rattle.source_tree.specs.Syntax.{types, pou, FileData}
-use Rattle.file_bindings.specs.declared.bound.Bound.{Bound}
 use Rattle.naming.specs.Broken.{is_program_pou}
 use Rattle.naming.specs.FileScope.{pous_of, pou_at}
 use Rattle.naming.specs.Scopes.{Variable, variables_in_pou}
 use Rattle.naming.specs.Slots.{found}
 
-abbrev pub bound_of : ℕ × Variable → Bound
-bound_of f = record { number = f.0; role = f.1.role }
+abbrev pub bound_of : ℕ × Variable → ℕ
+bound_of f = f.0
 
--- a name is bound to the first variable of that name
-abbrev pub bound_named : List Variable → List ℕ → Option Bound
+-- a name is bound to the first variable of that name, by its number in declared order, from 1
+abbrev pub bound_named : List Variable → List ℕ → Option ℕ
 bound_named vs text = option_map bound_of (found text 1 vs)
 
 -- the variables of the POU of a number, in declared order; none where there is no such POU

@@ -1,6 +1,6 @@
 -- What a slot binds its name to.
-use Rattle.file_bindings.specs.declared.bound.Bound.{Bound}
+use Rattle.std.specs.Prelude.{ℕ}
 use Rattle.naming.specs.declared.slot.Slot.{Slot}
 
-abbrev pub bound_by : Slot → Bound
-bound_by s = record { number = s.number; role = s.role }
+abbrev pub bound_by : Slot → ℕ
+bound_by s = s.number

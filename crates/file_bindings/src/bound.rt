@@ -7,16 +7,9 @@ ghost use Rattle.naming.specs.Broken.{is_program_pou};
 ghost use Rattle.naming.specs.FileScope.{pous_of};
 
 use file_scope::{Table, end_at, standing_at, standing_by_number, value_by};
-use naming::{Declared, Role, Slot, Standing};
+use naming::{Declared, Slot, Standing};
 use pou_scope::{NamesOfPou, UseNumbers};
 use source_tree::{Item, Name, Pou, SourceFile, TypeDeclaration};
-
-/// A variable that a name is bound to: its number in declared order, from 1, and what it is for.
-#[derive(Clone, Copy)]
-pub struct Bound {
-    pub number: usize,
-    pub role: Role,
-}
 
 /// The names of each POU, the types, the numbers of all uses of names, the places of POUs among the items of a file, which POUs
 /// each uses, their order, the number of the PROGRAM, the table of all names, and where types lead to.
@@ -43,14 +36,11 @@ pub struct Resolved<'f> {
 }
 
 // What a slot binds its name to.
-fn bound_by(slot: Option<Slot>) -> Option<Bound>
+fn bound_by(slot: Option<Slot>) -> Option<usize>
     ensures { result ≡ option_map bound_by slot }
 {
     match slot {
-        Some(slot) => Some(Bound {
-            number: slot.number,
-            role: slot.role,
-        }),
+        Some(slot) => Some(slot.number),
         None => None,
     }
 }
@@ -141,8 +131,9 @@ impl<'f> Resolved<'f> {
         }
     }
 
-    /// The variable that a name is bound to in the POU of a number, by the number that is kept of its use.
-    pub fn bound(&self, pou: usize, name: &Name) -> Option<Bound>
+    /// The variable that a name is bound to in the POU of a number, by its number in declared order, from 1; it is found by the number that
+    /// is kept of the use.
+    pub fn bound(&self, pou: usize, name: &Name) -> Option<usize>
         ensures { result ≡ option_and_then (λ p. bound_named (variables_in_pou p) (name_view name.now).text) (pou_at (file_view self.now.file.now) pou) }
     {
         bound_by(self.slot_of_use(pou, name))

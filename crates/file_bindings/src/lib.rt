@@ -3,4 +3,4 @@
 
 mod bound;
 
-pub use bound::{Bindings, Bound, Resolved};
+pub use bound::{Bindings, Resolved};

@@ -6,7 +6,6 @@ use Rattle.std.specs.List.{slice_get}
 use Rattle.std.proofs.lemmas.Option.{slice_get-map, slice_get_cases}
 use Rattle.std.proofs.lemmas.List.{map-append}
 use Rattle.source_tree.specs.Syntax.{PouData, FileData}
-use Rattle.file_bindings.specs.declared.bound.Bound.{Bound}
 use Rattle.file_bindings.specs.Bound.{bound_of, bound_named, variables_at as kept_at}
 use Rattle.naming.specs.FileScope.{pous_of, pou_at}
 use Rattle.naming.specs.Scopes.{Variable, variables_in_pou}
@@ -69,22 +68,22 @@ ports_at-is f sizes vs k o known got = ap (λ x. unwrap_or x []) (listed (ports_
 -- ---- the variable of a name
 
 found_or_not : (f : FileData) (sizes : List ℕ) (p : PouData) (text : List ℕ) (x : Option (ℕ × Variable)) (got : Option Member) → found text 1 (variables_in_pou p) ≡ x
-    → got ≡ option_and_then (λ b. slice_get (members_in f sizes p) (b.number - 1)) (option_map bound_of x) → got ≡ member_in f sizes text p
+    → got ≡ option_and_then (λ b. slice_get (members_in f sizes p) (b - 1)) (option_map bound_of x) → got ≡ member_in f sizes text p
 found_or_not f sizes p text None got is e = let vs = variables_in_pou p in e ∙ sym (not_found_is f sizes text (first_places f sizes p.kind vs) vs 1 is)
 found_or_not f sizes p text (Some x) got is e =
     let vs = variables_in_pou p in
     let known : IsFound f sizes text (first_places f sizes p.kind vs) vs 1 x.0 = found_is f sizes text (first_places f sizes p.kind vs) vs 1 x.0 x.1 is in
     e ∙ known.same
 
-by_pou : (f : FileData) (sizes : List ℕ) (text : List ℕ) (o : Option PouData) (r : Option Bound) (got : Option Member) → r ≡ option_and_then (λ p. bound_named (variables_in_pou p) text) o
-    → got ≡ option_and_then (λ b. slice_get (members_if f sizes o) (b.number - 1)) r → got ≡ option_and_then (member_in f sizes text) o
-by_pou f sizes text None r got is e = e ∙ ap (option_and_then (λ b. slice_get (members_if f sizes None) (b.number - 1))) is
+by_pou : (f : FileData) (sizes : List ℕ) (text : List ℕ) (o : Option PouData) (r : Option ℕ) (got : Option Member) → r ≡ option_and_then (λ p. bound_named (variables_in_pou p) text) o
+    → got ≡ option_and_then (λ b. slice_get (members_if f sizes o) (b - 1)) r → got ≡ option_and_then (member_in f sizes text) o
+by_pou f sizes text None r got is e = e ∙ ap (option_and_then (λ b. slice_get (members_if f sizes None) (b - 1))) is
 by_pou f sizes text (Some p) r got is e =
-    found_or_not f sizes p text (found text 1 (variables_in_pou p)) got refl (e ∙ ap (option_and_then (λ b. slice_get (members_in f sizes p) (b.number - 1))) is)
+    found_or_not f sizes p text (found text 1 (variables_in_pou p)) got refl (e ∙ ap (option_and_then (λ b. slice_get (members_in f sizes p) (b - 1))) is)
 
 -- what stands at the number to which a name is bound is the variable of that name
-pub member_at-is : (f : FileData) (sizes : List ℕ) (number : ℕ) (text : List ℕ) (r : Option Bound) (got : Option Member) → r ≡ option_and_then (λ p. bound_named (variables_in_pou p) text) (pou_at f number)
-    → got ≡ option_and_then (λ b. slice_get (members_at f sizes number) (b.number - 1)) r → got ≡ member_at f sizes number text
+pub member_at-is : (f : FileData) (sizes : List ℕ) (number : ℕ) (text : List ℕ) (r : Option ℕ) (got : Option Member) → r ≡ option_and_then (λ p. bound_named (variables_in_pou p) text) (pou_at f number)
+    → got ≡ option_and_then (λ b. slice_get (members_at f sizes number) (b - 1)) r → got ≡ member_at f sizes number text
 member_at-is f sizes number text r got is e = by_pou f sizes text (pou_at f number) r got is e
 
 -- one POU more in a table

@@ -2,7 +2,6 @@
 ghost use Rattle.std.specs.Prelude.{◌≡◌, ◌-◌, option_and_then};
 ghost use Rattle.std.specs.List.{slice_get};
 
-use file_bindings::Bound;
 use typing::Member;
 
 // The variable of a number in declared order, from 1.
@@ -15,12 +14,12 @@ fn numbered(members: &[Member], number: usize) -> Option<Member>
     }
 }
 
-/// The variable that a name is bound to, in constant time.
-pub(crate) fn member_bound(members: &[Member], bound: Option<Bound>) -> Option<Member>
-    ensures { result ≡ option_and_then (λ b. slice_get members.now (b.number - 1)) bound }
+/// The variable that a name is bound to, by its number, in constant time.
+pub(crate) fn member_bound(members: &[Member], bound: Option<usize>) -> Option<Member>
+    ensures { result ≡ option_and_then (λ number. slice_get members.now (number - 1)) bound }
 {
     match bound {
         None => None,
-        Some(bound) => numbered(members, bound.number),
+        Some(number) => numbered(members, number),
     }
 }

@@ -6,5 +6,5 @@ mod circles;
 mod judged;
 mod resolution;
 
-pub use file_bindings::{Bound, Resolved};
+pub use file_bindings::Resolved;
 pub use resolution::resolve;
