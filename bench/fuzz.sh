@@ -2,7 +2,7 @@
 # Puts random texts, relation files, traces and findings to the program and to another implementation of the same commands, for a given
 # time, one run after the other, and prints each difference as a case, and at the end how many cases of each kind there were. The texts of
 # the repository's cases are changed: bytes, bits, tokens, numbers and lines. Pairs are made by the grammar, and short texts whose counts
-# explode. What `regver-suggest` prints is verified, where it is built. Needs python3.
+# explode. What `regver-suggest` prints is verified. Needs python3.
 #
 #   bench/fuzz.sh SECONDS OTHER [SEED]     OTHER is the command line of the other implementation; PROGRAM and SUGGEST, if they are set, are those of
 #                                          this one, and SLOW the processor seconds after which a run counts as one that does not end (20)
@@ -13,6 +13,8 @@ if [ $# -lt 2 ]; then
     sed -n '7,8p' "${BASH_SOURCE[0]}" >&2
     exit 2
 fi
-suggest=${SUGGEST:-$top/crates/regver_suggest/out/regver_suggest}
-[ -n "${SUGGEST:-}" ] || [ -x "$suggest" ] || suggest=
-exec python3 -B "$top/bench/fuzz/fuzz.py" "$top/crates/case_runner/data" "$1" "${3:-$RANDOM}" "${PROGRAM:-$top/crates/regver_cli/out/regver_cli}" "$2" ${suggest:+"$suggest"}
+program=${PROGRAM:-$top/crates/regver_cli/out/regver_cli}
+room=$(mktemp -d)
+trap 'rm -rf -- "$room"' EXIT
+ln -s -- "$(readlink -f -- "$program")" "$room/regver-suggest"
+python3 -B "$top/bench/fuzz/fuzz.py" "$top/crates/case_runner/data" "$1" "${3:-$RANDOM}" "$program" "$2" "${SUGGEST:-$room/regver-suggest}"

@@ -1,39 +1,23 @@
-// The program that suggests: it prints the text of a relation with INVARIANT lines behind it. What is told beside it goes to
-// standard error.
-#![tactic(auto)]
-
+// What the program does by the name `regver-suggest`: it prints the text of a relation with INVARIANT lines behind it. What is told beside it
+// goes to standard error.
+use regver_top::Status;
 use std::io::Eprint;
-use std::process::ExitCode;
-use std::rt::{Env, Files};
-use std::{env, fs, io};
+use std::rt::Files;
+use std::{fs, io};
 use suggest_command::{
     Asked, Ending, Suggestion, ending_of, ending_without, read_words, suggest_for,
 };
-
-// How the program ends, besides those of endings.
-const USAGE: u8 = 2;
-
-const READ_FAULT: u8 = 7;
-
-const WRITE_FAULT: u8 = 8;
-
-const MEMORY: u8 = 9;
-
-// The words that the program was called with.
-fn words_of(rt: &(impl Env + AllocGlobal)) -> io::Result<Vec<String>> {
-    let mut words = Vec::new(rt.alloc());
-    for word in env::args(rt)? {
-        words.push(word)?;
-    }
-    Ok(words)
-}
 
 // Prints a line, and ends with that status.
 fn end(rt: &impl Print, line: &str, status: u8) -> u8 {
     match println!(rt; "{line}") {
         Ok(()) => status,
-        Err(_) => WRITE_FAULT,
+        Err(_) => Status::WriteFault.code(),
     }
+}
+
+fn end_for_memory(rt: &impl Print) -> u8 {
+    end(rt, "MEMORY", Status::Memory.code())
 }
 
 // Tells a note on standard error. Where it cannot be told, nothing more is tried.
@@ -46,7 +30,7 @@ fn end_with(rt: &(impl Print + Eprint), suggestion: &Suggestion, ending: &Ending
     tell(rt, ending.line.as_str());
     match rt.write_all(suggestion.text.as_slice()) {
         Ok(()) => ending.status,
-        Err(_) => WRITE_FAULT,
+        Err(_) => Status::WriteFault.code(),
     }
 }
 
@@ -62,11 +46,11 @@ fn suggest_to(
     match suggest_for(alloc, old, new, relation, seed) {
         Ok(suggestion) => match ending_of(alloc, &suggestion) {
             Ok(ending) => end_with(rt, &suggestion, &ending),
-            Err(_) => end(rt, "MEMORY", MEMORY),
+            Err(_) => end_for_memory(rt),
         },
         Err(error) => match ending_without(alloc, &error) {
             Ok(ending) => end(rt, ending.line.as_str(), ending.status),
-            Err(_) => end(rt, "MEMORY", MEMORY),
+            Err(_) => end_for_memory(rt),
         },
     }
 }
@@ -79,20 +63,25 @@ fn answer(rt: &(impl Files + Print + Eprint + AllocGlobal), asked: &Asked<'_>) -
     Ok(suggest_to(rt, &old, &new, &relation, asked.seed))
 }
 
-fn run(rt: &(impl Files + Print + Eprint + AllocGlobal), words: &[String]) -> u8 {
-    let Some(asked) = read_words(words) else {
-        return end(rt, "USAGE regver-suggest [--seed N] OLD NEW REL", USAGE);
-    };
-    match answer(rt, &asked) {
-        Ok(status) => status,
-        Err(_) => end(rt, "READ FAULT", READ_FAULT),
+/// Whether the program was called by the name that suggests, wherever it stands.
+pub fn is_asked_for(words: &[String]) -> bool {
+    match words.first() {
+        Some(name) => {
+            let name = name.as_str();
+            name == "regver-suggest" || name.ends_with("/regver-suggest")
+        }
+        None => false,
     }
 }
 
-fn main(rt: HostRuntime) -> ExitCode {
-    let status = match words_of(&rt) {
-        Ok(words) => run(&rt, words.as_slice()),
-        Err(_) => run(&rt, &[]),
+/// Suggests lines for the files that the words name, of which the first is the program's own name, and returns the exit status.
+pub fn suggest(rt: &(impl Files + Print + Eprint + AllocGlobal), words: &[String]) -> u8 {
+    let Some(asked) = read_words(words) else {
+        let usage = "USAGE regver-suggest [--seed N] OLD NEW REL";
+        return end(rt, usage, Status::Usage.code());
     };
-    ExitCode::from(status)
+    match answer(rt, &asked) {
+        Ok(status) => status,
+        Err(_) => end(rt, "READ FAULT", Status::ReadFault.code()),
+    }
 }
