@@ -6,3 +6,4 @@ pub mod Tops
 pub mod Walks
 pub mod Words
 pub mod WalkLaws
+pub mod SpelledLemmas

@@ -2,3 +2,4 @@ pub mod Subcommands
 pub mod Grammar
 pub mod Asked
 pub mod Plain
+pub mod Counts

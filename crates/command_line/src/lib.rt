@@ -1,6 +1,7 @@
-// From the words of the command line to the command that they ask for, by clap's rules.
+// From the words of the command line to the command that they ask for, by clap's rules, and which words are numbers.
 #![tactic(auto)]
 
+mod count;
 mod grammar;
 mod read;
 
@@ -29,3 +30,5 @@ pub enum Command {
     /// Decides the programs and the relation, and saves the finding, the last of the files.
     Verify(FourWords),
 }
+
+pub use count::count_of;

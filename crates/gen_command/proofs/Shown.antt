@@ -9,7 +9,7 @@ use Rattle.command_answers.specs.Answers.{Answers, AnswersSoFar, all_put}
 use Rattle.verify_command.specs.comparison_files.Accepting.{AreAccepted}
 use Rattle.verify_command.specs.comparison_files.Comparing.{formulas_of}
 use Rattle.verify_command.proofs.comparison_files.RefusalLemmas.{refusal_status}
-use Rattle.generated_files.specs.Files.{HoldTexts}
+use Rattle.generated_texts.specs.Files.{HoldTexts}
 use Rattle.verify_command.specs.Lines.{IsOfVerdict}
 use Rattle.verify_command.specs.Reports.{Saving, ReportsVerdict, decided, too_long, not_written}
 use Rattle.verify_command.proofs.Lines.{whole_of}

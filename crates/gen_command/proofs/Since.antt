@@ -8,8 +8,8 @@ use Rattle.queries.specs.Questions.{QueryData}
 use Rattle.command_answers.specs.Reports.{Report}
 use Rattle.verify_command.proofs.comparison_files.RefusalLemmas.{rose_since}
 use Rattle.generated_texts.specs.Names.{old_name, new_name, relation_name, finding_name}
-use Rattle.generated_files.specs.Files.{HoldsText, LeavesText, HoldTexts, LeaveTexts, OtherFilesStay, as_before, a_front}
-use Rattle.generated_files.proofs.NameLemmas.{old_is_not_finding, new_is_not_finding, relation_is_not_finding}
+use Rattle.generated_texts.specs.Files.{HoldsText, LeavesText, HoldTexts, LeaveTexts, OtherFilesStay, as_before, a_front}
+use Rattle.generated_texts.proofs.NameLemmas.{old_is_not_finding, new_is_not_finding, relation_is_not_finding}
 use Rattle.verify_command.specs.Reports.{Saving, saving, HasFailed, ReportsVerdict, decided, too_long, not_written, LeavesPart, untouched, a_part, as_before as finding_as_before}
 use Rattle.gen_command.specs.Reports.{ReportsBehind, verified, no_memory, KeepsOthers, OneFailed, LeavesFiles}
 

@@ -12,7 +12,7 @@ use Rattle.verify_command.specs.comparison_files.Accepting.{AreAccepted}
 use Rattle.verify_command.specs.comparison_files.Comparing.{formulas_of}
 use Rattle.verify_command.specs.comparison_files.Refusals.{ReportsRefusal}
 use Rattle.generated_texts.specs.Names.{old_name, new_name, relation_name, finding_name}
-use Rattle.generated_files.specs.Files.{HoldTexts, LeaveTexts, OneTextFailed}
+use Rattle.generated_texts.specs.Files.{HoldTexts, LeaveTexts, OneTextFailed}
 use Rattle.verify_command.specs.Lines.{verdict_line, verdict_status, write_fault_report}
 use Rattle.verify_command.specs.Reports.{Saving, HasFailed, IsSaved, ReportsVerdict, IsLeft}
 use Rattle.gen_command.specs.Made.{texts_of}

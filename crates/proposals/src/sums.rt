@@ -2,9 +2,8 @@
 use crate::facts::{Facts, key_of};
 use crate::proposal::Proposal;
 use crate::subject::Sort;
-use affine_relations::{Affine, affine_relations};
 use scan_model::Side;
-use seen_values::{Classes, Signature};
+use seen_values::{Affine, Classes, Signature, affine_relations};
 use std::alloc::AllocError;
 
 // Of how many cells of a type sums are looked for.

@@ -10,7 +10,7 @@ use Rattle.check_command.specs.Reports.{CheckReports, ShowsValid}
 use Rattle.explain_command.specs.Reports.{ExplainReports, ShowsExplained}
 use Rattle.replay_command.specs.Reports.{Reports}
 use Rattle.generated_texts.specs.Names.{finding_name}
-use Rattle.count_words.specs.Counts.{count_of}
+use Rattle.command_line.specs.Counts.{count_of}
 use Rattle.gen_command.specs.Reports.{GenReports, OneFailed, KeepsOthers, LeavesFiles, ShowsMade}
 use Rattle.gen_command.specs.verify_command.Reports.{Saving, saving, HasFailed, VerifyReports, IsLeft, ShowsSaved}
 

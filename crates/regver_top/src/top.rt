@@ -13,8 +13,7 @@ ghost use Rattle.regver_top.specs.Asking.{change, is_refused, settled, AreTold, 
 use cdcl_watch::Watched;
 use check_command::answer_check;
 use command_answers::{Status, put_last};
-use command_line::{Command, FourWords, read_words};
-use count_words::count_of;
+use command_line::{Command, FourWords, count_of, read_words};
 use explain_command::answer_explain;
 use gen_command::{answer_gen, answer_verify};
 use outside::{Shelf, Sink};

@@ -1,11 +1,20 @@
 // INVARIANT lines for the text of a relation, each of which held on all pairs of runs of both programs that were tried.
+//
+// - `making`: the lines that are suggested;
+// - `proposing`, `standing`, `dropping`: what is proposed, what stands in the relation already, and what is left out;
+// - `stated_line`, `sums`, `cells`, `counts`: the lines that state proposals;
+// - `edges`: the numbers that a text names.
 #![tactic(auto)]
 
+mod cells;
+mod counts;
 mod dropping;
 mod edges;
 mod making;
 mod proposing;
 mod standing;
+mod stated_line;
+mod sums;
 
 pub use edges::numbers_of;
 pub use making::{Suggestion, suggest};

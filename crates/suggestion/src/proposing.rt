@@ -3,14 +3,13 @@ ghost use Rattle.scan_replay.specs.Duos.{AreComparable};
 
 use crate::edges::edges_of;
 use crate::standing::new_lines;
-use invariant_lines::lines_of;
-use line_trials::InvariantLine;
+use crate::stated_line::lines_of;
+use line_trials::{InvariantLine, Plan, try_runs};
 use program_tree::Program;
 use proposals::{proposals, subjects_of};
 use scan_model::Relation;
 use seen_values::Seen;
 use std::alloc::{AllocError, Global};
-use trial_runs::{Plan, try_runs};
 
 // How many candidates a relation may have.
 const MOST_CANDIDATES: usize = 4_096;

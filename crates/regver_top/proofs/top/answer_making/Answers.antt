@@ -5,7 +5,7 @@ use Rattle.command_answers.specs.declared.status.Status.TheVariants.{WriteFault}
 use Rattle.command_answers.specs.Reports.{usage_report}
 use Rattle.command_answers.specs.Answers.{Answers}
 use Rattle.command_answers.proofs.AnswerLemmas.{answered}
-use Rattle.count_words.specs.Counts.{count_of}
+use Rattle.command_line.specs.Counts.{count_of}
 use Rattle.gen_command.specs.Reports.{GenReports, KeepsOthers, LeavesFiles, OneFailed}
 use Rattle.regver_top.specs.Asking.{change, is_refused, number, making_in, AreTold, IsAsked, SomeRose, KeepsFiles, LeavesFinding, WriteRose}
 use Rattle.regver_top.proofs.Settling.{settled_usage, settled_same}

@@ -1,8 +1,8 @@
-use Rattle.generated_files.specs.Files.{HoldTexts, HoldsText}
+use Rattle.generated_texts.specs.Files.{HoldTexts, HoldsText}
 use Rattle.generated_texts.specs.Names.{relation_name}
 use Rattle.generated_texts.specs.Texts.{relation_text}
-use Rattle.generated_files.proofs.ThreeTexts.{after_one, after_two, after_three, all_hold, on_ok}
-use Rattle.generated_files.proofs.saving.save_texts.Goals as goal
+use Rattle.generated_texts.proofs.ThreeTexts.{after_one, after_two, after_three, all_hold, on_ok}
+use Rattle.generated_texts.proofs.saving.save_texts.Goals as goal
 
 pub returns-in_err-save_text-clause-leave : goal.returns-in_err-save_text-clause-leave
 returns-in_err-save_text-clause-leave g c =

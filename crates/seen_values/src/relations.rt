@@ -1,7 +1,7 @@
 // Relations among columns: where one column is a sum of multiples of others and a constant.
 use crate::basis::{Basis, at};
 use crate::field::{nearest, product, residue};
-use seen_values::Seen;
+use crate::seen::Seen;
 use std::alloc::{AllocError, Global};
 
 // How many pairs are looked at, evenly spaced.

@@ -1,5 +1,5 @@
-use Rattle.generated_files.proofs.SaveLemmas.{left_by_create, left_by_both}
-use Rattle.generated_files.proofs.saving.save_text.Goals as goal
+use Rattle.generated_texts.proofs.SaveLemmas.{left_by_create, left_by_both}
+use Rattle.generated_texts.proofs.saving.save_text.Goals as goal
 
 pub returns-in_err-create-clause-leaves : goal.returns-in_err-create-clause-leaves
 returns-in_err-create-clause-leaves g c =

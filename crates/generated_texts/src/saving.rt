@@ -4,9 +4,10 @@ ghost use Rattle.outside.specs.Causes.{HasFileCause, NoneFell};
 ghost use Rattle.outside.specs.Contents.{OthersStay};
 ghost use Rattle.generated_texts.specs.Names.{AreFileNames};
 ghost use Rattle.generated_texts.specs.Texts.{AreGenerated};
-ghost use Rattle.generated_files.specs.Files.{HoldsText, LeavesText, HoldTexts, LeaveTexts, OtherFilesStay, OneTextFailed};
+ghost use Rattle.generated_texts.specs.Files.{HoldsText, LeavesText, HoldTexts, LeaveTexts, OtherFilesStay, OneTextFailed};
 
-use generated_texts::{FileNames, GeneratedTexts};
+use crate::names::FileNames;
+use crate::texts::GeneratedTexts;
 use outside::{OutErr, Shelf};
 
 // Makes a file, and puts a text into it.

@@ -1,6 +1,6 @@
 use Rattle.std.proofs.Common.{rules, ◌≡◌, ◌∙◌, ◌<◌, ◌+◌, false, decimal, bytes_eq}
-use Rattle.count_words.proofs.SpelledLemmas.{passed}
-use Rattle.count_words.proofs.count.spelled_to.Goals as goal
+use Rattle.command_line.proofs.SpelledLemmas.{passed}
+use Rattle.command_line.proofs.count.spelled_to.Goals as goal
 
 pub loop-less-preserved : goal.loop-less-preserved
 loop-less-preserved c =

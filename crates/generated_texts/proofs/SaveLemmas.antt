@@ -3,7 +3,7 @@ use Rattle.std.proofs.Common.{◌≡◌, ◌⊎◌, inl, inr, ◌∙◌, ℕ, Li
 use Rattle.std.proofs.lemmas.List.{take-append-drop}
 use Rattle.outside.specs.declared.OutErr.{OutErr}
 use Rattle.outside.specs.Contents.{extended, emptied, Empties, Adds}
-use Rattle.generated_files.specs.Files.{HoldsText, LeavesText, as_before, a_front}
+use Rattle.generated_texts.specs.Files.{HoldsText, LeavesText, as_before, a_front}
 
 -- a file that was made has no byte, where it is told
 empty_front : (before after : Option (List ℕ)) (text : List ℕ) → after ≡ emptied before → LeavesText before after text

@@ -3,9 +3,9 @@ use Rattle.std.proofs.Common.{◌≡◌, ◌≢◌, ◌∙◌, ℕ, List, Option
 use Rattle.outside.specs.Contents.{OthersStay}
 use Rattle.generated_texts.specs.Names.{old_name, new_name, relation_name}
 use Rattle.generated_texts.specs.Texts.{old_text, new_text, relation_text}
-use Rattle.generated_files.specs.Files.{HoldsText, LeavesText, as_before, a_front, HoldTexts, LeaveTexts}
-use Rattle.generated_files.proofs.NameLemmas.{old_is_not_new, old_is_not_relation, new_is_not_relation}
-use Rattle.generated_files.proofs.SaveLemmas.{left_held}
+use Rattle.generated_texts.specs.Files.{HoldsText, LeavesText, as_before, a_front, HoldTexts, LeaveTexts}
+use Rattle.generated_texts.proofs.NameLemmas.{old_is_not_new, old_is_not_relation, new_is_not_relation}
+use Rattle.generated_texts.proofs.SaveLemmas.{left_held}
 
 -- a file that was as before at first
 left_since : (first before after : Option (List ℕ)) (text : List ℕ) → before ≡ first → LeavesText before after text → LeavesText first after text

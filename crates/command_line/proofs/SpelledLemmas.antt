@@ -1,6 +1,6 @@
 -- One number more.
 use Rattle.std.proofs.Common.{◌≡◌, ◌∙◌, ◌<◌, ◌-◌, ◌+◌, ℕ, false, suc, List, Some, decimal, bytes_eq, if◌then◌else◌, sym, ap, arith}
-use Rattle.count_words.specs.Counts.{first_spelled}
+use Rattle.command_line.specs.Counts.{first_spelled}
 
 one_more : (less most : ℕ) → less < most → most - less ≡ suc (most - (less + 1))
 one_more less most lt = omega (arith, lt)

@@ -1,6 +1,6 @@
 // Words for numbers.
 ghost use Rattle.std.specs.Prelude.{◌≡◌};
-ghost use Rattle.count_words.specs.Counts.{first_spelled, count_of};
+ghost use Rattle.command_line.specs.Counts.{first_spelled, count_of};
 
 use itoa::Buffer;
 
