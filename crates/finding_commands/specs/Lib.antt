@@ -1,4 +1,7 @@
 pub mod Reports
+pub mod Checks
+pub mod Lines
+pub mod Explanations
 pub use Rattle.comparison_files.specs.Accepting
 pub use Rattle.comparison_files.specs.Comparing
 pub use Rattle.comparison_files.specs.Held

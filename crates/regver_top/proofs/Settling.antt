@@ -1,7 +1,7 @@
 -- Command lines that `verify` refuses by itself, and commands that change no file.
 use Rattle.std.proofs.Common.{◌≡◌, true, false, if◌then◌else◌, ap}
 use Rattle.command_line.specs.Asked.{Asked, check, explain, gen, replay, verify, usage}
-use Rattle.check_command.specs.finding_commands.Texts.{Texts}
+use Rattle.finding_commands.specs.Texts.{Texts}
 use Rattle.gen_command.specs.verify_command.Reports.{as_before}
 use Rattle.gen_command.proofs.Since.{files_kept}
 use Rattle.regver_top.specs.Asking.{is_refused, settled, number, making_in, Change, KeepsFiles, LeavesFinding}

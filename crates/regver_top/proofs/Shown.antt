@@ -8,16 +8,16 @@ use Rattle.command_answers.specs.declared.status.Status.{Status}
 use Rattle.command_answers.specs.declared.status.Status.TheVariants.{Valid, Usage, Refused, Replayed, Unrelated, NotAllowed, WriteFault, Memory}
 use Rattle.command_answers.specs.Answers.{Answers, AnswersSoFar, IsExact}
 use Rattle.command_answers.specs.Reports.{Report}
-use Rattle.check_command.specs.finding_commands.Texts.{Texts}
+use Rattle.finding_commands.specs.Texts.{Texts}
 use Rattle.command_line.specs.Asked.{Asked, check, explain, gen, replay, verify, usage}
 use Rattle.finding_answers.specs.Lines.{judged_status}
-use Rattle.check_command.specs.finding_commands.Refusals.{ReportsRefusal}
-use Rattle.check_command.proofs.finding_commands.RefusalLemmas.{refusal_status}
-use Rattle.check_command.specs.finding_commands.Reports.{not_compared as not_to_judge, on_finding}
-use Rattle.check_command.specs.Reports.{CheckReports, judged, too_long}
-use Rattle.check_command.proofs.Answering.{exact_shown}
-use Rattle.explain_command.specs.Reports.{ExplainReports, explained, invalid, too_long as explained_too_long}
-use Rattle.explain_command.proofs.Answering.{exact_shown as exact_explained}
+use Rattle.finding_commands.specs.Refusals.{ReportsRefusal}
+use Rattle.finding_commands.proofs.RefusalLemmas.{refusal_status}
+use Rattle.finding_commands.specs.Reports.{not_compared as not_to_judge, on_finding}
+use Rattle.finding_commands.specs.Checks.{CheckReports, judged, too_long}
+use Rattle.finding_commands.proofs.CheckAnswers.{exact_shown}
+use Rattle.finding_commands.specs.Explanations.{ExplainReports, explained, invalid, too_long as explained_too_long}
+use Rattle.finding_commands.proofs.ExplanationAnswers.{exact_shown as exact_explained}
 use Rattle.replay_command.specs.Reports.{Reports, refused, replayed, ending_status}
 use Rattle.gen_command.specs.verify_command.Lines.{IsOfVerdict}
 use Rattle.gen_command.specs.verify_command.Reports.{Saving, VerifyReports, not_compared, on_pair, ReportsVerdict, decided, too_long as finding_too_long, not_written}

@@ -5,9 +5,9 @@ use Rattle.outside.specs.Contents.{OthersStay}
 use Rattle.command_line.specs.Asked.{Asked, check, explain, gen, replay, verify, usage}
 use Rattle.command_answers.specs.declared.status.Status.{Status}
 use Rattle.command_answers.specs.Reports.{Report, usage_report}
-use Rattle.check_command.specs.finding_commands.Texts.{Texts, AreThreeTold, AreFourTold, OneOfThreeRose, OneOfFourRose}
-use Rattle.check_command.specs.Reports.{CheckReports, ShowsValid}
-use Rattle.explain_command.specs.Reports.{ExplainReports, ShowsExplained}
+use Rattle.finding_commands.specs.Texts.{Texts, AreThreeTold, AreFourTold, OneOfThreeRose, OneOfFourRose}
+use Rattle.finding_commands.specs.Checks.{CheckReports, ShowsValid}
+use Rattle.finding_commands.specs.Explanations.{ExplainReports, ShowsExplained}
 use Rattle.replay_command.specs.Reports.{Reports}
 use Rattle.generated_texts.specs.Names.{finding_name}
 use Rattle.command_line.specs.Counts.{count_of}

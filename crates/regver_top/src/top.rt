@@ -6,15 +6,14 @@ ghost use Rattle.command_line.specs.Grammar.{grammar};
 ghost use Rattle.command_line.specs.Subcommands.{verifies};
 ghost use Rattle.outside.specs.Causes.{Rose, NoneFell};
 ghost use Rattle.command_answers.specs.Answers.{Answers, IsExact};
-ghost use Rattle.check_command.specs.finding_commands.Texts.{Texts};
+ghost use Rattle.finding_commands.specs.Texts.{Texts};
 ghost use Rattle.gen_command.specs.verify_command.Lines.{IsOfVerdict};
 ghost use Rattle.regver_top.specs.Asking.{change, is_refused, settled, AreTold, IsAsked, IsShownBy, IsSavedBy, SomeRose, WriteRose, KeepsFiles, LeavesFinding};
 
 use cdcl_watch::Watched;
-use check_command::answer_check;
 use command_answers::{Status, put_last};
 use command_line::{Command, FourWords, count_of, read_words};
-use explain_command::answer_explain;
+use finding_commands::{answer_check, answer_explain};
 use gen_command::{answer_gen, answer_verify};
 use outside::{Shelf, Sink};
 use replay_command::answer_replay;

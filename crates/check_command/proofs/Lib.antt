@@ -1,3 +1,0 @@
-pub mod Answering
-pub mod Once
-pub use Rattle.finding_commands.proofs as finding_commands
