@@ -1,8 +1,7 @@
 // The rows of the table of nodes: the word of a node from the words of its operands.
-ghost use Rattle.std.specs.Prelude.{◌≡◌, [], IfOk, IfErr, OnOk};
-ghost use Rattle.gates.specs.declared.circuit.GateFault.{GateFault};
-ghost use Rattle.gates.specs.Netlists.{IsOverfull, IsWithinLimit, IsExtensionOf};
+ghost use Rattle.std.specs.Prelude.{[]};
 ghost use Rattle.node_circuits.specs.NodeWords.{words_view, node_of};
+ghost use Rattle.node_circuits.specs.Makes.{Makes};
 
 use crate::operands::operand;
 use crate::operators::{binary, unary};
@@ -21,11 +20,7 @@ pub(crate) fn constant_word(
     kind: Elementary,
     value: i64,
 ) -> Result<Vec<Lit>, GateFault>
-    ensures word { IfOk result (λ w. w.items ≡ (node_of [] (Node.Constant kind value) circuit.old).word) }
-    ensures net { OnOk result (circuit.new ≡ (node_of [] (Node.Constant kind value) circuit.old).net) }
-    ensures fits { OnOk result (IsWithinLimit circuit.new) }
-    ensures too_many { IfErr result (λ fault. fault ≡ GateFault.TooMany → IsOverfull (node_of [] (Node.Constant kind value) circuit.old).net) }
-    ensures extends { IsExtensionOf circuit.old circuit.new }
+    ensures { Makes (node_of [] (Node.Constant kind value) circuit.old) circuit.old circuit.new result }
 {
     let Ok(word) = constant(alloc, kind.width() as usize, i128::from(value)) else {
         return Err(GateFault::Memory);
@@ -43,11 +38,7 @@ pub(crate) fn unary_word(
     kind: Elementary,
     number: usize,
 ) -> Result<Vec<Lit>, GateFault>
-    ensures word { IfOk result (λ w. w.items ≡ (node_of (words_view words.now) (Node.Unary operator kind number) circuit.old).word) }
-    ensures net { OnOk result (circuit.new ≡ (node_of (words_view words.now) (Node.Unary operator kind number) circuit.old).net) }
-    ensures fits { OnOk result (IsWithinLimit circuit.new) }
-    ensures too_many { IfErr result (λ fault. fault ≡ GateFault.TooMany → IsOverfull (node_of (words_view words.now) (Node.Unary operator kind number) circuit.old).net) }
-    ensures extends { IsExtensionOf circuit.old circuit.new }
+    ensures { Makes (node_of (words_view words.now) (Node.Unary operator kind number) circuit.old) circuit.old circuit.new result }
 {
     let Ok(a) = operand(alloc, words, kind, number) else {
         return Err(GateFault::Memory);
@@ -65,11 +56,7 @@ pub(crate) fn binary_word(
     left: usize,
     right: usize,
 ) -> Result<Vec<Lit>, GateFault>
-    ensures word { IfOk result (λ w. w.items ≡ (node_of (words_view words.now) (Node.Binary operator kind left right) circuit.old).word) }
-    ensures net { OnOk result (circuit.new ≡ (node_of (words_view words.now) (Node.Binary operator kind left right) circuit.old).net) }
-    ensures fits { OnOk result (IsWithinLimit circuit.new) }
-    ensures too_many { IfErr result (λ fault. fault ≡ GateFault.TooMany → IsOverfull (node_of (words_view words.now) (Node.Binary operator kind left right) circuit.old).net) }
-    ensures extends { IsExtensionOf circuit.old circuit.new }
+    ensures { Makes (node_of (words_view words.now) (Node.Binary operator kind left right) circuit.old) circuit.old circuit.new result }
 {
     let Ok(a) = operand(alloc, words, kind, left) else {
         return Err(GateFault::Memory);
@@ -90,11 +77,7 @@ pub(crate) fn convert(
     to: Elementary,
     number: usize,
 ) -> Result<Vec<Lit>, GateFault>
-    ensures word { IfOk result (λ w. w.items ≡ (node_of (words_view words.now) (Node.Convert from to number) circuit.old).word) }
-    ensures net { OnOk result (circuit.new ≡ (node_of (words_view words.now) (Node.Convert from to number) circuit.old).net) }
-    ensures fits { OnOk result (IsWithinLimit circuit.new) }
-    ensures too_many { IfErr result (λ fault. fault ≡ GateFault.TooMany → IsOverfull (node_of (words_view words.now) (Node.Convert from to number) circuit.old).net) }
-    ensures extends { IsExtensionOf circuit.old circuit.new }
+    ensures { Makes (node_of (words_view words.now) (Node.Convert from to number) circuit.old) circuit.old circuit.new result }
 {
     let Ok(a) = operand(alloc, words, from, number) else {
         return Err(GateFault::Memory);
@@ -110,11 +93,7 @@ pub(crate) fn absolute_word(
     kind: Elementary,
     number: usize,
 ) -> Result<Vec<Lit>, GateFault>
-    ensures word { IfOk result (λ w. w.items ≡ (node_of (words_view words.now) (Node.Absolute kind number) circuit.old).word) }
-    ensures net { OnOk result (circuit.new ≡ (node_of (words_view words.now) (Node.Absolute kind number) circuit.old).net) }
-    ensures fits { OnOk result (IsWithinLimit circuit.new) }
-    ensures too_many { IfErr result (λ fault. fault ≡ GateFault.TooMany → IsOverfull (node_of (words_view words.now) (Node.Absolute kind number) circuit.old).net) }
-    ensures extends { IsExtensionOf circuit.old circuit.new }
+    ensures { Makes (node_of (words_view words.now) (Node.Absolute kind number) circuit.old) circuit.old circuit.new result }
 {
     let Ok(a) = operand(alloc, words, kind, number) else {
         return Err(GateFault::Memory);
@@ -131,11 +110,7 @@ pub(crate) fn lesser(
     left: usize,
     right: usize,
 ) -> Result<Vec<Lit>, GateFault>
-    ensures word { IfOk result (λ w. w.items ≡ (node_of (words_view words.now) (Node.Minimum kind left right) circuit.old).word) }
-    ensures net { OnOk result (circuit.new ≡ (node_of (words_view words.now) (Node.Minimum kind left right) circuit.old).net) }
-    ensures fits { OnOk result (IsWithinLimit circuit.new) }
-    ensures too_many { IfErr result (λ fault. fault ≡ GateFault.TooMany → IsOverfull (node_of (words_view words.now) (Node.Minimum kind left right) circuit.old).net) }
-    ensures extends { IsExtensionOf circuit.old circuit.new }
+    ensures { Makes (node_of (words_view words.now) (Node.Minimum kind left right) circuit.old) circuit.old circuit.new result }
 {
     let Ok(a) = operand(alloc, words, kind, left) else {
         return Err(GateFault::Memory);
@@ -155,11 +130,7 @@ pub(crate) fn greater(
     left: usize,
     right: usize,
 ) -> Result<Vec<Lit>, GateFault>
-    ensures word { IfOk result (λ w. w.items ≡ (node_of (words_view words.now) (Node.Maximum kind left right) circuit.old).word) }
-    ensures net { OnOk result (circuit.new ≡ (node_of (words_view words.now) (Node.Maximum kind left right) circuit.old).net) }
-    ensures fits { OnOk result (IsWithinLimit circuit.new) }
-    ensures too_many { IfErr result (λ fault. fault ≡ GateFault.TooMany → IsOverfull (node_of (words_view words.now) (Node.Maximum kind left right) circuit.old).net) }
-    ensures extends { IsExtensionOf circuit.old circuit.new }
+    ensures { Makes (node_of (words_view words.now) (Node.Maximum kind left right) circuit.old) circuit.old circuit.new result }
 {
     let Ok(a) = operand(alloc, words, kind, left) else {
         return Err(GateFault::Memory);
@@ -180,11 +151,7 @@ pub(crate) fn shift_word(
     kind: Elementary,
     number: usize,
 ) -> Result<Vec<Lit>, GateFault>
-    ensures word { IfOk result (λ w. w.items ≡ (node_of (words_view words.now) (Node.Shift shift amount kind number) circuit.old).word) }
-    ensures net { OnOk result (circuit.new ≡ (node_of (words_view words.now) (Node.Shift shift amount kind number) circuit.old).net) }
-    ensures fits { OnOk result (IsWithinLimit circuit.new) }
-    ensures too_many { IfErr result (λ fault. fault ≡ GateFault.TooMany → IsOverfull (node_of (words_view words.now) (Node.Shift shift amount kind number) circuit.old).net) }
-    ensures extends { IsExtensionOf circuit.old circuit.new }
+    ensures { Makes (node_of (words_view words.now) (Node.Shift shift amount kind number) circuit.old) circuit.old circuit.new result }
 {
     let Ok(a) = operand(alloc, words, kind, number) else {
         return Err(GateFault::Memory);
@@ -204,11 +171,7 @@ pub(crate) fn zero_word(
     kind: Elementary,
     number: usize,
 ) -> Result<Vec<Lit>, GateFault>
-    ensures word { IfOk result (λ w. w.items ≡ (node_of (words_view words.now) (Node.IsZero kind number) circuit.old).word) }
-    ensures net { OnOk result (circuit.new ≡ (node_of (words_view words.now) (Node.IsZero kind number) circuit.old).net) }
-    ensures fits { OnOk result (IsWithinLimit circuit.new) }
-    ensures too_many { IfErr result (λ fault. fault ≡ GateFault.TooMany → IsOverfull (node_of (words_view words.now) (Node.IsZero kind number) circuit.old).net) }
-    ensures extends { IsExtensionOf circuit.old circuit.new }
+    ensures { Makes (node_of (words_view words.now) (Node.IsZero kind number) circuit.old) circuit.old circuit.new result }
 {
     let Ok(a) = operand(alloc, words, kind, number) else {
         return Err(GateFault::Memory);
@@ -225,11 +188,7 @@ pub(crate) fn outside_word(
     range: Range,
     number: usize,
 ) -> Result<Vec<Lit>, GateFault>
-    ensures word { IfOk result (λ w. w.items ≡ (node_of (words_view words.now) (Node.Outside kind range number) circuit.old).word) }
-    ensures net { OnOk result (circuit.new ≡ (node_of (words_view words.now) (Node.Outside kind range number) circuit.old).net) }
-    ensures fits { OnOk result (IsWithinLimit circuit.new) }
-    ensures too_many { IfErr result (λ fault. fault ≡ GateFault.TooMany → IsOverfull (node_of (words_view words.now) (Node.Outside kind range number) circuit.old).net) }
-    ensures extends { IsExtensionOf circuit.old circuit.new }
+    ensures { Makes (node_of (words_view words.now) (Node.Outside kind range number) circuit.old) circuit.old circuit.new result }
 {
     let Ok(a) = operand(alloc, words, kind, number) else {
         return Err(GateFault::Memory);
@@ -247,11 +206,7 @@ pub(crate) fn mux_word(
     on: usize,
     off: usize,
 ) -> Result<Vec<Lit>, GateFault>
-    ensures word { IfOk result (λ w. w.items ≡ (node_of (words_view words.now) (Node.Mux kind condition on off) circuit.old).word) }
-    ensures net { OnOk result (circuit.new ≡ (node_of (words_view words.now) (Node.Mux kind condition on off) circuit.old).net) }
-    ensures fits { OnOk result (IsWithinLimit circuit.new) }
-    ensures too_many { IfErr result (λ fault. fault ≡ GateFault.TooMany → IsOverfull (node_of (words_view words.now) (Node.Mux kind condition on off) circuit.old).net) }
-    ensures extends { IsExtensionOf circuit.old circuit.new }
+    ensures { Makes (node_of (words_view words.now) (Node.Mux kind condition on off) circuit.old) circuit.old circuit.new result }
 {
     let Ok(c) = operand(alloc, words, Elementary::Bool, condition) else {
         return Err(GateFault::Memory);

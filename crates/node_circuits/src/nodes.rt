@@ -2,6 +2,7 @@ ghost use Rattle.std.specs.Prelude.{◌≡◌, IfOk, IfErr, OnOk};
 ghost use Rattle.gates.specs.declared.circuit.GateFault.{GateFault};
 ghost use Rattle.gates.specs.Netlists.{IsOverfull, IsWithinLimit, IsExtensionOf};
 ghost use Rattle.node_circuits.specs.NodeWords.{words_view, node_of, words_of_nodes};
+ghost use Rattle.node_circuits.specs.Makes.{Makes};
 
 use crate::node_rows::{
     absolute_word, binary_word, constant_word, convert, greater, lesser, mux_word, outside_word,
@@ -19,11 +20,7 @@ fn node_word(
     words: &[Vec<Lit>],
     node: Node,
 ) -> Result<Vec<Lit>, GateFault>
-    ensures word { IfOk result (λ w. w.items ≡ (node_of (words_view words.now) node circuit.old).word) }
-    ensures net { OnOk result (circuit.new ≡ (node_of (words_view words.now) node circuit.old).net) }
-    ensures fits { OnOk result (IsWithinLimit circuit.new) }
-    ensures too_many { IfErr result (λ fault. fault ≡ GateFault.TooMany → IsOverfull (node_of (words_view words.now) node circuit.old).net) }
-    ensures extends { IsExtensionOf circuit.old circuit.new }
+    ensures { Makes (node_of (words_view words.now) node circuit.old) circuit.old circuit.new result }
 {
     match node {
         Node::Constant { kind, value } => constant_word(alloc, circuit, kind, value),

@@ -1,10 +1,9 @@
-ghost use Rattle.std.specs.Prelude.{◌≡◌, length, IfOk, IfErr, OnOk};
-ghost use Rattle.gates.specs.declared.circuit.GateFault.{GateFault};
+ghost use Rattle.std.specs.Prelude.{◌≡◌, length};
 ghost use Rattle.gates.specs.Literals.{false_lit};
-ghost use Rattle.gates.specs.Netlists.{IsOverfull, IsWithinLimit, IsExtensionOf};
 ghost use Rattle.word_circuits.specs.Sums.{add_of, sub_of, neg_of};
 ghost use Rattle.word_circuits.specs.Comparisons.{comparison_of};
 ghost use Rattle.node_circuits.specs.Rows.{one_bit, sum_alone, unary_of, binary_of};
+ghost use Rattle.node_circuits.specs.Makes.{Makes};
 
 use crate::operands::one_bit;
 use clause_core::Lit;
@@ -17,11 +16,7 @@ use word_circuits::{
 
 // The negative of a word.
 fn negative(alloc: Global, circuit: &mut Circuit, a: &[Lit]) -> Result<Vec<Lit>, GateFault>
-    ensures word { IfOk result (λ w. w.items ≡ (neg_of a.now circuit.old).word) }
-    ensures net { OnOk result (circuit.new ≡ (neg_of a.now circuit.old).net) }
-    ensures fits { OnOk result (IsWithinLimit circuit.new) }
-    ensures too_many { IfErr result (λ fault. fault ≡ GateFault.TooMany → IsOverfull (neg_of a.now circuit.old).net) }
-    ensures extends { IsExtensionOf circuit.old circuit.new }
+    ensures { Makes (sum_alone (neg_of a.now circuit.old)) circuit.old circuit.new result }
 {
     let sum = neg(alloc, circuit, a)?;
     Ok(sum.word)
@@ -29,11 +24,7 @@ fn negative(alloc: Global, circuit: &mut Circuit, a: &[Lit]) -> Result<Vec<Lit>,
 
 // A word with each bit negated, which takes no gates.
 fn complement(alloc: Global, circuit: &mut Circuit, a: &[Lit]) -> Result<Vec<Lit>, GateFault>
-    ensures word { IfOk result (λ w. w.items ≡ (unary_of UnaryOperator.Not a.now circuit.old).word) }
-    ensures net { OnOk result (circuit.new ≡ (unary_of UnaryOperator.Not a.now circuit.old).net) }
-    ensures fits { OnOk result (IsWithinLimit circuit.new) }
-    ensures too_many { IfErr result (λ fault. fault ≡ GateFault.TooMany → IsOverfull (unary_of UnaryOperator.Not a.now circuit.old).net) }
-    ensures extends { IsExtensionOf circuit.old circuit.new }
+    ensures { Makes (unary_of UnaryOperator.Not a.now circuit.old) circuit.old circuit.new result }
 {
     let Ok(word) = not(alloc, a) else {
         return Err(GateFault::Memory);
@@ -49,11 +40,7 @@ pub(crate) fn unary(
     operator: UnaryOperator,
     a: &[Lit],
 ) -> Result<Vec<Lit>, GateFault>
-    ensures word { IfOk result (λ w. w.items ≡ (unary_of operator a.now circuit.old).word) }
-    ensures net { OnOk result (circuit.new ≡ (unary_of operator a.now circuit.old).net) }
-    ensures fits { OnOk result (IsWithinLimit circuit.new) }
-    ensures too_many { IfErr result (λ fault. fault ≡ GateFault.TooMany → IsOverfull (unary_of operator a.now circuit.old).net) }
-    ensures extends { IsExtensionOf circuit.old circuit.new }
+    ensures { Makes (unary_of operator a.now circuit.old) circuit.old circuit.new result }
 {
     match operator {
         UnaryOperator::Minus => negative(alloc, circuit, a),
@@ -64,11 +51,7 @@ pub(crate) fn unary(
 // The sum of two words.
 fn sum(alloc: Global, circuit: &mut Circuit, a: &[Lit], b: &[Lit]) -> Result<Vec<Lit>, GateFault>
     requires { length a.now ≡ length b.now }
-    ensures word { IfOk result (λ w. w.items ≡ (add_of a.now b.now false_lit circuit.old).word) }
-    ensures net { OnOk result (circuit.new ≡ (add_of a.now b.now false_lit circuit.old).net) }
-    ensures fits { OnOk result (IsWithinLimit circuit.new) }
-    ensures too_many { IfErr result (λ fault. fault ≡ GateFault.TooMany → IsOverfull (add_of a.now b.now false_lit circuit.old).net) }
-    ensures extends { IsExtensionOf circuit.old circuit.new }
+    ensures { Makes (sum_alone (add_of a.now b.now false_lit circuit.old)) circuit.old circuit.new result }
 {
     let sum = add(alloc, circuit, a, b, FALSE)?;
     Ok(sum.word)
@@ -82,11 +65,7 @@ fn difference(
     b: &[Lit],
 ) -> Result<Vec<Lit>, GateFault>
     requires { length a.now ≡ length b.now }
-    ensures word { IfOk result (λ w. w.items ≡ (sub_of a.now b.now circuit.old).word) }
-    ensures net { OnOk result (circuit.new ≡ (sub_of a.now b.now circuit.old).net) }
-    ensures fits { OnOk result (IsWithinLimit circuit.new) }
-    ensures too_many { IfErr result (λ fault. fault ≡ GateFault.TooMany → IsOverfull (sub_of a.now b.now circuit.old).net) }
-    ensures extends { IsExtensionOf circuit.old circuit.new }
+    ensures { Makes (sum_alone (sub_of a.now b.now circuit.old)) circuit.old circuit.new result }
 {
     let sum = sub(alloc, circuit, a, b)?;
     Ok(sum.word)
@@ -102,11 +81,7 @@ fn comparison(
     b: &[Lit],
 ) -> Result<Vec<Lit>, GateFault>
     requires { length a.now ≡ length b.now }
-    ensures word { IfOk result (λ w. w.items ≡ (one_bit (comparison_of comparison signed a.now b.now circuit.old)).word) }
-    ensures net { OnOk result (circuit.new ≡ (comparison_of comparison signed a.now b.now circuit.old).net) }
-    ensures fits { OnOk result (IsWithinLimit circuit.new) }
-    ensures too_many { IfErr result (λ fault. fault ≡ GateFault.TooMany → IsOverfull (comparison_of comparison signed a.now b.now circuit.old).net) }
-    ensures extends { IsExtensionOf circuit.old circuit.new }
+    ensures { Makes (one_bit (comparison_of comparison signed a.now b.now circuit.old)) circuit.old circuit.new result }
 {
     let bit = compare(alloc, circuit, comparison, signed, a, b)?;
     let Ok(word) = one_bit(alloc, bit) else {
@@ -125,11 +100,7 @@ pub(crate) fn binary(
     b: &[Lit],
 ) -> Result<Vec<Lit>, GateFault>
     requires { length a.now ≡ length b.now }
-    ensures word { IfOk result (λ w. w.items ≡ (binary_of operator signed a.now b.now circuit.old).word) }
-    ensures net { OnOk result (circuit.new ≡ (binary_of operator signed a.now b.now circuit.old).net) }
-    ensures fits { OnOk result (IsWithinLimit circuit.new) }
-    ensures too_many { IfErr result (λ fault. fault ≡ GateFault.TooMany → IsOverfull (binary_of operator signed a.now b.now circuit.old).net) }
-    ensures extends { IsExtensionOf circuit.old circuit.new }
+    ensures { Makes (binary_of operator signed a.now b.now circuit.old) circuit.old circuit.new result }
 {
     match operator {
         Operator::Or => bitwise(alloc, circuit, BitOperator::Or, a, b),

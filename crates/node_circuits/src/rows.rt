@@ -1,10 +1,9 @@
-ghost use Rattle.std.specs.Prelude.{◌≡◌, ◌<◌, length, IfOk, IfErr, OnOk};
-ghost use Rattle.gates.specs.declared.circuit.GateFault.{GateFault};
-ghost use Rattle.gates.specs.Netlists.{IsOverfull, IsWithinLimit, IsExtensionOf};
+ghost use Rattle.std.specs.Prelude.{◌≡◌, ◌<◌, length, IfOk};
 ghost use Rattle.plc_types.specs.Types.{width_of};
 ghost use Rattle.word_circuits.specs.Comparisons.{is_zero_of, outside_of};
 ghost use Rattle.word_circuits.specs.Conversions.{any_of};
 ghost use Rattle.node_circuits.specs.Rows.{one_bit, conversion_of, shift_of};
+ghost use Rattle.node_circuits.specs.Makes.{Makes};
 
 use crate::operands::one_bit;
 use clause_core::Lit;
@@ -15,11 +14,7 @@ use word_circuits::{any, is_zero, outside, resize, rol, ror, shl, shr};
 
 // Whether some bit of a word is set, as a word of one bit.
 fn truth(alloc: Global, circuit: &mut Circuit, a: &[Lit]) -> Result<Vec<Lit>, GateFault>
-    ensures word { IfOk result (λ w. w.items ≡ (one_bit (any_of a.now circuit.old)).word) }
-    ensures net { OnOk result (circuit.new ≡ (any_of a.now circuit.old).net) }
-    ensures fits { OnOk result (IsWithinLimit circuit.new) }
-    ensures too_many { IfErr result (λ fault. fault ≡ GateFault.TooMany → IsOverfull (any_of a.now circuit.old).net) }
-    ensures extends { IsExtensionOf circuit.old circuit.new }
+    ensures { Makes (one_bit (any_of a.now circuit.old)) circuit.old circuit.new result }
 {
     let bit = any(circuit, a)?;
     let Ok(word) = one_bit(alloc, bit) else {
@@ -36,11 +31,7 @@ pub(crate) fn conversion(
     to: Elementary,
     a: &[Lit],
 ) -> Result<Vec<Lit>, GateFault>
-    ensures word { IfOk result (λ w. w.items ≡ (conversion_of from to a.now circuit.old).word) }
-    ensures net { OnOk result (circuit.new ≡ (conversion_of from to a.now circuit.old).net) }
-    ensures fits { OnOk result (IsWithinLimit circuit.new) }
-    ensures too_many { IfErr result (λ fault. fault ≡ GateFault.TooMany → IsOverfull (conversion_of from to a.now circuit.old).net) }
-    ensures extends { IsExtensionOf circuit.old circuit.new }
+    ensures { Makes (conversion_of from to a.now circuit.old) circuit.old circuit.new result }
 {
     if matches!(to, Elementary::Bool) {
         return truth(alloc, circuit, a);
@@ -76,11 +67,7 @@ pub(crate) fn zero_test(
     circuit: &mut Circuit,
     a: &[Lit],
 ) -> Result<Vec<Lit>, GateFault>
-    ensures word { IfOk result (λ w. w.items ≡ (one_bit (is_zero_of a.now circuit.old)).word) }
-    ensures net { OnOk result (circuit.new ≡ (is_zero_of a.now circuit.old).net) }
-    ensures fits { OnOk result (IsWithinLimit circuit.new) }
-    ensures too_many { IfErr result (λ fault. fault ≡ GateFault.TooMany → IsOverfull (is_zero_of a.now circuit.old).net) }
-    ensures extends { IsExtensionOf circuit.old circuit.new }
+    ensures { Makes (one_bit (is_zero_of a.now circuit.old)) circuit.old circuit.new result }
 {
     let bit = is_zero(alloc, circuit, a)?;
     let Ok(word) = one_bit(alloc, bit) else {
@@ -97,11 +84,7 @@ pub(crate) fn range_test(
     range: Range,
     a: &[Lit],
 ) -> Result<Vec<Lit>, GateFault>
-    ensures word { IfOk result (λ w. w.items ≡ (one_bit (outside_of signed a.now range.low range.high circuit.old)).word) }
-    ensures net { OnOk result (circuit.new ≡ (outside_of signed a.now range.low range.high circuit.old).net) }
-    ensures fits { OnOk result (IsWithinLimit circuit.new) }
-    ensures too_many { IfErr result (λ fault. fault ≡ GateFault.TooMany → IsOverfull (outside_of signed a.now range.low range.high circuit.old).net) }
-    ensures extends { IsExtensionOf circuit.old circuit.new }
+    ensures { Makes (one_bit (outside_of signed a.now range.low range.high circuit.old)) circuit.old circuit.new result }
 {
     let bit = outside(
         alloc,
