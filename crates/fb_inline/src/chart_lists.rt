@@ -1,5 +1,5 @@
 // The flat statements of a chart that its steps and latches alone become.
-ghost use Rattle.std.specs.Prelude.{◌≡◌, ◌+◌, ◌++◌, ◌∷◌, [], length, map, pos, IfOk, OnOk};
+ghost use Rattle.std.specs.Prelude.{◌≡◌, ◌<◌, ◌^◌, ◌+◌, ◌++◌, ◌∷◌, [], length, map, pos, IfOk, OnOk};
 ghost use Rattle.program_tree.specs.Tree.{number};
 ghost use Rattle.program_tree.specs.View.{action_view, actions_view};
 ghost use Rattle.flat_core.specs.FlatTree.{set};
@@ -58,11 +58,12 @@ pub fn put_flags(
     scratch: &mut Vec<Scratch>,
     out: &mut Vec<FlatStmt>,
 ) -> Result<usize, AllocError>
+    requires { cells < 2 ^ 63 }
     ensures place { IfOk result (λ place. place ≡ cells + length scratch.old.items) }
     ensures list { OnOk result (flats_view out.new.items ≡ flats_view out.old.items ++ clear_flags steps.now (cells + length scratch.old.items)) }
     ensures scratch { OnOk result (scratch.new.items ≡ scratch.old.items ++ flags_of steps.now) }
 {
-    let first = cells.checked_add(scratch.len()).ok_or(AllocError)?;
+    let first = cells + scratch.len();
     for _ in steps {
         put_flag(cells, scratch, out)?;
         put_flag(cells, scratch, out)?;
@@ -75,6 +76,7 @@ fn put_flag(
     scratch: &mut Vec<Scratch>,
     out: &mut Vec<FlatStmt>,
 ) -> Result<(), AllocError>
+    requires { cells < 2 ^ 63 }
     ensures list { OnOk result (flats_view out.new.items ≡ flats_view out.old.items ++ set (cells + length scratch.old.items) (number (pos 0)) ∷ []) }
     ensures scratch { OnOk result (scratch.new.items ≡ scratch.old.items ++ flag_cell ∷ []) }
 {

@@ -1,5 +1,5 @@
 // The cells of calls, as scratch cells.
-ghost use Rattle.std.specs.Prelude.{◌≡◌, ◌+◌, ◌++◌, ◌∷◌, [], length, IfOk, OnOk};
+ghost use Rattle.std.specs.Prelude.{◌≡◌, ◌<◌, ◌^◌, ◌+◌, ◌++◌, ◌∷◌, [], length, IfOk, OnOk};
 ghost use Rattle.program_tree.specs.Tree.{number};
 ghost use Rattle.program_tree.specs.View.{expr_view};
 ghost use Rattle.flat_core.specs.FlatTree.{set};
@@ -26,6 +26,7 @@ fn put_cell(
     cells: usize,
     scratch: &mut Vec<Scratch>,
 ) -> Result<usize, AllocError>
+    requires { cells < 2 ^ 63 }
     ensures place { IfOk result (λ there. there ≡ cells + length scratch.old.items) }
     ensures scratch { OnOk result (scratch.new.items ≡ scratch.old.items ++ scratch_at (frame_view frame.now) place ∷ []) }
 {
@@ -47,6 +48,7 @@ pub fn put_start(
     scratch: &mut Vec<Scratch>,
     out: &mut Vec<FlatStmt>,
 ) -> Result<usize, AllocError>
+    requires { cells < 2 ^ 63 }
     ensures place { IfOk result (λ there. there ≡ cells + length scratch.old.items) }
     ensures scratch { OnOk result (scratch.new.items ≡ scratch.old.items ++ scratch_at (frame_view frame.now) place ∷ []) }
     ensures list { OnOk result (flats_view out.new.items
@@ -67,6 +69,7 @@ pub fn put_input(
     scratch: &mut Vec<Scratch>,
     out: &mut Vec<FlatStmt>,
 ) -> Result<usize, AllocError>
+    requires { cells < 2 ^ 63 }
     ensures place { IfOk result (λ there. there ≡ cells + length scratch.old.items) }
     ensures scratch { OnOk result (scratch.new.items ≡ scratch.old.items ++ scratch_at (frame_view frame.now) place ∷ []) }
     ensures list { OnOk result (flats_view out.new.items
@@ -105,13 +108,15 @@ pub fn put_others(
     scratch: &mut Vec<Scratch>,
     out: &mut Vec<FlatStmt>,
 ) -> Result<(), AllocError>
+    requires cells { cells < 2 ^ 63 }
+    requires inputs { inputs < 2 ^ 63 }
     ensures places { OnOk result (places.new.items ≡ places_of places.old.items (cells + length scratch.old.items) (others_behind (frame_view frame.now) inputs)) }
     ensures scratch { OnOk result (scratch.new.items
         ≡ scratch.old.items ++ other_scratch (frame_view frame.now) (2 + inputs) (others_behind (frame_view frame.now) inputs)) }
     ensures list { OnOk result (flats_view out.new.items
         ≡ flats_view out.old.items ++ other_starts (frame_view frame.now) (2 + inputs) (others_behind (frame_view frame.now) inputs) (cells + length scratch.old.items)) }
 {
-    let first = inputs.checked_add(2).ok_or(AllocError)?;
+    let first = inputs + 2;
     for place in first..frame.types.len() {
         let there = put_start(frame, place, cells, scratch, out)?;
         places.push(there)?;

@@ -1,5 +1,5 @@
 // One more flat statement, arm or scratch cell.
-ghost use Rattle.std.specs.Prelude.{◌≡◌, ◌+◌, ◌++◌, ◌∷◌, [], length, IfOk, OnOk};
+ghost use Rattle.std.specs.Prelude.{◌<◌, ◌^◌, ◌≡◌, ◌+◌, ◌++◌, ◌∷◌, [], length, IfOk, OnOk};
 ghost use Rattle.program_tree.specs.Tree.{number};
 ghost use Rattle.program_tree.specs.View.{expr_view};
 ghost use Rattle.flat_core.specs.FlatTree.{set, branch, no_flats};
@@ -84,10 +84,11 @@ pub fn new_scratch(
     cells: usize,
     scratch: &mut Vec<Scratch>,
 ) -> Result<usize, AllocError>
+    requires { cells < 2 ^ 63 }
     ensures place { IfOk result (λ place. place ≡ cells + length scratch.old.items) }
     ensures scratch { OnOk result (scratch.new.items ≡ scratch.old.items ++ cell ∷ []) }
 {
-    let place = cells.checked_add(scratch.len()).ok_or(AllocError)?;
+    let place = cells + scratch.len();
     scratch.push(cell)?;
     Ok(place)
 }
@@ -111,6 +112,7 @@ pub fn put_selector(
     scratch: &mut Vec<Scratch>,
     out: &mut Vec<FlatStmt>,
 ) -> Result<usize, AllocError>
+    requires { cells < 2 ^ 63 }
     ensures place { IfOk result (λ place. place ≡ cells + length scratch.old.items) }
     ensures scratch { OnOk result (scratch.new.items ≡ scratch.old.items ++ whole_cell kind ∷ []) }
     ensures list { OnOk result (flats_view out.new.items

@@ -1,5 +1,5 @@
 -- The data that owners, frames and scopes stand for.
-use Rattle.std.specs.Prelude.{◌≤◌, length}
+use Rattle.std.specs.Prelude.{◌≤◌, ◌<◌, ◌^◌, length}
 use Rattle.program_tree.specs.View.{all_called_view}
 use Rattle.program_tree.specs.declared.typed.Frame.{Frame}
 use Rattle.flat_form.specs.Frames.{FrameData}
@@ -22,7 +22,8 @@ owner_view (Call answer places) = call_owner answer places.now
 abbrev pub bodies_here : FlatScope → Bodies
 bodies_here scope = bodies_of (all_called_view scope.called.now) scope.below
 
--- the POUs that may be run and called are there, and which of them do nothing is told
+-- The program has no more cells than a list can have. The POUs that may be run and called are there, and which of them do nothing is told.
 pub record IsKnown (scope : FlatScope) : Type 0 where
+  pub few : scope.cells < 2 ^ 63
   pub called : scope.below ≤ length scope.called.now
   pub idle : AreIdleBelow scope.idle.now (all_called_view scope.called.now) scope.below

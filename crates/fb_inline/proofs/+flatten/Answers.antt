@@ -119,7 +119,7 @@ calls::flatten_answer-flatten_all-requires t c =
     let m = ap called_nodes is in
     let b = ap (λ l. body_nodes (stmts_view l)) c.deref-in-Function.ensures.value in
     let d : weight_here c.args.scope.now + 2 * all_nodes (arguments_view c.args.inputs.now) + 1 ≡ t = c.decreases in
-    (omega arith, record { called = omega arith; idle = idle-first c.args.scope.now.idle.now (all_called_view ps) c.args.function c.args.scope.now.below (omega arith) c.requires.known.idle })
+    (omega arith, record { few = c.requires.known.few; called = omega arith; idle = idle-first c.args.scope.now.idle.now (all_called_view ps) c.args.function c.args.scope.now.below (omega arith) c.requires.known.idle })
 
 pub calls::flatten_answer-returns-in-Function-clause-value : goal.calls::flatten_answer-returns-in-Function-clause-value
 calls::flatten_answer-returns-in-Function-clause-value t c =
@@ -199,7 +199,7 @@ statements::flatten_block-flatten_all-requires t c =
     let m = ap called_nodes is in
     let b = ap (λ l. body_nodes (stmts_view l)) c.deref.ensures.value in
     let d : weight_here c.args.scope.now ≡ t = c.decreases in
-    (omega arith, record { called = omega arith; idle = idle-first c.args.scope.now.idle.now (all_called_view ps) c.args.block c.args.scope.now.below (omega arith) c.requires.known.idle })
+    (omega arith, record { few = c.requires.known.few; called = omega arith; idle = idle-first c.args.scope.now.idle.now (all_called_view ps) c.args.block c.args.scope.now.below (omega arith) c.requires.known.idle })
 
 pub statements::flatten_block-returns-in_ok-flatten_all-clause-list : goal.statements::flatten_block-returns-in_ok-flatten_all-clause-list
 statements::flatten_block-returns-in_ok-flatten_all-clause-list t c =

@@ -19,6 +19,7 @@ flatten_all-requires c =
     let all : c.len-2.result ≡ length whole = omega (arith, ap length c.deref-2.ensures.value) in
     record {
       known = record {
+        few = omega arith;
         called = omega arith;
         idle = idle-here c.in_ok-idle.idle.items c.deref-3.result.now c.deref-2.result.now c.deref.result.now whole c.len-2.result c.deref-3.ensures.value c.deref.ensures.value c.deref-2.ensures.value all c.in_ok-idle.ensures;
       };
