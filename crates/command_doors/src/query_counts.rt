@@ -3,8 +3,8 @@ use crate::files::{TextFile, shelf_of};
 use case_files::{Case, CaseFault, Mismatch, Word, compare, malformed};
 use cdcl_watch::Watched;
 use clause_core::{Cnf, Decided, Decider};
-use gen_command::{answer_gen, answer_verify};
 use outside::{MemShelf, MemSink};
+use regver_top::{answer_gen, answer_verify};
 use std::alloc::{AllocError, Global};
 
 /// Counts what the decider of the program is asked.

@@ -4,5 +4,5 @@
 mod top;
 
 pub use command_answers::Status;
-pub use gen_command::answer_verify;
+pub use gen_command::{answer_gen, answer_verify};
 pub use top::regver;
