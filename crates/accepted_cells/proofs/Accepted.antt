@@ -10,7 +10,7 @@ use Rattle.naming.specs.FileScope.{is_program}
 use Rattle.naming.specs.Scopes.{variables_in_pou, scope_of as names_of}
 use Rattle.rules.specs.Judgements.{and}
 use Rattle.scan_model.specs.Candidates.{paths_of}
-use Rattle.st_names.proofs.WholeNames.{pou_whole}
+use Rattle.typed_files.proofs.st_names.WholeNames.{pou_whole}
 use Rattle.typing.specs.declared.scope.Place.TheVariants as places
 use Rattle.typing.specs.declared.scope.Meaning.{Meaning}
 use Rattle.typing.specs.Typing.{by_path, kind_at}
@@ -21,18 +21,18 @@ use Rattle.typing.specs.Members.{scope_of}
 use Rattle.typing.specs.Pous.{cell_count}
 use Rattle.typing.specs.TypedPrograms.{typed_program}
 use Rattle.typing_laws.proofs.CellCounts.{length-cells}
-use Rattle.typed_scopes.proofs.Wholes.{whole_and}
-use Rattle.typed_cells.specs.Premises.{UsesItsBlocks, IsOrdered}
-use Rattle.typed_cells.proofs.Owners.{low}
-use Rattle.bound_names.specs.BoundNames.{bound_uses}
-use Rattle.bound_names.proofs.UsedBlocks.{used_blocks, all_ordered}
+use Rattle.typed_files.proofs.typed_scopes.Wholes.{whole_and}
+use Rattle.typed_files.specs.typed_cells.Premises.{UsesItsBlocks, IsOrdered}
+use Rattle.typed_files.proofs.typed_cells.Owners.{low}
+use Rattle.typed_files.specs.bound_names.BoundNames.{bound_uses}
+use Rattle.typed_files.proofs.bound_names.UsedBlocks.{used_blocks, all_ordered}
 use Rattle.typed_files.proofs.whole_files.WholeBodies.{no_names, body_bound}
 use Rattle.typed_files.proofs.whole_files.WholeLaw.{whole_pou}
 use Rattle.typed_files.proofs.ProgramPlaces.{is_program_there}
 use Rattle.front_end.specs.Texts.{StatesProgram}
 use Rattle.front_end.proofs.TypedTexts.{file_levelled}
-use Rattle.cell_paths.specs.Paths.{HasPaths}
-use Rattle.cell_paths.proofs.Cells.{paths_stand}
+use Rattle.found_cells.specs.cell_paths.Paths.{HasPaths}
+use Rattle.found_cells.proofs.cell_paths.Cells.{paths_stand}
 use Rattle.found_cells.specs.Names.{AreNamedOnce, HaveNoPoints}
 use Rattle.found_cells.specs.Clauses.{IsWholePath}
 use Rattle.found_cells.proofs.Paths.{Apart, program_apart, program_distinct, each_once}

@@ -13,9 +13,9 @@ use Rattle.typing.specs.Labels.{seen_behind}
 use Rattle.typing.specs.JudgedStatements.{judged_assign, judged_iteration, turns_rule, broken_by, with_control, judged_selector, judged_labels_if, judged_stmt, judged_stmts, judged_arms, judged_entries, judged_else}
 use Rattle.typing.specs.JudgedCharts.{judged_part, judged_parts}
 use Rattle.typing.specs.Pous.{judged_body}
-use Rattle.typed_scopes.specs.Uses.{Usable, IsStmtWithin, AreStmtsWithin, AreArmsWithin, AreEntriesWithin, IsElseWithin, ArePartsWithin}
-use Rattle.typed_scopes.proofs.Wholes.{whole_require, whole_and}
-use Rattle.bound_names.specs.BoundNames.{IsBodyWithin}
+use Rattle.typed_files.specs.typed_scopes.Uses.{Usable, IsStmtWithin, AreStmtsWithin, AreArmsWithin, AreEntriesWithin, IsElseWithin, ArePartsWithin}
+use Rattle.typed_files.proofs.typed_scopes.Wholes.{whole_require, whole_and}
+use Rattle.typed_files.specs.bound_names.BoundNames.{IsBodyWithin}
 use Rattle.accepted_cells.specs.Assignments.{IsAssignedIn, IsAssignedAmong, IsAssignedInArms, IsAssignedInEntries, IsAssignedInElse, IsAssignedInParts, IsAssigned}
 
 whole_unruled : (j : Judgement) (rule : Option Rule) (at : ℕ) → (broken_by j rule at).whole ≡ true → j.whole ≡ true

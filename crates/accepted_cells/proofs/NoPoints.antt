@@ -9,7 +9,7 @@ use Rattle.naming.specs.ChartWords.{is_stored}
 use Rattle.naming.specs.FileScope.{pous_of}
 use Rattle.naming.specs.Scopes.{Variable, role_of, declared_by, declared_in, variables_of, result_of, transition_named, declared_by_part, declared_by_parts, names_in_body, variables_in_pou}
 use Rattle.typing.specs.Places.{variables_in}
-use Rattle.typed_cells.proofs.Lists.{all-append}
+use Rattle.typed_files.proofs.typed_cells.Lists.{all-append}
 use Rattle.front_end.specs.StandardBlocks.{prelude_text}
 use Rattle.front_end.specs.Texts.{HasTree, HasFile}
 use Rattle.found_cells.specs.Names.{HasNoPoint, HaveNoPoints}

@@ -26,9 +26,9 @@ use Rattle.typing.specs.Judged.{judged, judged_meaning}
 use Rattle.typing.specs.JudgedStatements.{is_free, is_assignable, judged_target, judged_assign}
 use Rattle.typing.specs.Places.{has_cell, sizes_of}
 use Rattle.typing.specs.Members.{may_be_assigned, member_of, member_at, seen_from, in_instance, meant_by, variable_or_value, scope_of}
-use Rattle.typed_scopes.proofs.Wholes.{whole_require, whole_and}
-use Rattle.typed_cells.specs.Premises.{UsesItsBlocks, IsOrdered}
-use Rattle.cell_paths.proofs.Owners.{program_name}
+use Rattle.typed_files.proofs.typed_scopes.Wholes.{whole_require, whole_and}
+use Rattle.typed_files.specs.typed_cells.Premises.{UsesItsBlocks, IsOrdered}
+use Rattle.found_cells.proofs.cell_paths.Owners.{program_name}
 use Rattle.found_cells.specs.Clauses.{IsWholePath}
 
 -- ---- what an assignment that breaks no rule says of its target

@@ -10,7 +10,7 @@ use Rattle.typing.specs.declared.scope.Meaning.{Meaning}
 use Rattle.typing.specs.Typing.{by_path}
 use Rattle.typing.specs.Programs.{joined, own_type, pair_means}
 use Rattle.candidates.specs.ByPath.{placed, cell_named}
-use Rattle.cell_paths.specs.Paths.{StandsFor, paths_behind}
+use Rattle.found_cells.specs.cell_paths.Paths.{StandsFor, paths_behind}
 use Rattle.found_cells.specs.Clauses.{of_program, in_clause}
 
 -- At a place stands the cell of a path, of a type and a range. The look-up by the path finds it, and no other cell has the path.

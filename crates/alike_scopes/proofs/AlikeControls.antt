@@ -7,7 +7,7 @@ use Rattle.typing.specs.declared.scope.Place.TheVariants as places
 use Rattle.typing.specs.declared.scope.Meaning.{Meaning}
 use Rattle.typing.specs.Typing.{Reference, Scope}
 use Rattle.typing.specs.JudgedStatements.{is_free, is_assignable, is_control, with_place, with_control}
-use Rattle.typed_scopes.specs.Uses.{Usable}
+use Rattle.bound_names.specs.typed_scopes.Uses.{Usable}
 use Rattle.alike_scopes.specs.AlikeScopes.{unplaced, cleared, AreAlike, is_same_place, is_same_cell}
 use Rattle.alike_scopes.proofs.AlikeNames.{control_alike}
 

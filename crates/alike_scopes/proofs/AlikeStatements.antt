@@ -16,8 +16,8 @@ use Rattle.typing.specs.Labels.{seen_behind}
 use Rattle.typing.specs.JudgedStatements.{is_assignable, judged_target, judged_assign, is_control, member, judged_input, judged_output, judged_connections, connects_twice, has_right_arrow, judged_invoke, may_control, judged_control, judged_bound, judged_step, is_typed, step_is_typed, judged_iteration, turns_rule, broken_by, with_control, judged_selector, judged_labels_if, judged_stmt, judged_stmts, judged_arms, judged_entries, judged_else}
 use Rattle.typing.specs.JudgedCharts.{judged_part, judged_parts}
 use Rattle.typing.specs.Pous.{judged_body}
-use Rattle.typed_scopes.specs.Uses.{Usable, AreConnectionsWithin, IsStmtWithin, AreStmtsWithin, AreArmsWithin, AreEntriesWithin, IsElseWithin, ArePartsWithin}
-use Rattle.typed_scopes.proofs.Wholes.{whole_require, whole_and}
+use Rattle.bound_names.specs.typed_scopes.Uses.{Usable, AreConnectionsWithin, IsStmtWithin, AreStmtsWithin, AreArmsWithin, AreEntriesWithin, IsElseWithin, ArePartsWithin}
+use Rattle.bound_names.proofs.typed_scopes.Wholes.{whole_require, whole_and}
 use Rattle.bound_names.specs.BoundNames.{IsBodyWithin}
 use Rattle.alike_scopes.specs.AlikeScopes.{AreAlike}
 use Rattle.alike_scopes.proofs.AlikeNames.{kind_alike, meaning_alike, control_alike, input_alike}

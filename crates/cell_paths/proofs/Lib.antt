@@ -5,3 +5,4 @@ pub mod Walks
 pub mod Owners
 pub mod Located
 pub mod Cells
+pub use Rattle.typed_cells.proofs as typed_cells

@@ -1,6 +1,6 @@
 -- Laws of flat programs.
 use Rattle.std.specs.Prelude.{◌≡◌, ◌++◌, length, take}
-use Rattle.meaning.specs.Values.{State}
+use Rattle.scan_model.specs.meaning.Values.{State}
 use Rattle.scan_model.specs.Scans.{ranges_of}
 use Rattle.flat_core.specs.FlatTree.{FlatData}
 use Rattle.flat_core.specs.FlatScans.{run_of_all}

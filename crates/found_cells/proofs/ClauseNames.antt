@@ -29,8 +29,8 @@ use Rattle.typing.specs.Programs.{or_meaning, joined, cell_among, value_among, m
 use Rattle.typing.specs.Places.{has_cell, is_stored_action, sizes_of}
 use Rattle.typing.specs.Members.{member_of, member_at, seen_from, meant_by, variable_or_value, scope_of}
 use Rattle.typing.specs.TypedPrograms.{typed_program}
-use Rattle.typed_cells.specs.Premises.{UsesItsBlocks, IsOrdered}
-use Rattle.typed_cells.proofs.Roles.{seen_cell}
+use Rattle.cell_paths.specs.typed_cells.Premises.{UsesItsBlocks, IsOrdered}
+use Rattle.cell_paths.proofs.typed_cells.Roles.{seen_cell}
 use Rattle.cell_paths.specs.Paths.{StandsFor, own, behind, paths_behind}
 use Rattle.found_cells.specs.Names.{AreNamedOnce, HaveNoPoints}
 use Rattle.found_cells.specs.Clauses.{IsWholePath, of_program, in_clause}

@@ -13,7 +13,7 @@ use Rattle.typing.specs.declared.scope.Meaning.{Meaning}
 use Rattle.typing.specs.declared.member.Member.{Member}
 use Rattle.typing.specs.Programs.{cell_meaning, cell_among}
 use Rattle.typing.specs.TypedPrograms.{typed_program}
-use Rattle.typed_cells.specs.Premises.{UsesItsBlocks, IsOrdered}
+use Rattle.cell_paths.specs.typed_cells.Premises.{UsesItsBlocks, IsOrdered}
 use Rattle.cell_paths.specs.Paths.{StandsFor, paths_behind}
 use Rattle.found_cells.specs.Names.{AreNamedOnce, HaveNoPoints}
 use Rattle.found_cells.specs.Clauses.{in_clause}

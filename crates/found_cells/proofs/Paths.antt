@@ -15,7 +15,7 @@ use Rattle.naming.specs.Scopes.{Variable, variables_in_pou, is_step, block_of}
 use Rattle.scan_model.specs.Candidates.{paths_of}
 use Rattle.typing.specs.Places.{has_cell, is_stored_action, in_order, size_among, sizes_of, variables_in, variables_at}
 use Rattle.typing.specs.TypedPrograms.{fault_cell, flag_cell, active_first, cell_for, cells_for, cells_of_variable, cells_of, block_cells, typed_program}
-use Rattle.typed_cells.proofs.Lists.{all-in_order}
+use Rattle.cell_paths.proofs.typed_cells.Lists.{all-in_order}
 use Rattle.found_cells.specs.Names.{HasNoPoint, AreNamedOnce, HaveNoPoints}
 use Rattle.cell_paths.proofs.Blocks.{Blocks}
 use Rattle.found_cells.proofs.Apart.{same_name, names_differ, none_fault, bytes_flip, order_differs, IsOf, apart_by, paths_differ}

@@ -16,7 +16,7 @@ ghost use Rattle.typing.specs.Programs.{cell_meaning, cell_among, own_type, pair
 ghost use Rattle.typing.specs.Places.{sizes_of};
 ghost use Rattle.typing.specs.Members.{scope_of};
 ghost use Rattle.typing.specs.TypedPrograms.{fault_cell, typed_program};
-ghost use Rattle.typed_cells.specs.Premises.{UsesItsBlocks, IsOrdered};
+ghost use Rattle.cell_paths.specs.typed_cells.Premises.{UsesItsBlocks, IsOrdered};
 ghost use Rattle.cell_paths.specs.Paths.{StandsFor, paths_behind};
 ghost use Rattle.found_cells.specs.Names.{AreNamedOnce, HaveNoPoints};
 ghost use Rattle.found_cells.specs.Clauses.{IsWholePath, of_program, in_clause};

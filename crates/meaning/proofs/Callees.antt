@@ -2,10 +2,10 @@
 use Rattle.std.proofs.Common.{◌≡◌, ℕ, zero, suc, ◌+◌, ◌-◌, ◌*◌, ◌<◌, ◌≤◌, List, [], ◌∷◌, length, get_or, slice_index_or, refl, sym, ap, ◌∙◌, arith, rules, tests, Bool, false, ℤ, ◌+ℤ◌, pos}
 use Rattle.std.specs.Prelude.{◌==◌, ◌||◌, slice_set, if◌then◌else◌}
 use Rattle.std.proofs.lemmas.Bool.Decides.{nat_tests}
-use Rattle.plc_types.specs.declared.range.Range.{Range}
+use Rattle.program_tree.specs.plc_types.declared.range.Range.{Range}
 use Rattle.program_tree.specs.declared.typed.CellType.{CellType}
 use Rattle.program_tree.specs.declared.typed.Called.{Called}
-use Rattle.plc_types.specs.Types.{in_range}
+use Rattle.program_tree.specs.plc_types.Types.{in_range}
 use Rattle.program_tree.specs.Tree.{Statements, CalledData, block, function}
 use Rattle.program_tree.specs.View.{called_view, all_called_view}
 use Rattle.meaning.specs.Values.{State}

@@ -4,7 +4,7 @@ use Rattle.std.specs.Prelude.{◌==◌, ◌&&◌, ◌||◌, not, filter, slice_s
 use Rattle.std.specs.List.{list_any, list_all}
 use Rattle.std.proofs.lemmas.Bool.Decides.{nat_tests}
 use Rattle.std.proofs.Math.Bool.{or-false, or_assoc}
-use Rattle.plc_types.specs.declared.range.Range.{Range}
+use Rattle.program_tree.specs.plc_types.declared.range.Range.{Range}
 use Rattle.program_tree.specs.declared.typed.StepCells.{StepCells}
 use Rattle.program_tree.specs.declared.typed.TypedAction.{TypedAction}
 use Rattle.program_tree.specs.declared.typed.TypedTransition.{TypedTransition}

@@ -1,6 +1,6 @@
 -- What POUs do that may be called, where each calls only those before it (IEC 61131-3, 2.5.1 and 2.5.2).
 use Rattle.std.specs.Prelude.{ℕ, zero, suc, ◌+◌, ◌==◌, List, [], ◌∷◌, ℤ, if◌then◌else◌, slice_index_or}
-use Rattle.plc_types.specs.declared.range.Range.{Range}
+use Rattle.program_tree.specs.plc_types.declared.range.Range.{Range}
 use Rattle.program_tree.specs.Tree.{Statements, no_statements, CalledData, block, function}
 use Rattle.meaning.specs.Values.{State, Callees, no_callees}
 use Rattle.meaning.specs.Effects.{stored, effect_of_all}

@@ -1,14 +1,14 @@
 -- What statements and charts do to a state of their owner (IEC 61131-3, 3.3.2 and 2.6). The ranges are those of the owner's cells, in their order, and the
 -- cells of the POU begin at a base.
 use Rattle.std.specs.Prelude.{ℕ, suc, zero, ◌+◌, List, [], ◌∷◌, Bool, false, ◌||◌, Option, None, Some, slice_set, slice_index_or, ℤ, pos, ◌+ℤ◌, if◌then◌else◌}
-use Rattle.plc_types.specs.declared.range.Range.{Range}
+use Rattle.program_tree.specs.plc_types.declared.range.Range.{Range}
 use Rattle.program_tree.specs.declared.typed.TypedLabel.{TypedLabel}
 use Rattle.program_tree.specs.declared.typed.TypedLabel.TheVariants.{Single, Span}
 use Rattle.std.specs.Ordering.{int_eq}
 use Rattle.std.specs.List.{list_any}
 use Rattle.program_tree.specs.declared.typed.StepCells.{StepCells}
 use Rattle.program_tree.specs.declared.typed.Association.{Association}
-use Rattle.plc_types.specs.Types.{in_range}
+use Rattle.program_tree.specs.plc_types.Types.{in_range}
 use Rattle.program_tree.specs.Tree.{Statement, TransitionData, assign, call_block, choice, cases, repeat, chart, Statements, no_statements, statement, Choices, no_choices, choose, Entries, no_entries, entry, Actions, no_actions, action}
 use Rattle.meaning.specs.Values.{State, Callees, number_of, value_of, faults, is_truth}
 use Rattle.meaning.specs.Charts.{Marking, marking_now, marking_before, next_latch, runs, evaluated, fired, holds_in, faults_in, is_next}

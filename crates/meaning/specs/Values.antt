@@ -3,20 +3,20 @@
 -- from a base on: those of a PROGRAM or FUNCTION from 0 on, and those of a FUNCTION_BLOCK where its instance begins.
 use Rattle.std.specs.Prelude.{ℕ, ◌+◌, ◌*◌, ◌-◌, ◌^◌, ◌/◌, ◌%◌, nat_lt, List, [], ◌∷◌, Bool, true, false, not, ◌&&◌, ◌||◌, slice_index_or, ℤ, pos, neg_ℤ, ◌+ℤ◌, ◌-ℤ◌, ◌*ℤ◌, int_le, int_lt, unsigned_abs, bit_and, bit_or, bit_xor, if◌then◌else◌, Option, Some, None}
 use Rattle.std.specs.Ordering.{int_eq}
-use Rattle.num_core.specs.Division.{quot, rem}
-use Rattle.plc_types.specs.declared.elementary.Elementary.{Elementary}
-use Rattle.plc_types.specs.declared.elementary.Elementary.TheVariants as types
-use Rattle.plc_types.specs.declared.function.Function.{Function}
-use Rattle.plc_types.specs.declared.function.Function.TheVariants as functions
-use Rattle.plc_types.specs.declared.function.Shift.{Shift}
-use Rattle.plc_types.specs.declared.function.Shift.TheVariants as shifts
-use Rattle.plc_types.specs.declared.range.Range.{Range}
-use Rattle.plc_types.specs.declared.operator.UnaryOperator.{UnaryOperator}
-use Rattle.plc_types.specs.declared.operator.UnaryOperator.TheVariants as signs
-use Rattle.plc_types.specs.declared.operator.Operator.{Operator}
-use Rattle.plc_types.specs.declared.operator.Operator.TheVariants as ops
+use Rattle.program_tree.specs.num_core.Division.{quot, rem}
+use Rattle.program_tree.specs.plc_types.declared.elementary.Elementary.{Elementary}
+use Rattle.program_tree.specs.plc_types.declared.elementary.Elementary.TheVariants as types
+use Rattle.program_tree.specs.plc_types.declared.function.Function.{Function}
+use Rattle.program_tree.specs.plc_types.declared.function.Function.TheVariants as functions
+use Rattle.program_tree.specs.plc_types.declared.function.Shift.{Shift}
+use Rattle.program_tree.specs.plc_types.declared.function.Shift.TheVariants as shifts
+use Rattle.program_tree.specs.plc_types.declared.range.Range.{Range}
+use Rattle.program_tree.specs.plc_types.declared.operator.UnaryOperator.{UnaryOperator}
+use Rattle.program_tree.specs.plc_types.declared.operator.UnaryOperator.TheVariants as signs
+use Rattle.program_tree.specs.plc_types.declared.operator.Operator.{Operator}
+use Rattle.program_tree.specs.plc_types.declared.operator.Operator.TheVariants as ops
 use Rattle.program_tree.specs.Tree.{Expression, number, cell, unary, chain, call_standard, call_function, Operands, no_operands, operand, Expressions, no_expressions, expression}
-use Rattle.plc_types.specs.Types.{width_of, wrap_to}
+use Rattle.program_tree.specs.plc_types.Types.{width_of, wrap_to}
 
 -- the values of an owner's cells, in order, FAULT first
 abbrev pub State : Type 0

@@ -28,7 +28,7 @@ use Rattle.typing.specs.TypedPrograms.{cells_in, frame_cells, type_of_cell, type
 use Rattle.typing_laws.proofs.CellCounts.{UsesItsBlocks, size_is, no_size, length-cells_in}
 use Rattle.pou_cells.specs.Placing.{capped as word}
 use Rattle.running_counts.proofs.Shortness.{frames_counted, short_by, longer}
-use Rattle.bound_names.proofs.UsedBlocks.{used_blocks, all_ordered}
+use Rattle.alike_scopes.proofs.bound_names.UsedBlocks.{used_blocks, all_ordered}
 use Rattle.alike_scopes.proofs.PlacedScopes.{scopes_alike, blocks_alike}
 use Rattle.st_types.specs.Outlines.{is_long, outlined_body, outlined_of, outlined_if, outlined_by, outlined_program}
 use Rattle.outline_laws.proofs.FewerCells.{further, less_of}

@@ -1,3 +1,5 @@
 pub mod Tree
 pub mod View
 pub mod Cells
+pub use Rattle.plc_types.specs as plc_types
+pub use Rattle.plc_types.specs.num_core as num_core

@@ -7,3 +7,4 @@ pub mod Candidates
 pub mod Verdicts
 pub mod Laws
 pub mod VerdictLaws
+pub use Rattle.meaning.specs as meaning

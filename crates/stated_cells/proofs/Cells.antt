@@ -7,11 +7,11 @@ use Rattle.naming.specs.Scopes.{Variable, variables_in_pou, block_of}
 use Rattle.typing.specs.Variables.{domain_of_variable, judged_variable}
 use Rattle.typing.specs.Places.{variables_in}
 use Rattle.typing.specs.TypedPrograms.{cell_for, fault_cell, flag_cell, cells_in, type_texts}
-use Rattle.typed_scopes.specs.Types.{IsPlaceOf}
-use Rattle.typed_cells.specs.Variables.{place_for}
-use Rattle.typed_cells.specs.Premises.{AreWhole}
-use Rattle.typed_cells.proofs.Domains.{variable_sound}
-use Rattle.typed_cells.proofs.TypedCells.{kind_known}
+use Rattle.typed_files.specs.typed_scopes.Types.{IsPlaceOf}
+use Rattle.typed_files.specs.typed_cells.Variables.{place_for}
+use Rattle.typed_files.specs.typed_cells.Premises.{AreWhole}
+use Rattle.typed_files.proofs.typed_cells.Domains.{variable_sound}
+use Rattle.typed_files.proofs.typed_cells.TypedCells.{kind_known}
 use Rattle.stated_cells.specs.StatedCells.{IsStatedCell}
 use Rattle.stated_cells.proofs.Lasts.{same_last}
 use Rattle.stated_cells.proofs.OwnTypes.{kind_of_types}

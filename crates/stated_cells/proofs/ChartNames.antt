@@ -10,10 +10,10 @@ use Rattle.naming.specs.declared.role.Role.TheVariants as roles
 use Rattle.naming.specs.Scopes.{Variable, is_step, names_in_body, variables_in_pou}
 use Rattle.typing.specs.Places.{has_cell, is_front, in_front, behind_front, in_order}
 use Rattle.typing.specs.ChartPlaces.{steps_among}
-use Rattle.typed_cells.specs.Places.{declared_names}
-use Rattle.typed_cells.proofs.Lists.{all-filter, all-each}
-use Rattle.typed_cells.proofs.Roles.{is_of_chart}
-use Rattle.typed_cells.proofs.Names.{IsPlain, IsOfChart, declared_plain, body_of_chart}
+use Rattle.typed_files.specs.typed_cells.Places.{declared_names}
+use Rattle.typed_files.proofs.typed_cells.Lists.{all-filter, all-each}
+use Rattle.typed_files.proofs.typed_cells.Roles.{is_of_chart}
+use Rattle.typed_files.proofs.typed_cells.Names.{IsPlain, IsOfChart, declared_plain, body_of_chart}
 
 -- behind a name with cells that is no step there is no step
 abbrev pub AreStepsFirst : List Variable → Type 0

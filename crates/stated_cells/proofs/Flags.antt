@@ -14,15 +14,15 @@ use Rattle.typing.specs.Places.{has_cell, in_order, size_among, sizes_of, cells_
 use Rattle.typing.specs.ChartPlaces.{steps_among, charts_of_variable, charts_of, block_charts, charts_in}
 use Rattle.flat_core.specs.declared.flat_tree.Scratch.{Scratch}
 use Rattle.flat_form.specs.Frames.{whole_cell}
-use Rattle.typed_cells.specs.Places.{block_places, pou_places}
-use Rattle.typed_cells.specs.Variables.{variable_places, variables_places}
-use Rattle.typed_cells.specs.Premises.{IsUsedBlock, UsesItsBlocks, IsOrdered}
-use Rattle.typed_cells.proofs.Lists.{all-in_order}
-use Rattle.typed_cells.proofs.Occurrences.{Occurs, occurs_first, occurs_left, occurs_right, occurs_within, occurs_same, occurs_at}
-use Rattle.typed_cells.proofs.Roles.{step_cell, step_not_local, local_cell}
-use Rattle.typed_cells.proofs.BlockPlaces.{block_takes}
-use Rattle.typed_cells.proofs.Lengths.{instance_local, used_below, has_size}
-use Rattle.typed_cells.proofs.Owners.{low, same_variables, places_are}
+use Rattle.typed_files.specs.typed_cells.Places.{block_places, pou_places}
+use Rattle.typed_files.specs.typed_cells.Variables.{variable_places, variables_places}
+use Rattle.typed_files.specs.typed_cells.Premises.{IsUsedBlock, UsesItsBlocks, IsOrdered}
+use Rattle.typed_files.proofs.typed_cells.Lists.{all-in_order}
+use Rattle.typed_files.proofs.typed_cells.Occurrences.{Occurs, occurs_first, occurs_left, occurs_right, occurs_within, occurs_same, occurs_at}
+use Rattle.typed_files.proofs.typed_cells.Roles.{step_cell, step_not_local, local_cell}
+use Rattle.typed_files.proofs.typed_cells.BlockPlaces.{block_takes}
+use Rattle.typed_files.proofs.typed_cells.Lengths.{instance_local, used_below, has_size}
+use Rattle.typed_files.proofs.typed_cells.Owners.{low, same_variables, places_are}
 use Rattle.stated_cells.specs.StatedCells.{AreFlags, HasFlags}
 use Rattle.stated_cells.proofs.ChartNames.{AreStepsFirst, IsChartLast, chart_last}
 

@@ -15,9 +15,9 @@ use Rattle.naming.specs.FileScope.{types_of}
 use Rattle.naming.specs.Types.{specification_at}
 use Rattle.typing.specs.Domains.{has_few, judged_specification, judged_types}
 use Rattle.typing.specs.TypedPrograms.{value_texts, type_texts}
-use Rattle.typed_scopes.specs.Types.{IsKnown}
-use Rattle.typed_cells.specs.Places.{last_value, last}
-use Rattle.typed_cells.proofs.Constants.{within}
+use Rattle.typed_files.specs.typed_scopes.Types.{IsKnown}
+use Rattle.typed_files.specs.typed_cells.Places.{last_value, last}
+use Rattle.typed_files.proofs.typed_cells.Constants.{within}
 use Rattle.typed_files.proofs.whole_files.Told.{nil_front, nil_behind}
 use Rattle.stated_cells.specs.StatedCells.{last_number, last_of, has_values}
 

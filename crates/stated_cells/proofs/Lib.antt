@@ -6,3 +6,5 @@ pub mod ChartNames
 pub mod Flags
 pub mod StatedCells
 pub use Rattle.typed_files.proofs.whole_files
+pub use Rattle.typed_files.proofs.typed_cells as typed_cells
+pub use Rattle.typed_files.proofs.typed_scopes as typed_scopes

@@ -8,7 +8,7 @@ use Rattle.naming.specs.Circles.{IsBroken}
 use Rattle.typing.specs.Domains.{judged_types}
 use Rattle.typing.specs.Pous.{judged_pous, broken_types}
 use Rattle.typing.specs.TypedPrograms.{typed_program}
-use Rattle.bound_names.proofs.UsedBlocks.{used_blocks, all_ordered}
+use Rattle.typed_files.proofs.bound_names.UsedBlocks.{used_blocks, all_ordered}
 use Rattle.typed_files.proofs.whole_files.WholeBodies.{no_names}
 use Rattle.typed_files.proofs.whole_files.Told.{nil_front}
 use Rattle.typed_files.proofs.SoundBodies.{variables_whole}

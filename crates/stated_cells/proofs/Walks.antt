@@ -9,9 +9,9 @@ use Rattle.naming.specs.Scopes.{Variable, is_step, block_of}
 use Rattle.typing.specs.Variables.{judged_variable}
 use Rattle.typing.specs.Places.{has_cell, is_stored_action, in_order, size_among, sizes_of, variables_at}
 use Rattle.typing.specs.TypedPrograms.{path_behind, cell_for, flag_cell, active_first, cells_for, cells_of_variable, cells_of, block_cells, cells_in}
-use Rattle.typed_cells.specs.Premises.{AreWhole}
-use Rattle.typed_cells.proofs.Lists.{all-in_order}
-use Rattle.typed_cells.proofs.TypedCells.{each_whole}
+use Rattle.typed_files.specs.typed_cells.Premises.{AreWhole}
+use Rattle.typed_files.proofs.typed_cells.Lists.{all-in_order}
+use Rattle.typed_files.proofs.typed_cells.TypedCells.{each_whole}
 
 module _ (f : FileData) (P : CellData → Type 0) (flags : (before : Option (List ℕ)) (n : Named) (text : List ℕ) (v : ℤ) → P (flag_cell before n text v))
     (cells : (inside : Bool) (before : Option (List ℕ)) (v : Variable) → block_of f v ≡ None → (judged_variable f v).whole ≡ true → P (cell_for f inside before v)) where

@@ -11,7 +11,7 @@ use Rattle.program_tree.specs.Tree.{CellData, ProgramData}
 use Rattle.flat_core.specs.declared.flat_tree.Scratch.{Scratch}
 use Rattle.flat_form.specs.Frames.{whole_cell}
 use Rattle.node_core.specs.Stores.{of_cell, place_at}
-use Rattle.typed_scopes.specs.Types.{IsKnown, IsPlaceOf}
+use Rattle.typed_files.specs.typed_scopes.Types.{IsKnown, IsPlaceOf}
 
 -- the number of the last of some values
 abbrev pub last_number : List (List ℕ) → ℤ

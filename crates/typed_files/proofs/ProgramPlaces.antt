@@ -9,7 +9,7 @@ use Rattle.call_order.specs.Marks.{is_marked}
 use Rattle.source_tree.specs.Syntax.{PouKindData, function, function_block, program, PouData, FileData}
 use Rattle.naming.specs.Broken.{is_program_pou}
 use Rattle.naming.specs.FileScope.{pous_of, pou_at, is_program}
-use Rattle.st_names.specs.Bound.{program_number}
+use Rattle.whole_files.specs.st_names.Bound.{program_number}
 
 found_at : (place size k : ℕ) (b : Bool) → nat_lt place size ≡ b → cond b (Some place) None ≡ Some k → (place < size) × (place ≡ k)
 found_at place size k true e h = (search (rules, tests), cc)

@@ -11,18 +11,18 @@ use Rattle.naming.specs.FileScope.{pou_at, standing}
 use Rattle.naming.specs.Scopes.{Variable, variables_in_pou, is_seen, is_step, is_action, is_transition, variable_named, block_of, seen, seen_named, scope_of as names_of}
 use Rattle.naming.specs.Broken.{misused, too_deep, member_by, in_member, in_parts, in_flag, in_named, in_path, callee_of, broken_names}
 use Rattle.naming.specs.Circles.{calls_in_body, uses_of}
-use Rattle.st_names.proofs.Clean.{parts, no_doubles}
+use Rattle.whole_files.proofs.st_names.Clean.{parts, no_doubles}
 use Rattle.typing.specs.Typing.{Reference, by_path, by_value}
 use Rattle.typing.specs.Places.{variables_in}
 use Rattle.typing.specs.Members.{function_number}
-use Rattle.bound_names.specs.BoundNames.{is_bound, IsBodyWithin}
-use Rattle.bound_names.proofs.NameParts.{never, holds_by, fails_by}
-use Rattle.bound_names.proofs.Within.{body_within}
-use Rattle.st_names.proofs.WholeNames.{pou_whole}
-use Rattle.bound_names.proofs.UsedBlocks.{uses-pou, call_in}
+use Rattle.whole_files.specs.bound_names.BoundNames.{is_bound, IsBodyWithin}
+use Rattle.whole_files.proofs.bound_names.NameParts.{never, holds_by, fails_by}
+use Rattle.whole_files.proofs.bound_names.Within.{body_within}
+use Rattle.whole_files.proofs.st_names.WholeNames.{pou_whole}
+use Rattle.whole_files.proofs.bound_names.UsedBlocks.{uses-pou, call_in}
 use Rattle.whole_files.proofs.Formed.{pou_levelled}
-use Rattle.bound_names.proofs.CalledFunctions.{function_is, function_of}
-use Rattle.bound_names.proofs.Roles.{step_only, no_block}
+use Rattle.whole_files.proofs.bound_names.CalledFunctions.{function_is, function_of}
+use Rattle.whole_files.proofs.bound_names.Roles.{step_only, no_block}
 use Rattle.whole_files.proofs.WholeBodies.{names_of_body}
 use Rattle.typed_cells.specs.Uses.{is_seen_variable, is_seen_member, are_seen_behind, is_seen_by, is_called_by, uses_of_pou}
 

@@ -13,10 +13,10 @@ use Rattle.typing.specs.Variables.{judged_variables}
 use Rattle.typing.specs.Members.{scope_of}
 use Rattle.typing.specs.Pous.{judged_body, broken_types}
 use Rattle.typing.specs.Reached.{reached}
-use Rattle.typed_scopes.specs.Uses.{Usable}
-use Rattle.typed_scopes.proofs.Wholes.{whole_and}
-use Rattle.bound_names.specs.BoundNames.{IsBodyWithin}
-use Rattle.st_names.proofs.WholeNames.{pou_whole}
+use Rattle.whole_files.specs.typed_scopes.Uses.{Usable}
+use Rattle.whole_files.proofs.typed_scopes.Wholes.{whole_and}
+use Rattle.whole_files.specs.bound_names.BoundNames.{IsBodyWithin}
+use Rattle.whole_files.proofs.st_names.WholeNames.{pou_whole}
 use Rattle.whole_files.specs.WholePous.{IsNamedBody}
 use Rattle.whole_files.proofs.Formed.{pou_levelled}
 use Rattle.whole_files.proofs.WholeLaw.{whole_pou}

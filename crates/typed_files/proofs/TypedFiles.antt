@@ -5,14 +5,14 @@ use Rattle.source_tree.specs.Syntax.{PouData, FileData}
 use Rattle.source_tree.specs.Levels.{IsFileLevelled}
 use Rattle.naming.specs.FileScope.{pou_at}
 use Rattle.naming.specs.Circles.{IsBroken}
-use Rattle.st_names.specs.Bound.{program_number}
+use Rattle.whole_files.specs.st_names.Bound.{program_number}
 use Rattle.typing.specs.Pous.{broken_types}
 use Rattle.typing.specs.TypedPrograms.{pou_body, called_by}
 use Rattle.running_pous.specs.Running.{may_run}
 use Rattle.running_pous.specs.Stated.{stated_program}
 use Rattle.reach_laws.proofs.ReachedLaws.{reached_exact}
 use Rattle.typed_programs.specs.Programs.{IsTypedProgram}
-use Rattle.bound_names.proofs.UsedBlocks.{used_blocks, all_ordered}
+use Rattle.whole_files.proofs.bound_names.UsedBlocks.{used_blocks, all_ordered}
 use Rattle.whole_files.proofs.WholeBodies.{no_names}
 use Rattle.typed_cells.proofs.TypedPrograms.{program_is_typed}
 use Rattle.typed_files.proofs.ProgramPlaces.{is_program_there, is_marked_there}

@@ -21,11 +21,11 @@ use Rattle.node_core.specs.Words.{first_operand_kind, first_kind}
 use Rattle.node_core.specs.Stores.{of_cell}
 use Rattle.node_core.specs.TypedFlats as flats
 use Rattle.typed_programs.specs.Expressions.{IsOf, Join, AreOf}
-use Rattle.typed_scopes.specs.Types.{IsOfType}
-use Rattle.typed_scopes.proofs.Expressions.{value_is}
-use Rattle.typed_scopes.proofs.SameTypes.{same_type}
-use Rattle.typed_scopes.proofs.TypedValues.{of_type}
-use Rattle.typed_scopes.proofs.Wholes.{whole_require}
+use Rattle.stated_cells.specs.typed_scopes.Types.{IsOfType}
+use Rattle.stated_cells.proofs.typed_scopes.Expressions.{value_is}
+use Rattle.stated_cells.proofs.typed_scopes.SameTypes.{same_type}
+use Rattle.stated_cells.proofs.typed_scopes.TypedValues.{of_type}
+use Rattle.stated_cells.proofs.typed_scopes.Wholes.{whole_require}
 use Rattle.stated_cells.proofs.whole_files.KnownTypes.{type_known}
 use Rattle.stated_cells.proofs.whole_files.ToldTrees.{condition_told}
 use Rattle.query_formula_laws.specs.TypedComparisons.{IsClauseOf}

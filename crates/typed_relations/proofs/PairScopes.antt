@@ -13,9 +13,9 @@ use Rattle.typing.specs.Programs.{own_type, member_of, pair_means, pair_scope}
 use Rattle.flat_core.specs.declared.flat_tree.Scratch.{Scratch}
 use Rattle.node_core.specs.Stores.{of_cell}
 use Rattle.typed_programs.specs.Scopes.{Pous}
-use Rattle.typed_scopes.specs.Uses.{Usable}
-use Rattle.typed_scopes.specs.Fitting.{ScopeFits}
-use Rattle.typed_cells.proofs.Occurrences.{Occurs}
+use Rattle.stated_cells.specs.typed_scopes.Uses.{Usable}
+use Rattle.stated_cells.specs.typed_scopes.Fitting.{ScopeFits}
+use Rattle.stated_cells.proofs.typed_cells.Occurrences.{Occurs}
 use Rattle.stated_cells.specs.whole_files.WholeScopes.{is_whole_meaning, IsWholeScope}
 use Rattle.stated_cells.specs.StatedCells.{last_of, HasStatedCells}
 use Rattle.typed_relations.proofs.PairTypes.{old_paired, new_paired}

@@ -14,7 +14,7 @@ use Rattle.node_core.specs.TypedFlats.{covers}
 use Rattle.plc_types.specs.declared.range.Range.{Range}
 use Rattle.typing.specs.Typing.{is_unknown}
 use Rattle.typing.specs.Programs.{own_type}
-use Rattle.typed_scopes.specs.Types.{range_of_type, IsKnown, IsPlaceOf}
+use Rattle.stated_cells.specs.typed_scopes.Types.{range_of_type, IsKnown, IsPlaceOf}
 use Rattle.stated_cells.specs.StatedCells.{last_number, last_of, has_values, IsOfTypes}
 
 -- what a data type is in a pair has its values

@@ -15,7 +15,7 @@ use Rattle.node_core.specs.Stores.{of_cell}
 use Rattle.query_formulas.specs.Literals.{is_enumeration}
 use Rattle.query_formula_laws.specs.TypedComparisons as compared
 use Rattle.typed_programs.specs.Programs.{HasWholeRange, IsTypedCell}
-use Rattle.typed_cells.proofs.Occurrences.{Occurs, occurs_stands, occurs_within}
+use Rattle.stated_cells.proofs.typed_cells.Occurrences.{Occurs, occurs_stands, occurs_within}
 use Rattle.stated_cells.specs.StatedCells.{AreFlags, HasFlags}
 
 -- ---- cells

@@ -18,7 +18,7 @@ use Rattle.relation_lines.specs.declared.line.Condition.TheVariants as condition
 use Rattle.source_tree.specs.declared.token.Tok.{Tok}
 use Rattle.relation_file.specs.Stated.{IsRelation}
 use Rattle.relation_file.specs.Relations.{faults_are_equal, equal_faults, faults_clause, clauses_in}
-use Rattle.typed_cells.proofs.Occurrences.{Occurs, occurs_first, occurs_within}
+use Rattle.stated_cells.proofs.typed_cells.Occurrences.{Occurs, occurs_first, occurs_within}
 use Rattle.typed_relations.specs.Readings.{IsStated, by_tokens, AreRead, IsRead}
 use Rattle.typed_relations.proofs.PairScopes.{pair_places, old_at, new_at}
 use Rattle.typed_relations.proofs.Lines.{lines_typed}

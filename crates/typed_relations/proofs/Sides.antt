@@ -18,10 +18,10 @@ use Rattle.typing.specs.Programs.{or_meaning, joined, cell_meaning, cell_among, 
 use Rattle.flat_core.specs.declared.flat_tree.Scratch.{Scratch}
 use Rattle.node_core.specs.Stores.{of_cell, place_at}
 use Rattle.typed_programs.specs.Scopes.{BodyScope}
-use Rattle.typed_scopes.specs.Types.{IsPlaceOf}
-use Rattle.typed_scopes.specs.Fitting.{MeaningFits}
-use Rattle.typed_cells.proofs.Constants.{within}
-use Rattle.typed_cells.proofs.Occurrences.{Occurs, occurs_first, occurs_right, occurs_within}
+use Rattle.stated_cells.specs.typed_scopes.Types.{IsPlaceOf}
+use Rattle.stated_cells.specs.typed_scopes.Fitting.{MeaningFits}
+use Rattle.stated_cells.proofs.typed_cells.Constants.{within}
+use Rattle.stated_cells.proofs.typed_cells.Occurrences.{Occurs, occurs_first, occurs_right, occurs_within}
 use Rattle.stated_cells.specs.whole_files.WholeScopes.{is_whole_meaning}
 use Rattle.stated_cells.specs.StatedCells.{last_number, last_of, has_values, IsOfTypes, IsStatedCell, HasStatedCells}
 use Rattle.typed_relations.proofs.PairTypes.{IsPaired, placed_too}

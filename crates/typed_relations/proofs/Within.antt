@@ -9,7 +9,7 @@ use Rattle.naming.specs.Library.{is_library}
 use Rattle.typing.specs.declared.scope.Meaning.{Meaning}
 use Rattle.typing.specs.Typing.{by_path}
 use Rattle.typing.specs.Programs.{pair_means, pair_scope}
-use Rattle.typed_scopes.specs.Uses.{IsWithin, AreLinksWithin, AreArgumentsWithin}
+use Rattle.stated_cells.specs.typed_scopes.Uses.{IsWithin, AreLinksWithin, AreArgumentsWithin}
 use Rattle.stated_cells.proofs.whole_files.Told.{nil_front, nil_behind}
 use Rattle.relation_file.specs.Refusals.{breaks}
 use Rattle.relation_file.specs.Clauses.{is_side, no_side, unknown_unless, broken_members, broken_called, broken_argument, broken_names, broken_links, broken_arguments}

@@ -15,10 +15,10 @@ use Rattle.typing.specs.Variables.{initial_of}
 use Rattle.typing.specs.Places.{has_cell, size_among, cells_taken, first_places}
 use Rattle.typing.specs.Members.{may_control, place_at, meaning_of, member_of, member_in, member_at, seen_from, in_instance, variable_or_value, named_in, scope_of}
 use Rattle.typing.specs.JudgedStatements.{is_control}
-use Rattle.bound_names.specs.BoundNames.{is_bound, bound_uses}
+use Rattle.alike_scopes.specs.bound_names.BoundNames.{is_bound, bound_uses}
 use Rattle.alike_scopes.specs.AlikeScopes.{is_same_place, is_same_cell}
-use Rattle.bound_names.proofs.Roles.{control_role, step_no_control}
-use Rattle.bound_names.proofs.NameParts.{never, holds_by, fails_by}
+use Rattle.alike_scopes.proofs.bound_names.Roles.{control_role, step_no_control}
+use Rattle.alike_scopes.proofs.bound_names.NameParts.{never, holds_by, fails_by}
 use Rattle.alike_scopes.proofs.CellOrder.{position_named, cell_named, member_is, begins_ordered, cells_apart}
 use Rattle.alike_scopes.proofs.AlikeControls.{AreApart}
 

@@ -28,11 +28,11 @@ use Rattle.typing.specs.Variables.{initial_of}
 use Rattle.typing.specs.Places.{has_cell, first_places}
 use Rattle.typing.specs.Members.{place_at, member_in, variable_or_value, scope_of}
 use Rattle.typing.specs.TypedCharts.{latch_place, latch_of}
-use Rattle.typed_scopes.specs.Charts.{NamesSteps, IsNamedBySteps}
-use Rattle.typed_scopes.proofs.Wholes.{whole_and}
+use Rattle.alike_scopes.specs.typed_scopes.Charts.{NamesSteps, IsNamedBySteps}
+use Rattle.alike_scopes.proofs.typed_scopes.Wholes.{whole_and}
 use Rattle.whole_files.specs.WholePous.{IsNamedChart, IsNamedBody}
-use Rattle.bound_names.proofs.NameParts.{never, holds_by, fails_by}
-use Rattle.bound_names.proofs.SingleNames.{single_named}
+use Rattle.alike_scopes.proofs.bound_names.NameParts.{never, holds_by, fails_by}
+use Rattle.alike_scopes.proofs.bound_names.SingleNames.{single_named}
 use Rattle.whole_files.proofs.WholeMembers.{member_found}
 
 -- ---- a name of a step is that of a step of the chart

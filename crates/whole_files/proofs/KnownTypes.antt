@@ -15,7 +15,7 @@ use Rattle.typing.specs.declared.scope.Port.{Port}
 use Rattle.typing.specs.declared.scope.Signature.{Signature}
 use Rattle.typing.specs.Typing.{Scope, by_path, by_value, bool_type, kind_at, port_type, or_else, or_dint, synthesized_of_literal, is_comparison, compares, Parameter, fixed, common, amount, parameter_of, result_of, synthesized_if_common, synthesized_of_answer, synthesized_of_call, synthesized, synthesized_of_links, synthesized_of_arguments, synthesized_of_first, type_of, common_type, operand_type, next_type, is_unknown}
 use Rattle.typing.specs.Judged.{expected_at}
-use Rattle.typed_scopes.specs.Uses.{Usable, IsWithin, AreLinksWithin, AreArgumentsWithin}
+use Rattle.alike_scopes.specs.typed_scopes.Uses.{Usable, IsWithin, AreLinksWithin, AreArgumentsWithin}
 use Rattle.whole_files.specs.WholeScopes.{is_whole_meaning, is_whole_port, IsWholeScope}
 
 -- a type that is known, where there is one

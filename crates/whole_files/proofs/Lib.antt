@@ -10,3 +10,6 @@ pub mod WholeBodies
 pub mod ApartControls
 pub mod WholeLaw
 pub mod ChartNames
+pub use Rattle.alike_scopes.proofs.bound_names as bound_names
+pub use Rattle.alike_scopes.proofs.typed_scopes as typed_scopes
+pub use Rattle.alike_scopes.proofs.st_names as st_names

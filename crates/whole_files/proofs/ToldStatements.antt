@@ -16,7 +16,7 @@ use Rattle.std.specs.Prelude.{is_some, int_le}
 use Rattle.typing.specs.Labels.{judged_high, is_of_type, high_is_of_type, label_range, overlaps, judged_label, judged_labels, seen_with, seen_behind}
 use Rattle.typing.specs.JudgedStatements.{is_assignable, judged_target, judged_assign, member, judged_input, judged_output, judged_connections, connects_twice, has_right_arrow, judged_invoke, may_control, judged_control, judged_bound, judged_step, is_typed, step_is_typed, judged_iteration, turns_rule, with_control, may_select, judged_selector, judged_labels_if, judged_stmt, judged_stmts, judged_arms, judged_entries, judged_else}
 use Rattle.typing.specs.JudgedCharts.{judged_part, judged_parts}
-use Rattle.typed_scopes.specs.Uses.{Usable, IsWithin, IsOptionWithin, AreConnectionsWithin, AreLabelsWithin, IsIterationWithin, IsStmtWithin, AreStmtsWithin, AreArmsWithin, AreEntriesWithin, IsElseWithin, ArePartsWithin}
+use Rattle.alike_scopes.specs.typed_scopes.Uses.{Usable, IsWithin, IsOptionWithin, AreConnectionsWithin, AreLabelsWithin, IsIterationWithin, IsStmtWithin, AreStmtsWithin, AreArmsWithin, AreEntriesWithin, IsElseWithin, ArePartsWithin}
 use Rattle.whole_files.specs.WholeScopes.{is_whole_meaning, IsWholeScope}
 use Rattle.whole_files.proofs.Told.{IsTold, told_ok, told_and, told_require, told_broken_by}
 use Rattle.whole_files.proofs.KnownTypes.{kind_known, dint_known, type_known}

@@ -16,7 +16,7 @@ use Rattle.typing.specs.declared.scope.Port.{Port}
 use Rattle.typing.specs.declared.scope.Signature.{Signature}
 use Rattle.typing.specs.Typing.{Scope, by_path, by_value, bool_type, type_of, operand_type, next_type, takes, Parameter, fixed, common, amount, parameter_of, common_type, takes_operands, takes_count, count_of, is_amount, is_literal_of, is_unknown, place_of_literal, place_of}
 use Rattle.typing.specs.Judged.{judged_literal, judged_meaning, takes_sign, negative_literal, judged_unary, expected_at, fit_from, judged_amount, place_for, gives_all, expected_by, judged_port, fits_port, judged_named, fit_placed, judged_answer, judged_user_call, judged_call, judged, judged_links, judged_arguments, judged_given, judged_alone, judged_condition}
-use Rattle.typed_scopes.specs.Uses.{Usable, IsWithin, AreLinksWithin, AreArgumentsWithin}
+use Rattle.alike_scopes.specs.typed_scopes.Uses.{Usable, IsWithin, AreLinksWithin, AreArgumentsWithin}
 use Rattle.whole_files.specs.WholeScopes.{is_whole_meaning, is_whole_port, IsWholeScope, IsWholeFunction}
 use Rattle.whole_files.proofs.Told.{IsTold, told_ok, told_breaks, told_and, told_if, told_said, told_require}
 use Rattle.whole_files.proofs.KnownTypes.{IsKnownIf, port_known, expected_known, next_known, type_known, common_known, operand_known}

@@ -10,20 +10,20 @@ use Rattle.naming.specs.Scopes.{variables_in_pou, scope_of as names_of}
 use Rattle.naming.specs.Broken.{variables_twice, in_declarations, in_body, in_pou_scope, in_pou, broken_names}
 use Rattle.naming.specs.Circles.{IsBroken}
 use Rattle.naming.proofs.CircleLemmas.{nothing_left}
-use Rattle.st_names.proofs.Clean.{parts, no_doubles}
+use Rattle.alike_scopes.proofs.st_names.Clean.{parts, no_doubles}
 use Rattle.typing.specs.Typing.{Scope}
 use Rattle.typing.specs.Domains.{judged_types}
 use Rattle.typing.specs.Variables.{judged_variables}
 use Rattle.typing.specs.Members.{scope_of}
 use Rattle.typing.specs.Pous.{judged_body, judged_pou, judged_pous, broken_types}
-use Rattle.typed_scopes.specs.Uses.{Usable}
-use Rattle.typed_scopes.proofs.Wholes.{whole_and}
+use Rattle.alike_scopes.specs.typed_scopes.Uses.{Usable}
+use Rattle.alike_scopes.proofs.typed_scopes.Wholes.{whole_and}
 use Rattle.whole_files.specs.WholeScopes.{IsWholeScope}
-use Rattle.bound_names.specs.BoundNames.{is_function_called, bound_uses, IsBodyWithin}
+use Rattle.alike_scopes.specs.bound_names.BoundNames.{is_function_called, bound_uses, IsBodyWithin}
 use Rattle.whole_files.proofs.Told.{IsTold, nil_front, nil_behind}
 use Rattle.whole_files.proofs.ToldStatements.{stmts_told, parts_told}
-use Rattle.bound_names.proofs.Within.{body_within}
-use Rattle.st_names.proofs.WholeNames.{pou_typed, pou_whole}
+use Rattle.alike_scopes.proofs.bound_names.Within.{body_within}
+use Rattle.alike_scopes.proofs.st_names.WholeNames.{pou_typed, pou_whole}
 use Rattle.whole_files.proofs.Formed.{pou_levelled, variables_formed}
 use Rattle.whole_files.proofs.WholeDomains.{value_whole}
 use Rattle.whole_files.proofs.WholeVariables.{AreWholeVariables, variables_whole}

@@ -21,18 +21,18 @@ use Rattle.naming.specs.Types.{type_number, specification_at, end_of, end_specif
 use Rattle.naming.specs.Broken.{circular, in_file, in_scope, in_value_name, in_enumerator, unless_circular, in_bound, in_specification, in_types, in_results, broken_names}
 use Rattle.naming.specs.DeclarationUses.{is_circular_use}
 use Rattle.naming.proofs.ValueLemmas.{names_value, standing_value}
-use Rattle.st_names.proofs.Clean.{parts, no_doubles, some_name, specification_some}
-use Rattle.st_names.proofs.WholeDeclarations.{no_broken_name, enumerator_clean}
+use Rattle.alike_scopes.proofs.st_names.Clean.{parts, no_doubles, some_name, specification_some}
+use Rattle.alike_scopes.proofs.st_names.WholeDeclarations.{no_broken_name, enumerator_clean}
 use Rattle.typing.specs.declared.domain.Domain.{Domain}
 use Rattle.typing.specs.Typing.{Reference, by_path, by_value, is_unknown, type_of, place_of}
 use Rattle.typing.specs.Judged.{judged}
 use Rattle.typing.specs.Domains.{has_few, is_few, value_at, values_scope, bounds_of, judged_bound_of, judged_subrange, no_domain, subrange_domain, end_domain, named_domain, judged_specification, judged_types}
-use Rattle.typed_scopes.specs.Uses.{IsWithin}
+use Rattle.alike_scopes.specs.typed_scopes.Uses.{IsWithin}
 use Rattle.whole_files.specs.WholeScopes.{is_whole_meaning, IsWholeScope}
-use Rattle.bound_names.specs.BoundNames.{value_uses}
+use Rattle.alike_scopes.specs.bound_names.BoundNames.{value_uses}
 use Rattle.whole_files.proofs.Told.{IsTold, nil_front, nil_behind, told_and, told_require}
 use Rattle.whole_files.proofs.ToldTrees.{tree_told}
-use Rattle.bound_names.proofs.NameParts.{named_value}
+use Rattle.alike_scopes.proofs.bound_names.NameParts.{named_value}
 use Rattle.whole_files.proofs.Formed.{types_formed, type_formed}
 
 -- a type allows some values

@@ -8,7 +8,7 @@ use Rattle.naming.specs.Broken.{broken_names}
 use Rattle.typing.specs.Places.{sizes_of}
 use Rattle.typing.specs.Members.{scope_of}
 use Rattle.typing.specs.Pous.{broken_types}
-use Rattle.bound_names.specs.BoundNames.{bound_uses}
+use Rattle.alike_scopes.specs.bound_names.BoundNames.{bound_uses}
 use Rattle.whole_files.specs.WholePous.{IsWholePou}
 use Rattle.whole_files.proofs.WholeVariables.{all_whole}
 use Rattle.whole_files.proofs.WholeBodies.{body_bound, pou_variables, body_unplaced}

@@ -19,10 +19,10 @@ use Rattle.typing.specs.Variables.{domain_of_variable, judged_variable}
 use Rattle.typing.specs.Places.{first_places, first_place, places_behind}
 use Rattle.typing.specs.Members.{member_of, members_of, members_in, member_among, member_in, seen_from, in_instance, meant_by, variable_or_value, named_in, port_of, ports_of, result_of, members_if, signature_of, is_function, scope_of}
 use Rattle.whole_files.specs.WholeScopes.{is_whole_meaning, is_whole_port, IsWholeScope, IsWholeFunction}
-use Rattle.bound_names.specs.BoundNames.{is_bound, is_function_called, bound_uses}
-use Rattle.bound_names.proofs.CalledFunctions.{function_of, function_is, callee_some}
-use Rattle.bound_names.proofs.Roles.{seen_only, step_only, input_only, no_block}
-use Rattle.bound_names.proofs.NameParts.{never, holds_by, fails_by, outer_never}
+use Rattle.alike_scopes.specs.bound_names.BoundNames.{is_bound, is_function_called, bound_uses}
+use Rattle.alike_scopes.proofs.bound_names.CalledFunctions.{function_of, function_is, callee_some}
+use Rattle.alike_scopes.proofs.bound_names.Roles.{seen_only, step_only, input_only, no_block}
+use Rattle.alike_scopes.proofs.bound_names.NameParts.{never, holds_by, fails_by, outer_never}
 use Rattle.whole_files.proofs.WholeVariables.{IsWholeVariable, AreWholeVariables}
 
 -- ---- the variable of a name

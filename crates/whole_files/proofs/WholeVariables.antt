@@ -15,20 +15,20 @@ use Rattle.naming.specs.FileScope.{types_of, standing, is_value}
 use Rattle.naming.specs.Scopes.{Variable, PouScope, seen_named, is_fault, block_of, is_whole_type, is_typed}
 use Rattle.naming.specs.Broken.{misused, in_value_name, in_value, in_declared_constant, in_initial, in_kind, in_declaration, in_declarations, broken_names}
 use Rattle.naming.specs.DeclarationUses.{is_circular_variable}
-use Rattle.st_names.specs.Bound.{are_typed}
-use Rattle.st_names.proofs.Clean.{parts, no_doubles}
+use Rattle.alike_scopes.specs.st_names.Bound.{are_typed}
+use Rattle.alike_scopes.proofs.st_names.Clean.{parts, no_doubles}
 use Rattle.typing.specs.declared.domain.Domain.{Domain}
 use Rattle.typing.specs.Typing.{is_unknown, type_of, place_of}
 use Rattle.typing.specs.Judged.{judged}
 use Rattle.typing.specs.Typed.{constant_of}
 use Rattle.typing.specs.Domains.{values_scope, judged_types}
 use Rattle.typing.specs.Variables.{domain_if, domain_of_variable, judged_type_if, judged_initial, judged_value, judged_instance, judged_by_block, judged_variable, judged_variables}
-use Rattle.typed_scopes.specs.Uses.{IsWithin, IsOptionWithin}
-use Rattle.typed_scopes.proofs.Wholes.{whole_and}
-use Rattle.bound_names.specs.BoundNames.{value_uses}
+use Rattle.alike_scopes.specs.typed_scopes.Uses.{IsWithin, IsOptionWithin}
+use Rattle.alike_scopes.proofs.typed_scopes.Wholes.{whole_and}
+use Rattle.alike_scopes.specs.bound_names.BoundNames.{value_uses}
 use Rattle.whole_files.proofs.Told.{IsTold, nil_front, nil_behind, told_ok, told_said, told_require}
 use Rattle.whole_files.proofs.ToldTrees.{tree_told}
-use Rattle.bound_names.proofs.NameParts.{never, fails_by, value_name_is, enumerator_value}
+use Rattle.alike_scopes.proofs.bound_names.NameParts.{never, fails_by, value_name_is, enumerator_value}
 use Rattle.whole_files.proofs.Formed.{IsKindFormed, AreFormed}
 use Rattle.whole_files.proofs.WholeDomains.{IsKnownDomain, values_whole, subrange_told, subrange_known, named_known}
 

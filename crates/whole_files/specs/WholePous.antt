@@ -8,7 +8,7 @@ use Rattle.typing.specs.Variables.{judged_variables}
 use Rattle.typing.specs.Places.{sizes_of}
 use Rattle.typing.specs.Members.{scope_of}
 use Rattle.typing.specs.Pous.{judged_body}
-use Rattle.typed_scopes.specs.Charts.{NamesSteps, IsNamedBySteps}
+use Rattle.alike_scopes.specs.typed_scopes.Charts.{NamesSteps, IsNamedBySteps}
 
 -- its variables, and its body over the scope in which it is typed
 pub record IsWholePou (f : FileData) (k : ℕ) (d : PouData) : Type 0 where

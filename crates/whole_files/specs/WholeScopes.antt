@@ -4,7 +4,7 @@ use Rattle.typing.specs.declared.scope.Meaning.{Meaning}
 use Rattle.typing.specs.declared.scope.Port.{Port}
 use Rattle.typing.specs.declared.scope.Signature.{Signature}
 use Rattle.typing.specs.Typing.{Reference, Scope, is_unknown}
-use Rattle.typed_scopes.specs.Uses.{Usable}
+use Rattle.alike_scopes.specs.typed_scopes.Uses.{Usable}
 
 -- a name stands for something, which is whole and of a known type
 abbrev pub is_whole_meaning : Option Meaning → Bool

@@ -1,4 +1,4 @@
-use Rattle.bound_names.proofs.UsedBlocks.{all_ordered}
+use Rattle.alike_scopes.proofs.bound_names.UsedBlocks.{all_ordered}
 use Rattle.whole_files.proofs.WholeBodies.{no_names}
 use Rattle.whole_files.proofs.laws.law_all_ordered.Goals as goal
 

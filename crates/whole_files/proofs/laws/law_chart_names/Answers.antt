@@ -1,4 +1,4 @@
-use Rattle.st_names.proofs.WholeNames.{pou_whole}
+use Rattle.alike_scopes.proofs.st_names.WholeNames.{pou_whole}
 use Rattle.typing.specs.Places.{sizes_of}
 use Rattle.whole_files.proofs.WholeBodies.{no_names, names_of_body}
 use Rattle.whole_files.proofs.ChartNames.{body_named}

@@ -1,4 +1,4 @@
-use Rattle.bound_names.proofs.UsedBlocks.{used_blocks}
+use Rattle.alike_scopes.proofs.bound_names.UsedBlocks.{used_blocks}
 use Rattle.whole_files.proofs.WholeBodies.{no_names}
 use Rattle.whole_files.proofs.laws.law_used_blocks.Goals as goal
 
