@@ -180,7 +180,7 @@ fn judge_given<S: Scope>(
 }
 
 // A call of a FUNCTION whose arguments were judged.
-#[tactic(auto, using(synthesized_types::proofs::typing_laws::Judging::judging))]
+#[tactic(auto, using(typing_laws::proofs::Judging::judging))]
 fn judge_answer<S: Scope>(
     alloc: Global,
     scope: &S,

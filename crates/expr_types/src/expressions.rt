@@ -211,7 +211,7 @@ fn judge_links<S: Scope>(
 }
 
 /// A condition is BOOL.
-#[tactic(auto, using(synthesized_types::proofs::typing_laws::Judging::judging))]
+#[tactic(auto, using(typing_laws::proofs::Judging::judging))]
 pub fn judge_condition<S: Scope>(
     alloc: Global,
     scope: &S,

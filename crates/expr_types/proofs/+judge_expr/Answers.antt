@@ -15,7 +15,7 @@ use Rattle.source_tree.specs.SyntaxView.{LinkData, ArgumentData, expr_step, argu
 use Rattle.typing.specs.Typing.{synthesized, type_of, or_else, or_dint, takes_operands}
 use Rattle.typing.specs.Judged.{judged, fit_from, place_for, fits_port, fits_placed, fit_placed, takes_sign}
 use Rattle.typing.specs.Outcomes.{links_outcome, named_outcome, given_outcome}
-use Rattle.synthesized_types.proofs.typing_laws.Judging.{outcome_of-unary, outcome_of-chain, outcome_of-call, outcome_of-wrong_call, outcome_of-user_call}
+use Rattle.typing_laws.proofs.Judging.{outcome_of-unary, outcome_of-chain, outcome_of-call, outcome_of-wrong_call, outcome_of-user_call}
 use Rattle.expr_types.specs.Fits.{fits_unless_named}
 use Rattle.expr_types.proofs.FitLemmas.{fits_port-synthesized, fits_placed-unless, one_more_fits, arguments_from, given_on}
 use Rattle.expr_types.proofs.SameTypes.{judged-again}

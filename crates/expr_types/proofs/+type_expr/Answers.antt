@@ -3,7 +3,7 @@ use Rattle.std.proofs.lemmas.Grind.{common_steps}
 use Rattle.source_tree.specs.SyntaxView.{links_view, arguments_view}
 use Rattle.program_tree.specs.View.{operands_of, operand_view, expressions_of, expr_view}
 use Rattle.typing.specs.TypedLists.{operand_list, expression_list}
-use Rattle.synthesized_types.proofs.typing_laws.TypedLemmas.{operands_of-list, expressions_of-list}
+use Rattle.typing_laws.proofs.TypedLemmas.{operands_of-list, expressions_of-list}
 use Rattle.expr_types.proofs.+type_expr.Goals as goal
 
 pub typed_expressions::type_links-returns : goal.typed_expressions::type_links-returns

@@ -1,6 +1,6 @@
 use Rattle.std.proofs.Common.{◌≡◌, ◌∙◌, false, replicate, arith}
 use Rattle.std.proofs.lemmas.Grind.{common_steps}
-use Rattle.synthesized_types.proofs.typing_laws.Marks.{marked, all_marked}
+use Rattle.typing_laws.proofs.Marks.{marked, all_marked}
 use Rattle.expr_types.proofs.answers.has_all_below.Goals as goal
 
 pub returns : goal.returns

@@ -1,5 +1,5 @@
 use Rattle.std.proofs.Common.{◌≡◌, false, drop, replicate}
-use Rattle.synthesized_types.proofs.typing_laws.Marks.{marked}
+use Rattle.typing_laws.proofs.Marks.{marked}
 use Rattle.expr_types.proofs.answers.has_all_below.Given as goal
 
 abbrev pub invariant-loop-number : goal.invariant-loop-number
