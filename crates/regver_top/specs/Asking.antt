@@ -1,8 +1,8 @@
 -- What the words ask for, by the files that they name.
-use Rattle.std.specs.Prelude.{◌≡◌, ℕ, Bool, false, not, ◌||◌, List, Option, is_some, unwrap_or, if◌then◌else◌}
+use Rattle.std.specs.Prelude.{◌≡◌, ℕ, Bool, false, not, ◌||◌, List, map, Option, is_some, unwrap_or, if◌then◌else◌, String, string_bytes}
 use Rattle.std.specs.Str.{bytes_eq}
 use Rattle.outside.specs.Contents.{OthersStay}
-use Rattle.command_line.specs.Asked.{Asked, check, explain, gen, replay, verify, usage}
+use Rattle.command_line.specs.Asked.{Asked, asked, check, explain, gen, replay, verify, usage}
 use Rattle.command_answers.specs.declared.status.Status.{Status}
 use Rattle.command_answers.specs.Reports.{Report, usage_report}
 use Rattle.finding_commands.specs.Texts.{Texts, AreThreeTold, AreFourTold, OneOfThreeRose, OneOfFourRose}
@@ -22,7 +22,11 @@ is_refused _ = false
 
 -- and this is refused as a command line that there is not
 abbrev pub settled : Asked → Asked
-settled asked = if is_refused asked then usage else asked
+settled a = if is_refused a then usage else a
+
+-- what the words of a command line ask for
+abbrev pub asked_in : List String → Asked
+asked_in words = settled (asked (map string_bytes words))
 
 -- what a shelf shows before and after: what is told of each file, and how often reads and writes of it have failed
 pub record Change : Type 0 where
@@ -33,14 +37,15 @@ pub record Change : Type 0 where
   pub writes_before : List ℕ → ℕ
   pub writes_after : List ℕ → ℕ
 
-abbrev pub change : (List ℕ → Option (List ℕ)) → (List ℕ → Option (List ℕ)) → (List ℕ → ℕ) → (List ℕ → ℕ) → (List ℕ → ℕ) → (List ℕ → ℕ) → Change
-change before after reads_before reads_after writes_before writes_after = record {
-  before = before;
-  after = after;
-  reads_before = reads_before;
-  reads_after = reads_after;
-  writes_before = writes_before;
-  writes_after = writes_after;
+-- from one state of a shelf to another, by what each tells
+abbrev pub change : {S : Type 0} → (S → List ℕ → Option (List ℕ)) → (S → List ℕ → ℕ) → (S → List ℕ → ℕ) → S → S → Change
+change file read_faults write_faults old new = record {
+  before = file old;
+  after = file new;
+  reads_before = read_faults old;
+  reads_after = read_faults new;
+  writes_before = write_faults old;
+  writes_after = write_faults new;
 }
 
 -- the same where the finding is written

@@ -16,7 +16,7 @@ returns-in-Some-clause-kept g c =
     let word = c.args.count.now in
     let is : count_of word ≡ Some c.in-Some.count = search rules in
     let number_is : number word ≡ c.in-Some.count = ap (λ o. unwrap_or o 0) is in
-    let k = change (g.S.Shelf.file c.args.shelf.now) (g.S.Shelf.file c.answer_gen.new.shelf) (g.S.Shelf.read_faults c.args.shelf.now) (g.S.Shelf.read_faults c.answer_gen.new.shelf) (g.S.Shelf.write_faults c.args.shelf.now) (g.S.Shelf.write_faults c.answer_gen.new.shelf) in
+    let k = change g.S.Shelf.file g.S.Shelf.read_faults g.S.Shelf.write_faults c.args.shelf.now c.answer_gen.new.shelf in
     let P : Asked → Type 0 = λ x. KeepsFiles k x in
     subst P (sym (settled_same (gen word) (ap (λ o. not (is_some o)) is))) (subst (λ n. KeepsOthers n k.before k.after) (sym number_is) c.answer_gen.ensures.others)
 
@@ -25,7 +25,7 @@ returns-in-Some-clause-left g c = λ t.
     let word = c.args.count.now in
     let is : count_of word ≡ Some c.in-Some.count = search rules in
     let number_is : number word ≡ c.in-Some.count = ap (λ o. unwrap_or o 0) is in
-    let k = change (g.S.Shelf.file c.args.shelf.now) (g.S.Shelf.file c.answer_gen.new.shelf) (g.S.Shelf.read_faults c.args.shelf.now) (g.S.Shelf.read_faults c.answer_gen.new.shelf) (g.S.Shelf.write_faults c.args.shelf.now) (g.S.Shelf.write_faults c.answer_gen.new.shelf) in
+    let k = change g.S.Shelf.file g.S.Shelf.read_faults g.S.Shelf.write_faults c.args.shelf.now c.answer_gen.new.shelf in
     let P : Asked → Type 0 = λ x. AreTold k x t → LeavesFinding k x t in
     subst P (sym (settled_same (gen word) (ap (λ o. not (is_some o)) is))) (λ told. subst (λ n. LeavesFiles n (making_in k n)) (sym number_is) c.answer_gen.ensures.left)
 
@@ -34,7 +34,7 @@ returns-in-Some-clause-answer g c = λ t.
     let word = c.args.count.now in
     let is : count_of word ≡ Some c.in-Some.count = search rules in
     let number_is : number word ≡ c.in-Some.count = ap (λ o. unwrap_or o 0) is in
-    let k = change (g.S.Shelf.file c.args.shelf.now) (g.S.Shelf.file c.answer_gen.new.shelf) (g.S.Shelf.read_faults c.args.shelf.now) (g.S.Shelf.read_faults c.answer_gen.new.shelf) (g.S.Shelf.write_faults c.args.shelf.now) (g.S.Shelf.write_faults c.answer_gen.new.shelf) in
+    let k = change g.S.Shelf.file g.S.Shelf.read_faults g.S.Shelf.write_faults c.args.shelf.now c.answer_gen.new.shelf in
     let P : Asked → Type 0 = λ x. AreTold k x t → Answers (IsAsked k x t) (SomeRose k x) c.answer_gen.result (g.K.Sink.taken c.args.out.now) (g.K.Sink.taken c.answer_gen.new.out) in
     subst P (sym (settled_same (gen word) (ap (λ o. not (is_some o)) is)))
     (λ told. subst (λ n. Answers (GenReports n (making_in k n)) ⊥ c.answer_gen.result (g.K.Sink.taken c.args.out.now) (g.K.Sink.taken c.answer_gen.new.out)) (sym number_is) c.answer_gen.ensures.answer)
@@ -44,7 +44,7 @@ returns-in-Some-clause-write_fault g c =
     let word = c.args.count.now in
     let is : count_of word ≡ Some c.in-Some.count = search rules in
     let number_is : number word ≡ c.in-Some.count = ap (λ o. unwrap_or o 0) is in
-    let k = change (g.S.Shelf.file c.args.shelf.now) (g.S.Shelf.file c.answer_gen.new.shelf) (g.S.Shelf.read_faults c.args.shelf.now) (g.S.Shelf.read_faults c.answer_gen.new.shelf) (g.S.Shelf.write_faults c.args.shelf.now) (g.S.Shelf.write_faults c.answer_gen.new.shelf) in
+    let k = change g.S.Shelf.file g.S.Shelf.read_faults g.S.Shelf.write_faults c.args.shelf.now c.answer_gen.new.shelf in
     let P : Asked → Type 0 = λ x. c.answer_gen.result ≡ WriteFault → WriteRose k x ⊎ Rose (g.K.Sink.faults c.args.out.now) (g.K.Sink.faults c.answer_gen.new.out) in
     subst P (sym (settled_same (gen word) (ap (λ o. not (is_some o)) is)))
     (subst (λ n. c.answer_gen.result ≡ WriteFault → OneFailed n (making_in k n) ⊎ Rose (g.K.Sink.faults c.args.out.now) (g.K.Sink.faults c.answer_gen.new.out)) (sym number_is) c.answer_gen.ensures.write_fault)
@@ -53,6 +53,6 @@ pub returns-in-None-clause-answer : goal.returns-in-None-clause-answer
 returns-in-None-clause-answer g c = λ t.
     let word = c.args.count.now in
     let is : count_of word ≡ None = search rules in
-    let k = change (g.S.Shelf.file c.args.shelf.now) (g.S.Shelf.file c.args.shelf.now) (g.S.Shelf.read_faults c.args.shelf.now) (g.S.Shelf.read_faults c.args.shelf.now) (g.S.Shelf.write_faults c.args.shelf.now) (g.S.Shelf.write_faults c.args.shelf.now) in
+    let k = change g.S.Shelf.file g.S.Shelf.read_faults g.S.Shelf.write_faults c.args.shelf.now c.args.shelf.now in
     let P : Asked → Type 0 = λ x. AreTold k x t → Answers (IsAsked k x t) (SomeRose k x) c.put_last.result (g.K.Sink.taken c.args.out.now) (g.K.Sink.taken c.put_last.new.out) in
     subst P (sym (settled_usage (gen word) (ap (λ o. not (is_some o)) is))) (λ told. answered (IsAsked k usage t) ⊥ usage_report c.put_last.result _ _ refl refl c.put_last.ensures.put)
