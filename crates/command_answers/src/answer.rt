@@ -1,16 +1,15 @@
 // The last text of a run, and refusals.
 ghost use Rattle.std.specs.Prelude.{false, ◌≡◌, ◌≢◌, ◌≤◌, ◌++◌, IfOk, string_bytes};
 ghost use Rattle.outside.specs.Causes.{Rose};
-ghost use Rattle.command_answers.specs.Reports.{Report, source_word, refusal_line, refusal_report, limit_name, limit_line, limit_report};
+ghost use Rattle.command_answers.specs.Reports.{Report, source_word, refusal_line, refusal_report, limit_report};
 ghost use Rattle.command_answers.specs.Answers.{Answers, HasPut, extent_of, all_put};
 
-use crate::limit::Limit;
 use crate::put::put_text;
 use crate::source::Source;
 use crate::status::Status;
 use itoa::Buffer;
 use outside::{OutErr, Sink};
-use rules::Refusal;
+use rules::{Refusal, Rule};
 use std::alloc::{AllocError, Global};
 
 /// Puts the last text of a run, and says with which status the run ends.
@@ -81,29 +80,8 @@ pub fn put_refusal<K: Sink>(alloc: Global, source: Source, refusal: Refusal, out
     put_report(out, refusal_line(alloc, source, refusal), Status::Refused)
 }
 
-fn limit_name(limit: Limit) -> &'static str
-    ensures { result.now ≡ limit_name limit }
-{
-    match limit {
-        Limit::Nodes => "M6",
-        Limit::Gates => "M7",
-        Limit::Finding => "M8",
-    }
-}
-
-fn limit_line(alloc: Global, source: Source, limit: Limit) -> Result<String, AllocError>
-    ensures { IfOk result (λ line. string_bytes line ≡ limit_line source limit) }
-{
-    let mut line = String::from_str(alloc, "REFUSED ")?;
-    line.push_str(source_word(source))?;
-    line.push_str(" ")?;
-    line.push_str(limit_name(limit))?;
-    line.push_str(" at 0\n")?;
-    Ok(line)
-}
-
-/// Puts the line on a limit that is passed.
-pub fn put_limit<K: Sink>(alloc: Global, source: Source, limit: Limit, out: &mut K) -> Status
+/// Puts the line on a file that passes a limit: its place is 0.
+pub fn put_limit<K: Sink>(alloc: Global, source: Source, limit: Rule, out: &mut K) -> Status
     requires unfailed { K.put_failed out.old ≡ false }
     ensures answer { Answers (λ r. r ≡ limit_report source limit) ⊥ result (K.taken out.old) (K.taken out.new) }
     ensures no_usage { result ≢ Status.Usage }
@@ -111,5 +89,5 @@ pub fn put_limit<K: Sink>(alloc: Global, source: Source, limit: Limit, out: &mut
     ensures cause { result ≡ Status.WriteFault → Rose (K.faults out.old) (K.faults out.new) }
     ensures later { K.faults out.old ≤ K.faults out.new }
 {
-    put_report(out, limit_line(alloc, source, limit), Status::Refused)
+    put_refusal(alloc, source, Refusal { rule: limit, at: 0 }, out)
 }

@@ -2,13 +2,11 @@
 #![tactic(auto)]
 
 mod answer;
-mod limit;
 mod put;
 mod source;
 mod status;
 
 pub use answer::{put_last, put_limit, put_refusal, put_report};
-pub use limit::Limit;
 pub use put::put_text;
 pub use source::Source;
 pub use status::Status;

@@ -15,7 +15,7 @@ use Rattle.command_files.proofs.front_end.OneReading.{same_tokens, no_tokens_too
 use Rattle.command_files.proofs.front_end.OneProgram.{one_program, no_program_too, one_refusal}
 use Rattle.relation_file.proofs.OneRelation.{relation_once, no_small_relation_too, small_refused_once}
 use Rattle.command_answers.specs.declared.source.Source.{Source}
-use Rattle.command_answers.specs.declared.limit.Limit.{Limit}
+use Rattle.rules.specs.declared.rule.Rule.{Rule}
 use Rattle.command_files.specs.Texts.{Texts}
 use Rattle.comparison_files.specs.Accepting.{nodes_of, StatesSmallProgram, StatesSmallRelation, StatesNoSmallRelation, by_tokens, by_lines, AreStated, AreAccepted, IsRefused, old_refused, new_refused, rel_refused, IsTooLarge, old_nodes, new_nodes, gates}
 
@@ -95,12 +95,12 @@ refused_too t c file r h (old_refused b e) = no_flat_too t.old c.old r h.old_is.
 refused_too t c file r h (new_refused o a b e) = no_flat_too t.new c.new r h.new_is.is h.new_is.short b
 refused_too t c file r h (rel_refused o n a a' b e) = rel_apart t c.old o c.new n c.relation r h.old_is a h.new_is a' h.rel_is b
 
-pub too_large_too : (t : Texts) (c : Comparison) (file : Source) (l : Limit) → AreAccepted t c → IsTooLarge t file l → ⊥
+pub too_large_too : (t : Texts) (c : Comparison) (file : Source) (l : Rule) → AreAccepted t c → IsTooLarge t file l → ⊥
 too_large_too t c file l h (old_nodes b e d) = no_nodes_too t.old c.old h.stated.old_is b
 too_large_too t c file l h (new_nodes o a b e d) = no_nodes_too t.new c.new h.stated.new_is b
 too_large_too t c file l h (gates d a b e f) = not_many c d (stated_once t c d h.stated a) h.gates b
 
-pub never_both : (t : Texts) (f g : Source) (r : Refusal) (l : Limit) → IsRefused t f r → IsTooLarge t g l → ⊥
+pub never_both : (t : Texts) (f g : Source) (r : Refusal) (l : Rule) → IsRefused t f r → IsTooLarge t g l → ⊥
 never_both t f g r l (old_refused b e) (old_nodes k d h) = no_flat_too t.old k.program r k.is k.short b
 never_both t f g r l (old_refused b e) (new_nodes o a k d h) = no_flat_too t.old o r a.is a.short b
 never_both t f g r l (old_refused b e) (gates c a k d h) = refused_too t c f r a (old_refused b e)
@@ -123,7 +123,7 @@ refused_once t f g r s (rel_refused o n a a' b e) (new_refused o' k b' e') = abs
 refused_once t f g r s (rel_refused o n a a' b e) (rel_refused o' n' k k' b' e') =
     (e ∙ sym e', no_small_once o' n' t.rel r s (moved (RelBroken t r) o o' n n' (program_once t.old o o' a k) (program_once t.new n n' a' k') b) b')
 
-pub too_large_once : (t : Texts) (f g : Source) (l m : Limit) → IsTooLarge t f l → IsTooLarge t g m → (f ≡ g) × (l ≡ m)
+pub too_large_once : (t : Texts) (f g : Source) (l m : Rule) → IsTooLarge t f l → IsTooLarge t g m → (f ≡ g) × (l ≡ m)
 too_large_once t f g l m (old_nodes k e d) (old_nodes k' e' d') = (e ∙ sym e', d ∙ sym d')
 too_large_once t f g l m (old_nodes k e d) (new_nodes o a k' e' d') = absurd (no_nodes_too t.old o a k)
 too_large_once t f g l m (old_nodes k e d) (gates c a k' e' d') = absurd (no_nodes_too t.old c.old a.old_is k)

@@ -13,8 +13,8 @@ use Rattle.node_end.specs.declared.fault.AcceptFault.TheVariants as nodes
 use Rattle.relation_file.specs.Stated.{IsNoSmallRelation}
 use Rattle.command_answers.specs.declared.source.Source.{Source}
 use Rattle.command_answers.specs.declared.source.Source.TheVariants.{Old, New, Relation}
-use Rattle.command_answers.specs.declared.limit.Limit.{Limit}
-use Rattle.command_answers.specs.declared.limit.Limit.TheVariants.{Nodes}
+use Rattle.rules.specs.declared.rule.Rule.{Rule}
+use Rattle.rules.specs.declared.rule.Rule.TheVariants.{TooManyNodes}
 use Rattle.command_files.specs.Texts.{Texts}
 use Rattle.comparison_files.specs.declared.fault.CompareFault.{CompareFault}
 use Rattle.comparison_files.specs.declared.fault.CompareFault.TheVariants.{Refused, TooLarge, Memory}
@@ -24,8 +24,8 @@ use Rattle.comparison_files.specs.Accepting.{StatesSmallProgram, StatesNoSmallRe
 -- ---- one file
 
 -- the limit on nodes is passed
-abbrev pub ManyNodes : List ℕ → Limit → Type 0
-ManyNodes text l = (l ≡ Nodes) × HasManyNodes text
+abbrev pub ManyNodes : List ℕ → Rule → Type 0
+ManyNodes text l = (l ≡ TooManyNodes) × HasManyNodes text
 
 pub program_refused : (source : Source) (text : List ℕ) (fault : AcceptFault) → HasNoNodes text fault
     → IfFaultOf source (HasNoFlatForm text) (ManyNodes text) (program_fault source fault)
@@ -33,7 +33,7 @@ program_refused source text (nodes.Refused r) h = (refl, h)
 program_refused source text nodes.TooManyNodes h = (refl, (refl, h))
 program_refused source text nodes.Memory h = tt
 
-abbrev pub NoLimit : Limit → Type 0
+abbrev pub NoLimit : Rule → Type 0
 NoLimit l = ⊥
 
 pub tokens_refused : (old new : ProgramData) (text : List ℕ) (fault : Fault) → of_rules.IfRefused (HasNoTokens text) fault

@@ -15,8 +15,8 @@ use Rattle.relation_file.specs.Stated.{IsRelation, IsNoSmallRelation, has_few_ca
 use Rattle.product_build.specs.Limits.{HasFewGates, HasManyGates}
 use Rattle.command_answers.specs.declared.source.Source.{Source}
 use Rattle.command_answers.specs.declared.source.Source.TheVariants.{Old, New, Relation}
-use Rattle.command_answers.specs.declared.limit.Limit.{Limit}
-use Rattle.command_answers.specs.declared.limit.Limit.TheVariants.{Nodes, Gates}
+use Rattle.rules.specs.declared.rule.Rule.{Rule}
+use Rattle.rules.specs.declared.rule.Rule.TheVariants.{TooManyNodes, TooManyGates}
 use Rattle.command_files.specs.Texts.{Texts}
 
 -- the nodes of a program's scan
@@ -59,7 +59,7 @@ pub data IsRefused (t : Texts) (file : Source) (r : Refusal) : Type 0 where
   rel_refused : (old new : ProgramData) → StatesSmallProgram t.old old → StatesSmallProgram t.new new → StatesNoSmallRelation old new t.rel r → file ≡ Relation → IsRefused t file r
 
 -- a file is the first of which too many nodes or gates would be made
-pub data IsTooLarge (t : Texts) (file : Source) (limit : Limit) : Type 0 where
-  old_nodes : HasManyNodes t.old → file ≡ Old → limit ≡ Nodes → IsTooLarge t file limit
-  new_nodes : (old : ProgramData) → StatesSmallProgram t.old old → HasManyNodes t.new → file ≡ New → limit ≡ Nodes → IsTooLarge t file limit
-  gates : (c : Comparison) → AreStated t c → HasManyGates c (nodes_of c.old) (nodes_of c.new) → file ≡ Relation → limit ≡ Gates → IsTooLarge t file limit
+pub data IsTooLarge (t : Texts) (file : Source) (limit : Rule) : Type 0 where
+  old_nodes : HasManyNodes t.old → file ≡ Old → limit ≡ TooManyNodes → IsTooLarge t file limit
+  new_nodes : (old : ProgramData) → StatesSmallProgram t.old old → HasManyNodes t.new → file ≡ New → limit ≡ TooManyNodes → IsTooLarge t file limit
+  gates : (c : Comparison) → AreStated t c → HasManyGates c (nodes_of c.old) (nodes_of c.new) → file ≡ Relation → limit ≡ TooManyGates → IsTooLarge t file limit

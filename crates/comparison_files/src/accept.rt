@@ -21,7 +21,7 @@ ghost use Rattle.comparison_files.specs.Scans.{AreScansOf};
 
 use crate::compared::Compared;
 use crate::fault::{CompareFault, program_fault, relation_fault};
-use command_answers::{Limit, Source};
+use command_answers::Source;
 use command_files::{KeptTexts, tokens_of};
 use node_core::Scan;
 use node_end::{Accepted, accept};
@@ -62,7 +62,7 @@ fn program_in(
     ensures nodes { IfOk result (λ a. scan_view a.scan ≡ nodes_of (program_view a.program)) }
     ensures read { IfOk result (λ a. IsReadProgram (program_view a.program)) }
     ensures meaning { IfOk result (λ a. IsScanOf (program_view a.program) (scan_view a.scan)) }
-    ensures refused { (bytes : List ℕ) → IsKept text.now bytes → IfErr result (IfFaultOf source (HasNoFlatForm bytes) (λ l. (l ≡ Limit.Nodes) × HasManyNodes bytes)) }
+    ensures refused { (bytes : List ℕ) → IsKept text.now bytes → IfErr result (IfFaultOf source (HasNoFlatForm bytes) (λ l. (l ≡ Rule.TooManyNodes) × HasManyNodes bytes)) }
 {
     let Some(text) = text else {
         return Err(too_long(source));

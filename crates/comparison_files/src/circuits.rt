@@ -12,9 +12,10 @@ ghost use Rattle.comparison_files.specs.Scans.{AreScansOf};
 use crate::accept::Scans;
 use crate::compared::Compared;
 use crate::fault::CompareFault;
-use command_answers::{Limit, Source};
+use command_answers::Source;
 use gates::GateFault;
 use product_build::{Circuits, product};
+use rules::Rule;
 use std::alloc::Global;
 
 /// The circuits of what is compared, or that they have too many gates. What was read is typed, so nothing tests for that.
@@ -27,7 +28,7 @@ pub fn circuits_of<'p>(
     ensures compared { IfOk result (λ m. comparison_of m ≡ comparison_in compared.now) }
     ensures formulas { IfOk result (λ m. formula_of m ≡ formulas_of (comparison_in compared.now)) }
     ensures few { let c = comparison_in compared.now in OnOk result (HasFewGates c (nodes_of c.old) (nodes_of c.new)) }
-    ensures too_many { let c = comparison_in compared.now in IfErr result (IfFaultOf Source.Relation (λ r. ⊥) (λ l. (l ≡ Limit.Gates) × HasManyGates c (nodes_of c.old) (nodes_of c.new))) }
+    ensures too_many { let c = comparison_in compared.now in IfErr result (IfFaultOf Source.Relation (λ r. ⊥) (λ l. (l ≡ Rule.TooManyGates) × HasManyGates c (nodes_of c.old) (nodes_of c.new))) }
     ensures refused { (t : Texts) → AreStated t (comparison_in compared.now) → IfErr result (IfFault (IsRefused t) (IsTooLarge t)) }
 {
     let Scans { old, new } = scans;
@@ -40,7 +41,10 @@ pub fn circuits_of<'p>(
         &compared.relation,
     ) {
         Ok(circuits) => Ok(circuits),
-        Err(GateFault::TooMany) => Err(CompareFault::TooLarge(Source::Relation, Limit::Gates)),
+        Err(GateFault::TooMany) => Err(CompareFault::TooLarge(
+            Source::Relation,
+            Rule::TooManyGates,
+        )),
         Err(GateFault::Memory) => Err(CompareFault::Memory),
     }
 }

@@ -2,15 +2,15 @@
 ghost use Rattle.std.specs.Prelude.{◌≡◌};
 ghost use Rattle.comparison_files.specs.Faults.{program_fault, relation_fault};
 
-use command_answers::{Limit, Source};
+use command_answers::Source;
 use node_end::AcceptFault;
-use rules::{Fault, Refusal};
+use rules::{Fault, Refusal, Rule};
 
 /// Why texts are not compared: a file breaks a rule, what is made of one is too large, or memory was wanting.
 #[derive(Drop)]
 pub enum CompareFault {
     Refused(Source, Refusal),
-    TooLarge(Source, Limit),
+    TooLarge(Source, Rule),
     Memory,
 }
 
@@ -20,7 +20,7 @@ pub(crate) fn program_fault(source: Source, fault: AcceptFault) -> CompareFault
 {
     match fault {
         AcceptFault::Refused(refusal) => CompareFault::Refused(source, refusal),
-        AcceptFault::TooManyNodes => CompareFault::TooLarge(source, Limit::Nodes),
+        AcceptFault::TooManyNodes => CompareFault::TooLarge(source, Rule::TooManyNodes),
         AcceptFault::Memory => CompareFault::Memory,
     }
 }

@@ -9,7 +9,7 @@ use Rattle.judgement.specs.declared.answers.Judged.TheVariants as judgements
 use Rattle.command_answers.specs.declared.status.Status.{Status}
 use Rattle.command_answers.specs.declared.status.Status.TheVariants.{Valid, Invalid}
 use Rattle.command_answers.specs.declared.source.Source.TheVariants as sources
-use Rattle.command_answers.specs.declared.limit.Limit.TheVariants as limits
+use Rattle.rules.specs.declared.rule.Rule.TheVariants.{FindingTooLong}
 use Rattle.command_answers.specs.Reports.{Report, limit_report}
 
 abbrev pub reason_name : Reason → List ℕ
@@ -50,4 +50,4 @@ most_bytes = 1073741824
 
 -- the report where it has more
 abbrev pub too_long_report : Report
-too_long_report = limit_report sources.Finding limits.Finding
+too_long_report = limit_report sources.Finding FindingTooLong

@@ -5,9 +5,10 @@ ghost use Rattle.command_answers.specs.Answers.{Answers};
 ghost use Rattle.finding_answers.specs.Lines.{judged_report, too_long_report};
 
 use crate::show::{judged_line, judged_status};
-use command_answers::{Limit, Source, Status, put_last, put_limit, put_report};
+use command_answers::{Source, Status, put_last, put_limit, put_report};
 use judgement::{JudgeErr, Judged};
 use outside::Sink;
+use rules::Rule;
 use std::alloc::Global;
 
 /// Puts what is said of a finding.
@@ -32,7 +33,7 @@ pub fn put_unjudged<K: Sink>(alloc: Global, error: JudgeErr, out: &mut K) -> Sta
     ensures faults { K.faults out.old ≤ K.faults out.new }
 {
     match error {
-        JudgeErr::M8 => put_limit(alloc, Source::Finding, Limit::Finding, out),
+        JudgeErr::M8 => put_limit(alloc, Source::Finding, Rule::FindingTooLong, out),
         JudgeErr::Fault => put_last(out, "READ FAULT\n", Status::ReadFault),
         JudgeErr::Memory => put_last(out, "MEMORY\n", Status::Memory),
     }

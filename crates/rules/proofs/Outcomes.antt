@@ -1,5 +1,5 @@
 -- One more list of refusals, and one more judgement.
-use Rattle.std.proofs.Common.{◌≡◌, ℕ, List, [], ◌∷◌, ◌++◌, ◌&&◌, Option, Some, None, refl, sym, ap, ◌∙◌}
+use Rattle.std.proofs.Common.{◌≡◌, List, ◌++◌, ◌&&◌, Option, Some, None, refl, sym, ap, ◌∙◌}
 use Rattle.std.proofs.Math.Bool.{and_assoc, and-true}
 use Rattle.rules.specs.declared.rule.Refusal.{Refusal}
 use Rattle.rules.specs.Rules.{earlier, first_in}

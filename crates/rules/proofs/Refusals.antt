@@ -1,5 +1,6 @@
 -- The first of several refusals.
-use Rattle.std.proofs.Common.{◌≡◌, ◌⊎◌, ◌<◌, ℕ, Bool, true, false, true≢false, cond, ◌==◌, if◌then◌else◌, List, [], ◌∷◌, ◌++◌, Option, Some, None, refl, sym, ap, ◌∙◌, inl, inr, subst, arith}
+use Rattle.std.proofs.Common.{◌≡◌, ◌⊎◌, ℕ, Bool, true, false, List, [], ◌∷◌, ◌++◌, Option, Some, None, refl, sym, ap, ◌∙◌, inl, inr, subst, arith}
+use Rattle.std.specs.Prelude.{slice_index_or}
 use Rattle.std.proofs.lemmas.Bool.Decides.{nat_tests}
 use Rattle.rules.specs.declared.rule.Rule.{Rule}
 use Rattle.rules.specs.declared.rule.Rule.TheVariants as rules_of
@@ -14,13 +15,23 @@ comes_before-trans a b c h k = grind (arith, nat_tests)
 stays_behind : (a b c : Refusal) → comes_before b a ≡ false → comes_before c b ≡ false → comes_before c a ≡ false
 stays_behind a b c h k = grind (arith, nat_tests)
 
--- the rule of a rank
+-- all rules in their order, and the one of a rank
+in_order : List Rule
+in_order =
+    rules_of.TooLong ∷ rules_of.StrayByte ∷ rules_of.OpenComment ∷ rules_of.NumberForm ∷ rules_of.NumberSize ∷ rules_of.WordLength ∷
+    rules_of.LeftOutWord ∷ rules_of.TooDeep ∷ rules_of.NoTree ∷ rules_of.LineOrder ∷ rules_of.NumberLimits ∷ rules_of.NoSide ∷
+    rules_of.DeclaredTwice ∷ rules_of.UnknownName ∷ rules_of.InTermsOfItself ∷ rules_of.WrongKind ∷ rules_of.NotOneProgram ∷
+    rules_of.NotOneInitialStep ∷ rules_of.UnknownStep ∷ rules_of.UnknownAction ∷ rules_of.StepTwice ∷ rules_of.UnknownQualifier ∷
+    rules_of.InputsDiffer ∷ rules_of.InputCount ∷ rules_of.OperandType ∷ rules_of.ValueType ∷ rules_of.OutsideType ∷ rules_of.NotAssignable ∷
+    rules_of.ArgumentCount ∷ rules_of.Overlap ∷ rules_of.NotConstant ∷ rules_of.StepZero ∷ rules_of.TooManyTurns ∷ rules_of.OutsideControl ∷
+    rules_of.TooManyValues ∷ rules_of.NotBool ∷ rules_of.TooManyCells ∷ rules_of.TooManyStatements ∷ rules_of.TooManyNodes ∷
+    rules_of.TooManyCandidates ∷ rules_of.TooManyGates ∷ rules_of.FindingTooLong ∷ rules_of.NoTrace ∷ []
+
 rule_at : ℕ → Rule
-rule_at n =
-    if n == 0 then rules_of.TooLong else (if n == 1 then rules_of.StrayByte else (if n == 2 then rules_of.OpenComment else (if n == 3 then rules_of.NumberForm else (if n == 4 then rules_of.NumberSize else (if n == 5 then rules_of.WordLength else (if n == 6 then rules_of.LeftOutWord else (if n == 7 then rules_of.TooDeep else (if n == 8 then rules_of.NoTree else (if n == 9 then rules_of.LineOrder else (if n == 10 then rules_of.NumberLimits else (if n == 11 then rules_of.NoSide else (if n == 12 then rules_of.DeclaredTwice else (if n == 13 then rules_of.UnknownName else (if n == 14 then rules_of.InTermsOfItself else (if n == 15 then rules_of.WrongKind else (if n == 16 then rules_of.NotOneProgram else (if n == 17 then rules_of.NotOneInitialStep else (if n == 18 then rules_of.UnknownStep else (if n == 19 then rules_of.UnknownAction else (if n == 20 then rules_of.StepTwice else (if n == 21 then rules_of.UnknownQualifier else (if n == 22 then rules_of.InputsDiffer else (if n == 23 then rules_of.InputCount else (if n == 24 then rules_of.OperandType else (if n == 25 then rules_of.ValueType else (if n == 26 then rules_of.OutsideType else (if n == 27 then rules_of.NotAssignable else (if n == 28 then rules_of.ArgumentCount else (if n == 29 then rules_of.Overlap else (if n == 30 then rules_of.NotConstant else (if n == 31 then rules_of.StepZero else (if n == 32 then rules_of.TooManyTurns else (if n == 33 then rules_of.OutsideControl else (if n == 34 then rules_of.TooManyValues else (if n == 35 then rules_of.NotBool else (if n == 36 then rules_of.TooManyCells else (if n == 37 then rules_of.TooManyStatements else (if n == 38 then rules_of.TooManyCandidates else rules_of.NoTrace))))))))))))))))))))))))))))))))))))))
+rule_at n = slice_index_or in_order n rules_of.TooLong
 
 rule_at-rank_of : (r : Rule) → rule_at (rank_of r) ≡ r
-unfolding rule_at
+unfolding rule_at in_order
 rule_at-rank_of rules_of.TooLong = refl
 rule_at-rank_of rules_of.StrayByte = refl
 rule_at-rank_of rules_of.OpenComment = refl
@@ -59,7 +70,10 @@ rule_at-rank_of rules_of.TooManyValues = refl
 rule_at-rank_of rules_of.NotBool = refl
 rule_at-rank_of rules_of.TooManyCells = refl
 rule_at-rank_of rules_of.TooManyStatements = refl
+rule_at-rank_of rules_of.TooManyNodes = refl
 rule_at-rank_of rules_of.TooManyCandidates = refl
+rule_at-rank_of rules_of.TooManyGates = refl
+rule_at-rank_of rules_of.FindingTooLong = refl
 rule_at-rank_of rules_of.NoTrace = refl
 
 same_rule : (r s : Rule) → rank_of r ≡ rank_of s → r ≡ s

@@ -1,5 +1,5 @@
 -- Rules, refusals, and which of several comes first.
-use Rattle.std.specs.Prelude.{◌≡◌, ◌⊎◌, ◌<◌, ℕ, Bool, true, false, ◌&&◌, ◌||◌, ◌==◌, nat_lt, if◌then◌else◌, List, [], ◌∷◌, Option, Some, None, codes}
+use Rattle.std.specs.Prelude.{◌≡◌, ◌⊎◌, ℕ, Bool, true, ◌&&◌, ◌||◌, ◌==◌, nat_lt, if◌then◌else◌, List, [], ◌∷◌, Option, Some, None, codes}
 use Rattle.rules.specs.declared.rule.Rule.{Rule}
 use Rattle.rules.specs.declared.rule.Rule.TheVariants as rules_of
 use Rattle.rules.specs.declared.rule.Refusal.{Refusal}
@@ -44,7 +44,10 @@ name_of rules_of.TooManyValues = codes "M3"
 name_of rules_of.NotBool = codes "R4"
 name_of rules_of.TooManyCells = codes "M2"
 name_of rules_of.TooManyStatements = codes "M5"
+name_of rules_of.TooManyNodes = codes "M6"
 name_of rules_of.TooManyCandidates = codes "M4"
+name_of rules_of.TooManyGates = codes "M7"
+name_of rules_of.FindingTooLong = codes "M8"
 name_of rules_of.NoTrace = codes "J1"
 
 -- the order of the rules at one place
@@ -87,8 +90,11 @@ rank_of rules_of.TooManyValues = 34
 rank_of rules_of.NotBool = 35
 rank_of rules_of.TooManyCells = 36
 rank_of rules_of.TooManyStatements = 37
-rank_of rules_of.TooManyCandidates = 38
-rank_of rules_of.NoTrace = 39
+rank_of rules_of.TooManyNodes = 38
+rank_of rules_of.TooManyCandidates = 39
+rank_of rules_of.TooManyGates = 40
+rank_of rules_of.FindingTooLong = 41
+rank_of rules_of.NoTrace = 42
 
 -- one refusal comes before another of the same pass: by place, then by the order of the rules
 abbrev pub comes_before : Refusal → Refusal → Bool

@@ -2,7 +2,7 @@
 ghost use Rattle.std.specs.Prelude.{◌≡◌, codes};
 ghost use Rattle.rules.specs.Rules.{name_of};
 
-/// A rule that a program, a relation file or a trace may break, in the order in which passes test them and, in
+/// A rule that a program, a relation file, a trace or a finding may break, in the order in which passes test them and, in
 /// a pass, in the order that decides at one place.
 #[derive(Clone, Copy, Debug)]
 pub enum Rule {
@@ -84,8 +84,14 @@ pub enum Rule {
     TooManyCells,
     /// M5: the flat form of a program has more than 200,000 statements. Its place is 0.
     TooManyStatements,
+    /// M6: the scan of a program has more than 1,000,000 nodes. Its place is 0.
+    TooManyNodes,
     /// M4: a relation has more than 4,096 candidates. Its place is 0.
     TooManyCandidates,
+    /// M7: a circuit of a comparison has more than 16,777,216 gates. Its place is 0.
+    TooManyGates,
+    /// M8: a finding has more than 1,073,741,824 bytes. Its place is 0.
+    FindingTooLong,
     /// J1: a trace is no JSON text of its shape. Its place is 0.
     NoTrace,
 }
@@ -134,7 +140,10 @@ impl Rule {
             Rule::NotBool => "R4",
             Rule::TooManyCells => "M2",
             Rule::TooManyStatements => "M5",
+            Rule::TooManyNodes => "M6",
             Rule::TooManyCandidates => "M4",
+            Rule::TooManyGates => "M7",
+            Rule::FindingTooLong => "M8",
             Rule::NoTrace => "J1",
         }
     }

@@ -13,7 +13,7 @@ ghost use Rattle.verify_command.specs.Reports.{saving, HasFailed, IsSaved, Leave
 
 use crate::show::{verdict_line, verdict_status};
 use clause_core::Decider;
-use command_answers::{Limit, Source, Status, put_last, put_limit, put_report};
+use command_answers::{Source, Status, put_last, put_limit, put_report};
 use comparison_files::Compared;
 use finding_answers::MOST_BYTES;
 use finding_file::{FindingWriter, WriteErr};
@@ -22,6 +22,7 @@ use finding_search::save_finding;
 use invariant_prune::Guesses;
 use outside::{OutErr, Shelf, Sink};
 use queries::Queries;
+use rules::Rule;
 use std::alloc::Global;
 
 // Makes the file of the finding, and saves the finding in it.
@@ -75,7 +76,7 @@ fn put_saved<K: Sink>(alloc: Global, saved: Result<Conclusion, WriteErr>, out: &
 {
     match saved {
         Ok(verdict) => put_report(out, verdict_line(alloc, verdict), verdict_status(verdict)),
-        Err(WriteErr::M8) => put_limit(alloc, Source::Finding, Limit::Finding, out),
+        Err(WriteErr::M8) => put_limit(alloc, Source::Finding, Rule::FindingTooLong, out),
         Err(WriteErr::Fault) => put_last(out, "WRITE FAULT\n", Status::WriteFault),
         Err(WriteErr::Memory) => put_last(out, "MEMORY\n", Status::Memory),
     }

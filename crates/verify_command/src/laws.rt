@@ -1,7 +1,7 @@
 // Laws of reports.
 ghost use Rattle.std.specs.Prelude.{◌≡◌};
 ghost use Rattle.rules.specs.declared.rule.Refusal.{Refusal};
-ghost use Rattle.command_answers.specs.declared.limit.Limit.{Limit};
+ghost use Rattle.rules.specs.declared.rule.Rule.{Rule};
 ghost use Rattle.command_answers.specs.declared.source.Source.{Source};
 ghost use Rattle.command_answers.specs.Alike.{AreAlike};
 ghost use Rattle.command_answers.specs.Reports.{Report, refusal_report, limit_report};
@@ -16,5 +16,5 @@ pub fn one_refusal()
 
 /// Where a text passes a limit first, its refusal is the one report.
 pub fn one_limit()
-    ensures { (t : Texts) (s : Saving) (file : Source) (limit : Limit) (r : Report) → IsTooLarge t file limit → VerifyReports t s r → r ≡ limit_report file limit }
+    ensures { (t : Texts) (s : Saving) (file : Source) (limit : Rule) (r : Report) → IsTooLarge t file limit → VerifyReports t s r → r ≡ limit_report file limit }
 {}
