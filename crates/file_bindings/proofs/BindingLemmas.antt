@@ -12,7 +12,7 @@ use Rattle.source_tree.specs.Syntax.{PouData, ItemData, types, pou, FileData}
 use Rattle.pou_scope.specs.declared.pou_names.NamesOfPou.{NamesOfPou}
 use Rattle.file_bindings.specs.Bindings.{variables_kept}
 use Rattle.file_bindings.specs.Bound.{bound_of, bound_named, places_from, variables_at}
-use Rattle.file_bindings.specs.BoundBy.{bound_by}
+use Rattle.naming.specs.declared.slot.Slot.{Slot}
 use Rattle.naming.specs.FileScope.{pous_of, pou_at, is_program}
 use Rattle.pou_scope.specs.NamesView.{scope_named, scopes_named}
 use Rattle.naming.specs.Scopes.{Variable, PouScope, scope_of, variables_in_pou, is_doubled_among}
@@ -80,11 +80,11 @@ place_at from (pou p ∷ is) zero place h = let e : from ≡ place = cc in recor
 place_at from (pou p ∷ is) (suc k) place h = let r = place_at (from + 1) is k place h in let before = r.is in record { item = suc r.item; is = omega arith; pou = r.pou; there = r.there; at = r.at }
 
 -- a name is bound as its slot says
-pub bound_slot : (text : List ℕ) (o : Option PouData) → option_map bound_by (option_and_then (λ p. slot_named (scope_of p) text) o) ≡ option_and_then (λ p. bound_named (variables_in_pou p) text) o
+pub bound_slot : (text : List ℕ) (o : Option PouData) → option_map (λ s. s.number) (option_and_then (λ p. slot_named (scope_of p) text) o) ≡ option_and_then (λ p. bound_named (variables_in_pou p) text) o
 bound_slot text None = refl
 bound_slot text (Some p) = by (is_doubled_among (is_program p.kind) (variables_in_pou p) text) (found text 1 (variables_in_pou p))
   where
-    by : (d : Bool) (o : Option (ℕ × Variable)) → option_map bound_by (option_map (slot_of d) o) ≡ option_map bound_of o
+    by : (d : Bool) (o : Option (ℕ × Variable)) → option_map (λ (s : Slot). s.number) (option_map (slot_of d) o) ≡ option_map bound_of o
     by d None = refl
     by d (Some g) = refl
 

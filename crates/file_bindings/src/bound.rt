@@ -2,7 +2,6 @@
 ghost use Rattle.std.specs.Prelude.{◌≡◌, ◌<◌, [], Some, length, count_by, option_map};
 ghost use Rattle.source_tree.specs.SyntaxView.{file_view};
 ghost use Rattle.file_bindings.specs.Bindings.{AreBindings};
-ghost use Rattle.file_bindings.specs.BoundBy.{bound_by};
 ghost use Rattle.naming.specs.Broken.{is_program_pou};
 ghost use Rattle.naming.specs.FileScope.{pous_of};
 
@@ -35,9 +34,9 @@ pub struct Resolved<'f> {
     ghost bound: { AreBindings (file_view file.now) bindings },
 }
 
-// What a slot binds its name to.
+// The number of the variable of a slot.
 fn bound_by(slot: Option<Slot>) -> Option<usize>
-    ensures { result ≡ option_map bound_by slot }
+    ensures { result ≡ option_map (λ s. s.number) slot }
 {
     match slot {
         Some(slot) => Some(slot.number),

@@ -1,14 +1,14 @@
 -- The first of what is broken, N3 of POUs among it.
-use Rattle.std.proofs.Common.{◌≡◌, ◌⊎◌, inl, inr, ℕ, ◌+◌, ◌<◌, ◌≤◌, List, [], ◌∷◌, ◌++◌, length, map, Bool, true, false, Option, Some, None, option_map, IsTrue, refl, sym, ap, ◌∙◌, subst, arith, append_assoc, ◌↔◌}
+use Rattle.std.proofs.Common.{◌≡◌, ◌⊎◌, inl, inr, ℕ, ◌+◌, ◌<◌, ◌≤◌, List, [], ◌∷◌, ◌++◌, length, map, Bool, false, Option, Some, None, option_map, IsTrue, refl, sym, ap, ◌∙◌, subst, arith, append_assoc}
 use Rattle.std.proofs.lemmas.Bool.{cases_lt}
 use Rattle.std.proofs.lemmas.List.{append-nil}
 use Rattle.std.specs.List.{slice_get}
 use Rattle.std.specs.Option.{unwrap_or}
 use Rattle.std.proofs.lemmas.Option.{slice_get-map, slice_get_within}
-use Rattle.call_order.specs.Uses.{graph_of, Reaches}
+use Rattle.call_order.specs.Uses.{Reaches}
 use Rattle.rules.specs.declared.rule.Refusal.{Refusal}
 use Rattle.rules.specs.declared.rule.Rule.TheVariants.{InTermsOfItself}
-use Rattle.rules.specs.Rules.{earlier, first_in, IsAmong, IsFirst}
+use Rattle.rules.specs.Rules.{earlier, first_in, IsAmong}
 use Rattle.source_tree.specs.Syntax.{PouData, FileData}
 use Rattle.rules.proofs.Refusals.{first_in-append, first_in-IsFirst, none_is_left}
 use Rattle.naming.specs.Broken.{in_pou, broken_names}

@@ -1,6 +1,6 @@
 -- The numbers of declarations.
-use Rattle.std.proofs.Common.{◌≡◌, ◌⊎◌, inl, inr, ℕ, suc, ◌+◌, ◌<◌, ◌≤◌, List, [], ◌∷◌, ◌++◌, length, Some, refl, sym, ap, ◌∙◌, arith, length-append}
-use Rattle.source_tree.specs.Syntax.{TypeDeclarationData, SpecificationData, types, pou, FileData}
+use Rattle.std.proofs.Common.{◌≡◌, inl, inr, ℕ, ◌+◌, ◌<◌, ◌≤◌, List, [], ◌∷◌, length, Some, sym, ap, ◌∙◌, arith, length-append}
+use Rattle.source_tree.specs.Syntax.{TypeDeclarationData, types, pou, FileData}
 use Rattle.naming.specs.declared.standing.Standing.TheVariants as standings
 use Rattle.naming.specs.FileScope.{types_of, pous_of, DeclaredName, names_in_specification, names_of_types, names_of_items, names_of, standing}
 use Rattle.naming.proofs.NameLemmas.{IsIn, in_split, found_in}

@@ -1,7 +1,7 @@
 -- One more item of a file.
-use Rattle.std.proofs.Common.{◌≡◌, ℕ, ◌+◌, List, [], ◌∷◌, ◌++◌, length, map, refl, sym, ap, ◌∙◌, arith, add-zero, append_assoc, length-append}
+use Rattle.std.proofs.Common.{◌≡◌, ℕ, ◌+◌, List, [], ◌∷◌, ◌++◌, length, map, refl, sym, ap, ◌∙◌, add-zero, append_assoc, length-append}
 use Rattle.std.proofs.lemmas.List.{append-nil, length-map}
-use Rattle.source_tree.specs.Syntax.{TypeDeclarationData, PouData, ItemData, types, pou, FileData}
+use Rattle.source_tree.specs.Syntax.{ItemData, types, pou, FileData}
 use Rattle.naming.specs.FileScope.{types_of, pous_of, DeclaredName, names_of_types, names_of_items}
 
 pub types_more : (x : ItemData) (r : FileData) → types_of (x ∷ r) ≡ types_of (x ∷ []) ++ types_of r

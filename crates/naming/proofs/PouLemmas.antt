@@ -1,12 +1,12 @@
 -- What is known of each POU, by the list of all.
-use Rattle.std.proofs.Common.{◌≡◌, ℕ, List, map, Option, Some, None, option_map, refl, sym, ap, ◌∙◌, Bor}
+use Rattle.std.proofs.Common.{◌≡◌, List, map, Option, Some, None, option_map, refl, sym, ap, ◌∙◌, Bor}
 use Rattle.std.specs.List.{slice_get}
 use Rattle.std.proofs.lemmas.Option.{slice_get-map}
 use Rattle.source_tree.specs.declared.syntax.Pou.{Pou}
 use Rattle.source_tree.specs.Syntax.{PouData, FileData}
 use Rattle.source_tree.specs.SyntaxView.{pou_kind_view, pou_view}
 use Rattle.naming.specs.declared.pou_shape.PouShape.{PouShape}
-use Rattle.naming.specs.FileScope.{pous_of, kind_at}
+use Rattle.naming.specs.FileScope.{pous_of}
 use Rattle.naming.specs.PouShapes.{pou_shape, ArePouShapes}
 use Rattle.naming.specs.ScopeView.{pous_view}
 

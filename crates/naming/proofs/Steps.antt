@@ -1,5 +1,5 @@
 -- One more element of a list that is seen by its view.
-use Rattle.std.proofs.Common.{◌≡◌, ◌<◌, ℕ, ◌+◌, List, [], ◌∷◌, ◌++◌, length, take, drop, get_or, map, refl, arith}
+use Rattle.std.proofs.Common.{◌≡◌, ◌<◌, ℕ, ◌+◌, List, [], ◌∷◌, ◌++◌, length, take, drop, get_or, map, arith}
 use Rattle.std.proofs.lemmas.Grind.{common_steps}
 
 module _ {A B : Type 0} (view : A → B) (xs : List A) (i : ℕ) (x : A) where

@@ -1,11 +1,10 @@
 -- What a slot says of a name's uses is what the variables say.
-use Rattle.std.proofs.Common.{◌≡◌, ℕ, zero, suc, ◌+◌, ◌-◌, ◌≤◌, List, [], ◌∷◌, ◌++◌, length, Bool, true, false, not, ◌&&◌, ◌||◌, nat_lt, nat_le, Option, Some, None, option_map, is_some, refl, sym, ap, ◌∙◌, if◌then◌else◌, count_by, arith}
-use Rattle.std.specs.List.{list_any, slice_get}
+use Rattle.std.proofs.Common.{◌≡◌, ℕ, zero, suc, ◌+◌, ◌-◌, ◌≤◌, List, [], ◌∷◌, Bool, true, false, nat_lt, Option, Some, None, option_map, is_some, refl, sym, ap, ◌∙◌, if◌then◌else◌, count_by, arith}
+use Rattle.std.specs.List.{slice_get}
 use Rattle.std.proofs.lemmas.Bool.Decides.{nat_tests}
-use Rattle.source_tree.specs.Syntax.{Named, FileData}
+use Rattle.source_tree.specs.Syntax.{FileData}
 use Rattle.naming.specs.declared.slot.Slot.{Slot}
-use Rattle.naming.specs.Scopes.{Variable, PouScope, is_of_name, variable_named, is_fault, is_doubled_among, is_doubled, block_of, is_typed, has_constants, is_whole, seen, seen_named}
-use Rattle.naming.specs.declared.seen.Seen.{Seen}
+use Rattle.naming.specs.Scopes.{Variable, PouScope, is_of_name, variable_named, is_fault, is_doubled_among, block_of, is_whole, seen, seen_named}
 use Rattle.naming.specs.Slots.{found, slot_of, slot_among}
 use Rattle.naming.proofs.SlotLemmas.{same_name, found-count, or_false}
 
@@ -57,7 +56,6 @@ slot_some d (Some g) s h = (g, refl, let e : slot_of d g ≡ s = cc in e)
 
 pub record IsSlotOf (fault : Bool) (vs : List Variable) (q : List ℕ) (s : Slot) (v : Variable) : Type 0 where
   pub found : found q 1 vs ≡ Some (s.number, v)
-  pub role : s.role ≡ v.role
   pub doubled : s.is_doubled ≡ is_doubled_among fault vs q
   pub counted : 1 ≤ s.number
   pub at : slice_get vs (s.number - 1) ≡ Some v
@@ -70,7 +68,6 @@ slot_says fault vs q s h =
       r.0.1,
       record {
         found = r.1 ∙ ap (λ n. Some (n, r.0.1)) number;
-        role = ap (λ x. x.role) (sym r.2);
         doubled = ap (λ x. x.is_doubled) (sym r.2);
         counted = omega arith;
         at = found_at q 1 (s.number - 1) vs r.0 r.1 (omega arith);

@@ -6,7 +6,7 @@ use Rattle.source_tree.specs.Syntax.{Named, Tree, literal, path, enumerator, par
 use Rattle.naming.specs.declared.standing.Standing.{Standing}
 use Rattle.naming.specs.declared.standing.Standing.TheVariants as standings
 use Rattle.naming.specs.FileScope.{types_of, pous_of, standing}
-use Rattle.naming.specs.Scopes.{Variable, PouScope}
+use Rattle.naming.specs.Scopes.{PouScope}
 use Rattle.naming.specs.Slots.{number_by, slot_named}
 
 -- one number, or none

@@ -1,7 +1,7 @@
 -- What is known of the POUs of a file by their numbers.
-use Rattle.std.specs.Prelude.{◌≡◌, ℕ, List, Bool, false, true, not, Option, Some, None, option_map}
+use Rattle.std.specs.Prelude.{◌≡◌, ℕ, List, option_map}
 use Rattle.std.specs.List.{slice_get}
-use Rattle.source_tree.specs.Syntax.{PouKindData, function, function_block, program, PouData, FileData}
+use Rattle.source_tree.specs.Syntax.{PouKindData, function, function_block, program, FileData}
 use Rattle.naming.specs.declared.pou_shape.PouShape.{PouShape}
 use Rattle.naming.specs.declared.pou_shape.PouShape.TheVariants as shapes
 use Rattle.naming.specs.FileScope.{kind_at}

@@ -1,4 +1,4 @@
--- What is known of a name of a POU, in one place: the first variable of that name.
+-- The entries of a POU's table of names: for each name the first variable of that name.
 use Rattle.std.specs.Prelude.{ℕ, ◌+◌, List, [], ◌∷◌, Bool, true, Option, Some, None, option_map, ◌-◌, if◌then◌else◌}
 use Rattle.naming.specs.declared.slot.Slot.{Slot}
 use Rattle.naming.specs.Scopes.{Variable, PouScope, is_of_name, is_fault, is_doubled_among}
@@ -9,7 +9,7 @@ found text number [] = None
 found text number (v ∷ vs) = if is_of_name text v then Some (number, v) else found text (number + 1) vs
 
 abbrev pub slot_of : Bool → ℕ × Variable → Slot
-slot_of doubled f = record { number = f.0; role = f.1.role; is_doubled = doubled }
+slot_of doubled f = record { number = f.0; is_doubled = doubled }
 
 -- the slot of a name among variables of a POU, which are counted from 1
 abbrev pub slot_among : Bool → List Variable → List ℕ → Option Slot

@@ -1,15 +1,12 @@
-// Slots of a table.
+// Entries of a POU's table of names.
 ghost use Rattle.std.specs.Prelude.{◌≡◌};
 ghost use Rattle.naming.specs.Slots.{number_by};
 
-use crate::role::Role;
-
-/// What is known of a name: the number in declared order, from 1, and the role of the first variable of that name, and
-/// whether the name is declared twice.
+/// An entry of a POU's table of names: the number in declared order, from 1, of the first variable of the name, and whether the
+/// name is declared twice.
 #[derive(Clone, Copy)]
 pub struct Slot {
     pub number: usize,
-    pub role: Role,
     pub is_doubled: bool,
 }
 

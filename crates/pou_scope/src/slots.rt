@@ -12,7 +12,7 @@ ghost use Rattle.naming.specs.Table.{Holds};
 
 use file_scope::twice;
 use indexmap::IndexMap;
-use naming::{Declared, Role, Slot};
+use naming::{Declared, Slot};
 use rules::Outcome;
 use source_tree::Name;
 use std::alloc::{AllocError, Global};
@@ -39,7 +39,6 @@ fn entered(has_fault: bool, variable: &Declared<'_>, number: usize, known: Optio
     }
     Slot {
         number,
-        role: variable.role,
         is_doubled: is_fault(has_fault, variable.name.text.as_str()),
     }
 }
