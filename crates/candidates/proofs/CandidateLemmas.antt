@@ -1,5 +1,5 @@
 -- Candidates one by one.
-use Rattle.std.proofs.Common.{◌≡◌, ℕ, ◌+◌, ◌<◌, ◌^◌, Bool, true, false, List, [], ◌∷◌, ◌++◌, length, option_map, Option, Some, None, refl, sym, ap, ◌∙◌, arith, append_assoc}
+use Rattle.std.proofs.Common.{◌≡◌, ℕ, ◌+◌, ◌<◌, ◌^◌, Bool, true, false, List, [], ◌∷◌, ◌++◌, length, option_map, Option, Some, None, refl, sym, ap, ◌∙◌, arith, append_assoc, Bor}
 use Rattle.std.specs.Str.{bytes_eq}
 use Rattle.std.specs.Prelude.{IfSome}
 use Rattle.std.proofs.lemmas.List.{map_push, length-map}
@@ -16,8 +16,7 @@ use Rattle.program_tree.specs.View.{cells_view, program_view}
 use Rattle.scan_model.specs.declared.relation.Candidate.{Candidate}
 use Rattle.scan_model.specs.Pairs.{CandidateData, candidate_view, candidates_view}
 use Rattle.scan_model.specs.Candidates.{same_if, same_as, same_cells}
-use Rattle.candidates.specs.declared.places.Placed.{Placed}
-use Rattle.candidates.specs.ByPath.{cell_named}
+use Rattle.candidates.specs.ByPath.{cell_named, found_view}
 use Rattle.candidates.specs.Candidates.{before, same_found}
 use Rattle.candidates.proofs.PlacedLemmas.{is_meant, named_none, named_meant, is_cell}
 
@@ -62,7 +61,7 @@ meant_found t c place behind new = by (cell_among own_type c.path 0 new) refl
         ∙ ap (λ n. same_if c place (behind + n) (is_same_type c.kind (t h.cell.kind))) at ∙ sym (ap (same_found t c place behind) (named_meant c.path new m e h))
 
 -- `SAME P` of one more cell
-pub same_more : (t : DataType → DataType) (found more : List Candidate) (same : Option Candidate) (other : Option Placed) (c : CellData) (place behind : ℕ) (new cs : List CellData) (all : List CandidateData)
+pub same_more : (t : DataType → DataType) (found more : List Candidate) (same : Option Candidate) (other : Option (ℕ × CellData)) (c : CellData) (place behind : ℕ) (new cs : List CellData) (all : List CandidateData)
     → other ≡ cell_named c.path new
     → ((rest : List CandidateData) → before (option_map candidate_view same) rest ≡ same_found t c place behind other ++ rest)
     → ((rest : List CandidateData) → candidates_view more ++ rest ≡ candidates_view found ++ before (option_map candidate_view same) rest)
@@ -79,9 +78,9 @@ same_more t found more same other c place behind new cs all known made added lef
 pub length-cells : (cells : List Cell) → length (cells_view cells) ≡ length cells
 length-cells cells = simp length-map
 
-pub room_behind : (new : Program) (text : List ℕ) (behind : ℕ) (o : Option Placed) → o ≡ cell_named text (program_view new).cells → behind + length new.cells.items < 2 ^ 64
-    → IfSome o (λ d. behind + d.place < 2 ^ 64)
+pub room_behind : (new : Program) (text : List ℕ) (behind : ℕ) (o : Option (ℕ × Bor Cell)) → found_view o ≡ cell_named text (program_view new).cells → behind + length new.cells.items < 2 ^ 64
+    → IfSome o (λ d. behind + d.0 < 2 ^ 64)
 room_behind new text behind None is fits = tt
 room_behind new text behind (Some d) is fits =
-    let within = (is_cell (program_view new) text d (sym is)).0 in
+    let within = (is_cell (program_view new) text _ (sym is)).0 in
     omega (arith, within, fits, length-cells new.cells.items)

@@ -1,5 +1,5 @@
 -- What is found by a path is a cell.
-use Rattle.std.proofs.Common.{◌≡◌, ℕ, suc, ◌+◌, Bool, true, false, List, [], ◌∷◌, Option, Some, None, option_map, refl, sym, ap, ◌∙◌, arith}
+use Rattle.std.proofs.Common.{◌≡◌, ℕ, suc, ◌+◌, Bool, true, false, List, [], ◌∷◌, Option, Some, None, option_map, refl, sym, ap, subst, ◌∙◌, arith}
 use Rattle.std.specs.Prelude.{zero, slice_get, option_and_then}
 use Rattle.std.specs.Str.{bytes_eq}
 use Rattle.std.proofs.lemmas.Option.{slice_get_within}
@@ -10,7 +10,6 @@ use Rattle.scan_model.specs.Pairs.{IsCellOf}
 use Rattle.typing.specs.declared.scope.Meaning.{Meaning}
 use Rattle.typing.specs.Programs.{own_type, cell_meaning, cell_among}
 use Rattle.clause_types.specs.PlacesByPath.{cell_at, place_of, place_by_path}
-use Rattle.candidates.specs.declared.places.Placed.{Placed}
 use Rattle.candidates.specs.ByPath.{placed, placed_at, cell_named}
 
 -- what a path means among cells that begin at a place is a cell of that path
@@ -51,42 +50,34 @@ named_meant text cs m found h =
     let at : 0 + h.index ≡ h.index = omega arith in
     named_at text cs h.index h.cell (found ∙ ap (λ (x : Meaning). Some x) (h.is ∙ ap (λ n. cell_meaning own_type n h.cell) at)) h.there
 
--- the cell at the place that is found has the path
-pub record HasPath (cs : List CellData) (text : List ℕ) (p : Placed) : Type 0 where
-  pub cell : CellData
-  pub there : slice_get cs p.place ≡ Some cell
-  pub is : placed p.place cell ≡ p
-  pub named : bytes_eq cell.path text ≡ true
-  pub first : place_by_path text cs ≡ Some p.place
+-- what is found is the first cell of the path
+pub record HasPath (cs : List CellData) (text : List ℕ) (p : ℕ × CellData) : Type 0 where
+  pub there : slice_get cs p.0 ≡ Some p.1
+  pub named : bytes_eq p.1.path text ≡ true
+  pub first : place_by_path text cs ≡ Some p.0
 
-path_meant : (text : List ℕ) (cs : List CellData) (p : Placed) (m : Meaning) → cell_among own_type text 0 cs ≡ Some m → (h : IsMeant text 0 cs m) → placed h.index h.cell ≡ p → HasPath cs text p
-path_meant text cs p m found h e =
-    let same : p.place ≡ h.index = sym (ap (λ (q : Placed). q.place) e) in
+path_meant : (text : List ℕ) (cs : List CellData) (m : Meaning) → cell_among own_type text 0 cs ≡ Some m → (h : IsMeant text 0 cs m) → HasPath cs text (placed h.index h.cell)
+path_meant text cs m found h =
     let at : 0 + h.index ≡ h.index = omega arith in
-    record {
-      cell = h.cell;
-      there = ap (slice_get cs) same ∙ h.there;
-      is = ap (λ n. placed n h.cell) same ∙ e;
-      named = h.named;
-      first = ap place_of found ∙ ap (λ (x : Meaning). cell_at x.place) h.is ∙ ap (λ n. Some n) (at ∙ sym same);
-    }
+    record { there = h.there; named = h.named; first = ap place_of found ∙ ap (λ (x : Meaning). cell_at x.place) h.is ∙ ap (λ n. Some n) at }
 
-pub has_path : (text : List ℕ) (cs : List CellData) (p : Placed) → cell_named text cs ≡ Some p → HasPath cs text p
+pub has_path : (text : List ℕ) (cs : List CellData) (p : ℕ × CellData) → cell_named text cs ≡ Some p → HasPath cs text p
 has_path text cs p h = by (cell_among own_type text 0 cs) refl
   where
     by : (o : Option Meaning) → cell_among own_type text 0 cs ≡ o → HasPath cs text p
     by None e = absurd (let f : None ≡ Some p = sym (named_none text cs e) ∙ h in let none : ⊥ = cc in none)
     by (Some m) e =
         let f = is_meant text 0 cs m e in
-        let same : Some (placed f.index f.cell) ≡ Some p = sym (named_meant text cs m e f) ∙ h in
-        path_meant text cs p m e f cc
+        let found : Some (placed f.index f.cell) ≡ Some p = sym (named_meant text cs m e f) ∙ h in
+        let same : placed f.index f.cell ≡ p = cc in
+        subst (HasPath cs text) same (path_meant text cs m e f)
 
 range_there : (cs : List CellData) (place : ℕ) (c : CellData) → slice_get cs place ≡ Some c → range_at (ranges_of cs) place ≡ c.range
 range_there [] place c h = absurd (let e : ⊥ = cc in e)
 range_there (d ∷ cs) zero c h = let same : d ≡ c = cc in ap (λ (x : CellData). x.range) same
 range_there (d ∷ cs) (suc place) c h = range_there cs place c h
 
-pub is_cell : (program : ProgramData) (text : List ℕ) (p : Placed) → cell_named text program.cells ≡ Some p → IsCellOf program p.place p.range
+pub is_cell : (program : ProgramData) (text : List ℕ) (p : ℕ × CellData) → cell_named text program.cells ≡ Some p → IsCellOf program p.0 p.1.range
 is_cell program text p h =
     let q = has_path text program.cells p h in
-    (slice_get_within program.cells p.place q.cell q.there, range_there program.cells p.place q.cell q.there ∙ ap (λ (x : Placed). x.range) q.is)
+    (slice_get_within program.cells p.0 p.1 q.there, range_there program.cells p.0 p.1 q.there)

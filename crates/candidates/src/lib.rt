@@ -11,5 +11,5 @@ mod same;
 pub use exclusive::add_exclusive_of;
 pub use initial_values::add_initial_values_of;
 pub use pair::Pair;
-pub use places::{PairProgram, Placed};
+pub use places::PairProgram;
 pub use same::add_same_of;

@@ -1,46 +1,15 @@
-// What is known of a cell, and the programs of a pair with the names of their variables that are no cells.
+// The programs of a pair, with the names of their variables that are no cells.
 ghost use Rattle.std.specs.Prelude.{◌≡◌, IfOk};
-ghost use Rattle.program_tree.specs.View.{cell_view, cells_view, texts_view, program_view};
-ghost use Rattle.candidates.specs.ByPath.{placed, placed_at, is_among};
+ghost use Rattle.program_tree.specs.View.{texts_view, program_view};
+ghost use Rattle.candidates.specs.ByPath.{is_among};
 ghost use Rattle.candidates.specs.Places.{HasNames};
 
 use indexmap::IndexSet;
-use plc_types::{DataType, Range};
-use program_tree::{Cell, Part, Program};
+use program_tree::Program;
 use std::alloc::{AllocError, Global};
-
-/// What is known of a cell: its place, the part that it plays, its type, its range, and whether its type is a subrange.
-#[derive(Clone, Copy)]
-pub struct Placed {
-    pub place: usize,
-    pub part: Part,
-    pub kind: DataType,
-    pub range: Range,
-    pub is_subrange: bool,
-}
 
 // Names.
 type Names<'p> = IndexSet<&'p str>;
-
-fn known(place: usize, cell: &Cell) -> Placed
-    ensures { result ≡ placed place (cell_view cell.now) }
-{
-    Placed {
-        place,
-        part: cell.part,
-        kind: cell.kind,
-        range: cell.range,
-        is_subrange: cell.is_subrange,
-    }
-}
-
-/// What is known of the cell at a place, where there is one.
-pub(crate) fn placed_at(cells: &[Cell], place: usize) -> Option<Placed>
-    ensures { result ≡ placed_at (cells_view cells.now) place }
-{
-    let cell = cells.get(place)?;
-    Some(known(place, cell))
-}
 
 // A list of names as a set.
 fn names<'p>(alloc: Global, list: &'p [String]) -> Result<Names<'p>, AllocError>

@@ -6,11 +6,11 @@ ghost use Rattle.program_tree.specs.Tree.{cell};
 ghost use Rattle.program_tree.specs.View.{expr_view, cell_view, cells_view};
 ghost use Rattle.scan_model.specs.Pairs.{CandidateData, candidate_view, candidates_view};
 ghost use Rattle.scan_model.specs.Candidates.{is_equal, same_cells};
+ghost use Rattle.candidates.specs.ByPath.{found_view};
 ghost use Rattle.candidates.specs.PairView.{old_of, new_of};
 ghost use Rattle.candidates.specs.Candidates.{before, same_found};
 
 use crate::pair::Pair;
-use crate::places::Placed;
 use clause_types::PairedTypes;
 use plc_types::{DataType, Operator};
 use program_tree::{Cell, Operand, TypedExpr};
@@ -42,16 +42,16 @@ fn same(
     cell: &Cell,
     place: usize,
     behind: usize,
-    other: Option<Placed>,
+    other: Option<(usize, &Cell)>,
 ) -> Result<Option<Candidate>, AllocError>
-    requires { IfSome other (λ d. behind + d.place < 2 ^ 64) }
-    ensures { IfOk result (λ same. (rest : List CandidateData) → before (option_map candidate_view same) rest ≡ same_found (paired_in types.now) (cell_view cell.now) place behind other ++ rest) }
+    requires { IfSome other (λ d. behind + d.0 < 2 ^ 64) }
+    ensures { IfOk result (λ same. (rest : List CandidateData) → before (option_map candidate_view same) rest ≡ same_found (paired_in types.now) (cell_view cell.now) place behind (found_view other.entry) ++ rest) }
 {
     match other {
-        Some(other) if cell.kind.is_same(types.paired(other.kind)) => {
+        Some((other, of_new)) if cell.kind.is_same(types.paired(of_new.kind)) => {
             let path = cell.path.as_str();
             let name = format!(in alloc; "SAME {path}")?;
-            let clause = is_equal_cell(alloc, place, cell.kind, behind + other.place)?;
+            let clause = is_equal_cell(alloc, place, cell.kind, behind + other)?;
             Ok(Some(Candidate { name, clause }))
         }
         _ => Ok(None),

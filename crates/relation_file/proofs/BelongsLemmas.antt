@@ -9,14 +9,13 @@ use Rattle.rules.specs.declared.rule.Rule.TheVariants.{InputsDiffer}
 use Rattle.rules.specs.declared.rule.Refusal.{Refusal}
 use Rattle.plc_types.specs.declared.range.Range.{Range}
 use Rattle.source_tree.specs.Syntax.{Named}
-use Rattle.program_tree.specs.Tree.{ProgramData}
+use Rattle.program_tree.specs.Tree.{CellData, ProgramData}
 use Rattle.plc_types.specs.DataTypes.{is_same_type}
 use Rattle.plc_types.specs.Enumerations.{paired_type}
 use Rattle.scan_model.specs.declared.side.Side.TheVariants as sides
 use Rattle.scan_model.specs.declared.relation.InputLine.{InputLine}
 use Rattle.scan_model.specs.Pairs.{RelationData, IsCellOf, NamesCells, BelongsTo}
 use Rattle.relation_lines.specs.Lines.{ContentData, setting, faults, paired, single, clause, LineData}
-use Rattle.candidates.specs.declared.places.Placed.{Placed}
 use Rattle.relation_file.specs.Refusals.{unless, or_own}
 use Rattle.candidates.specs.ByPath.{cell_named}
 use Rattle.candidates.specs.Candidates.{before}
@@ -52,18 +51,18 @@ module _ (old new : ProgramData) where
   IfLine None = Unit {0}
   IfLine (Some l) = NamesCells old new l
 
-  both_belong : (a b : Named) (p q : Option Placed) → cell_named a.text old.cells ≡ p → cell_named b.text new.cells ≡ q → are_alike (paired_type old.types new.types) p q ≡ true → IfLine (both_line p q)
+  both_belong : (a b : Named) (p q : Option (ℕ × CellData)) → cell_named a.text old.cells ≡ p → cell_named b.text new.cells ≡ q → are_alike (paired_type old.types new.types) p q ≡ true → IfLine (both_line p q)
   both_belong a b None q f g h = tt
   both_belong a b (Some p) None f g h = tt
   both_belong a b (Some p) (Some q) f g h =
-      let e = and_parts (is_same_type p.kind (paired_type old.types new.types q.kind) && is_same_flag p.is_subrange q.is_subrange) (is_same_range p.range q.range) h in
-      (is_cell old a.text p f, subst (IsCellOf new q.place) (sym (same_range p.range q.range e.1)) (is_cell new b.text q g))
+      let e = and_parts (is_same_type p.1.kind (paired_type old.types new.types q.1.kind) && is_same_flag p.1.is_subrange q.1.is_subrange) (is_same_range p.1.range q.1.range) h in
+      (is_cell old a.text p f, subst (IsCellOf new q.0) (sym (same_range p.1.range q.1.range e.1)) (is_cell new b.text q g))
 
-  single_old : (a : Named) (p : Option Placed) → cell_named a.text old.cells ≡ p → IfLine (single_line sides.Old p)
+  single_old : (a : Named) (p : Option (ℕ × CellData)) → cell_named a.text old.cells ≡ p → IfLine (single_line sides.Old p)
   single_old a None f = tt
   single_old a (Some p) f = is_cell old a.text p f
 
-  single_new : (a : Named) (p : Option Placed) → cell_named a.text new.cells ≡ p → IfLine (single_line sides.New p)
+  single_new : (a : Named) (p : Option (ℕ × CellData)) → cell_named a.text new.cells ≡ p → IfLine (single_line sides.New p)
   single_new a None f = tt
   single_new a (Some p) f = is_cell new a.text p f
 

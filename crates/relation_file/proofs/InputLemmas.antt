@@ -13,7 +13,6 @@ use Rattle.scan_model.specs.declared.side.Side.{Side}
 use Rattle.scan_model.specs.declared.side.Side.TheVariants as sides
 use Rattle.relation_lines.specs.Lines.{LineData}
 use Rattle.clause_types.specs.PlacesByPath.{place_by_path}
-use Rattle.candidates.specs.declared.places.Placed.{Placed}
 use Rattle.candidates.specs.ByPath.{is_among}
 use Rattle.candidates.proofs.PlacedLemmas.{HasPath}
 use Rattle.candidates.specs.Candidates.{before}
@@ -42,13 +41,13 @@ module _ (old new : ProgramData) where
 
   -- ---- inputs alone
 
-  input_at : (cs : List CellData) (t : List ℕ) (p : Placed) → HasPath cs t p → is_input p.part ≡ true → IsInputAt cs p.place
-  input_at cs t p h input = record { cell = h.cell; there = h.there; input = ap (λ (q : Placed). is_input q.part) h.is ∙ input }
+  input_at : (cs : List CellData) (t : List ℕ) (p : ℕ × CellData) → HasPath cs t p → is_input p.1.part ≡ true → IsInputAt cs p.0
+  input_at cs t p h input = record { cell = p.1; there = h.there; input = input }
 
   inputs_line : (side : Side) (above : List LineData) (texts : List (List ℕ)) (cells rest : List ℕ) → NamesOne old new side above texts cells → All (IsInputAt (cells_at side)) rest → All (IsInputAt (cells_at side)) (cells ++ rest)
   inputs_line side above texts cells rest (nothing e f) h = subst (λ cs. All (IsInputAt (cells_at side)) (cs ++ rest)) (sym f) h
   inputs_line side above texts cells rest (one t p e f path input fresh) h =
-      subst (λ cs. All (IsInputAt (cells_at side)) (cs ++ rest)) (sym f) (All-cons (IsInputAt (cells_at side)) p.place rest (input_at (cells_at side) t p path input) h)
+      subst (λ cs. All (IsInputAt (cells_at side)) (cs ++ rest)) (sym f) (All-cons (IsInputAt (cells_at side)) p.0 rest (input_at (cells_at side) t p path input) h)
 
   inputs_behind : (side : Side) (end : ℕ) (above ls : List LineData) → broken_behind old new end above ls ≡ [] → All (IsInputAt (cells_at side)) (cells_of side (inputs_in old new ls))
   inputs_behind side end above [] h = All-nil (IsInputAt (cells_at side))
@@ -73,9 +72,9 @@ module _ (old new : ProgramData) where
       let named : (bytes_eq u t || false) ≡ true = sym (ap (λ ns. is_among ns t) e) ∙ there in
       let same : u ≡ t = ⊎_elim (λ is. same_text u t is) (λ none. absurd (let h : ⊥ = cc in h)) (or_cases (bytes_eq u t) false named) in
       record {
-        place = p.place;
+        place = p.0;
         first = ap (λ s. place_by_path s (cells_at side)) (sym same) ∙ path.first;
-        listed = subst (λ cs. Contains (cs ++ rest) p.place) (sym f) (0, omega arith, refl);
+        listed = subst (λ cs. Contains (cs ++ rest) p.0) (sym f) (0, omega arith, refl);
       }
 
   place_later : (cs : List CellData) (front rest : List ℕ) (t : List ℕ) → HasPlaceOf cs rest t → HasPlaceOf cs (front ++ rest) t

@@ -16,8 +16,7 @@ use Rattle.scan_model.specs.declared.side.Side.TheVariants as sides
 use Rattle.scan_model.specs.declared.relation.InputLine.{InputLine}
 use Rattle.scan_model.specs.declared.relation.InputLine.TheVariants.{Both}
 use Rattle.relation_lines.specs.Lines.{ContentData, setting, faults, paired, single, clause, LineData}
-use Rattle.candidates.specs.declared.places.Placed.{Placed}
-use Rattle.candidates.specs.ByPath.{placed, cell_named, is_among}
+use Rattle.candidates.specs.ByPath.{cell_named, is_among}
 use Rattle.candidates.specs.Candidates.{before}
 use Rattle.candidates.proofs.PlacedLemmas.{HasPath, has_path}
 use Rattle.relation_file.specs.Refusals.{breaks, unless}
@@ -40,20 +39,20 @@ is_one_input false again n h = absurd (let e : ⊥ = cc in e)
 
 -- it is that of an input, and no line before has it
 record IsFresh (cells : List CellData) (names : List (List ℕ)) (n : Named) : Type 0 where
-  pub cell : Placed
+  pub cell : ℕ × CellData
   pub found : cell_named n.text cells ≡ Some cell
-  pub input : is_input cell.part ≡ true
+  pub input : is_input cell.1.part ≡ true
   pub fresh : is_among names n.text ≡ false
 
-fresh_at : (cells : List CellData) (names : List (List ℕ)) (without : Bool) (n : Named) (o : Option Placed) → cell_named n.text cells ≡ o
+fresh_at : (cells : List CellData) (names : List (List ℕ)) (without : Bool) (n : Named) (o : Option (ℕ × CellData)) → cell_named n.text cells ≡ o
     → broken_at_cell (is_among names n.text) without n o ≡ [] → IsFresh cells names n
 fresh_at cells names true n None is h = absurd (let e : ⊥ = cc in e)
 fresh_at cells names false n None is h = absurd (let e : ⊥ = cc in e)
 fresh_at cells names without n (Some p) is h = record {
   cell = p;
   found = is;
-  input = is_one_input (is_input p.part) (is_among names n.text) n h;
-  fresh = not_again (is_input p.part) (is_among names n.text) n h;
+  input = is_one_input (is_input p.1.part) (is_among names n.text) n h;
+  fresh = not_again (is_input p.1.part) (is_among names n.text) n h;
 }
 
 is_fresh : (names : List (List ℕ)) (program : ProgramData) (n : Named) → broken_input names program n ≡ [] → IsFresh program.cells names n
@@ -79,11 +78,11 @@ among_first : (t : List ℕ) (names : List (List ℕ)) → is_among (t ∷ names
 among_first t names = ap (λ b. b || is_among names t) ((bytes_eq-Decides t t).1 refl)
 
 -- two texts are paths of two cells
-other_place : (cells : List CellData) (s t : List ℕ) (p q : Placed) → HasPath cells s p → HasPath cells t q → s ≢ t → p.place ≢ q.place
+other_place : (cells : List CellData) (s t : List ℕ) (p q : ℕ × CellData) → HasPath cells s p → HasPath cells t q → s ≢ t → p.0 ≢ q.0
 other_place cells s t p q h k apart e =
-    let one : Some h.cell ≡ Some k.cell = sym h.there ∙ ap (slice_get cells) e ∙ k.there in
-    let cell : h.cell ≡ k.cell = cc in
-    apart (sym (same_text h.cell.path s h.named) ∙ ap (λ (c : CellData). c.path) cell ∙ same_text k.cell.path t k.named)
+    let one : Some p.1 ≡ Some q.1 = sym h.there ∙ ap (slice_get cells) e ∙ k.there in
+    let cell : p.1 ≡ q.1 = cc in
+    apart (sym (same_text p.1.path s h.named) ∙ ap (λ (c : CellData). c.path) cell ∙ same_text q.1.path t k.named)
 
 -- ---- the lines of one program
 
@@ -95,14 +94,14 @@ module _ (old new : ProgramData) where
   -- what a line names of a program: nothing, or one input that no line before names
   pub data NamesOne (side : Side) (above : List LineData) (texts : List (List ℕ)) (cells : List ℕ) : Type 0 where
     nothing : texts ≡ [] → cells ≡ [] → NamesOne side above texts cells
-    one : (t : List ℕ) (p : Placed) → texts ≡ t ∷ [] → cells ≡ p.place ∷ [] → HasPath (program_at old new side).cells t p → is_input p.part ≡ true
+    one : (t : List ℕ) (p : ℕ × CellData) → texts ≡ t ∷ [] → cells ≡ p.0 ∷ [] → HasPath (program_at old new side).cells t p → is_input p.1.part ≡ true
         → is_among (names_in side above) t ≡ false → NamesOne side above texts cells
 
   of_fresh : (side : Side) (above : List LineData) (n : Named) (texts : List (List ℕ)) (cells : List ℕ) (h : IsFresh (program_at old new side).cells (names_in side above) n)
-      → texts ≡ n.text ∷ [] → cells ≡ h.cell.place ∷ [] → NamesOne side above texts cells
+      → texts ≡ n.text ∷ [] → cells ≡ h.cell.0 ∷ [] → NamesOne side above texts cells
   of_fresh side above n texts cells h e f = one n.text h.cell e f (has_path n.text (program_at old new side).cells h.cell h.found) h.input h.fresh
 
-  both-found : (a b : Option Placed) (p q : Placed) → a ≡ Some p → b ≡ Some q → both_line a b ≡ Some (Both p.range p.place q.place)
+  both-found : (a b : Option (ℕ × CellData)) (p q : ℕ × CellData) → a ≡ Some p → b ≡ Some q → both_line a b ≡ Some (Both p.1.range p.0 q.0)
   both-found a b p q e f = ap (λ o. both_line o b) e ∙ ap (both_line (Some p)) f
 
   of_pair : (side : Side) (above : List LineData) (a b : Named) (h : IsFresh old.cells (names_in sides.Old above) a) (k : IsFresh new.cells (names_in sides.New above) b) (place : ℕ)
@@ -146,20 +145,20 @@ module _ (old new : ProgramData) where
       ((or_nothing (broken_parts old new above l.content) _ e.0).0, e.1)
 
   -- a cell that is named already is not that of a line that follows
-  apart_line : (side : Side) (above : List LineData) (t : List ℕ) (p : Placed) (texts : List (List ℕ)) (cells rest : List ℕ) → HasPath (program_at old new side).cells t p
-      → is_among (names_in side above) t ≡ true → NamesOne side above texts cells → All (λ q. p.place ≢ q) rest → All (λ q. p.place ≢ q) (cells ++ rest)
-  apart_line side above t p texts cells rest path there (nothing e f) h = subst (λ cs. All (λ q. p.place ≢ q) (cs ++ rest)) (sym f) h
+  apart_line : (side : Side) (above : List LineData) (t : List ℕ) (p : ℕ × CellData) (texts : List (List ℕ)) (cells rest : List ℕ) → HasPath (program_at old new side).cells t p
+      → is_among (names_in side above) t ≡ true → NamesOne side above texts cells → All (λ q. p.0 ≢ q) rest → All (λ q. p.0 ≢ q) (cells ++ rest)
+  apart_line side above t p texts cells rest path there (nothing e f) h = subst (λ cs. All (λ q. p.0 ≢ q) (cs ++ rest)) (sym f) h
   apart_line side above t p texts cells rest path there (one u q e f other input fresh) h =
-      subst (λ cs. All (λ r. p.place ≢ r) (cs ++ rest)) (sym f)
-      (All-cons (λ r. p.place ≢ r) q.place rest (other_place (program_at old new side).cells t u p q path other (other_text (names_in side above) t u there fresh)) h)
+      subst (λ cs. All (λ r. p.0 ≢ r) (cs ++ rest)) (sym f)
+      (All-cons (λ r. p.0 ≢ r) q.0 rest (other_place (program_at old new side).cells t u p q path other (other_text (names_in side above) t u there fresh)) h)
 
-  apart : (side : Side) (end : ℕ) (above ls : List LineData) (t : List ℕ) (p : Placed) → HasPath (program_at old new side).cells t p → is_among (names_in side above) t ≡ true
-      → broken_behind old new end above ls ≡ [] → All (λ q. p.place ≢ q) (cells_of side (inputs_in old new ls))
-  apart side end above [] t p path there h = All-nil (λ q. p.place ≢ q)
+  apart : (side : Side) (end : ℕ) (above ls : List LineData) (t : List ℕ) (p : ℕ × CellData) → HasPath (program_at old new side).cells t p → is_among (names_in side above) t ≡ true
+      → broken_behind old new end above ls ≡ [] → All (λ q. p.0 ≢ q) (cells_of side (inputs_in old new ls))
+  apart side end above [] t p path there h = All-nil (λ q. p.0 ≢ q)
   apart side end above (l ∷ ls) t p path there h =
       let e = behind_line end above ls l h in
       let rest = apart side end (l ∷ above) ls t p path (among_more (named_by side l.content) (names_in side above) t there) e.1 in
-      subst (All (λ q. p.place ≢ q)) (sym (cells_behind side (input_of old new l.content) (inputs_in old new ls)))
+      subst (All (λ q. p.0 ≢ q)) (sym (cells_behind side (input_of old new l.content) (inputs_in old new ls)))
       (apart_line side above t p (named_by side l.content) _ (cells_of side (inputs_in old new ls)) path there (names_one side above l.content e.0) rest)
 
   -- a line before lines of distinct cells
@@ -170,7 +169,7 @@ module _ (old new : ProgramData) where
   distinct_line side end above ls l texts cells named (one t p e f path input fresh) behind h =
       let there : is_among (names_in side (l ∷ above)) t ≡ true = ap (λ ns. is_among (ns ++ names_in side above) t) (named ∙ e) ∙ among_first t (names_in side above) in
       subst (λ cs. AllPairs (λ p q. p ≢ q) (cs ++ cells_of side (inputs_in old new ls))) (sym f)
-      (AllPairs-cons (λ p q. p ≢ q) p.place (cells_of side (inputs_in old new ls)) (apart side end (l ∷ above) ls t p path there behind) h)
+      (AllPairs-cons (λ p q. p ≢ q) p.0 (cells_of side (inputs_in old new ls)) (apart side end (l ∷ above) ls t p path there behind) h)
 
   distinct_behind : (side : Side) (end : ℕ) (above ls : List LineData) → broken_behind old new end above ls ≡ [] → AllPairs (λ p q. p ≢ q) (cells_of side (inputs_in old new ls))
   distinct_behind side end above [] h = λ i j d below within. absurd (omega arith)
@@ -188,25 +187,23 @@ module _ (old new : ProgramData) where
   IfAlike None = Unit {0}
   IfAlike (Some l) = IsAlike old new l
 
-  pair_alike : (a b : Named) (p q : Option Placed) → cell_named a.text old.cells ≡ p → cell_named b.text new.cells ≡ q → are_alike (paired_type old.types new.types) p q ≡ true → IfAlike (both_line p q)
+  pair_alike : (a b : Named) (p q : Option (ℕ × CellData)) → cell_named a.text old.cells ≡ p → cell_named b.text new.cells ≡ q → are_alike (paired_type old.types new.types) p q ≡ true → IfAlike (both_line p q)
   pair_alike a b None q f g h = tt
   pair_alike a b (Some p) None f g h = tt
   pair_alike a b (Some p) (Some q) f g h =
-      let of_old = has_path a.text old.cells p f in
-      let of_new = has_path b.text new.cells q g in
       record {
-        of_old = of_old.cell;
-        of_new = of_new.cell;
-        at_old = of_old.there;
-        at_new = of_new.there;
-        alike = ap (λ x. are_alike (paired_type old.types new.types) (Some x) (Some (placed q.place of_new.cell))) of_old.is ∙ ap (λ y. are_alike (paired_type old.types new.types) (Some p) (Some y)) of_new.is ∙ h;
+        of_old = p.1;
+        of_new = q.1;
+        at_old = (has_path a.text old.cells p f).there;
+        at_new = (has_path b.text new.cells q g).there;
+        alike = h;
       }
 
-  old_alike : (o : Option Placed) → IfAlike (single_line sides.Old o)
+  old_alike : (o : Option (ℕ × CellData)) → IfAlike (single_line sides.Old o)
   old_alike None = tt
   old_alike (Some p) = tt
 
-  new_alike : (o : Option Placed) → IfAlike (single_line sides.New o)
+  new_alike : (o : Option (ℕ × CellData)) → IfAlike (single_line sides.New o)
   new_alike None = tt
   new_alike (Some p) = tt
 

@@ -13,7 +13,6 @@ use Rattle.program_tree.specs.Tree.{CellData, ProgramData}
 use Rattle.scan_model.specs.declared.side.Side.{Side}
 use Rattle.scan_model.specs.declared.side.Side.TheVariants as sides
 use Rattle.relation_file.specs.Refusals.{breaks, unless}
-use Rattle.candidates.specs.declared.places.Placed.{Placed}
 use Rattle.candidates.specs.ByPath.{cell_named, is_among}
 use Rattle.relation_lines.specs.Lines.{ContentData, setting, faults, paired, single, clause, LineData}
 
@@ -41,9 +40,9 @@ names_in side (l ∷ ls) = named_by side l.content ++ names_in side ls
 
 -- What a name of an INPUT line breaks: N2 where it is no variable; N4 where it is a constant or an instance, which are no cells, or
 -- no input; P2 where a line before has named it.
-abbrev pub broken_at_cell : Bool → Bool → Named → Option Placed → List Refusal
+abbrev pub broken_at_cell : Bool → Bool → Named → Option (ℕ × CellData) → List Refusal
 broken_at_cell again without_cell n None = if without_cell then breaks WrongKind n.at else breaks UnknownName n.at
-broken_at_cell again without_cell n (Some c) = if is_input c.part then unless (not again) InputCount n.at else breaks WrongKind n.at
+broken_at_cell again without_cell n (Some (place, c)) = if is_input c.part then unless (not again) InputCount n.at else breaks WrongKind n.at
 
 -- the names of the lines before come first
 abbrev pub broken_input : List (List ℕ) → ProgramData → Named → List Refusal
@@ -57,8 +56,8 @@ is_same_flag true b = b
 is_same_flag false b = not b
 
 -- two inputs, one of OLD and one of NEW, are of one type with the same bounds; a whole type has none
-abbrev pub are_alike : (DataType → DataType) → Option Placed → Option Placed → Bool
-are_alike of_pair (Some a) (Some b) = is_same_type a.kind (of_pair b.kind) && is_same_flag a.is_subrange b.is_subrange && is_same_range a.range b.range
+abbrev pub are_alike : (DataType → DataType) → Option (ℕ × CellData) → Option (ℕ × CellData) → Bool
+are_alike of_pair (Some (p, a)) (Some (q, b)) = is_same_type a.kind (of_pair b.kind) && is_same_flag a.is_subrange b.is_subrange && is_same_range a.range b.range
 are_alike of_pair _ _ = false
 
 -- each input is named

@@ -3,7 +3,7 @@ use Rattle.std.specs.Prelude.{ℕ, List, [], ◌∷◌, ◌++◌, length, Bool, 
 use Rattle.std.specs.List.{list_any}
 use Rattle.plc_types.specs.declared.elementary.Elementary.TheVariants.{Bool as BoolType}
 use Rattle.plc_types.specs.declared.operator.Operator.TheVariants.{Equal}
-use Rattle.program_tree.specs.Tree.{Expression, cell, chain, no_operands, operand, ProgramData}
+use Rattle.program_tree.specs.Tree.{Expression, cell, chain, no_operands, operand, CellData, ProgramData}
 use Rattle.typing.specs.Typed.{typed}
 use Rattle.typing.specs.Programs.{pair_scope}
 use Rattle.scan_model.specs.declared.side.Side.{Side}
@@ -17,7 +17,6 @@ use Rattle.relation_lines.specs.declared.line.Setting.TheVariants as settings
 use Rattle.relation_lines.specs.declared.line.Condition.{Condition}
 use Rattle.relation_lines.specs.declared.line.Condition.TheVariants as conditions
 use Rattle.relation_lines.specs.Lines.{ContentData, setting, faults, paired, single, clause, LineData}
-use Rattle.candidates.specs.declared.places.Placed.{Placed}
 use Rattle.candidates.specs.ByPath.{cell_named}
 use Rattle.candidates.specs.Candidates.{before}
 
@@ -58,14 +57,14 @@ abbrev pub faults_are_equal : List LineData → Bool
 faults_are_equal ls = list_any (λ l. asks_equal_faults l.content) ls
 
 -- the number of an INPUT line goes into the cells that it names, and has their range
-abbrev pub both_line : Option Placed → Option Placed → Option InputLine
-both_line (Some a) (Some b) = Some (inputs_of.Both a.range a.place b.place)
+abbrev pub both_line : Option (ℕ × CellData) → Option (ℕ × CellData) → Option InputLine
+both_line (Some (p, a)) (Some (q, b)) = Some (inputs_of.Both a.range p q)
 both_line _ _ = None
 
-abbrev pub single_line : Side → Option Placed → Option InputLine
+abbrev pub single_line : Side → Option (ℕ × CellData) → Option InputLine
 single_line side None = None
-single_line sides.Old (Some c) = Some (inputs_of.Old c.range c.place)
-single_line sides.New (Some c) = Some (inputs_of.New c.range c.place)
+single_line sides.Old (Some (place, c)) = Some (inputs_of.Old c.range place)
+single_line sides.New (Some (place, c)) = Some (inputs_of.New c.range place)
 
 -- `old.FAULT = new.FAULT`; FAULT is the first cell of each program, and NEW's stand behind the cells of OLD
 abbrev pub equal_faults : ℕ → Expression

@@ -11,7 +11,6 @@ use Rattle.scan_model.specs.declared.relation.InputLine.TheVariants.{Both, Old, 
 use Rattle.scan_model.specs.Pairs.{RelationData}
 use Rattle.scan_model.specs.Candidates.{candidates_of}
 use Rattle.clause_types.specs.PlacesByPath.{place_by_path}
-use Rattle.candidates.specs.ByPath.{placed}
 use Rattle.relation_file.specs.Inputs.{are_alike}
 use Rattle.relation_file.specs.Broken.{program_at}
 
@@ -34,7 +33,7 @@ pub record ArePaired (old new : ProgramData) (p q : ℕ) : Type 0 where
   pub of_new : CellData
   pub at_old : slice_get old.cells p ≡ Some of_old
   pub at_new : slice_get new.cells q ≡ Some of_new
-  pub alike : are_alike (paired_type old.types new.types) (Some (placed p of_old)) (Some (placed q of_new)) ≡ true
+  pub alike : are_alike (paired_type old.types new.types) (Some (p, of_old)) (Some (q, of_new)) ≡ true
 
 abbrev pub IsAlike : ProgramData → ProgramData → InputLine → Type 0
 IsAlike old new (Both range p q) = ArePaired old new p q

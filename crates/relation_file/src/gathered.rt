@@ -9,6 +9,7 @@ ghost use Rattle.typing.specs.Typed.{typed};
 ghost use Rattle.scan_model.specs.declared.relation.InputLine.{InputLine};
 ghost use Rattle.scan_model.specs.Pairs.{candidate_view, candidates_view};
 ghost use Rattle.scan_model.specs.Candidates.{numbered};
+ghost use Rattle.candidates.specs.ByPath.{found_view};
 ghost use Rattle.candidates.specs.Candidates.{before};
 ghost use Rattle.candidates.specs.PairView.{old_of, new_of};
 ghost use Rattle.relation_lines.specs.Lines.{LineData};
@@ -16,9 +17,9 @@ ghost use Rattle.relation_lines.specs.View.{content_view, line_view};
 ghost use Rattle.relation_file.specs.Relations.{number_of, asks_equal_faults, both_line, single_line, input_of, clause_of};
 ghost use Rattle.relation_file.specs.Gathered.{IsGathered};
 
-use candidates::{Pair, Placed};
+use candidates::Pair;
 use clause_types::typed_clause;
-use program_tree::TypedExpr;
+use program_tree::{Cell, TypedExpr};
 use relation_lines::{Condition, Content, Line, Setting};
 use scan_model::{Candidate, InputLine, Side};
 use source_tree::Expr;
@@ -60,27 +61,24 @@ fn must_agree(agreed: bool, content: &Content) -> bool
 }
 
 // The line of a number that goes into an input of each program.
-fn both_line(old: Option<Placed>, new: Option<Placed>) -> Option<InputLine>
-    ensures { result ≡ both_line old new }
+fn both_line(old: Option<(usize, &Cell)>, new: Option<(usize, &Cell)>) -> Option<InputLine>
+    ensures { result ≡ both_line (found_view old.entry) (found_view new.entry) }
 {
-    match (old, new) {
-        (Some(old), Some(new)) => Some(InputLine::Both {
-            range: old.range,
-            old: old.place,
-            new: new.place,
-        }),
-        (_, _) => None,
-    }
+    let (old, cell) = old?;
+    let (new, _) = new?;
+    let range = cell.range;
+    Some(InputLine::Both { range, old, new })
 }
 
 // The line of a number that goes into an input of one program.
-fn single_line(side: Side, cell: Option<Placed>) -> Option<InputLine>
-    ensures { result ≡ single_line side cell }
+fn single_line(side: Side, cell: Option<(usize, &Cell)>) -> Option<InputLine>
+    ensures { result ≡ single_line side (found_view cell.entry) }
 {
-    match (side, cell) {
-        (_, None) => None,
-        (Side::Old, Some(Placed { place, range, .. })) => Some(InputLine::Old { range, place }),
-        (Side::New, Some(Placed { place, range, .. })) => Some(InputLine::New { range, place }),
+    let (place, cell) = cell?;
+    let range = cell.range;
+    match side {
+        Side::Old => Some(InputLine::Old { range, place }),
+        Side::New => Some(InputLine::New { range, place }),
     }
 }
 

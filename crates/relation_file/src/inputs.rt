@@ -6,6 +6,7 @@ ghost use Rattle.plc_types.specs.Enumerations.{paired_type};
 ghost use Rattle.source_tree.specs.SyntaxView.{name_view};
 ghost use Rattle.program_tree.specs.View.{cell_view, cells_view};
 ghost use Rattle.indexmap.specs.IndexSet.{contains_text};
+ghost use Rattle.candidates.specs.ByPath.{found_view};
 ghost use Rattle.relation_lines.specs.Lines.{LineData};
 ghost use Rattle.relation_file.specs.Inputs.{broken_at_cell, are_alike, is_same_flag, is_same_range, is_listed, all_listed};
 ghost use Rattle.relation_file.specs.Broken.{broken_name, broken_pair};
@@ -14,7 +15,7 @@ ghost use Rattle.relation_file.specs.Seen.{Recalls};
 
 use crate::seen::Seen;
 use crate::unless::{breaks, unless};
-use candidates::{Pair, Placed};
+use candidates::Pair;
 use indexmap::IndexSet;
 use plc_types::Range;
 use program_tree::{Cell, Part};
@@ -33,13 +34,18 @@ fn is_input(part: Part) -> bool
 
 // What a name breaks: N2 where it is no variable, N4 where it is a variable without a cell or no input, and P2 where a line before
 // named it.
-fn at_cell(again: bool, without_cell: bool, name: &Name, cell: Option<Placed>) -> Option<Refusal>
-    ensures { result ≡ first_in (broken_at_cell again without_cell (name_view name.now) cell) }
+fn at_cell(
+    again: bool,
+    without_cell: bool,
+    name: &Name,
+    cell: Option<(usize, &Cell)>,
+) -> Option<Refusal>
+    ensures { result ≡ first_in (broken_at_cell again without_cell (name_view name.now) (found_view cell.entry)) }
 {
     match cell {
         None if without_cell => breaks(Rule::WrongKind, name.at),
         None => breaks(Rule::UnknownName, name.at),
-        Some(cell) => {
+        Some((_, cell)) => {
             if is_input(cell.part) {
                 unless(!again, Rule::InputCount, name.at)
             } else {
@@ -89,11 +95,11 @@ fn is_same_flag(flag: bool, other: bool) -> bool
 }
 
 // Whether two inputs are of one type with the same bounds.
-fn are_alike(pair: &Pair<'_>, old: Option<Placed>, new: Option<Placed>) -> bool
-    ensures { result ≡ are_alike (paired_type (old_of pair.now).types (new_of pair.now).types) old new }
+fn are_alike(pair: &Pair<'_>, old: Option<(usize, &Cell)>, new: Option<(usize, &Cell)>) -> bool
+    ensures { result ≡ are_alike (paired_type (old_of pair.now).types (new_of pair.now).types) (found_view old.entry) (found_view new.entry) }
 {
     match (old, new) {
-        (Some(old), Some(new)) => {
+        (Some((_, old)), Some((_, new))) => {
             old.kind.is_same(pair.paired(new.kind))
                 && is_same_flag(old.is_subrange, new.is_subrange)
                 && is_same_range(old.range, new.range)

@@ -2,7 +2,7 @@ use Rattle.std.proofs.Common.{◌≡◌, ℕ, List, Option, Some, None, ap, ◌�
 use Rattle.std.specs.Prelude.{option_and_then}
 use Rattle.program_tree.specs.Tree.{CellData}
 use Rattle.clause_types.specs.PlacesByPath.{place_by_path}
-use Rattle.candidates.specs.ByPath.{placed_at}
+use Rattle.candidates.specs.ByPath.{placed_at, found_view}
 use Rattle.candidates.specs.PairView.{new_of}
 use Rattle.candidates.proofs.pair.Pair.find_new.Goals as goal
 
@@ -12,7 +12,7 @@ returns-in_err-place c =
     let path = c.args.path.now in
     let cells = (new_of pair).cells in
     let none : None ≡ place_by_path path cells = c.in_err-place.ensures ∙ ap (λ (f : List ℕ → Option ℕ). f path) pair.finds_new in
-    c.from_residual.ensures ∙ ap (option_and_then (placed_at cells)) none
+    ap found_view c.from_residual.ensures ∙ ap (option_and_then (placed_at cells)) none
 
 pub returns : goal.returns
 returns c =
