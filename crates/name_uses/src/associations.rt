@@ -2,18 +2,19 @@
 ghost use Rattle.std.specs.Prelude.{◌≡◌, option_map};
 ghost use Rattle.source_tree.specs.SyntaxView.{name_view, step_action_view, step_actions_view};
 ghost use Rattle.naming.specs.Broken.{action_by, in_word, in_association, in_associations};
+ghost use Rattle.naming.specs.ScopeView.{seen_if};
 ghost use Rattle.pou_scope.specs.NamesView.{file_in, pou_in};
 ghost use Rattle.rules.specs.Outcomes.{outcome_of, both};
 
 use crate::scope::Scope;
 use file_scope::{unknown_action, unknown_qualifier};
-use naming::{Seen, qualifier, word_of};
+use naming::{Declared, qualifier, word_of};
 use rules::Outcome;
 use source_tree::{Name, StepAction};
 
-// The name of an action, of which this is known.
-fn action_by(seen: Option<Seen>, name: &Name) -> Outcome
-    ensures { result ≡ outcome_of (action_by seen (name_view name.now)) }
+// The name of an action, which is that of this variable.
+fn action_by(seen: Option<&Declared<'_>>, name: &Name) -> Outcome
+    ensures { result ≡ outcome_of (action_by (seen_if seen.entry) (name_view name.now)) }
 {
     match seen {
         None => unknown_action(name),

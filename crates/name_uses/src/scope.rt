@@ -6,9 +6,10 @@ ghost use Rattle.naming.specs.FileScope.{pou_at, standing};
 ghost use Rattle.pou_scope.specs.NamesView.{file_in, pou_in, AreNamesOf};
 ghost use Rattle.rules.specs.Outcomes.{outcome_of};
 ghost use Rattle.naming.specs.Scopes.{scope_of, seen_named};
+ghost use Rattle.naming.specs.ScopeView.{seen_if, seen_view};
 
 use file_scope::{misused, too_deep, unknown};
-use naming::{Callee, Seen, is_value};
+use naming::{Callee, Declared, is_value};
 use pou_scope::{Names, NamesOfPou, UseNumbers};
 use rules::Outcome;
 use source_tree::{Name, Path};
@@ -21,9 +22,9 @@ pub struct Scope<'a, 'f> {
     ghost all: { AreNamesOf (file_in names) pous.now },
 }
 
-// A member of a block, of whose name this is known.
-fn member_by(seen: Option<Seen>, name: &Name) -> Outcome
-    ensures { result ≡ outcome_of (member_by seen (name_view name.now)) }
+// A member of a block, whose name is that of this variable.
+fn member_by(seen: Option<&Declared<'_>>, name: &Name) -> Outcome
+    ensures { result ≡ outcome_of (member_by (seen_if seen.entry) (name_view name.now)) }
 {
     match seen {
         None => unknown(name),
@@ -40,9 +41,9 @@ fn member_by(seen: Option<Seen>, name: &Name) -> Outcome
     }
 }
 
-// The name of an argument, of which this is known in the FUNCTION.
-fn argument_by(seen: Option<Seen>, name: &Name) -> Outcome
-    ensures { result ≡ outcome_of (argument_by seen (name_view name.now)) }
+// The name of an argument, which is that of this variable of the FUNCTION.
+fn argument_by(seen: Option<&Declared<'_>>, name: &Name) -> Outcome
+    ensures { result ≡ outcome_of (argument_by (seen_if seen.entry) (name_view name.now)) }
 {
     match seen {
         None => unknown(name),
@@ -73,10 +74,15 @@ fn flag(first: &Name, members: &[Name]) -> Outcome
     }
 }
 
-impl Scope<'_, '_> {
-    // What is known of a name in the POU of a number. Keeps the number of its use.
-    fn seen_in(&self, numbers: &mut UseNumbers, number: usize, name: &Name) -> Option<Option<Seen>>
-        ensures { let f = file_in self.now.names in result ≡ option_map (λ p. seen_named f (scope_of p) (name_view name.now).text) (pou_at f number) }
+impl<'f> Scope<'_, 'f> {
+    // The variable of a name in the POU of a number. Keeps the number of its use.
+    fn seen_in(
+        &self,
+        numbers: &mut UseNumbers,
+        number: usize,
+        name: &Name,
+    ) -> Option<Option<&Declared<'f>>>
+        ensures { let f = file_in self.now.names in option_map seen_if result ≡ option_map (λ p. seen_named f (scope_of p) (name_view name.now).text) (pou_at f number) }
     {
         match self.pous.get(number) {
             Some(own) => Some(own.used(numbers, name)),
@@ -112,8 +118,14 @@ impl Scope<'_, '_> {
     }
 
     // A path that begins with a name of the POU whose declaration breaks no rule.
-    fn named(&self, numbers: &mut UseNumbers, seen: Seen, first: &Name, members: &[Name]) -> Outcome
-        ensures { result ≡ outcome_of (in_named (file_in self.now.names) seen (record { first = name_view first.now; members = names_view members.now })) }
+    fn named(
+        &self,
+        numbers: &mut UseNumbers,
+        seen: &Declared<'_>,
+        first: &Name,
+        members: &[Name],
+    ) -> Outcome
+        ensures { result ≡ outcome_of (in_named (file_in self.now.names) (seen_view seen.now) (record { first = name_view first.now; members = names_view members.now })) }
     {
         let role = seen.role;
         if role.is_step() {
@@ -132,11 +144,11 @@ impl Scope<'_, '_> {
     fn variable(
         &self,
         numbers: &mut UseNumbers,
-        seen: Seen,
+        seen: &Declared<'_>,
         first: &Name,
         members: &[Name],
     ) -> Outcome
-        ensures { result ≡ outcome_of (in_variable (file_in self.now.names) seen (record { first = name_view first.now; members = names_view members.now })) }
+        ensures { result ≡ outcome_of (in_variable (file_in self.now.names) (seen_view seen.now) (record { first = name_view first.now; members = names_view members.now })) }
     {
         if seen.whole {
             self.named(numbers, seen, first, members)
@@ -258,9 +270,9 @@ impl Scope<'_, '_> {
         }
     }
 
-    /// The name of a block's call, of which this is known.
-    pub fn instance(&self, seen: Option<Seen>, name: &Name) -> Outcome
-        ensures { result ≡ outcome_of (in_instance (file_in self.now.names) (pou_in self.now.names) seen (name_view name.now)) }
+    /// The name of a block's call, which is that of this variable.
+    pub fn instance(&self, seen: Option<&Declared<'_>>, name: &Name) -> Outcome
+        ensures { result ≡ outcome_of (in_instance (file_in self.now.names) (pou_in self.now.names) (seen_if seen.entry) (name_view name.now)) }
     {
         match seen {
             Some(seen) => {

@@ -5,19 +5,20 @@ ghost use Rattle.naming.specs.Broken.{step_by, listed_by, in_listed_from, in_ste
 ghost use Rattle.pou_scope.specs.NamesView.{file_in, pou_in};
 ghost use Rattle.rules.specs.Outcomes.{outcome_of, both};
 ghost use Rattle.naming.specs.Scopes.{seen_named};
+ghost use Rattle.naming.specs.ScopeView.{seen_if};
 
 use crate::scope::Scope;
 use file_scope::{step_twice, unknown_step};
 use indexmap::IndexMap;
-use naming::Seen;
+use naming::Declared;
 use pou_scope::{add, has};
 use rules::Outcome;
 use source_tree::{Name, Steps};
 use std::alloc::{AllocError, Global};
 
-// The name of a step, of which this is known.
-fn step_by(seen: Option<Seen>, name: &Name) -> Outcome
-    ensures { result ≡ outcome_of (step_by seen (name_view name.now)) }
+// The name of a step, which is that of this variable.
+fn step_by(seen: Option<&Declared<'_>>, name: &Name) -> Outcome
+    ensures { result ≡ outcome_of (step_by (seen_if seen.entry) (name_view name.now)) }
 {
     match seen {
         None => unknown_step(name),

@@ -2,9 +2,8 @@
 use Rattle.std.proofs.Common.{◌≡◌, ℕ, zero, suc, ◌+◌, ◌-◌, ◌≤◌, List, [], ◌∷◌, Bool, true, false, nat_lt, Option, Some, None, option_map, is_some, refl, sym, ap, ◌∙◌, if◌then◌else◌, count_by, arith}
 use Rattle.std.specs.List.{slice_get}
 use Rattle.std.proofs.lemmas.Bool.Decides.{nat_tests}
-use Rattle.source_tree.specs.Syntax.{FileData}
 use Rattle.naming.specs.declared.slot.Slot.{Slot}
-use Rattle.naming.specs.Scopes.{Variable, PouScope, is_of_name, variable_named, is_fault, is_doubled_among, block_of, is_whole, seen, seen_named}
+use Rattle.naming.specs.Scopes.{Variable, is_of_name, variable_named, is_fault, is_doubled_among}
 use Rattle.naming.specs.Slots.{found, slot_of, slot_among}
 use Rattle.naming.proofs.SlotLemmas.{same_name, found-count, or_false}
 
@@ -95,14 +94,5 @@ slot-variable fault vs q = is_some-map (slot_of (is_doubled_among fault vs q)) (
 
 -- ---- what is known of a name's variable
 
-named_known : (q : List ℕ) (vs : List Variable) (number : ℕ) (v : Variable) → Some (number, v) ≡ found q 1 vs → variable_named q vs ≡ Some v
-named_known q vs number v h = variable_named-found q 1 vs ∙ ap (option_map variable_of) (sym h)
-
 pub none_known : {A : Type 0} (g : Variable → A) (q : List ℕ) (vs : List Variable) → None ≡ found q 1 vs → None ≡ option_map g (variable_named q vs)
 none_known g q vs h = ap (λ o. option_map g (option_map variable_of o)) h ∙ ap (option_map g) (sym (variable_named-found q 1 vs))
-
-pub seen_known : (f : FileData) (p : PouScope) (q : List ℕ) (number : ℕ) (v : Variable) (whole : Bool) (block : Option ℕ) → Some (number, v) ≡ found q 1 p.variables
-    → whole ≡ is_whole f p v → block ≡ block_of f v → Some (record { whole = whole; role = v.role; block = block }) ≡ seen_named f p q
-seen_known f p q number v whole block h w b =
-    ap (λ x. Some (record { whole = x; role = v.role; block = block })) w ∙ ap (λ x. Some (record { whole = is_whole f p v; role = v.role; block = x })) b
-    ∙ ap (option_map (seen f p)) (sym (named_known q p.variables number v h))

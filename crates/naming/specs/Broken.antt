@@ -7,7 +7,7 @@ use Rattle.rules.specs.declared.rule.Refusal.{Refusal}
 use Rattle.source_tree.specs.Syntax.{Named, PathData, Tree, literal, path, enumerator, paren, unary, chain, call, Links, no_links, link, Arguments, no_arguments, argument, ConnectionData, input, output, Stmt, empty, assign, invoke, branch, cases, iterate, Stmts, no_stmts, stmt, Arms, no_arms, arm, Entries, no_entries, entry, Otherwise, no_else, else_stmts, LabelData, IterationData, TypeData, of_elementary, of_subrange, of_name, SpecificationData, of_type, of_values, TypeDeclarationData, StepActionData, ChartStepData, StepsData, one_step, several_steps, ChartTransitionData, ChartActionData, PartData, step_part, transition_part, action_part, BodyData, statements, chart as chart_body, PouKindData, function, function_block, program, PouData, FileData}
 use Rattle.naming.specs.declared.callee.Callee.{Callee}
 use Rattle.naming.specs.declared.callee.Callee.TheVariants as callees
-use Rattle.naming.specs.declared.seen.Seen.{Seen}
+use Rattle.naming.specs.Seen.{Seen}
 use Rattle.naming.specs.declared.standing.Standing.{Standing}
 use Rattle.naming.specs.declared.standing.Standing.TheVariants as standings
 use Rattle.rules.specs.Judgements.{Judgement, whole_if, ok, suppressed, and, breaks}

@@ -3,6 +3,7 @@ pub mod FileScope
 pub mod Types
 pub mod ChartWords
 pub mod TextSets
+pub mod Seen
 pub mod Scopes
 pub mod DeclarationUses
 pub mod Broken

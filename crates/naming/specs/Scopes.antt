@@ -7,7 +7,7 @@ use Rattle.source_tree.specs.declared.syntax.Section.TheVariants as sections
 use Rattle.source_tree.specs.Syntax.{Named, Tree, literal, path, enumerator, paren, unary, chain, call, TypeData, of_elementary, of_subrange, of_name, DeclarationData, VariablesData, PartData, step_part, transition_part, action_part, BodyData, statements, chart, PouKindData, function, function_block, program, PouData, FileData}
 use Rattle.naming.specs.declared.role.Role.{Role}
 use Rattle.naming.specs.declared.role.Role.TheVariants as roles
-use Rattle.naming.specs.declared.seen.Seen.{Seen}
+use Rattle.naming.specs.Seen.{Seen}
 use Rattle.naming.specs.ChartWords.{is_stored}
 use Rattle.naming.specs.FileScope.{standing, is_value, is_program, block_number}
 use Rattle.naming.specs.Types.{has_enumerator, is_whole_type_name}

@@ -7,7 +7,6 @@ mod entry;
 mod library;
 mod pou_shape;
 mod role;
-mod seen;
 mod shape;
 mod slot;
 mod standing;
@@ -19,7 +18,6 @@ pub use entry::Entry;
 pub use library::{is_library, standard_function};
 pub use pou_shape::PouShape;
 pub use role::Role;
-pub use seen::Seen;
 pub use shape::Shape;
 pub use slot::{Slot, number_by};
 pub use standing::{

@@ -10,7 +10,7 @@ use Rattle.naming.specs.Broken.{variables_twice, in_declarations, in_body, in_po
 use Rattle.naming.specs.Circles.{blocks_used, calls_in_body, uses_in}
 use Rattle.naming.specs.FileScope.{pous_of, pou_at, is_program}
 use Rattle.rules.specs.Judgements.{and}
-use Rattle.pou_scope.specs.NamesView.{scope_named, pous_named, scopes_named, seens_named, seen_by, AreNamesOf}
+use Rattle.pou_scope.specs.NamesView.{scope_named, pous_named, scopes_named, known_in, seens_named, seen_by, AreNamesOf}
 use Rattle.pou_scope.specs.AllSeen.{all_seen, seen_in}
 use Rattle.pou_scope.proofs.SeenLemmas.{seen_by_is}
 use Rattle.rules.specs.Outcomes.{outcome_of, both}
@@ -39,16 +39,16 @@ pub are_names : (f : FileData) (ns : List NamesOfPou) → scopes_named ns ≡ ma
 are_names f ns scopes seens number text =
     by (slice_get ns number) (pou_at f number)
     (sym (slice_get-map scope_named ns number) ∙ ap (λ ss. slice_get ss number) scopes ∙ slice_get-map scope_of (pous_of f) number)
-    (sym (slice_get-map (λ n. n.seen.items) ns number) ∙ ap (λ ss. slice_get ss number) seens ∙ slice_get-map (seen_in f) (pous_of f) number)
+    (sym (slice_get-map known_in ns number) ∙ ap (λ ss. slice_get ss number) seens ∙ slice_get-map (seen_in f) (pous_of f) number)
   where
-    by : (o : Option NamesOfPou) (q : Option PouData) → option_map scope_named o ≡ option_map scope_of q → option_map (λ n. n.seen.items) o ≡ option_map (seen_in f) q
+    by : (o : Option NamesOfPou) (q : Option PouData) → option_map scope_named o ≡ option_map scope_of q → option_map known_in o ≡ option_map (seen_in f) q
         → option_map (λ n. seen_by n text) o ≡ option_map (λ p. seen_named f (scope_of p) text) q
     by None None h k = refl
     by None (Some p) h k = absurd (let e : ⊥ = cc in e)
     by (Some n) None h k = absurd (let e : ⊥ = cc in e)
     by (Some n) (Some p) h k =
         let same = some_same (scope_named n) (scope_of p) h in
-        let is = some_same n.seen.items (seen_in f p) k ∙ ap (all_seen f) (sym same) in
+        let is = some_same (known_in n) (seen_in f p) k ∙ ap (all_seen f) (sym same) in
         ap Some (seen_by_is f n is text) ∙ ap (λ s. Some (seen_named f s text)) same
 
 -- the scope of each by the POU's
@@ -62,13 +62,13 @@ scope_at ns ps i x pous scopes below at =
 
 -- and what is known of its variables
 pub seen_at : (f : FileData) (ns : List NamesOfPou) (ps : List PouData) (i : ℕ) (x : NamesOfPou) → pous_named ns ≡ ps → scopes_named ns ≡ map scope_of ps → seens_named ns ≡ map (seen_in f) ps
-    → i < length ns → x ≡ get_or ns i x → x.seen.items ≡ all_seen f (scope_named x)
+    → i < length ns → x ≡ get_or ns i x → known_in x ≡ all_seen f (scope_named x)
 seen_at f ns ps i x pous scopes seens below at =
     let there : slice_get ns i ≡ Some x = slice_get_read ns (length ns) i x refl below at in
-    let own : slice_get (seens_named ns) i ≡ Some x.seen.items = slice_get-map (λ n. n.seen.items) ns i ∙ ap (option_map (λ n. n.seen.items)) there in
+    let own : slice_get (seens_named ns) i ≡ Some (known_in x) = slice_get-map known_in ns i ∙ ap (option_map known_in) there in
     let pou : slice_get ps i ≡ Some (pou_view x.pou.now) = ap (λ qs. slice_get qs i) (sym pous) ∙ slice_get-map (λ n. pou_view n.pou.now) ns i ∙ ap (option_map (λ n. pou_view n.pou.now)) there in
     let other : slice_get (map (seen_in f) ps) i ≡ Some (seen_in f (pou_view x.pou.now)) = slice_get-map (seen_in f) ps i ∙ ap (option_map (seen_in f)) pou in
-    let is = some_same x.seen.items (seen_in f (pou_view x.pou.now)) (sym own ∙ ap (λ ss. slice_get ss i) seens ∙ other) in
+    let is = some_same (known_in x) (seen_in f (pou_view x.pou.now)) (sym own ∙ ap (λ ss. slice_get ss i) seens ∙ other) in
     is ∙ ap (all_seen f) (sym (scope_at ns ps i x pous scopes below at))
 
 pub uses_is : (f : FileData) (p : PouData) (s : PouScope) (us : List ℕ) → s ≡ scope_of p → us ≡ blocks_used f s s.variables ++ calls_in_body f p.body → us ≡ uses_in f p

@@ -1,7 +1,7 @@
 -- What is known of each variable of a POU, in declared order.
 use Rattle.std.specs.Prelude.{List, [], ◌∷◌, ◌++◌, ℕ, Some, map}
 use Rattle.source_tree.specs.Syntax.{PouData, FileData}
-use Rattle.naming.specs.declared.seen.Seen.{Seen}
+use Rattle.naming.specs.Seen.{Seen}
 use Rattle.naming.specs.Broken.{instance_of}
 use Rattle.naming.specs.DeclarationUses.{numbers_in}
 use Rattle.naming.specs.Scopes.{PouScope, scope_of, seen}

@@ -67,6 +67,8 @@ fn append_name<'a>(
         role,
         kind: None,
         initial: None,
+        block: None,
+        whole: false,
     })?;
     Ok(())
 }

@@ -5,22 +5,22 @@ ghost use Rattle.naming.specs.Broken.{in_named_type, in_type, in_kind, in_value,
 ghost use Rattle.rules.specs.Judgements.{and};
 ghost use Rattle.rules.specs.Outcomes.{outcome_of};
 ghost use Rattle.naming.specs.Scopes.{seen_named};
-ghost use Rattle.naming.specs.ScopeView.{variable_view};
+ghost use Rattle.naming.specs.ScopeView.{variable_view, seen_if};
 
 use crate::names::Names;
 use crate::typed::is_typed;
 use crate::use_numbers::UseNumbers;
 use file_scope::misused;
-use naming::{Declared, Seen};
+use naming::Declared;
 use rules::Outcome;
 use source_tree::{Bounds, Expr, Name, TypeName};
 
 impl Names<'_, '_> {
     ghost use Rattle.pou_scope.specs.NamesView.{file_in, pou_in};
 
-    // A name as a value, of which this is known.
-    fn value_by(&self, seen: Option<Seen>, name: &Name) -> Outcome
-        ensures { result ≡ outcome_of (in_value (file_in self.now) (pou_in self.now) seen (name_view name.now)) }
+    // A name as a value, which is that of this variable.
+    fn value_by(&self, seen: Option<&Declared<'_>>, name: &Name) -> Outcome
+        ensures { result ≡ outcome_of (in_value (file_in self.now) (pou_in self.now) (seen_if seen.entry) (name_view name.now)) }
     {
         match seen {
             Some(seen) => {

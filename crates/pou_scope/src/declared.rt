@@ -23,6 +23,8 @@ fn append_result<'a>(
             role: Role::Result,
             kind: Some(kind),
             initial: None,
+            block: None,
+            whole: false,
         })?;
     }
     Ok(())
@@ -36,21 +38,17 @@ fn append_declared<'a>(
 ) -> Result<(), AllocError>
     ensures { OnOk result (variables_view list.new.items ≡ variables_view list.old.items ++ declared_by role (declaration_view declaration.now)) }
 {
-    let kind = Some(&declaration.kind);
-    let initial = declaration.initial.as_ref();
-    list.push(Declared {
+    let first = Declared {
         name: &declaration.first,
         role,
-        kind,
-        initial,
-    })?;
+        kind: Some(&declaration.kind),
+        initial: declaration.initial.as_ref(),
+        block: None,
+        whole: false,
+    };
+    list.push(first)?;
     for name in &declaration.others {
-        list.push(Declared {
-            name,
-            role,
-            kind,
-            initial,
-        })?;
+        list.push(Declared { name, ..first })?;
     }
     Ok(())
 }

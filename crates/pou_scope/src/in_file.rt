@@ -1,8 +1,8 @@
 // What is known of each variable of a POU, by its declaration.
-ghost use Rattle.std.specs.Prelude.{◌≡◌, ◌&&◌, option_map, unwrap_or, true, IfOk};
+ghost use Rattle.std.specs.Prelude.{◌≡◌, ◌&&◌, map, option_map, unwrap_or, true, IfOk};
 ghost use Rattle.source_tree.specs.SyntaxView.{name_view, tree_view, type_view, file_view};
 ghost use Rattle.naming.specs.Scopes.{is_value_name, is_constant, are_bounds_constant, is_initial_constant, has_constants, scope_with, seen};
-ghost use Rattle.naming.specs.ScopeView.{variable_view, variables_view};
+ghost use Rattle.naming.specs.ScopeView.{variable_view, variables_view, seen_view};
 ghost use Rattle.naming.specs.Slots.{slot_among};
 ghost use Rattle.naming.specs.Table.{Holds};
 ghost use Rattle.pou_scope.specs.AllSeen.{all_seen};
@@ -11,7 +11,7 @@ use crate::slots::Slots;
 use crate::slotted::Slotted;
 use crate::typed::{block_of, is_whole_kind};
 use file_scope::FileScope;
-use naming::{Declared, Seen, is_value};
+use naming::{Declared, is_value};
 use source_tree::{Expr, Name, TypeName};
 use std::alloc::{AllocError, Global};
 
@@ -84,48 +84,44 @@ impl InFile<'_, '_> {
         self.are_kind_constant(variable.kind) && self.is_initial_constant(variable.initial)
     }
 
-    // What is known of a variable.
-    fn seen(&self, variable: &Declared<'_>) -> Seen
-        ensures { result ≡ seen (file_around self.now) (scope_around self.now) (variable_view variable.now) }
+    // The declaration of a variable, with what is known of it.
+    fn seen<'v>(&self, variable: &Declared<'v>) -> Declared<'v>
+        ensures spelled { variable_view result ≡ variable_view variable.now }
+        ensures seen { seen_view result ≡ seen (file_around self.now) (scope_around self.now) (variable_view variable.now) }
     {
         let block = block_of(self.file, variable);
         let is_typed = block.is_some() || is_whole_kind(self.file, variable.kind);
-        Seen {
+        Declared {
             whole: !self.scope.is_doubled(variable.name)
                 && is_typed
                 && self.has_constants(variable),
-            role: variable.role,
             block,
+            ..*variable
         }
-    }
-
-    // What is known of each variable, in declared order.
-    fn all_seen(&self, alloc: Global) -> Result<Vec<Seen>, AllocError>
-        ensures { IfOk result (λ all. all.items ≡ all_seen (file_around self.now) (scope_around self.now)) }
-    {
-        let mut all = Vec::new(alloc);
-        for variable in self.scope.variables {
-            all.push(self.seen(variable))?;
-        }
-        Ok(all)
     }
 }
 
-/// What is known of each variable of a POU, in declared order.
-pub fn all_seen<'a>(
+/// The declarations of a POU in their order, each with what is known of it.
+pub fn all_seen<'a, 'v>(
     alloc: Global,
     file: &'a FileScope<'_>,
     has_fault: bool,
     slots: &'a Slots,
-    variables: &'a [Declared<'_>],
-) -> Result<Vec<Seen>, AllocError>
+    variables: &'a [Declared<'v>],
+) -> Result<Vec<Declared<'v>>, AllocError>
     requires { Holds slots.now (slot_among has_fault (variables_view variables.now)) }
-    ensures { IfOk result (λ all. all.items ≡ all_seen (file_view file.now.types.names.file.now) (scope_with has_fault (variables_view variables.now))) }
+    ensures spelled { IfOk result (λ all. variables_view all.items ≡ variables_view variables.now) }
+    ensures seen { IfOk result (λ all. map seen_view all.items ≡ all_seen (file_view file.now.types.names.file.now) (scope_with has_fault (variables_view variables.now))) }
 {
     let scope = Slotted {
         has_fault,
         slots,
-        variables,
+        variables: &*variables,
     };
-    InFile { file, scope }.all_seen(alloc)
+    let around = InFile { file, scope };
+    let mut all = Vec::new(alloc);
+    for variable in variables {
+        all.push(around.seen(variable))?;
+    }
+    Ok(all)
 }

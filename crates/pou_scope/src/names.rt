@@ -1,14 +1,14 @@
 // The names of a POU, in the file around it.
-ghost use Rattle.std.specs.Prelude.{◌≡◌};
+ghost use Rattle.std.specs.Prelude.{◌≡◌, map};
 ghost use Rattle.source_tree.specs.SyntaxView.{name_view, file_view};
 ghost use Rattle.naming.specs.Scopes.{scope_with, seen_named};
-ghost use Rattle.naming.specs.ScopeView.{variables_view};
+ghost use Rattle.naming.specs.ScopeView.{variables_view, seen_view};
 ghost use Rattle.pou_scope.specs.AllSeen.{all_seen};
 
 use crate::pou_names::NamesOfPou;
 use crate::use_numbers::UseNumbers;
 use file_scope::{FileScope, numbered};
-use naming::Seen;
+use naming::Declared;
 use source_tree::Name;
 
 /// A POU's names, and those of the file around it.
@@ -16,23 +16,24 @@ use source_tree::Name;
 pub struct Names<'a, 'f> {
     pub file: &'a FileScope<'f>,
     pub own: &'a NamesOfPou<'f>,
-    ghost known: { own.now.seen.items ≡ all_seen (file_view file.now.types.names.file.now) (scope_with own.now.has_fault (variables_view own.now.variables.items)) },
+    ghost known: { map seen_view own.now.variables.items ≡ all_seen (file_view file.now.types.names.file.now) (scope_with own.now.has_fault (variables_view own.now.variables.items)) },
 }
 
-impl Names<'_, '_> {
+impl<'f> Names<'_, 'f> {
+    ghost use Rattle.naming.specs.ScopeView.{seen_if};
     ghost use Rattle.pou_scope.specs.NamesView.{file_in, pou_in};
     ghost use Rattle.pou_scope.specs.UseNumbers.{NotesUse};
 
-    /// What is known of the variable of a name.
-    pub fn seen(&self, name: &Name) -> Option<Seen>
-        ensures { result ≡ seen_named (file_in self.now) (pou_in self.now) (name_view name.now).text }
+    /// The variable of a name.
+    pub fn seen(&self, name: &Name) -> Option<&Declared<'f>>
+        ensures { seen_if result ≡ seen_named (file_in self.now) (pou_in self.now) (name_view name.now).text }
     {
         self.own.seen(name)
     }
 
-    /// What is known of the variable that a name uses. Keeps the number of the use.
-    pub fn used(&self, numbers: &mut UseNumbers, name: &Name) -> Option<Seen>
-        ensures seen { result ≡ seen_named (file_in self.now) (pou_in self.now) (name_view name.now).text }
+    /// The variable that a name uses. Keeps the number of the use.
+    pub fn used(&self, numbers: &mut UseNumbers, name: &Name) -> Option<&Declared<'f>>
+        ensures seen { seen_if result ≡ seen_named (file_in self.now) (pou_in self.now) (name_view name.now).text }
         ensures numbers { NotesUse self.now.own.now.slots (name_view name.now) numbers.old numbers.new }
     {
         self.own.used(numbers, name)

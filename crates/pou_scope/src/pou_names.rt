@@ -1,5 +1,5 @@
 // The names of a POU, and what is known of each of its variables.
-ghost use Rattle.std.specs.Prelude.{◌≡◌, ◌-◌, [], IfOk};
+ghost use Rattle.std.specs.Prelude.{◌≡◌, ◌-◌, [], map, option_map, IfOk};
 ghost use Rattle.std.specs.List.{slice_get};
 ghost use Rattle.source_tree.specs.SyntaxView.{name_view, pou_kind_view, pou_view, file_view};
 ghost use Rattle.naming.specs.FileScope.{is_program};
@@ -8,7 +8,7 @@ ghost use Rattle.naming.specs.Broken.{variables_twice};
 ghost use Rattle.call_order.specs.Uses.{graph_of, HasCircles};
 ghost use Rattle.naming.specs.DeclarationUses.{variable_uses, is_circular_variable};
 ghost use Rattle.naming.specs.Scopes.{scope_with, variables_in_pou, is_fault, is_doubled};
-ghost use Rattle.naming.specs.ScopeView.{variables_view};
+ghost use Rattle.naming.specs.ScopeView.{variables_view, seen_view};
 ghost use Rattle.naming.specs.Slots.{slot_among};
 ghost use Rattle.naming.specs.Table.{Holds};
 ghost use Rattle.pou_scope.specs.AllSeen.{seen_in};
@@ -21,13 +21,13 @@ use crate::use_numbers::UseNumbers;
 use crate::variable_uses::variable_circles;
 use call_order::uses_in_circle;
 use file_scope::{FileScope, numbered};
-use naming::{Declared, Seen, Slot, number_by};
+use naming::{Declared, Slot, number_by};
 use rules::Outcome;
 use source_tree::{Name, Pou, PouKind};
 use std::alloc::{AllocError, Global};
 
-/// A POU, whether it has FAULT, its variables, their slots by name, whether each is declared once, for each those that it uses in a
-/// circle, and what is known of each.
+/// A POU, whether it has FAULT, its variables, their slots by name, whether each is declared once, and for each those that it uses in
+/// a circle.
 #[derive(Drop)]
 pub struct NamesOfPou<'a> {
     pub pou: &'a Pou,
@@ -35,7 +35,6 @@ pub struct NamesOfPou<'a> {
     pub variables: Vec<Declared<'a>>,
     pub slots: Slots,
     pub once: Outcome,
-    pub seen: Vec<Seen>,
     circles: Vec<Vec<usize>>,
     ghost held: { Holds slots (slot_among has_fault (variables_view variables.items)) },
     ghost judged: { once ≡ outcome_of (variables_twice has_fault [] (variables_view variables.items)) },
@@ -58,25 +57,25 @@ pub fn names_of_pou<'a>(
     ensures pou { IfOk result (λ names. pou_view names.pou.now ≡ pou_view pou.now) }
     ensures fault { IfOk result (λ names. names.has_fault ≡ is_program (pou_view pou.now).kind) }
     ensures variables { IfOk result (λ names. variables_view names.variables.items ≡ variables_in_pou (pou_view pou.now)) }
-    ensures seen { IfOk result (λ names. names.seen.items ≡ seen_in (file_view file.now.types.names.file.now) (pou_view pou.now)) }
+    ensures seen { IfOk result (λ names. map seen_view names.variables.items ≡ seen_in (file_view file.now.types.names.file.now) (pou_view pou.now)) }
 {
     let has_fault = is_program(&pou.kind);
-    let variables = declared_variables(alloc, pou)?;
-    let (slots, once) = slots(alloc, has_fault, &variables)?;
-    let circles = variable_circles(alloc, has_fault, &slots, &variables)?;
-    let seen = all_seen(alloc, file, has_fault, &slots, &variables)?;
+    let spelled = declared_variables(alloc, pou)?;
+    let (slots, once) = slots(alloc, has_fault, &spelled)?;
+    let circles = variable_circles(alloc, has_fault, &slots, &spelled)?;
+    let variables = all_seen(alloc, file, has_fault, &slots, &spelled)?;
     Ok(NamesOfPou {
         pou,
         has_fault,
         variables,
         slots,
         once,
-        seen,
         circles,
     })
 }
 
-impl NamesOfPou<'_> {
+impl<'f> NamesOfPou<'f> {
+    ghost use Rattle.naming.specs.ScopeView.{seen_if};
     ghost use Rattle.pou_scope.specs.NamesView.{scope_named, seen_by};
     ghost use Rattle.pou_scope.specs.UseNumbers.{NotesUse};
 
@@ -106,23 +105,23 @@ impl NamesOfPou<'_> {
         is_fault(self.has_fault, name.text.as_str())
     }
 
-    // What is known of the variable of a name that has this slot.
-    fn seen_at(&self, slot: Slot) -> Option<Seen>
-        ensures { result ≡ slice_get self.now.seen.items (slot.number - 1) }
+    // The variable of a slot.
+    fn seen_at(&self, slot: Slot) -> Option<&Declared<'f>>
+        ensures { seen_if result ≡ option_map seen_view (slice_get self.now.variables.items (slot.number - 1)) }
     {
-        self.seen.get(slot.number.saturating_sub(1)).copied()
+        self.variables.get(slot.number.saturating_sub(1))
     }
 
-    /// What is known of the variable of a name.
-    pub fn seen(&self, name: &Name) -> Option<Seen>
-        ensures { result ≡ seen_by self.now (name_view name.now).text }
+    /// The variable of a name.
+    pub fn seen(&self, name: &Name) -> Option<&Declared<'f>>
+        ensures { seen_if result ≡ seen_by self.now (name_view name.now).text }
     {
         self.seen_at(slot_at(&self.slots, name.text.as_str())?)
     }
 
-    /// What is known of the variable that a name uses. Keeps the number of the use.
-    pub fn used(&self, numbers: &mut UseNumbers, name: &Name) -> Option<Seen>
-        ensures seen { result ≡ seen_by self.now (name_view name.now).text }
+    /// The variable that a name uses. Keeps the number of the use.
+    pub fn used(&self, numbers: &mut UseNumbers, name: &Name) -> Option<&Declared<'f>>
+        ensures seen { seen_if result ≡ seen_by self.now (name_view name.now).text }
         ensures numbers { NotesUse self.now.slots (name_view name.now) numbers.old numbers.new }
     {
         let (number, slot) = numbered(&self.slots, name.text.as_str())?;

@@ -9,7 +9,7 @@ use Rattle.rules.specs.declared.rule.Rule.TheVariants.{UnknownStep, UnknownActio
 use Rattle.source_tree.specs.Syntax.{Named, PathData, Tree, literal, path, enumerator, paren, unary, chain, call, Links, no_links, link, Arguments, no_arguments, argument, ConnectionData, input, output, Stmt, empty, assign, invoke, branch, cases, iterate, Stmts, no_stmts, stmt, Arms, no_arms, arm, Entries, no_entries, entry, Otherwise, no_else, else_stmts, LabelData, IterationData, TypeData, of_elementary, of_subrange, of_name, SpecificationData, of_type, of_values, StepActionData, PartData, step_part, transition_part, action_part, BodyData, statements, chart as chart_body, PouKindData, PouData, FileData}
 use Rattle.naming.specs.declared.callee.Callee.{Callee}
 use Rattle.naming.specs.declared.callee.Callee.TheVariants as callees
-use Rattle.naming.specs.declared.seen.Seen.{Seen}
+use Rattle.naming.specs.Seen.{Seen}
 use Rattle.naming.specs.declared.standing.Standing.{Standing}
 use Rattle.naming.specs.declared.standing.Standing.TheVariants as standings
 use Rattle.naming.specs.Broken.{twice, unknown, misused, is_broken_name, in_scope, in_type_name, in_value_name, in_enumeration, in_enumerator, too_deep, member_by, in_member, in_members, in_parts, in_flag, in_named, in_variable, in_outer, in_target, in_path, is_callable, function_or_unknown, callee_of, in_called, argument_by, in_argument_name, in_tree, in_links, in_arguments, in_value, in_constant, in_constant_if, in_declared_constant, in_initial, in_kind, in_label, in_labels, alone, in_step, in_iteration, in_instance, instance_of, in_connected, in_connection, in_connections, in_stmt, in_stmts, in_arms, in_entries, in_else, in_declaration, in_declarations, in_own_name, in_own_name_if, action_by, in_word, in_association, in_associations, step_by, in_listed, in_listed_from, steps_in, in_steps, in_part, in_chart_parts, is_initial_part, place_of_chart, in_body, in_pou_scope, variables_twice}

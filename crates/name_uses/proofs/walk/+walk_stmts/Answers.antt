@@ -6,7 +6,7 @@ use Rattle.source_tree.specs.declared.syntax.Stmt.TheFolds.{fold-roll-Stmt}
 use Rattle.std.specs.declared.alloc.Global.{Global}
 use Rattle.std.proofs.lemmas.List.{drop_all, append-nil}
 use Rattle.source_tree.specs.declared.syntax.Connection.{Connection}
-use Rattle.naming.specs.declared.seen.Seen.{Seen}
+use Rattle.naming.specs.Seen.{Seen}
 use Rattle.source_tree.specs.declared.syntax.Arm.{Arm}
 use Rattle.source_tree.specs.declared.syntax.Entry.{Entry}
 use Rattle.source_tree.specs.declared.syntax.Label.{Label}
