@@ -4,19 +4,23 @@ use Rattle.std.specs.HashMap.{get_by_text}
 use Rattle.std.specs.List.{slice_get, position_from}
 use Rattle.std.specs.Option.{option_and_then, unwrap_or}
 use Rattle.std.proofs.lemmas.List.{length-map}
+use Rattle.std.proofs.lemmas.Simd.{map-map}
 use Rattle.std.proofs.lemmas.Option.{slice_get-map, slice_get_read, slice_get_within, slice_get-get_or}
 use Rattle.call_order.specs.Uses.{graph_of, uses_at}
 use Rattle.source_tree.specs.declared.syntax.Item.{Item}
 use Rattle.source_tree.specs.SyntaxView.{item_view, items_view}
 use Rattle.source_tree.specs.Syntax.{PouData, ItemData, types, pou, FileData}
 use Rattle.pou_scope.specs.declared.pou_names.NamesOfPou.{NamesOfPou}
-use Rattle.file_bindings.specs.Bindings.{variables_kept}
+use Rattle.pou_scope.specs.AllSeen.{seen_in}
+use Rattle.file_bindings.specs.Bindings.{variables_kept, HaveBlocks}
 use Rattle.file_bindings.specs.Bound.{bound_of, bound_named, places_from, variables_at}
 use Rattle.naming.specs.declared.slot.Slot.{Slot}
+use Rattle.naming.specs.declared.variable.Declared.{Declared}
 use Rattle.naming.specs.FileScope.{pous_of, pou_at, is_program}
-use Rattle.pou_scope.specs.NamesView.{scope_named, scopes_named}
-use Rattle.naming.specs.Scopes.{Variable, PouScope, scope_of, variables_in_pou, is_doubled_among}
-use Rattle.naming.specs.ScopeView.{variables_view}
+use Rattle.pou_scope.specs.NamesView.{scope_named, scopes_named, seens_named}
+use Rattle.naming.specs.Scopes.{Variable, PouScope, scope_of, variables_in_pou, is_doubled_among, seen}
+use Rattle.naming.specs.ScopeView.{variables_view, seen_view}
+use Rattle.naming.specs.Seen.{Seen}
 use Rattle.naming.specs.Slots.{found, slot_of, slot_named}
 use Rattle.naming.proofs.CountLemmas.{count-cons}
 
@@ -55,15 +59,35 @@ slots_of f ns scopes number text =
     ∙ through scope_of (λ p. slot_named p text) (pou_at f number)
 
 -- the variables of the names of a number are those of the POU
-pub variables_of : (f : FileData) (ns : List NamesOfPou) → scopes_named ns ≡ map scope_of (pous_of f) → (number : ℕ) → variables_kept ns number ≡ variables_at f number
+pub variables_of : (f : FileData) (ns : List NamesOfPou) → scopes_named ns ≡ map scope_of (pous_of f) → (number : ℕ) → variables_view (variables_kept ns number) ≡ variables_at f number
 variables_of f ns scopes number = by (slice_get ns number) (pou_at f number) (sym (slice_get-map scope_named ns number) ∙ ap (λ ss. slice_get ss number) scopes ∙ slice_get-map scope_of (pous_of f) number)
   where
     by : (o : Option NamesOfPou) (q : Option PouData) → option_map scope_named o ≡ option_map scope_of q
-        → unwrap_or (option_map (λ (n : NamesOfPou). variables_view n.variables.items) o) [] ≡ unwrap_or (option_map variables_in_pou q) []
+        → variables_view (unwrap_or (option_map (λ (n : NamesOfPou). n.variables.items) o) []) ≡ unwrap_or (option_map variables_in_pou q) []
     by None None h = refl
     by None (Some p) h = absurd (let e : ⊥ = cc in e)
     by (Some n) None h = absurd (let e : ⊥ = cc in e)
     by (Some n) (Some p) h = let same : scope_named n ≡ scope_of p = cc in ap (λ (s : PouScope). s.variables) same
+
+-- what is known of declarations says which blocks they have
+known_blocks : (f : FileData) (p : PouScope) (ds : List Declared) → map seen_view ds ≡ map (seen f p) (variables_view ds) → HaveBlocks f ds
+known_blocks f p ds is = sym (map-map (λ (s : Seen). s.block) seen_view ds) ∙ ap (map (λ (s : Seen). s.block)) is ∙ map-map (λ (s : Seen). s.block) (seen f p) (variables_view ds)
+
+-- the blocks of the instances among the names of a number are those that the file says
+pub blocks_of : (f : FileData) (ns : List NamesOfPou) → scopes_named ns ≡ map scope_of (pous_of f) → seens_named ns ≡ map (seen_in f) (pous_of f) → (number : ℕ) → HaveBlocks f (variables_kept ns number)
+blocks_of f ns scopes seens number =
+    by (slice_get ns number) (pou_at f number)
+    (sym (slice_get-map scope_named ns number) ∙ ap (λ ss. slice_get ss number) scopes ∙ slice_get-map scope_of (pous_of f) number)
+    (sym (slice_get-map (λ n. map seen_view n.variables.items) ns number) ∙ ap (λ ss. slice_get ss number) seens ∙ slice_get-map (seen_in f) (pous_of f) number)
+  where
+    by : (o : Option NamesOfPou) (q : Option PouData) → option_map scope_named o ≡ option_map scope_of q → option_map (λ (n : NamesOfPou). map seen_view n.variables.items) o ≡ option_map (seen_in f) q
+        → HaveBlocks f (unwrap_or (option_map (λ (n : NamesOfPou). n.variables.items) o) [])
+    by None q h k = refl
+    by (Some n) None h k = absurd (let e : ⊥ = cc in e)
+    by (Some n) (Some p) h k =
+        let same : scope_named n ≡ scope_of p = cc in
+        let is : map seen_view n.variables.items ≡ seen_in f p = cc in
+        known_blocks f (scope_of p) n.variables.items (is ∙ ap (λ (s : PouScope). map (seen f (scope_of p)) s.variables) (sym same))
 
 -- a place leads to the POU of its number
 pub record IsPlace (f : FileData) (from number place : ℕ) : Type 0 where

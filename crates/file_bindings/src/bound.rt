@@ -1,7 +1,7 @@
 // A file whose names are bound.
 ghost use Rattle.std.specs.Prelude.{◌≡◌, ◌<◌, [], Some, length, count_by, option_map};
 ghost use Rattle.source_tree.specs.SyntaxView.{file_view};
-ghost use Rattle.file_bindings.specs.Bindings.{AreBindings};
+ghost use Rattle.file_bindings.specs.Bindings.{AreBindings, HaveBlocks};
 ghost use Rattle.naming.specs.Broken.{is_program_pou};
 ghost use Rattle.naming.specs.FileScope.{pous_of};
 
@@ -138,9 +138,10 @@ impl<'f> Resolved<'f> {
         bound_by(self.slot_of_use(pou, name))
     }
 
-    /// The variables of the POU of a number in declared order, in constant time.
+    /// The variables of the POU of a number in declared order, each instance with its block, in constant time.
     pub fn variables(&self, number: usize) -> &[Declared<'f>]
-        ensures { ∥ variables_view result.now ≡ variables_at (file_view self.now.file.now) number ∥₁ }
+        ensures variables { ∥ variables_view result.now ≡ variables_at (file_view self.now.file.now) number ∥₁ }
+        ensures blocks { HaveBlocks (file_view self.now.file.now) result.now }
     {
         let Some(names) = self.bindings.names.as_slice().get(number) else {
             return no_variables();

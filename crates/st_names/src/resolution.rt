@@ -143,6 +143,7 @@ fn bindings_of<'f>(
     program: Option<usize>,
 ) -> Bindings<'f>
     requires scopes { scopes_named names.items ≡ map scope_of (pous_of (file_view scope.types.names.file.now)) }
+    requires seen { seens_named names.items ≡ map (seen_in (file_view scope.types.names.file.now)) (pous_of (file_view scope.types.names.file.now)) }
     requires types { types_view types.items ≡ types_of (file_view scope.types.names.file.now) }
     requires places { places.items ≡ places_from 0 (file_view scope.types.names.file.now) }
     requires uses { graph_of judged.uses.items ≡ uses_of (file_view scope.types.names.file.now) }

@@ -1,5 +1,5 @@
 use Rattle.source_tree.specs.SyntaxView.{file_view}
-use Rattle.file_bindings.proofs.BindingLemmas.{slots_of, variables_of}
+use Rattle.file_bindings.proofs.BindingLemmas.{slots_of, variables_of, blocks_of}
 use Rattle.st_names.proofs.resolution.bindings_of.Goals as goal
 
 pub returns : goal.returns
@@ -9,6 +9,7 @@ returns c =
     record {
       slots = slots_of f c.args.names.items c.requires.scopes;
       variables = λ number. ∣ variables_of f c.args.names.items c.requires.scopes number ∣₁;
+      blocks = blocks_of f c.args.names.items c.requires.scopes c.requires.seen;
       types = ∣ c.requires.types ∣₁;
       places = c.requires.places;
       uses = c.requires.uses;
