@@ -1,5 +1,5 @@
 -- The statements of a chart, one part behind the other.
-use Rattle.std.proofs.Common.{◌≡◌, ℕ, zero, suc, ◌+◌, ◌<◌, List, [], ◌∷◌, ◌++◌, length, drop, pos, refl, ap, arith, append_assoc, length-append}
+use Rattle.std.proofs.Common.{◌≡◌, ℕ, zero, suc, ◌+◌, ◌*◌, ◌<◌, ◌≤◌, List, [], ◌∷◌, ◌++◌, length, drop, pos, refl, ap, arith, append_assoc, length-append, length-drop}
 use Rattle.program_tree.specs.declared.typed.StepCells.{StepCells}
 use Rattle.program_tree.specs.Tree.{number, TransitionData, chart, Actions}
 use Rattle.flat_core.specs.declared.flat_tree.Scratch.{Scratch}
@@ -8,6 +8,7 @@ use Rattle.flat_form.specs.Owners.{OwnerData}
 use Rattle.flat_form.specs.Bodies.{Bodies}
 use Rattle.flat_form.specs.FlatCharts.{latch_list, flag_cell, flags_of, clear_flags, flat_transitions, mark_list}
 use Rattle.flat_form.specs.FlatLists.{scratch_of_actions, flat_of, flat_actions}
+use Rattle.flat_laws.proofs.ChartMoves.{length-flags}
 
 -- ---- the flags of one more step
 
@@ -32,6 +33,11 @@ module _ (steps : List StepCells) (i cells : ℕ) (below : i < length steps) (ma
       let t1 : cells + length made1 ≡ cells + length made + 1 = omega (arith, ap length is_made1, length-append made (flag_cell ∷ [])) in
       let t2 : cells + length made2 ≡ cells + length made + 2 = omega (arith, t1, ap length is_made2, length-append made1 (flag_cell ∷ [])) in
       rw (left-cleared steps i (cells + length made) below, is_out2, is_out1, t2, t1) (simp append_assoc)
+
+-- all flags stand behind those that were there before
+pub flags-made : (steps : List StepCells) (i : ℕ) (made all : List Scratch) → length steps ≤ i → all ++ flags_of (drop i steps) ≡ made ++ flags_of steps → length all ≡ length made + 2 * length steps
+flags-made steps i made all done is =
+    omega (arith, done, ap length is, length-append all (flags_of (drop i steps)), length-append made (flags_of steps), length-flags (drop i steps), length-flags steps, length-drop i steps)
 
 -- ---- a chart
 

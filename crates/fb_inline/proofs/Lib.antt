@@ -5,3 +5,4 @@ pub mod ChartLemmas
 pub mod PouLemmas
 pub mod TurnLemmas
 pub mod TypedForms
+pub mod TypedLemmas

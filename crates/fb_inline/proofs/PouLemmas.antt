@@ -1,5 +1,5 @@
 -- What the bodies of POUs become, and weigh.
-use Rattle.std.proofs.Common.{◌≡◌, ℕ, zero, suc, ◌<◌, ◌≤◌, Bool, true, false, List, [], ◌++◌, length, slice_index_or, refl, sym, ap, subst, ◌∙◌, arith, rules, tests}
+use Rattle.std.proofs.Common.{◌≡◌, ℕ, zero, suc, ◌<◌, Bool, true, List, ◌++◌, length, slice_index_or, sym, ap, subst, ◌∙◌, arith, rules, tests}
 use Rattle.std.specs.Prelude.{◌==◌}
 use Rattle.std.proofs.lemmas.List.{append-nil, length-map}
 use Rattle.std.proofs.lemmas.Bool.Decides.{nat_tests}
@@ -38,14 +38,6 @@ module _ (ps : List CalledData) where
       (λ e. let same : n ≡ i = search (rules, tests) in rw e (ap (λ m. scratch_of_all (bodies_of ps m) (block_body (slice_index_or ps m nothing))) same))
       (λ e. let less : i < n = grind (arith, nat_tests) in rw e (scratch-known i n less))
 
-  pub list-unknown : (owner : OwnerData) (i n base k : ℕ) → n ≤ i → (bodies_of ps n).run_list owner i base k ≡ []
-  list-unknown owner i zero base k h = refl
-  list-unknown owner i (suc n) base k h = let other : (i == n) ≡ false = search (rules, tests) in rw other (list-unknown owner i n base k (omega arith))
-
-  pub scratch-unknown : (i n : ℕ) → n ≤ i → (bodies_of ps n).run_scratch i ≡ []
-  scratch-unknown i zero h = refl
-  scratch-unknown i (suc n) h = let other : (i == n) ≡ false = search (rules, tests) in rw other (scratch-unknown i n (omega arith))
-
   -- a block is made flat by its body
   list-run : (owner : OwnerData) (i n base k : ℕ) (p : CalledData) (body : Statements) → i < n → slice_index_or ps i nothing ≡ p → body ≡ block_body p
       → (bodies_of ps n).run_list owner i base k ≡ flat_of_all (bodies_of ps i) owner base body k
@@ -73,12 +65,6 @@ module _ (ps : List CalledData) where
 
   pub scratch-none : (i n : ℕ) (p : CalledData) (out : List Scratch) → i < n → slice_index_or ps i nothing ≡ p → block_body p ≡ no_statements → out ≡ out ++ (bodies_of ps n).run_scratch i
   scratch-none i n p out h is empty = sym (ap (λ l. out ++ l) (scratch-run i n p no_statements h is (sym empty)) ∙ append-nil out)
-
-  pub list-over : (owner : OwnerData) (i n base k : ℕ) (out : List FlatStatement) → n ≤ i → out ≡ out ++ (bodies_of ps n).run_list owner i base k
-  list-over owner i n base k out h = sym (ap (λ l. out ++ l) (list-unknown owner i n base k h) ∙ append-nil out)
-
-  pub scratch-over : (i n : ℕ) (out : List Scratch) → n ≤ i → out ≡ out ++ (bodies_of ps n).run_scratch i
-  scratch-over i n out h = sym (ap (λ l. out ++ l) (scratch-unknown i n h) ∙ append-nil out)
 
   -- a block that does nothing adds nothing
   pub list-idle : (owner : OwnerData) (idle : List Bool) (i n base k : ℕ) (out : List FlatStatement) → AreIdleBelow idle ps n → i < n → idle_in idle i ≡ true → out ≡ out ++ (bodies_of ps n).run_list owner i base k

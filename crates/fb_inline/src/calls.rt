@@ -7,6 +7,8 @@ ghost use Rattle.flat_charts.specs.Views.{frame_view};
 ghost use Rattle.flat_charts.specs.Views.{owner_view};
 ghost use Rattle.flat_form.specs.Calls.{scratch_in, operand_scratch, all_scratch, input_scratch, moved, moved_operands, all_moved, before, operands_before, all_before, inputs_before, input_places};
 ghost use Rattle.flat_charts.specs.Views.{bodies_here, IsKnown};
+ghost use Rattle.typed_programs.specs.Expressions.{AreInputs};
+ghost use Rattle.fb_inline.specs.TypedScopes.{IsTypedOver, HasType, AreOperands, HaveTypes};
 
 use crate::frames::{put_input, put_others, put_start};
 use crate::statements::flatten_all;
@@ -25,6 +27,7 @@ pub fn flatten_expr(
     alloc: Global,
 ) -> Result<TypedExpr, AllocError>
     requires known { IsKnown scope.now }
+    requires typed { IsTypedOver scope.now (λ pous b. HasType pous b (expr_view expr.now)) }
     ensures value { IfOk result (λ e. expr_view e
         ≡ moved (bodies_here scope.now) (owner_view scope.now.owner) scope.now.base (expr_view expr.now) (scope.now.cells + length scratch.old.items)) }
     ensures list { OnOk result (flats_view out.new.items
@@ -33,7 +36,7 @@ pub fn flatten_expr(
 {
     match expr {
         TypedExpr::Number(value) => Ok(TypedExpr::Number(*value)),
-        TypedExpr::Cell(place) => Ok(TypedExpr::Cell(place_at(scope, *place)?)),
+        TypedExpr::Cell(place) => Ok(TypedExpr::Cell(place_at(scope, *place))),
         TypedExpr::Unary(operator, kind, inner) => {
             let inner = flatten_expr(inner, scope, scratch, out, alloc)?;
             Ok(TypedExpr::Unary(*operator, *kind, Box::new(alloc, inner)?))
@@ -62,6 +65,7 @@ fn flatten_operands(
     alloc: Global,
 ) -> Result<Vec<Operand>, AllocError>
     requires known { IsKnown scope.now }
+    requires typed { IsTypedOver scope.now (λ pous b. AreOperands pous b (operands_view operands.now)) }
     ensures value { IfOk result (λ os. operands_view os.items
         ≡ moved_operands (bodies_here scope.now) (owner_view scope.now.owner) scope.now.base (operands_view operands.now) (scope.now.cells + length scratch.old.items)) }
     ensures list { OnOk result (flats_view out.new.items
@@ -89,6 +93,7 @@ fn flatten_exprs(
     alloc: Global,
 ) -> Result<Vec<TypedExpr>, AllocError>
     requires known { IsKnown scope.now }
+    requires typed { IsTypedOver scope.now (λ pous b. HaveTypes pous b (arguments_view list.now)) }
     ensures value { IfOk result (λ es. arguments_view es.items
         ≡ all_moved (bodies_here scope.now) (owner_view scope.now.owner) scope.now.base (arguments_view list.now) (scope.now.cells + length scratch.old.items)) }
     ensures list { OnOk result (flats_view out.new.items
@@ -103,7 +108,7 @@ fn flatten_exprs(
     Ok(there)
 }
 
-// A call of a FUNCTION. One of what is no FUNCTION, which no checked program has, has no cells in memory.
+// A call of a FUNCTION; a typed call calls nothing else.
 #[cycle(flatten)]
 fn flatten_answer(
     inputs: &[TypedExpr],
@@ -114,31 +119,30 @@ fn flatten_answer(
     alloc: Global,
 ) -> Result<TypedExpr, AllocError>
     requires known { IsKnown scope.now }
+    requires typed { IsTypedOver scope.now (λ pous b. HasType pous b (call_function function (arguments_view inputs.now))) }
     ensures value { IfOk result (λ e. expr_view e
         ≡ moved (bodies_here scope.now) (owner_view scope.now.owner) scope.now.base (call_function function (arguments_view inputs.now)) (scope.now.cells + length scratch.old.items)) }
     ensures list { OnOk result (flats_view out.new.items
         ≡ flats_view out.old.items ++ before (bodies_here scope.now) (owner_view scope.now.owner) scope.now.base (call_function function (arguments_view inputs.now)) (scope.now.cells + length scratch.old.items)) }
     ensures scratch { OnOk result (scratch.new.items ≡ scratch.old.items ++ scratch_in (bodies_here scope.now) (call_function function (arguments_view inputs.now))) }
 {
-    if function < scope.below {
-        let callee = &scope.called[function];
-        if let Called::Function(frame, body) = callee {
-            let mut places = flatten_inputs(inputs, frame, scope, scratch, out, alloc)?;
-            put_others(frame, inputs.len(), scope.cells, &mut places, scratch, out)?;
-            let answer = put_start(frame, 1, scope.cells, scratch, out)?;
-            let call = FlatScope {
-                cells: scope.cells,
-                owner: Owner::Call(answer, &places),
-                base: 0,
-                called: scope.called,
-                idle: scope.idle,
-                below: function,
-            };
-            flatten_all(body, &call, scratch, out, alloc)?;
-            return Ok(cell_at(answer));
-        }
-    }
-    Err(AllocError)
+    let callee = &scope.called[function];
+    let Called::Function(frame, body) = callee else {
+        unreachable!()
+    };
+    let mut places = flatten_inputs(inputs, frame, scope, scratch, out, alloc)?;
+    put_others(frame, inputs.len(), scope.cells, &mut places, scratch, out)?;
+    let answer = put_start(frame, 1, scope.cells, scratch, out)?;
+    let call = FlatScope {
+        cells: scope.cells,
+        owner: Owner::Call(answer, &places),
+        base: 0,
+        called: scope.called,
+        idle: scope.idle,
+        below: function,
+    };
+    flatten_all(body, &call, scratch, out, alloc)?;
+    Ok(cell_at(answer))
 }
 
 // The inputs of a call; the places of their scratch cells.
@@ -152,6 +156,7 @@ fn flatten_inputs(
     alloc: Global,
 ) -> Result<Vec<usize>, AllocError>
     requires known { IsKnown scope.now }
+    requires typed { IsTypedOver scope.now (λ pous b. AreInputs pous b (frame_view frame.now) 2 (arguments_view inputs.now)) }
     ensures places { IfOk result (λ places. places.items ≡ input_places (bodies_here scope.now) (arguments_view inputs.now) (scope.now.cells + length scratch.old.items)) }
     ensures list { OnOk result (flats_view out.new.items
         ≡ flats_view out.old.items

@@ -1,10 +1,11 @@
 // The flat statements of a chart that its steps and latches alone become.
-ghost use Rattle.std.specs.Prelude.{◌≡◌, ◌<◌, ◌^◌, ◌+◌, ◌++◌, ◌∷◌, [], length, map, pos, IfOk, OnOk};
+ghost use Rattle.std.specs.Prelude.{◌≡◌, ◌<◌, ◌^◌, ◌+◌, ◌*◌, ◌++◌, ◌∷◌, [], length, map, pos, All, IfOk, IfSome, OnOk};
 ghost use Rattle.program_tree.specs.Tree.{number};
 ghost use Rattle.program_tree.specs.View.{action_view, actions_view};
 ghost use Rattle.flat_core.specs.FlatTree.{set};
 ghost use Rattle.flat_core.specs.FlatView.{flats_view};
-ghost use Rattle.flat_charts.specs.Views.{owner_view};
+ghost use Rattle.flat_charts.specs.Views.{owner_view, HasPlace, StepsHavePlaces, FlagsHavePlaces};
+ghost use Rattle.flat_form.specs.WellTyped.{latch_places};
 ghost use Rattle.flat_form.specs.FlatCharts.{latch_set, latch_list, flag_cell, flags_of, clear_flags, exited_flag, exited_set, entered_set, fired_list, mark_before, mark_active, mark_list};
 
 use crate::puts::{new_scratch, put_number, put_set, whole_cell};
@@ -24,6 +25,8 @@ pub fn put_latches(
     out: &mut Vec<FlatStmt>,
     alloc: Global,
 ) -> Result<(), AllocError>
+    requires steps { StepsHavePlaces scope.now.base steps.now }
+    requires latches { All (HasPlace scope.now.base) (latch_places (actions_view actions.now)) }
     ensures { OnOk result (flats_view out.new.items
         ≡ flats_view out.old.items ++ latch_list (owner_view scope.now.owner) scope.now.base steps.now (actions_view actions.now)) }
 {
@@ -40,12 +43,14 @@ fn put_latch(
     out: &mut Vec<FlatStmt>,
     alloc: Global,
 ) -> Result<(), AllocError>
+    requires steps { StepsHavePlaces scope.now.base steps.now }
+    requires latch { IfSome (action_view action.now).0 (HasPlace scope.now.base) }
     ensures { OnOk result (flats_view out.new.items
         ≡ flats_view out.old.items ++ latch_set (owner_view scope.now.owner) scope.now.base steps.now (action_view action.now).0 (action_view action.now).1) }
 {
     if let Some(latch) = action.latch {
         let test = latch_test(alloc, latch, &action.associations, steps, scope)?;
-        let there = place_at(scope, latch)?;
+        let there = place_at(scope, latch);
         put_set(out, there, test)?;
     }
     Ok(())
@@ -60,6 +65,7 @@ pub fn put_flags(
 ) -> Result<usize, AllocError>
     requires { cells < 2 ^ 63 }
     ensures place { IfOk result (λ place. place ≡ cells + length scratch.old.items) }
+    ensures room { IfOk result (λ place. place + 2 * length steps.now < 2 ^ 64) }
     ensures list { OnOk result (flats_view out.new.items ≡ flats_view out.old.items ++ clear_flags steps.now (cells + length scratch.old.items)) }
     ensures scratch { OnOk result (scratch.new.items ≡ scratch.old.items ++ flags_of steps.now) }
 {
@@ -91,6 +97,8 @@ pub fn put_fired(
     flags: usize,
     out: &mut Vec<FlatStmt>,
 ) -> Result<(), AllocError>
+    requires from { FlagsHavePlaces flags from.now }
+    requires to { FlagsHavePlaces flags to.now }
     ensures { OnOk result (flats_view out.new.items ≡ flats_view out.old.items ++ fired_list flags from.now to.now) }
 {
     put_exited(from, flags, out)?;
@@ -99,22 +107,23 @@ pub fn put_fired(
 }
 
 fn put_exited(list: &[usize], flags: usize, out: &mut Vec<FlatStmt>) -> Result<(), AllocError>
+    requires { FlagsHavePlaces flags list.now }
     ensures { OnOk result (flats_view out.new.items ≡ flats_view out.old.items ++ map (exited_set flags) list.now) }
 {
     for step in list {
-        let flag = exited_flag(flags, *step)?;
+        let flag = exited_flag(flags, *step);
         put_number(out, flag, 1)?;
     }
     Ok(())
 }
 
 fn put_entered(list: &[usize], flags: usize, out: &mut Vec<FlatStmt>) -> Result<(), AllocError>
+    requires { FlagsHavePlaces flags list.now }
     ensures { OnOk result (flats_view out.new.items ≡ flats_view out.old.items ++ map (entered_set flags) list.now) }
 {
     for step in list {
-        let exited = exited_flag(flags, *step)?;
-        let flag = behind(exited, 1)?;
-        put_number(out, flag, 1)?;
+        let exited = exited_flag(flags, *step);
+        put_number(out, exited + 1, 1)?;
     }
     Ok(())
 }
@@ -127,13 +136,15 @@ pub fn put_marks(
     out: &mut Vec<FlatStmt>,
     alloc: Global,
 ) -> Result<(), AllocError>
+    requires steps { StepsHavePlaces scope.now.base steps.now }
+    requires flags { flags + 2 * length steps.now < 2 ^ 64 }
     ensures { OnOk result (flats_view out.new.items
         ≡ flats_view out.old.items ++ mark_list (owner_view scope.now.owner) scope.now.base steps.now flags) }
 {
     let mut flag = flags;
     for step in steps {
         put_mark(*step, flag, scope, out, alloc)?;
-        flag = behind(flag, 2)?;
+        flag += 2;
     }
     Ok(())
 }
@@ -145,12 +156,15 @@ fn put_mark(
     out: &mut Vec<FlatStmt>,
     alloc: Global,
 ) -> Result<(), AllocError>
+    requires active { HasPlace scope.now.base step.active }
+    requires before { HasPlace scope.now.base step.before }
+    requires flags { exited + 1 < 2 ^ 64 }
     ensures { OnOk result (flats_view out.new.items ≡ flats_view out.old.items
         ++ mark_before (owner_view scope.now.owner) scope.now.base step ∷ mark_active (owner_view scope.now.owner) scope.now.base step exited ∷ []) }
 {
-    let entered = behind(exited, 1)?;
-    let before = place_at(scope, step.before)?;
-    let active = place_at(scope, step.active)?;
+    let entered = exited + 1;
+    let before = place_at(scope, step.before);
+    let active = place_at(scope, step.active);
     put_set(out, before, cell_at(active))?;
     let stays = without(alloc, cell_at(active), cell_at(exited))?;
     let next = joined(
@@ -161,11 +175,4 @@ fn put_mark(
         cell_at(entered),
     )?;
     put_set(out, active, next)
-}
-
-// A place behind another. One that is no usize, which no flag of a chart has, has no place in memory.
-fn behind(place: usize, more: usize) -> Result<usize, AllocError>
-    ensures { IfOk result (λ there. there ≡ place + more) }
-{
-    place.checked_add(more).ok_or(AllocError)
 }

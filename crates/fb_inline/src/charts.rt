@@ -1,5 +1,5 @@
 // Charts as flat statements.
-ghost use Rattle.std.specs.Prelude.{◌≡◌, ◌+◌, ◌++◌, ◌∷◌, [], length, OnOk};
+ghost use Rattle.std.specs.Prelude.{◌≡◌, ◌<◌, ◌^◌, ◌+◌, ◌*◌, ◌++◌, ◌∷◌, [], length, All, IfSome, OnOk};
 ghost use Rattle.program_tree.specs.Tree.{chart};
 ghost use Rattle.program_tree.specs.View.{action_view, actions_view, transition_view, transitions_view};
 ghost use Rattle.flat_core.specs.FlatView.{flats_view};
@@ -7,7 +7,10 @@ ghost use Rattle.flat_charts.specs.Views.{owner_view};
 ghost use Rattle.flat_form.specs.Calls.{scratch_in};
 ghost use Rattle.flat_form.specs.FlatCharts.{scratch_of_transitions, flat_transition, flat_transitions};
 ghost use Rattle.flat_form.specs.FlatLists.{scratch_of, scratch_of_actions, scratch_of_action, flat_of, flat_actions, flat_action};
-ghost use Rattle.flat_charts.specs.Views.{bodies_here, IsKnown};
+ghost use Rattle.flat_charts.specs.Views.{bodies_here, IsKnown, HasPlace, StepsHavePlaces, FlagsHavePlaces};
+ghost use Rattle.flat_form.specs.WellTyped.{latch_places};
+ghost use Rattle.typed_programs.specs.Statements.{AreTyped, AreTypedActions, AreTypedTransitions, IsTypedChart};
+ghost use Rattle.fb_inline.specs.TypedScopes.{IsTypedOver, HasType};
 
 use crate::calls::flatten_expr;
 use crate::chart_lists::{put_fired, put_flags, put_latches, put_marks};
@@ -30,6 +33,7 @@ pub fn flatten_chart(
     alloc: Global,
 ) -> Result<(), AllocError>
     requires known { IsKnown scope.now }
+    requires typed { IsTypedOver scope.now (λ pous b. IsTypedChart pous b steps.now (actions_view actions.now) (transitions_view transitions.now)) }
     ensures list { OnOk result (flats_view out.new.items
         ≡ flats_view out.old.items ++ flat_of (bodies_here scope.now) (owner_view scope.now.owner) scope.now.base (chart steps.now (actions_view actions.now) (transitions_view transitions.now)) (scope.now.cells + length scratch.old.items)) }
     ensures scratch { OnOk result (scratch.new.items
@@ -54,6 +58,9 @@ fn flatten_actions(
     alloc: Global,
 ) -> Result<(), AllocError>
     requires known { IsKnown scope.now }
+    requires steps { StepsHavePlaces scope.now.base steps.now }
+    requires latches { All (HasPlace scope.now.base) (latch_places (actions_view actions.now)) }
+    requires typed { IsTypedOver scope.now (λ pous b. AreTypedActions pous b (length steps.now) (actions_view actions.now)) }
     ensures list { OnOk result (flats_view out.new.items
         ≡ flats_view out.old.items ++ flat_actions (bodies_here scope.now) (owner_view scope.now.owner) scope.now.base steps.now (actions_view actions.now) (scope.now.cells + length scratch.old.items)) }
     ensures scratch { OnOk result (scratch.new.items ≡ scratch.old.items ++ scratch_of_actions (bodies_here scope.now) (actions_view actions.now)) }
@@ -74,6 +81,9 @@ fn flatten_action(
     alloc: Global,
 ) -> Result<(), AllocError>
     requires known { IsKnown scope.now }
+    requires steps { StepsHavePlaces scope.now.base steps.now }
+    requires latch { IfSome (action_view action.now).0 (HasPlace scope.now.base) }
+    requires typed { IsTypedOver scope.now (λ pous b. AreTyped pous b (action_view action.now).2) }
     ensures list { OnOk result (flats_view out.new.items
         ≡ flats_view out.old.items ++ flat_action (bodies_here scope.now) (owner_view scope.now.owner) scope.now.base steps.now (action_view action.now) (scope.now.cells + length scratch.old.items)) }
     ensures scratch { OnOk result (scratch.new.items ≡ scratch.old.items ++ scratch_of_action (bodies_here scope.now) (action_view action.now)) }
@@ -100,6 +110,9 @@ fn flatten_transitions(
     alloc: Global,
 ) -> Result<(), AllocError>
     requires known { IsKnown scope.now }
+    requires steps { StepsHavePlaces scope.now.base steps.now }
+    requires flags { flags + 2 * length steps.now < 2 ^ 64 }
+    requires typed { IsTypedOver scope.now (λ pous b. AreTypedTransitions pous b (length steps.now) (transitions_view transitions.now)) }
     ensures list { OnOk result (flats_view out.new.items
         ≡ flats_view out.old.items ++ flat_transitions (bodies_here scope.now) (owner_view scope.now.owner) scope.now.base steps.now flags (transitions_view transitions.now) (scope.now.cells + length scratch.old.items)) }
     ensures scratch { OnOk result (scratch.new.items ≡ scratch.old.items ++ scratch_of_transitions (bodies_here scope.now) (transitions_view transitions.now)) }
@@ -122,6 +135,10 @@ fn flatten_transition(
     alloc: Global,
 ) -> Result<(), AllocError>
     requires known { IsKnown scope.now }
+    requires steps { StepsHavePlaces scope.now.base steps.now }
+    requires from { FlagsHavePlaces flags (transition_view transition.now).from }
+    requires to { FlagsHavePlaces flags (transition_view transition.now).to }
+    requires typed { IsTypedOver scope.now (λ pous b. HasType pous b (transition_view transition.now).condition) }
     ensures list { OnOk result (flats_view out.new.items
         ≡ flats_view out.old.items ++ flat_transition (bodies_here scope.now) (owner_view scope.now.owner) scope.now.base steps.now flags (transition_view transition.now) (scope.now.cells + length scratch.old.items) ∷ []) }
     ensures scratch { OnOk result (scratch.new.items ≡ scratch.old.items ++ scratch_in (bodies_here scope.now) (transition_view transition.now).condition) }

@@ -21,7 +21,7 @@ use rules::{Fault, Refusal, Rule};
 use std::alloc::{AllocError, Global};
 
 /// The flat form of a typed program, which is typed too; none of one that has more than 200,000 statements (M5), which are counted before
-/// any is built. A FOR with a value that is no i64 counts as want of memory, and so does a place that is no usize.
+/// any is built.
 pub fn flatten(alloc: Global, program: &Program) -> Result<Flat, Fault>
     requires fit { IsFitToRun (program_view program.now) }
     requires typed { IsTypedProgram (program_view program.now) }

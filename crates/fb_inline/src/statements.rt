@@ -1,17 +1,19 @@
 // Statements as flat statements.
-ghost use Rattle.std.specs.Prelude.{◌≡◌, ◌+◌, ◌++◌, ◌∷◌, [], ◌+ℤ◌, length, IfOk, OnOk};
-ghost use Rattle.program_tree.specs.Tree.{cases};
+ghost use Rattle.std.specs.Prelude.{◌≡◌, ◌+◌, ◌++◌, ◌∷◌, [], length, OnOk};
+ghost use Rattle.program_tree.specs.Tree.{cases, call_block, repeat};
 ghost use Rattle.program_tree.specs.View.{expr_view, stmt_view, stmts_view, arm_view, choices_view, entries_view};
 ghost use Rattle.flat_core.specs.FlatView.{flats_view, flat_arms_view};
 ghost use Rattle.flat_charts.specs.Views.{owner_view};
 ghost use Rattle.flat_form.specs.FlatLists.{scratch_of, scratch_of_all, scratch_of_choices, scratch_of_entries, repeated, flat_of, flat_of_all, flat_choices, flat_choice, scratch_of_choice, flat_entries, unrolled};
 ghost use Rattle.flat_charts.specs.Views.{bodies_here, IsKnown};
+ghost use Rattle.typed_programs.specs.Statements.{IsTyped, AreTyped, AreTypedChoices, AreTypedEntries, IsTypedPart, AreTypedParts};
+ghost use Rattle.fb_inline.specs.TypedScopes.{IsTypedOver, HasType};
 
 use crate::calls::flatten_expr;
 use crate::charts::flatten_chart;
 use crate::labels::labels_test;
 use crate::puts::{put_arm, put_if, put_number, put_selector, put_set};
-use flat_charts::{FlatScope, base_at, place_at};
+use flat_charts::{FlatScope, place_at};
 use flat_core::{FlatArm, FlatStmt, Scratch};
 use flat_form::is_idle_block;
 use plc_types::Elementary;
@@ -28,6 +30,7 @@ pub fn flatten_all(
     alloc: Global,
 ) -> Result<(), AllocError>
     requires known { IsKnown scope.now }
+    requires typed { IsTypedOver scope.now (λ pous b. AreTypedParts pous b (stmts_view list.now)) }
     ensures list { OnOk result (flats_view out.new.items
         ≡ flats_view out.old.items ++ flat_of_all (bodies_here scope.now) (owner_view scope.now.owner) scope.now.base (stmts_view list.now) (scope.now.cells + length scratch.old.items)) }
     ensures scratch { OnOk result (scratch.new.items ≡ scratch.old.items ++ scratch_of_all (bodies_here scope.now) (stmts_view list.now)) }
@@ -47,6 +50,7 @@ fn flatten_one(
     alloc: Global,
 ) -> Result<(), AllocError>
     requires known { IsKnown scope.now }
+    requires typed { IsTypedOver scope.now (λ pous b. IsTypedPart pous b (stmt_view stmt.now)) }
     ensures list { OnOk result (flats_view out.new.items
         ≡ flats_view out.old.items ++ flat_of (bodies_here scope.now) (owner_view scope.now.owner) scope.now.base (stmt_view stmt.now) (scope.now.cells + length scratch.old.items)) }
     ensures scratch { OnOk result (scratch.new.items ≡ scratch.old.items ++ scratch_of (bodies_here scope.now) (stmt_view stmt.now)) }
@@ -54,7 +58,7 @@ fn flatten_one(
     match stmt {
         TypedStmt::Assign(target, expr) => {
             let expr = flatten_expr(expr, scope, scratch, out, alloc)?;
-            let target = place_at(scope, *target)?;
+            let target = place_at(scope, *target);
             put_set(out, target, expr)
         }
         TypedStmt::CallBlock { block, offset } => {
@@ -90,6 +94,7 @@ fn flatten_case(
     alloc: Global,
 ) -> Result<(), AllocError>
     requires known { IsKnown scope.now }
+    requires typed { IsTypedOver scope.now (λ pous b. IsTyped pous b (cases kind (expr_view selector.now) (entries_view entries.now) (stmts_view other.now))) }
     ensures list { OnOk result (flats_view out.new.items
         ≡ flats_view out.old.items ++ flat_of (bodies_here scope.now) (owner_view scope.now.owner) scope.now.base (cases kind (expr_view selector.now) (entries_view entries.now) (stmts_view other.now)) (scope.now.cells + length scratch.old.items)) }
     ensures scratch { OnOk result (scratch.new.items
@@ -117,27 +122,25 @@ fn flatten_block(
     alloc: Global,
 ) -> Result<(), AllocError>
     requires known { IsKnown scope.now }
+    requires typed { IsTypedOver scope.now (λ pous b. IsTyped pous b (call_block block offset)) }
     ensures list { OnOk result (flats_view out.new.items
         ≡ flats_view out.old.items ++ (bodies_here scope.now).run_list (owner_view scope.now.owner) block (scope.now.base + offset) (scope.now.cells + length scratch.old.items)) }
     ensures scratch { OnOk result (scratch.new.items ≡ scratch.old.items ++ (bodies_here scope.now).run_scratch block) }
 {
-    if block < scope.below {
-        if is_idle_block(scope.idle, block) {
-            return Ok(());
-        }
-        let callee = &scope.called[block];
-        if let Called::Block(body) = callee {
-            let base = base_at(scope, offset)?;
-            let instance = FlatScope {
-                cells: scope.cells,
-                owner: scope.owner,
-                base,
-                called: scope.called,
-                idle: scope.idle,
-                below: block,
-            };
-            flatten_all(body, &instance, scratch, out, alloc)?;
-        }
+    if is_idle_block(scope.idle, block) {
+        return Ok(());
+    }
+    let callee = &scope.called[block];
+    if let Called::Block(body) = callee {
+        let instance = FlatScope {
+            cells: scope.cells,
+            owner: scope.owner,
+            base: scope.base + offset,
+            called: scope.called,
+            idle: scope.idle,
+            below: block,
+        };
+        flatten_all(body, &instance, scratch, out, alloc)?;
     }
     Ok(())
 }
@@ -152,6 +155,7 @@ fn flatten_arms(
     alloc: Global,
 ) -> Result<(), AllocError>
     requires known { IsKnown scope.now }
+    requires typed { IsTypedOver scope.now (λ pous b. AreTypedChoices pous b (choices_view arms.now)) }
     ensures list { OnOk result (flat_arms_view out.new.items
         ≡ flat_arms_view out.old.items ++ flat_choices (bodies_here scope.now) (owner_view scope.now.owner) scope.now.base (choices_view arms.now) (scope.now.cells + length scratch.old.items)) }
     ensures scratch { OnOk result (scratch.new.items ≡ scratch.old.items ++ scratch_of_choices (bodies_here scope.now) (choices_view arms.now)) }
@@ -171,6 +175,7 @@ fn flatten_arm(
     alloc: Global,
 ) -> Result<(), AllocError>
     requires known { IsKnown scope.now }
+    requires typed { IsTypedOver scope.now (λ pous b. HasType pous b (arm_view arm.now).0 × AreTyped pous b (arm_view arm.now).1) }
     ensures list { OnOk result (flat_arms_view out.new.items
         ≡ flat_arms_view out.old.items ++ flat_choice (bodies_here scope.now) (owner_view scope.now.owner) scope.now.base (arm_view arm.now) (scope.now.cells + length scratch.old.items) ∷ []) }
     ensures scratch { OnOk result (scratch.new.items ≡ scratch.old.items ++ scratch_of_choice (bodies_here scope.now) (arm_view arm.now)) }
@@ -195,6 +200,7 @@ fn flatten_entries(
     alloc: Global,
 ) -> Result<(), AllocError>
     requires known { IsKnown scope.now }
+    requires typed { IsTypedOver scope.now (λ pous b. AreTypedEntries pous b kind (entries_view entries.now)) }
     ensures list { OnOk result (flat_arms_view out.new.items
         ≡ flat_arms_view out.old.items ++ flat_entries (bodies_here scope.now) (owner_view scope.now.owner) scope.now.base kind place (entries_view entries.now) (scope.now.cells + length scratch.old.items)) }
     ensures scratch { OnOk result (scratch.new.items ≡ scratch.old.items ++ scratch_of_entries (bodies_here scope.now) (entries_view entries.now)) }
@@ -219,25 +225,19 @@ fn unroll(
     alloc: Global,
 ) -> Result<(), AllocError>
     requires known { IsKnown scope.now }
+    requires typed { IsTypedOver scope.now (λ pous b. IsTyped pous b (repeat turns (stmts_view body.now))) }
     ensures list { OnOk result (flats_view out.new.items
         ≡ flats_view out.old.items ++ unrolled turns.count (owner_view scope.now.owner (scope.now.base + turns.control)) turns.first turns.step (length (scratch_of_all (bodies_here scope.now) (stmts_view body.now)))
         (flat_of_all (bodies_here scope.now) (owner_view scope.now.owner) scope.now.base (stmts_view body.now)) (scope.now.cells + length scratch.old.items)) }
     ensures scratch { OnOk result (scratch.new.items ≡ scratch.old.items ++ repeated turns.count (scratch_of_all (bodies_here scope.now) (stmts_view body.now))) }
 {
-    let control = place_at(scope, turns.control)?;
+    let control = place_at(scope, turns.control);
     let mut value = turns.first;
     for _ in 0..turns.count {
         put_number(out, control, value)?;
         flatten_all(body, scope, scratch, out, alloc)?;
-        value = sum(value, turns.step)?;
+        value += turns.step;
     }
     let ending = value;
     put_number(out, control, ending)
-}
-
-// The sum. A value that is no i64, which no FOR of a checked program has, has no place in memory.
-fn sum(value: i64, step: i64) -> Result<i64, AllocError>
-    ensures { IfOk result (λ sum. sum ≡ value +ℤ step) }
-{
-    value.checked_add(step).ok_or(AllocError)
 }

@@ -1,9 +1,9 @@
 // Tests of a chart, by the cells of its steps.
-ghost use Rattle.std.specs.Prelude.{◌≡◌, ◌+◌, ◌++◌, map, slice_index_or, IfOk, OnOk};
+ghost use Rattle.std.specs.Prelude.{◌≡◌, ◌<◌, ◌^◌, ◌+◌, ◌++◌, map, slice_index_or, IfOk, IfSome, OnOk};
 ghost use Rattle.program_tree.specs.Tree.{cell};
 ghost use Rattle.program_tree.specs.View.{expr_view, operand_view};
 ghost use Rattle.meaning.specs.Charts.{is_set, is_reset};
-ghost use Rattle.flat_charts.specs.Views.{owner_view};
+ghost use Rattle.flat_charts.specs.Views.{owner_view, HasPlace, StepsHavePlaces, FlagsHavePlaces};
 ghost use Rattle.flat_form.specs.FlatCharts.{joining, joined_by, no_step, active_at, before_at, steps_that, unless_reset, latch_test, asking, terms, latch_start, runs_test, exited_flag, ready_term, ready_test};
 
 use crate::joins::{joined_to, put_operand, without};
@@ -25,32 +25,26 @@ fn step_at(steps: &[StepCells], step: usize) -> StepCells
 }
 
 /// The value of a POU's cell.
-pub fn own_cell(scope: &FlatScope<'_, '_>, place: usize) -> Result<TypedExpr, AllocError>
-    ensures { IfOk result (λ e. expr_view e ≡ cell (owner_view scope.now.owner (scope.now.base + place))) }
+pub fn own_cell(scope: &FlatScope<'_, '_>, place: usize) -> TypedExpr
+    requires { HasPlace scope.now.base place }
+    ensures { expr_view result ≡ cell (owner_view scope.now.owner (scope.now.base + place)) }
 {
-    let there = place_at(scope, place)?;
-    Ok(cell_at(there))
+    cell_at(place_at(scope, place))
 }
 
 // Whether a step is active.
-fn active_at(
-    step: usize,
-    steps: &[StepCells],
-    scope: &FlatScope<'_, '_>,
-) -> Result<TypedExpr, AllocError>
-    ensures { IfOk result (λ e. expr_view e ≡ active_at (owner_view scope.now.owner) scope.now.base steps.now step) }
+fn active_at(step: usize, steps: &[StepCells], scope: &FlatScope<'_, '_>) -> TypedExpr
+    requires { StepsHavePlaces scope.now.base steps.now }
+    ensures { expr_view result ≡ active_at (owner_view scope.now.owner) scope.now.base steps.now step }
 {
     let cells = step_at(steps, step);
     own_cell(scope, cells.active)
 }
 
 // Whether a step was active where the run before this one started.
-fn before_at(
-    step: usize,
-    steps: &[StepCells],
-    scope: &FlatScope<'_, '_>,
-) -> Result<TypedExpr, AllocError>
-    ensures { IfOk result (λ e. expr_view e ≡ before_at (owner_view scope.now.owner) scope.now.base steps.now step) }
+fn before_at(step: usize, steps: &[StepCells], scope: &FlatScope<'_, '_>) -> TypedExpr
+    requires { StepsHavePlaces scope.now.base steps.now }
+    ensures { expr_view result ≡ before_at (owner_view scope.now.owner) scope.now.base steps.now step }
 {
     let cells = step_at(steps, step);
     own_cell(scope, cells.before)
@@ -90,6 +84,7 @@ fn or_active(
     steps: &[StepCells],
     scope: &FlatScope<'_, '_>,
 ) -> Result<TypedExpr, AllocError>
+    requires { StepsHavePlaces scope.now.base steps.now }
     ensures { IfOk result (λ e. expr_view e
         ≡ joined_by Operator.Or (expr_view first) (map (active_at (owner_view scope.now.owner) scope.now.base steps.now) list.now)) }
 {
@@ -103,12 +98,13 @@ fn active_operands(
     steps: &[StepCells],
     scope: &FlatScope<'_, '_>,
 ) -> Result<Vec<Operand>, AllocError>
+    requires { StepsHavePlaces scope.now.base steps.now }
     ensures { IfOk result (λ os. map operand_view os.items
         ≡ map (λ i. joining Operator.Or (active_at (owner_view scope.now.owner) scope.now.base steps.now i)) list.now) }
 {
     let mut operands = Vec::new(alloc);
     for step in list {
-        let right = active_at(*step, steps, scope)?;
+        let right = active_at(*step, steps, scope);
         put_operand(&mut operands, Operator::Or, right)?;
     }
     Ok(operands)
@@ -122,13 +118,14 @@ fn unless_reset(
     steps: &[StepCells],
     scope: &FlatScope<'_, '_>,
 ) -> Result<TypedExpr, AllocError>
+    requires { StepsHavePlaces scope.now.base steps.now }
     ensures { IfOk result (λ e. expr_view e
         ≡ unless_reset (expr_view expr) (map (active_at (owner_view scope.now.owner) scope.now.base steps.now) list.now)) }
 {
     match list {
         [] => Ok(expr),
         [first, others @ ..] => {
-            let first = active_at(*first, steps, scope)?;
+            let first = active_at(*first, steps, scope);
             let reset = or_active(alloc, first, others, steps, scope)?;
             without(alloc, expr, reset)
         }
@@ -143,11 +140,13 @@ pub fn latch_test(
     steps: &[StepCells],
     scope: &FlatScope<'_, '_>,
 ) -> Result<TypedExpr, AllocError>
+    requires latch { HasPlace scope.now.base latch }
+    requires steps { StepsHavePlaces scope.now.base steps.now }
     ensures { IfOk result (λ e. expr_view e ≡ latch_test (owner_view scope.now.owner) scope.now.base steps.now latch associations.now) }
 {
     let sets = setting(alloc, associations)?;
     let resets = resetting(alloc, associations)?;
-    let first = own_cell(scope, latch)?;
+    let first = own_cell(scope, latch);
     let set = or_active(alloc, first, &sets, steps, scope)?;
     unless_reset(alloc, set, &resets, steps, scope)
 }
@@ -160,19 +159,22 @@ pub fn runs_test(
     steps: &[StepCells],
     scope: &FlatScope<'_, '_>,
 ) -> Result<TypedExpr, AllocError>
+    requires latch { IfSome latch (HasPlace scope.now.base) }
+    requires steps { StepsHavePlaces scope.now.base steps.now }
     ensures { IfOk result (λ e. expr_view e ≡ runs_test (owner_view scope.now.owner) scope.now.base steps.now latch associations.now) }
 {
     let resets = resetting(alloc, associations)?;
-    let first = latch_start(latch, scope)?;
+    let first = latch_start(latch, scope);
     let asked = or_terms(alloc, first, associations, steps, scope)?;
     unless_reset(alloc, asked, &resets, steps, scope)
 }
 
-fn latch_start(latch: Option<usize>, scope: &FlatScope<'_, '_>) -> Result<TypedExpr, AllocError>
-    ensures { IfOk result (λ e. expr_view e ≡ latch_start (owner_view scope.now.owner) scope.now.base latch) }
+fn latch_start(latch: Option<usize>, scope: &FlatScope<'_, '_>) -> TypedExpr
+    requires { IfSome latch (HasPlace scope.now.base) }
+    ensures { expr_view result ≡ latch_start (owner_view scope.now.owner) scope.now.base latch }
 {
     match latch {
-        None => Ok(TypedExpr::Number(0)),
+        None => TypedExpr::Number(0),
         Some(place) => own_cell(scope, place),
     }
 }
@@ -185,6 +187,7 @@ fn or_terms(
     steps: &[StepCells],
     scope: &FlatScope<'_, '_>,
 ) -> Result<TypedExpr, AllocError>
+    requires { StepsHavePlaces scope.now.base steps.now }
     ensures { IfOk result (λ e. expr_view e
         ≡ joined_by Operator.Or (expr_view first) (terms (owner_view scope.now.owner) scope.now.base steps.now associations.now)) }
 {
@@ -198,6 +201,7 @@ fn terms(
     steps: &[StepCells],
     scope: &FlatScope<'_, '_>,
 ) -> Result<Vec<Operand>, AllocError>
+    requires { StepsHavePlaces scope.now.base steps.now }
     ensures { IfOk result (λ os. map operand_view os.items
         ≡ map (joining Operator.Or) (terms (owner_view scope.now.owner) scope.now.base steps.now associations.now)) }
 {
@@ -215,12 +219,13 @@ fn put_asking(
     scope: &FlatScope<'_, '_>,
     operands: &mut Vec<Operand>,
 ) -> Result<(), AllocError>
+    requires { StepsHavePlaces scope.now.base steps.now }
     ensures { OnOk result (map operand_view operands.new.items ≡ map operand_view operands.old.items
         ++ map (joining Operator.Or) (asking association.qualifier (active_at (owner_view scope.now.owner) scope.now.base steps.now association.step)
         (before_at (owner_view scope.now.owner) scope.now.base steps.now association.step))) }
 {
-    let now = active_at(association.step, steps, scope)?;
-    let before = before_at(association.step, steps, scope)?;
+    let now = active_at(association.step, steps, scope);
+    let before = before_at(association.step, steps, scope);
     match association.qualifier {
         Qualifier::NonStored => put_operand(operands, Operator::Or, now),
         Qualifier::Set => Ok(()),
@@ -244,6 +249,8 @@ pub fn ready_test(
     steps: &[StepCells],
     scope: &FlatScope<'_, '_>,
 ) -> Result<TypedExpr, AllocError>
+    requires from { FlagsHavePlaces flags from.now }
+    requires steps { StepsHavePlaces scope.now.base steps.now }
     ensures { IfOk result (λ e. expr_view e ≡ ready_test (owner_view scope.now.owner) scope.now.base steps.now flags from.now) }
 {
     match from {
@@ -263,6 +270,8 @@ fn and_ready(
     steps: &[StepCells],
     scope: &FlatScope<'_, '_>,
 ) -> Result<TypedExpr, AllocError>
+    requires from { FlagsHavePlaces flags from.now }
+    requires steps { StepsHavePlaces scope.now.base steps.now }
     ensures { IfOk result (λ e. expr_view e
         ≡ joined_by Operator.And (expr_view first) (map (ready_term (owner_view scope.now.owner) scope.now.base steps.now flags) from.now)) }
 {
@@ -277,6 +286,8 @@ fn ready_operands(
     steps: &[StepCells],
     scope: &FlatScope<'_, '_>,
 ) -> Result<Vec<Operand>, AllocError>
+    requires from { FlagsHavePlaces flags from.now }
+    requires steps { StepsHavePlaces scope.now.base steps.now }
     ensures { IfOk result (λ os. map operand_view os.items
         ≡ map (λ i. joining Operator.And (ready_term (owner_view scope.now.owner) scope.now.base steps.now flags i)) from.now) }
 {
@@ -295,18 +306,19 @@ fn ready_term(
     steps: &[StepCells],
     scope: &FlatScope<'_, '_>,
 ) -> Result<TypedExpr, AllocError>
+    requires flag { exited_flag flags step < 2 ^ 64 }
+    requires steps { StepsHavePlaces scope.now.base steps.now }
     ensures { IfOk result (λ e. expr_view e ≡ ready_term (owner_view scope.now.owner) scope.now.base steps.now flags step) }
 {
-    let active = active_at(step, steps, scope)?;
-    let flag = exited_flag(flags, step)?;
+    let active = active_at(step, steps, scope);
+    let flag = exited_flag(flags, step);
     without(alloc, active, cell_at(flag))
 }
 
-/// Where the flag of a step stands that a transition left. A place that is no usize, which no step of a chart has, has no place in
-/// memory.
-pub fn exited_flag(flags: usize, step: usize) -> Result<usize, AllocError>
-    ensures { IfOk result (λ place. place ≡ exited_flag flags step) }
+/// Where the flag stands that says whether a transition left a step. The one that says whether a transition entered it stands behind it.
+pub fn exited_flag(flags: usize, step: usize) -> usize
+    requires { exited_flag flags step < 2 ^ 64 }
+    ensures { result ≡ exited_flag flags step }
 {
-    let behind = 2usize.checked_mul(step).ok_or(AllocError)?;
-    flags.checked_add(behind).ok_or(AllocError)
+    flags + 2 * step
 }

@@ -8,5 +8,5 @@ mod scope;
 
 pub use chart_tests::{exited_flag, latch_test, own_cell, ready_test, runs_test};
 pub use joins::{chain, joined, without};
-pub use places::{base_at, cell_at, place_at};
+pub use places::{cell_at, place_at};
 pub use scope::{FlatScope, Owner};

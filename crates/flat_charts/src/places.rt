@@ -1,27 +1,18 @@
 // Places of cells.
-ghost use Rattle.std.specs.Prelude.{◌≡◌, ◌+◌, ◌∷◌, slice_index_or, IfOk};
+ghost use Rattle.std.specs.Prelude.{◌≡◌, ◌+◌, ◌∷◌, slice_index_or};
 ghost use Rattle.program_tree.specs.Tree.{cell};
 ghost use Rattle.program_tree.specs.View.{expr_view};
-ghost use Rattle.flat_charts.specs.Views.{owner_view};
+ghost use Rattle.flat_charts.specs.Views.{owner_view, HasPlace};
 
 use crate::scope::{FlatScope, Owner};
 use program_tree::TypedExpr;
-use std::alloc::AllocError;
 
-/// Where a cell of a POU stands among the cells and scratch cells. A place that is no usize, which no cell of a program has, has
-/// no place in memory.
-pub fn place_at(scope: &FlatScope<'_, '_>, place: usize) -> Result<usize, AllocError>
-    ensures { IfOk result (λ there. there ≡ owner_view scope.now.owner (scope.now.base + place)) }
+/// Where a cell of a POU stands among the cells and scratch cells.
+pub fn place_at(scope: &FlatScope<'_, '_>, place: usize) -> usize
+    requires { HasPlace scope.now.base place }
+    ensures { result ≡ owner_view scope.now.owner (scope.now.base + place) }
 {
-    let place = base_at(scope, place)?;
-    Ok(owner_place(&scope.owner, place))
-}
-
-/// The place among the owner's cells.
-pub fn base_at(scope: &FlatScope<'_, '_>, place: usize) -> Result<usize, AllocError>
-    ensures { IfOk result (λ there. there ≡ scope.now.base + place) }
-{
-    scope.base.checked_add(place).ok_or(AllocError)
+    owner_place(&scope.owner, scope.base + place)
 }
 
 fn owner_place(owner: &Owner<'_>, place: usize) -> usize

@@ -1,4 +1,5 @@
-use Rattle.std.proofs.Common.{◌≡◌, ◌+◌, ◌-◌, ◌*◌, ◌≤◌, ◌++◌, length, drop, map}
+use Rattle.std.proofs.Common.{◌≡◌, ◌+◌, ◌-◌, ◌*◌, ◌≤◌, ◌++◌, true, length, drop, map}
+use Rattle.plc_types.specs.declared.range.Range.{Range}
 use Rattle.program_tree.specs.View.{expr_view, operand_view, operands_view, arguments_view, stmt_view, stmts_view, arm_view, choices_view, entries_view, action_view, actions_view, transition_view, transitions_view}
 use Rattle.flat_core.specs.FlatView.{flats_view, flat_arms_view}
 use Rattle.meaning.proofs.Sizes.{nodes, operand_nodes, all_nodes, statement_nodes, body_nodes, choice_nodes, entry_nodes, action_nodes, transition_nodes}
@@ -8,7 +9,9 @@ use Rattle.flat_form.specs.Calls.{operand_scratch, all_scratch, input_scratch, m
 use Rattle.flat_form.specs.FlatCharts.{scratch_of_transitions, flat_transitions}
 use Rattle.flat_form.specs.FlatLists.{scratch_of_all, scratch_of_choices, scratch_of_entries, scratch_of_actions, repeated, flat_of_all, flat_choices, flat_entries, flat_actions, unrolled}
 use Rattle.flat_charts.specs.Views.{bodies_here}
+use Rattle.flat_form.specs.WellTyped.{turns_stay}
 use Rattle.flat_form.proofs.OperandLemmas.{with_operands, with_expressions}
+use Rattle.flat_laws.proofs.TurnValues.{stay_from}
 use Rattle.fb_inline.proofs.PouLemmas.{weight_here}
 use Rattle.fb_inline.proofs.+flatten.Given as goal
 
@@ -83,6 +86,7 @@ invariant-statements::unroll-loop l = record {
       ++ unrolled l.turns.count l.control l.turns.first l.turns.step (length (scratch_of_all (bodies_here l.scope) (stmts_view l.body))) (flat_of_all (bodies_here l.scope) (owner_view l.scope.owner) l.scope.base (stmts_view l.body)) (l.scope.cells + length l.initial.scratch.items);
   scratch : l.scratch.items ++ repeated (l.turns.count - l.counter) (scratch_of_all (bodies_here l.scope) (stmts_view l.body))
       ≡ l.initial.scratch.items ++ repeated l.turns.count (scratch_of_all (bodies_here l.scope) (stmts_view l.body));
+  stays : (r : Range) → turns_stay l.turns r ≡ true → stay_from (l.turns.count - l.counter) l.value l.turns.step r ≡ true;
 }
 
 abbrev pub invariant-charts::flatten_actions-loop-action : goal.invariant-charts::flatten_actions-loop-action

@@ -1,4 +1,4 @@
-use Rattle.std.proofs.Common.{◌≡◌, ◌+◌, [], ◌∷◌, ◌++◌, pos, length, arith, ap, sym, subst, ◌∙◌}
+use Rattle.std.proofs.Common.{◌≡◌, ◌<◌, ◌+◌, ◌^◌, [], ◌∷◌, ◌++◌, pos, length, arith, refl, ap, sym, subst, ◌∙◌}
 use Rattle.std.proofs.lemmas.List.{length-map}
 use Rattle.program_tree.specs.Tree.{number}
 use Rattle.program_tree.specs.View.{cell_view, cells_view, called_view, all_called_view, stmts_view, program_view}
@@ -11,18 +11,24 @@ use Rattle.flat_form.specs.FlatPrograms.{bodies_in, flat_program, flat_scan}
 use Rattle.flat_form.specs.FlatLists.{scratch_of_all, flat_of_all}
 use Rattle.fb_inline.proofs.PouLemmas.{idle-here}
 use Rattle.fb_inline.proofs.TypedForms.{form-typed}
+use Rattle.fb_inline.proofs.TypedLemmas.{program-typed}
+use Rattle.fb_inline.proofs.ViewLemmas.{few-items}
 use Rattle.fb_inline.proofs.program.flat_program.Goals as goal
 
 pub flatten_all-requires : goal.flatten_all-requires
 flatten_all-requires c =
     let whole = c.args.program.now.called.items in
     let all : c.len-2.result ≡ length whole = omega (arith, ap length c.deref-2.ensures.value) in
+    let p = program_view c.args.program.now in
+    let below : c.len-2.result ≡ length p.called = omega (arith, length-map whole called_view, all) in
+    let cells : length p.cells < 2 ^ 64 = omega (arith, length-map c.args.program.now.cells.items cell_view, few-items c.args.program.now.cells) in
     record {
       known = record {
         few = omega arith;
         called = omega arith;
         idle = idle-here c.in_ok-idle.idle.items c.deref-3.result.now c.deref-2.result.now c.deref.result.now whole c.len-2.result c.deref-3.ensures.value c.deref.ensures.value c.deref-2.ensures.value all c.in_ok-idle.ensures;
       };
+      typed = program-typed p c.requires.typed (stmts_view c.deref-4.result.now) (ap stmts_view c.deref-4.ensures.value) cells _ refl below (ap all_called_view c.deref-2.ensures.value);
     }
 
 pub invariant_of-result : goal.invariant_of-result
