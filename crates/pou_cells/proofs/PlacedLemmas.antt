@@ -12,11 +12,11 @@ use Rattle.typing.specs.declared.member.Member.{Member}
 use Rattle.typing.specs.Places.{count_of_cells, sizes_of, variables_in, variables_at, first_places, first_place, places_behind}
 use Rattle.typing.specs.Members.{member_of, member_among, member_in, member_at, members_in, members_if, members_at}
 use Rattle.decl_types.specs.Told.{told_in}
-use Rattle.pou_cells.specs.ToldPlaces.{told_at}
+use Rattle.pou_cells.specs.ToldPlaces.{told_at, told_count}
 use Rattle.pou_cells.specs.ToldMembers.{told_members}
 use Rattle.pou_cells.specs.Placing.{capped, is_few, placed_in, all_placed, placed_at, is_placed_block, is_placed}
 use Rattle.pou_cells.proofs.ToldLemmas.{told_count-is, told_members_at-is}
-use Rattle.pou_cells.proofs.SizeLemmas.{IsExact, exact_told, all_exact}
+use Rattle.pou_cells.proofs.SizeLemmas.{IsExact, exact_told, told_exact, all_exact}
 
 -- a POU of many cells is not placed
 pub not_placed : (f : FileData) (o : Option PouData) → nat_le (count_of_cells f (sizes_of f) (variables_in o)) 16777216 ≡ false → option_and_then (placed_in f) o ≡ None
@@ -85,10 +85,12 @@ few_by : (f : FileData) (p : PouData) (b : Bool) → is_some (if b then Some (me
 few_by f p true h = refl
 few_by f p false h = absurd (false≢true h)
 
-pub placed_few : (f : FileData) (k : ℕ) (p : PouData) → pou_at f k ≡ Some p → is_placed f k ≡ true → is_few f p ≡ true
-placed_few f k p there placed =
-    let both = and_parts (is_some (placed_at f k)) (list_all (λ t. is_placed_block f t.block) (told_at f k)) placed in
-    few_by f p (is_few f p) (subst (λ (o : Option PouData). is_some (option_and_then (placed_in f) o) ≡ true) there both.0)
+few_if : (f : FileData) (o : Option PouData) → is_some (option_and_then (placed_in f) o) ≡ true → count_of_cells f (sizes_of f) (variables_in o) ≤ 16777216
+few_if f None some = absurd (false≢true some)
+few_if f (Some p) some = leb-true (count_of_cells f (sizes_of f) (variables_in_pou p)) 16777216 (few_by f p (is_few f p) some)
+
+pub placed_few : (f : FileData) (k : ℕ) → is_some (placed_at f k) ≡ true → count_of_cells f (sizes_of f) (variables_at f k) ≤ 16777216
+placed_few f k some = few_if f (pou_at f k) some
 
 -- ---- the block of a variable is placed
 
@@ -118,10 +120,16 @@ pub has_places : (f : FileData) (k : ℕ) → is_placed f k ≡ true → is_some
 has_places f k placed = (and_parts (is_some (placed_at f k)) (list_all (λ t. is_placed_block f t.block) (told_at f k)) placed).0
 
 -- the cells of the variables of a POU that is placed stand for themselves among capped sizes
-pub few_exact : (f : FileData) (k : ℕ) (p : PouData) → pou_at f k ≡ Some p → is_placed f k ≡ true → AllByRecursion (IsExact (sizes_of f)) (told_at f k)
-few_exact f k p there placed =
-    let s = sizes_of f in
-    let same : variables_at f k ≡ variables_in_pou p = ap variables_in there in
-    let few : count_of_cells f s (variables_in_pou p) ≤ 16777216 = leb-true (count_of_cells f s (variables_in_pou p)) 16777216 (placed_few f k p there placed) in
-    let counted = told_count-is f s (variables_at f k) ∙ ap (count_of_cells f s) same in
-    exact_told s (told_at f k) (omega (arith, counted, few))
+pub few_exact : (f : FileData) (k : ℕ) → is_placed f k ≡ true → AllByRecursion (IsExact (sizes_of f)) (told_at f k)
+few_exact f k placed =
+    let few = placed_few f k (has_places f k placed) in
+    let counted = told_count-is f (sizes_of f) (variables_at f k) in
+    exact_told (sizes_of f) (told_at f k) (omega (arith, counted, few))
+
+-- and are few
+pub few_capped : (f : FileData) (k : ℕ) → is_placed f k ≡ true → told_count (map capped (sizes_of f)) (told_at f k) ≤ 16777216
+few_capped f k placed =
+    let few = placed_few f k (has_places f k placed) in
+    let counted = told_count-is f (sizes_of f) (variables_at f k) in
+    let same = told_exact (sizes_of f) (told_at f k) (few_exact f k placed) in
+    omega (arith, counted, same, few)

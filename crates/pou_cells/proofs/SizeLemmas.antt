@@ -64,7 +64,7 @@ by_cell : (x : Bool) (m n : ℕ) → m ≡ capped n → (if x then m else 0) ≡
 by_cell true m n e = e
 by_cell false m n e = refl
 
-capped_taken : (s : List ℕ) (t : ToldData) → told_cells (map capped s) t ≡ capped (told_cells s t)
+pub capped_taken : (s : List ℕ) (t : ToldData) → told_cells (map capped s) t ≡ capped (told_cells s t)
 capped_taken s t =
     by_cell (has_cell t.role) (if is_step t.role then 2 else size_among (map capped s) t.block) (if is_step t.role then 2 else size_among s t.block)
     (by_step (is_step t.role) (size_among (map capped s) t.block) (size_among s t.block) (capped_size s t.block))
@@ -73,6 +73,10 @@ capped_taken s t =
 capped_cells-is : (s : List ℕ) (ts : List ToldData) → capped_cells (map capped s) ts ≡ capped (told_count s ts)
 capped_cells-is s [] = refl
 capped_cells-is s (t ∷ ts) = rw (capped_taken s t, capped_cells-is s ts) (capped_sum (told_cells s t) (told_count s ts))
+
+pub capped_told : (s : List ℕ) (ts : List ToldData) → capped_cells s ts ≡ capped (told_count s ts)
+capped_told s [] = refl
+capped_told s (t ∷ ts) = ap (λ (n : ℕ). capped (told_cells s t + n)) (capped_told s ts) ∙ capped_right (told_cells s t) (told_count s ts)
 
 pub capped_once : (s : List ℕ) (ts : List ToldData) → capped (capped_cells s ts) ≡ capped_cells s ts
 capped_once s [] = refl
@@ -131,6 +135,10 @@ pub exact_told : (s : List ℕ) (ts : List ToldData) → told_count s ts ≤ 167
 exact_told s [] few = tt
 exact_told s (t ∷ ts) few = (capped_taken s t ∙ capped_small (told_cells s t) (omega (arith, few)), exact_told s ts (omega (arith, few)))
 
+pub told_exact : (s : List ℕ) (ts : List ToldData) → AllByRecursion (IsExact s) ts → told_count (map capped s) ts ≡ told_count s ts
+told_exact s [] all = refl
+told_exact s (t ∷ ts) all = rw (all.0, told_exact s ts all.1) refl
+
 count_exact : (s : List ℕ) (o : Bool) (ts : List ToldData) → AllByRecursion (IsExact s) ts → told_count (map capped s) (told_front o ts) ≡ told_count s (told_front o ts)
 count_exact s o [] all = refl
 count_exact s o (t ∷ ts) all = by (is_front o t.role) (count_exact s o ts all.1)
@@ -145,10 +153,10 @@ first_exact s (function t) ts all = ap (λ (n : ℕ). record { of_function = tru
 first_exact s function_block ts all = ap (λ (n : ℕ). record { of_function = false; front = 0; rest = 0 + n }) (count_exact s false ts all)
 first_exact s program ts all = ap (λ (n : ℕ). record { of_function = false; front = 1; rest = 1 + n }) (count_exact s false ts all)
 
-abbrev with_front : Next → ℕ → Next
+abbrev pub with_front : Next → ℕ → Next
 with_front next n = record { of_function = next.of_function; front = next.front + n; rest = next.rest }
 
-abbrev with_rest : Next → ℕ → Next
+abbrev pub with_rest : Next → ℕ → Next
 with_rest next n = record { of_function = next.of_function; front = next.front; rest = next.rest + n }
 
 pub behind_exact : (s : List ℕ) (next : Next) (t : ToldData) → IsExact s t → told_places_behind (map capped s) next t ≡ told_places_behind s next t
@@ -177,13 +185,12 @@ none_capped s b = ap (λ (n : ℕ). n == 0) (capped_size s (Some b)) ∙ by (siz
         let some : (suc n == 0) ≡ false = ne_eqb (suc n) 0 (λ e. let h : ⊥ = omega (arith, e) in h) in
         ⊎_elim (λ (x : suc n < 2 ^ 64 - 1). ap (λ (m : ℕ). m == 0) (capped_small (suc n) x)) (λ (x : 2 ^ 64 - 1 ≤ suc n). ap (λ (m : ℕ). m == 0) (capped_great (suc n) x) ∙ sym some) (cases_lt (suc n) (2 ^ 64 - 1))
 
--- a size that stands for no greater one
-pub word_exact : (s : List ℕ) (t : ToldData) → told_cells (map capped s) t < 2 ^ 64 - 1 → IsExact s t
-word_exact s t small =
-    let same = capped_taken s t in
-    ⊎_elim (λ (x : told_cells s t < 2 ^ 64 - 1). same ∙ capped_small (told_cells s t) x)
-    (λ (x : 2 ^ 64 - 1 ≤ told_cells s t). let great = capped_great (told_cells s t) x in absurd (omega (arith, same, great, small)))
-    (cases_lt (told_cells s t) (2 ^ 64 - 1))
+-- a place behind so many cells, where a number of 64 bits tells it
+pub place_exact : (place n next : ℕ) → 1 ≤ place → next ≡ place + capped n → next < 2 ^ 64 → next ≡ place + n
+place_exact place n next some is word =
+    ⊎_elim (λ (x : n < 2 ^ 64 - 1). is ∙ ap (λ (m : ℕ). place + m) (capped_small n x))
+    (λ (x : 2 ^ 64 - 1 ≤ n). let great = capped_great n x in absurd (omega (arith, is, great, some, word)))
+    (cases_lt n (2 ^ 64 - 1))
 
 -- ---- which POUs are few
 

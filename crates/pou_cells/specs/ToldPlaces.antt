@@ -1,5 +1,5 @@
 -- Where the cells of a POU's names stand, by what is told of their declarations.
-use Rattle.std.specs.Prelude.{ℕ, ◌+◌, List, [], ◌∷◌, filter, Bool, true, false, if◌then◌else◌}
+use Rattle.std.specs.Prelude.{ℕ, ◌+◌, ◌<◌, ◌^◌, List, [], ◌∷◌, filter, Bool, true, false, if◌then◌else◌}
 use Rattle.source_tree.specs.Syntax.{PouKindData, function, function_block, program, FileData}
 use Rattle.naming.specs.Scopes.{is_step}
 use Rattle.typing.specs.declared.next.Next.{Next}
@@ -39,3 +39,8 @@ abbrev pub told_places_behind : List ℕ → Next → ToldData → Next
 told_places_behind sizes next t =
     if is_front next.of_function t.role then record { of_function = next.of_function; front = next.front + told_cells sizes t; rest = next.rest }
     else record { of_function = next.of_function; front = next.front; rest = next.rest + told_cells sizes t }
+
+-- behind these places the cells of variables stand at numbers of 64 bits
+pub record HavePlaces (sizes : List ℕ) (next : Next) (ts : List ToldData) : Type 0 where
+  pub front : next.front + told_count sizes ts < 2 ^ 64
+  pub rest : next.rest + told_count sizes ts < 2 ^ 64

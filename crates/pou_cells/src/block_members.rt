@@ -1,8 +1,9 @@
 // The names of POUs, and what they stand for.
-ghost use Rattle.std.specs.Prelude.{◌≡◌, map, IfOk};
+ghost use Rattle.std.specs.Prelude.{◌≡◌, ◌<◌, ◌+◌, ◌^◌, map, IfOk};
 ghost use Rattle.source_tree.specs.SyntaxView.{pou_kind_view};
 ghost use Rattle.typing.specs.Members.{seen_from, place_of_input, port_of, ports_of};
 ghost use Rattle.decl_types.specs.ToldView.{told_view};
+ghost use Rattle.pou_cells.specs.ToldPlaces.{told_count};
 ghost use Rattle.pou_cells.specs.ToldMembers.{told_meaning, told_member, told_members};
 
 use crate::places::{first_place, first_places, places_behind};
@@ -37,19 +38,16 @@ fn meaning_of(cell: usize, told: &Told<'_>) -> Meaning
     }
 }
 
-// A variable whose first cell is at a place. A place past 32 bits is want of memory.
-fn member_of(cell: usize, told: &Told<'_>) -> Result<Member, AllocError>
-    ensures { IfOk result (λ member. member ≡ told_member cell (told_view told.now)) }
+// A variable whose first cell is at a place.
+fn member_of(cell: usize, told: &Told<'_>) -> Member
+    ensures { result ≡ told_member cell (told_view told.now) }
 {
-    let Ok(place) = u32::try_from(cell) else {
-        return Err(AllocError);
-    };
-    Ok(Member {
-        cell: place,
+    Member {
+        cell,
         meaning: meaning_of(cell, told),
         role: told.role,
         block: told.block,
-    })
+    }
 }
 
 /// The variables of a POU in declared order, where blocks have these sizes.
@@ -59,23 +57,25 @@ pub fn members_in(
     kind: &PouKind,
     tolds: &[Told<'_>],
 ) -> Result<Vec<Member>, AllocError>
+    requires { told_count sizes.now (map told_view tolds.now) < 2 ^ 62 }
     ensures { IfOk result (λ list. list.items ≡ told_members sizes.now (pou_kind_view kind.now) (map told_view tolds.now)) }
 {
     let mut list = Vec::new(alloc);
-    let mut next = first_places(sizes, kind, tolds)?;
+    let mut next = first_places(sizes, kind, tolds);
     for told in tolds {
-        list.push(member_of(first_place(next, told), told)?)?;
-        next = places_behind(sizes, next, told)?;
+        list.push(member_of(first_place(next, told), told))?;
+        next = places_behind(sizes, next, told);
     }
     Ok(list)
 }
 
 /// What a variable of a block stands for in an instance whose cells begin at a place.
-pub fn seen_from(cell: u32, member: Member) -> Meaning
+pub fn seen_from(cell: usize, member: Member) -> Meaning
+    requires { cell + member.cell < 2 ^ 64 }
     ensures { result ≡ seen_from cell member }
 {
     Meaning {
-        place: Place::Cell(cell as usize + member.cell as usize),
+        place: Place::Cell(cell + member.cell),
         assignable: member.role.is_input(),
         control: false,
         ..member.meaning
@@ -87,7 +87,7 @@ pub fn place_of_input(member: Member) -> Option<usize>
     ensures { result ≡ place_of_input member }
 {
     if member.role.is_input() {
-        Some((member.cell as usize).saturating_sub(2))
+        Some(member.cell.saturating_sub(2))
     } else {
         None
     }

@@ -20,7 +20,7 @@ mod tables;
 
 pub use placed_pous::PlacedPous;
 pub use placed_scope::PlacedScope;
-pub use places::{first_place, first_places, places_behind, size_among, sum};
+pub use places::{first_place, first_places, places_behind, size_among};
 pub use pous::Pous;
 pub use roles::{
     active_first, has_cell, is_constant, is_front, is_stored_action, is_temporary, part_in,

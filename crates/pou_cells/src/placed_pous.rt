@@ -80,6 +80,7 @@ fn members_of(members: &Option<Vec<Member>>) -> &[Member]
 }
 
 impl<'p> PlacedPous<'p> {
+    ghost use Rattle.std.specs.Prelude.{◌^◌, IfSome};
     ghost use Rattle.typing.specs.Members.{member_at, members_at, in_instance, meant_by};
 
     /// The POUs of a file with their variables at their places, where POUs have these sizes.
@@ -145,15 +146,11 @@ impl<'p> PlacedPous<'p> {
         size_among(&self.sizes, Some(block)) == 0
     }
 
-    /// How many cells a variable takes. As many as 2^64 - 1 are want of memory: they are to be spread.
-    pub fn cells_taken(&self, told: &Told<'_>) -> Result<usize, AllocError>
-        ensures { IfOk result (λ n. n ≡ told_cells (sizes_of (file_in self.now.pous.domains)) (told_view told.now)) }
+    /// How many cells a variable takes; the greatest number of 64 bits stands for any greater one.
+    pub fn cells_taken(&self, told: &Told<'_>) -> usize
+        ensures { result ≡ capped (told_cells (sizes_of (file_in self.now.pous.domains)) (told_view told.now)) }
     {
-        let taken = cells_taken(&self.sizes, told);
-        if taken == usize::MAX {
-            return Err(AllocError);
-        }
-        Ok(taken)
+        cells_taken(&self.sizes, told)
     }
 
     // The variables of the POU of a number, where they are placed.
@@ -169,15 +166,17 @@ impl<'p> PlacedPous<'p> {
     /// The variable that a name means in the POU of a number, in constant time.
     pub(crate) fn member_of(&self, number: usize, name: &Name) -> Option<Member>
         requires { is_some (placed_at (file_in self.now.pous.domains) number) ≡ true }
-        ensures { result ≡ member_at (file_in self.now.pous.domains) (sizes_of (file_in self.now.pous.domains)) number (name_view name.now).text }
+        ensures low { IfSome result (λ m. m.cell < 2 ^ 63) }
+        ensures member { result ≡ member_at (file_in self.now.pous.domains) (sizes_of (file_in self.now.pous.domains)) number (name_view name.now).text }
     {
         let bound = self.pous.domains.types.names.bound(number, name);
         member_bound(self.members_at(number), bound)
     }
 
     // What a name stands for behind an instance of a block.
-    fn in_instance(&self, cell: u32, name: &Name, block: Option<usize>) -> Option<Meaning>
-        requires { is_placed_block (file_in self.now.pous.domains) block ≡ true }
+    fn in_instance(&self, cell: usize, name: &Name, block: Option<usize>) -> Option<Meaning>
+        requires low { cell < 2 ^ 63 }
+        requires placed { is_placed_block (file_in self.now.pous.domains) block ≡ true }
         ensures { result ≡ in_instance (file_in self.now.pous.domains) (sizes_of (file_in self.now.pous.domains)) cell (name_view name.now) block }
     {
         match block {
@@ -191,7 +190,8 @@ impl<'p> PlacedPous<'p> {
 
     /// What a path stands for that begins with a variable or a step.
     pub(crate) fn meant_by(&self, members: &[Name], member: Member) -> Option<Meaning>
-        requires { is_placed_block (file_in self.now.pous.domains) member.block ≡ true }
+        requires low { member.cell < 2 ^ 63 }
+        requires placed { is_placed_block (file_in self.now.pous.domains) member.block ≡ true }
         ensures { result ≡ meant_by (file_in self.now.pous.domains) (sizes_of (file_in self.now.pous.domains)) (names_view members.now) member }
     {
         match members.first() {

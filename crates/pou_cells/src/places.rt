@@ -1,5 +1,5 @@
 // Where the cells of a POU's names stand.
-ghost use Rattle.std.specs.Prelude.{◌≡◌, ◌+◌, map, IfOk};
+ghost use Rattle.std.specs.Prelude.{◌≡◌, ◌<◌, ◌≤◌, ◌+◌, ◌^◌, map};
 ghost use Rattle.source_tree.specs.SyntaxView.{pou_kind_view};
 ghost use Rattle.typing.specs.Places.{size_among};
 ghost use Rattle.decl_types.specs.ToldView.{told_view};
@@ -8,18 +8,7 @@ ghost use Rattle.pou_cells.specs.ToldPlaces.{told_cells, told_count, told_front,
 use crate::roles::{has_cell, is_front};
 use decl_types::Told;
 use source_tree::PouKind;
-use std::alloc::AllocError;
 use typing::Next;
-
-/// A sum; one past 64 bits is want of memory.
-pub fn sum(first: usize, second: usize) -> Result<usize, AllocError>
-    ensures { IfOk result (λ n. n ≡ first + second) }
-{
-    match first.checked_add(second) {
-        Some(sum) => Ok(sum),
-        None => Err(AllocError),
-    }
-}
 
 /// How many cells an instance of a block takes, or a variable that is none.
 pub fn size_among(sizes: &[usize], block: Option<usize>) -> usize
@@ -45,42 +34,36 @@ pub fn cells_taken(sizes: &[usize], told: &Told<'_>) -> usize
 }
 
 // How many cells the variables take that stand before all others.
-fn count_of_front(
-    sizes: &[usize],
-    of_function: bool,
-    tolds: &[Told<'_>],
-) -> Result<usize, AllocError>
-    ensures { IfOk result (λ n. n ≡ told_count sizes.now (told_front of_function (map told_view tolds.now))) }
+fn count_of_front(sizes: &[usize], of_function: bool, tolds: &[Told<'_>]) -> usize
+    requires { told_count sizes.now (map told_view tolds.now) < 2 ^ 62 }
+    ensures { result ≡ told_count sizes.now (told_front of_function (map told_view tolds.now)) }
 {
     let mut front = 0;
     for told in tolds {
         if is_front(of_function, told.role) {
-            front = sum(front, cells_taken(sizes, told))?;
+            front += cells_taken(sizes, told);
         }
     }
-    Ok(front)
+    front
 }
 
 // Where the cells of a POU's variables begin behind those that each such POU has.
-fn places_from(
-    sizes: &[usize],
-    of_function: bool,
-    first: usize,
-    tolds: &[Told<'_>],
-) -> Result<Next, AllocError>
-    ensures { IfOk result (λ next. next ≡ told_places_from sizes.now of_function first (map told_view tolds.now)) }
+fn places_from(sizes: &[usize], of_function: bool, first: usize, tolds: &[Told<'_>]) -> Next
+    requires first { first ≤ 1 }
+    requires few { told_count sizes.now (map told_view tolds.now) < 2 ^ 62 }
+    ensures { result ≡ told_places_from sizes.now of_function first (map told_view tolds.now) }
 {
-    let count = count_of_front(sizes, of_function, tolds)?;
-    Ok(Next {
+    Next {
         of_function,
         front: first,
-        rest: sum(first, count)?,
-    })
+        rest: first + count_of_front(sizes, of_function, tolds),
+    }
 }
 
 /// Where the cells of a POU's variables begin.
-pub fn first_places(sizes: &[usize], kind: &PouKind, tolds: &[Told<'_>]) -> Result<Next, AllocError>
-    ensures { IfOk result (λ next. next ≡ told_first_places sizes.now (pou_kind_view kind.now) (map told_view tolds.now)) }
+pub fn first_places(sizes: &[usize], kind: &PouKind, tolds: &[Told<'_>]) -> Next
+    requires { told_count sizes.now (map told_view tolds.now) < 2 ^ 62 }
+    ensures { result ≡ told_first_places sizes.now (pou_kind_view kind.now) (map told_view tolds.now) }
 {
     match kind {
         PouKind::Function(_) => places_from(sizes, true, 1, tolds),
@@ -101,15 +84,16 @@ pub fn first_place(next: Next, told: &Told<'_>) -> usize
 }
 
 /// The next places behind a variable.
-pub fn places_behind(sizes: &[usize], next: Next, told: &Told<'_>) -> Result<Next, AllocError>
-    ensures { IfOk result (λ behind. behind ≡ told_places_behind sizes.now next (told_view told.now)) }
+pub fn places_behind(sizes: &[usize], next: Next, told: &Told<'_>) -> Next
+    requires { told_first_place next (told_view told.now) + told_cells sizes.now (told_view told.now) < 2 ^ 64 }
+    ensures { result ≡ told_places_behind sizes.now next (told_view told.now) }
 {
     let taken = cells_taken(sizes, told);
     if is_front(next.of_function, told.role) {
-        let front = sum(next.front, taken)?;
-        Ok(Next { front, ..next })
+        let front = next.front + taken;
+        Next { front, ..next }
     } else {
-        let rest = sum(next.rest, taken)?;
-        Ok(Next { rest, ..next })
+        let rest = next.rest + taken;
+        Next { rest, ..next }
     }
 }

@@ -5,7 +5,7 @@ ghost use Rattle.decl_types.specs.Bodies.{file_in};
 ghost use Rattle.typing.specs.Members.{no_port, ports_of, result_of, may_be_called, called_order, numbers_of};
 ghost use Rattle.typing.specs.Reached.{reached_order};
 ghost use Rattle.decl_types.specs.ToldView.{told_view};
-ghost use Rattle.pou_cells.specs.PouTables.{all_members, all_ports};
+ghost use Rattle.pou_cells.specs.PouTables.{all_members, all_ports, HaveFewCells};
 ghost use Rattle.pou_cells.specs.ToldMembers.{all_told};
 
 use crate::block_members::{port_of, ports_of, seen_from};
@@ -37,6 +37,7 @@ pub struct Pous<'p> {
     ghost judged: { map (λ v. map told_view v.items) told.items ≡ all_told (file_in domains) },
     ghost known: { map (λ v. v.items) members.items ≡ all_members (file_in domains) [] },
     ghost given: { map (λ v. v.items) ports.items ≡ all_ports (file_in domains) [] },
+    ghost few: { HaveFewCells (file_in domains) },
 }
 
 // Whether a POU is a FUNCTION or a FUNCTION_BLOCK.
@@ -129,6 +130,7 @@ fn result_of(members: &[Member]) -> Port
 }
 
 impl<'p> Pous<'p> {
+    ghost use Rattle.std.specs.Prelude.{◌<◌, ◌^◌, IfSome};
     ghost use Rattle.std.specs.List.{slice_get};
     ghost use Rattle.source_tree.specs.SyntaxView.{name_view, names_view};
     ghost use Rattle.pou_cells.specs.ToldPlaces.{told_at};
@@ -143,7 +145,7 @@ impl<'p> Pous<'p> {
         let called = called_order(alloc, domains.types.names, &reached)?;
         let numbers = numbers_of(alloc, domains.types.names, &called)?;
         let told = all_told(alloc, &domains)?;
-        let members = all_members(alloc, &domains, &[], &told)?;
+        let members = all_members(alloc, &domains, &told)?;
         let ports = all_ports(alloc, &members)?;
         Ok(Pous {
             domains,
@@ -192,7 +194,8 @@ impl<'p> Pous<'p> {
 
     /// The variable that a name means in the POU of a number, in constant time.
     pub fn member_of(&self, number: usize, name: &Name) -> Option<Member>
-        ensures { result ≡ member_at (file_in self.now.domains) [] number (name_view name.now).text }
+        ensures low { IfSome result (λ m. m.cell < 2 ^ 63) }
+        ensures member { result ≡ member_at (file_in self.now.domains) [] number (name_view name.now).text }
     {
         let bound = self.domains.types.names.bound(number, name);
         member_bound(self.members_at(number), bound)
@@ -235,13 +238,14 @@ impl<'p> Pous<'p> {
             None => None,
             Some(block) => Some(Instance {
                 block: self.called_number(block),
-                offset: member.cell as usize,
+                offset: member.cell,
             }),
         }
     }
 
     // What a name stands for behind an instance of a block.
-    fn in_instance(&self, cell: u32, name: &Name, block: Option<usize>) -> Option<Meaning>
+    fn in_instance(&self, cell: usize, name: &Name, block: Option<usize>) -> Option<Meaning>
+        requires { cell < 2 ^ 63 }
         ensures { result ≡ in_instance (file_in self.now.domains) [] cell (name_view name.now) block }
     {
         match self.member_of(block?, name) {
@@ -252,6 +256,7 @@ impl<'p> Pous<'p> {
 
     /// What a path stands for that begins with a variable or a step.
     pub fn meant_by(&self, members: &[Name], member: Member) -> Option<Meaning>
+        requires { member.cell < 2 ^ 63 }
         ensures { result ≡ meant_by (file_in self.now.domains) [] (names_view members.now) member }
     {
         match members.first() {

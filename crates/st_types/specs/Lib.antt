@@ -3,3 +3,4 @@ pub mod CheckedFiles
 pub mod ToldCells
 pub mod ToldCharts
 pub mod ToldBeginnings
+pub mod LowNames

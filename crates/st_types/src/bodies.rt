@@ -11,6 +11,8 @@ ghost use Rattle.typing.specs.Outcomes.{pous_outcome};
 ghost use Rattle.typing.specs.Places.{variables_at};
 ghost use Rattle.typing.specs.Pous.{judged_body, judged_pou};
 ghost use Rattle.typing.specs.TypedPrograms.{begun, typed_body, pou_body};
+ghost use Rattle.pou_cells.specs.ToldPlaces.{told_at, HavePlaces};
+ghost use Rattle.st_types.specs.LowNames.{HasLowNames};
 ghost use Rattle.st_types.specs.ToldBeginnings.{told_beginnings};
 
 use crate::charts::{judge_parts, type_chart};
@@ -75,6 +77,7 @@ fn beginnings(
     first: Next,
     variables: &[Told<'_>],
 ) -> Result<Vec<TypedStmt>, AllocError>
+    requires { HavePlaces sizes.now first (map told_view variables.now) }
     ensures { IfOk result (λ list. map stmt_view list.items ≡ told_beginnings sizes.now first (map told_view variables.now)) }
 {
     let mut list = Vec::new(alloc);
@@ -84,7 +87,7 @@ fn beginnings(
             let value = TypedExpr::Number(told.initial);
             list.push(TypedStmt::Assign(first_place(next, told), value))?;
         }
-        next = places_behind(sizes, next, told)?;
+        next = places_behind(sizes, next, told);
     }
     Ok(list)
 }
@@ -95,6 +98,7 @@ pub(crate) fn type_body<S: Scope>(
     scope: &S,
     body: &Body,
 ) -> Result<Vec<TypedStmt>, AllocError>
+    requires { HasLowNames (S.means scope.now) }
     ensures { IfOk result (λ list. stmts_view list.items ≡ typed_body (S.means scope.now) (body_view body.now)) }
 {
     match body {
@@ -116,8 +120,9 @@ fn begin_body<S: Scope>(
     scope: &S,
     pou: &Pou,
 ) -> Result<Vec<TypedStmt>, AllocError>
-    requires there { pou_at (file_in placed.now.pous.domains) number ≡ Some (pou_view pou.now) }
     requires placed { is_placed (file_in placed.now.pous.domains) number ≡ true }
+    requires room { HavePlaces placed.now.sizes.items first (told_at (file_in placed.now.pous.domains) number) }
+    requires low { HasLowNames (S.means scope.now) }
     ensures { IfOk result (λ list. stmts_view list.items ≡ begun (file_in placed.now.pous.domains) first (variables_at (file_in placed.now.pous.domains) number) (typed_body (S.means scope.now) (pou_view pou.now).body)) }
 {
     let mut list = beginnings(alloc, &placed.sizes, first, placed.pous.told_at(number))?;
@@ -140,7 +145,7 @@ pub(crate) fn pou_body(
     if !placed.is_placed(number) {
         return Err(AllocError);
     }
-    let first = first_places(&placed.sizes, &pou.kind, placed.pous.told_at(number))?;
+    let first = first_places(&placed.sizes, &pou.kind, placed.pous.told_at(number));
     let scope = PlacedScope { placed, number };
     begin_body(alloc, placed, number, first, &scope, pou)
 }

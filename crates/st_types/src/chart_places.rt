@@ -1,13 +1,14 @@
 // Where the charts of a POU and of its instances stand among its cells.
-ghost use Rattle.std.specs.Prelude.{◌≡◌, ◌++◌, map, IfOk, OnOk};
+ghost use Rattle.std.specs.Prelude.{◌≡◌, ◌≤◌, ◌+◌, ◌++◌, map, IfOk, OnOk};
 ghost use Rattle.decl_types.specs.Bodies.{file_in};
 ghost use Rattle.decl_types.specs.ToldView.{told_view};
+ghost use Rattle.pou_cells.specs.ToldPlaces.{told_cells};
 ghost use Rattle.typing.specs.Places.{sizes_of, variables_at};
 ghost use Rattle.typing.specs.ChartPlaces.{block_charts, charts_in};
 ghost use Rattle.st_types.specs.ToldCharts.{told_steps, told_charts_of_variable, told_charts_of};
 
 use decl_types::Told;
-use pou_cells::{PlacedPous, is_stored_action, sum};
+use pou_cells::{PlacedPous, is_stored_action};
 use program_tree::ChartCells;
 use std::alloc::{AllocError, Global};
 
@@ -24,6 +25,16 @@ fn steps_among(variables: &[Told<'_>]) -> usize
     steps
 }
 
+// The place behind the cells of a variable, which begin at a place. One past 64 bits, which no text asks for, is want of memory.
+fn place_behind(placed: &PlacedPous<'_>, place: usize, told: &Told<'_>) -> Result<usize, AllocError>
+    requires { 1 ≤ place }
+    ensures { IfOk result (λ n. n ≡ place + told_cells (sizes_of (file_in placed.now.pous.domains)) (told_view told.now)) }
+{
+    place
+        .checked_add(placed.cells_taken(told))
+        .ok_or(AllocError)
+}
+
 // Appends the charts of an instance of a block, whose cells begin at a place.
 #[cycle(write_charts)]
 fn write_block(
@@ -33,6 +44,7 @@ fn write_block(
     block: usize,
     list: &mut Vec<ChartCells>,
 ) -> Result<(), AllocError>
+    requires { 1 ≤ place }
     ensures { OnOk result (list.new.items ≡ list.old.items ++ block_charts (file_in placed.now.pous.domains) depth place block) }
 {
     if depth == 0 {
@@ -50,6 +62,7 @@ fn write_charts(
     variables: &[Told<'_>],
     list: &mut Vec<ChartCells>,
 ) -> Result<(), AllocError>
+    requires { 1 ≤ first }
     ensures { OnOk result (list.new.items ≡ list.old.items ++ told_charts_of (sizes_of (file_in placed.now.pous.domains)) (block_charts (file_in placed.now.pous.domains) depth) first (map told_view variables.now)) }
 {
     let mut place = first;
@@ -66,7 +79,7 @@ fn write_charts(
             return Ok(());
         }
         write_variable(placed, depth, place, told, list)?;
-        place = sum(place, placed.cells_taken(told)?)?;
+        place = place_behind(placed, place, told)?;
     }
     Ok(())
 }
@@ -80,6 +93,7 @@ fn write_variable(
     told: &Told<'_>,
     list: &mut Vec<ChartCells>,
 ) -> Result<(), AllocError>
+    requires { 1 ≤ place }
     ensures { OnOk result (list.new.items ≡ list.old.items ++ told_charts_of_variable (sizes_of (file_in placed.now.pous.domains)) (block_charts (file_in placed.now.pous.domains) depth) place told.now.block) }
 {
     let Some(block) = told.block else {

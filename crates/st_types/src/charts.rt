@@ -6,10 +6,10 @@ ghost use Rattle.sfc_shape.specs.ShapeView.{seen_steps, seen_transitions, seen_a
 ghost use Rattle.sfc_shape.specs.PartsView.{parts_in};
 ghost use Rattle.typing.specs.JudgedCharts.{judged_part, judged_parts};
 ghost use Rattle.rules.specs.Outcomes.{outcome_of};
+ghost use Rattle.st_types.specs.LowNames.{HasLowNames};
 ghost use Rattle.typing.specs.TypedCharts.{step_cells, latch_of, typed_action, typed_transition, typed_chart};
 
 use expr_types::{cell_of, judge_condition, meaning_alone, type_expr};
-use pou_cells::sum;
 use program_tree::{StepCells, TypedAction, TypedStmt, TypedTransition};
 use rules::{Outcome, Rule};
 use sfc_shape::{Shape, shape_of};
@@ -46,13 +46,16 @@ pub(crate) fn judge_parts<S: Scope>(
     Ok(judged)
 }
 
-// The cells of a step; a place past 64 bits is want of memory.
+// The cells of a step.
 fn step_cells<S: Scope>(alloc: Global, scope: &S, step: &ChartStep) -> Result<StepCells, AllocError>
+    requires { HasLowNames (S.means scope.now) }
     ensures { IfOk result (λ cells. cells ≡ step_cells (S.means scope.now) (chart_step_view step.now)) }
 {
     let active = cell_of(meaning_alone(alloc, scope, &step.name)?);
-    let before = sum(active, 1)?;
-    Ok(StepCells { active, before })
+    Ok(StepCells {
+        active,
+        before: active + 1,
+    })
 }
 
 // The cell of a latch.
@@ -106,6 +109,7 @@ fn type_steps<S: Scope>(
     scope: &S,
     steps: &[&ChartStep],
 ) -> Result<Vec<StepCells>, AllocError>
+    requires { HasLowNames (S.means scope.now) }
     ensures { IfOk result (λ list. list.items ≡ map (step_cells (S.means scope.now)) (seen_steps steps.now)) }
 {
     let mut list = Vec::new(alloc);
@@ -151,6 +155,7 @@ pub(crate) fn type_chart<S: Scope>(
     scope: &S,
     chart: &Chart,
 ) -> Result<TypedStmt, AllocError>
+    requires { HasLowNames (S.means scope.now) }
     ensures { IfOk result (λ stmt. stmt_view stmt ≡ typed_chart (S.means scope.now) (parts_view chart.now.parts.items)) }
 {
     let shape = shape_of(alloc, chart)?;

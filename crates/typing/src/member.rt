@@ -6,7 +6,7 @@ use naming::Role;
 /// its number.
 #[derive(Clone, Copy)]
 pub struct Member {
-    pub cell: u32,
+    pub cell: usize,
     pub meaning: Meaning,
     pub role: Role,
     pub block: Option<usize>,

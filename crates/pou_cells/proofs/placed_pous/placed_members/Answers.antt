@@ -1,12 +1,13 @@
-use Rattle.std.proofs.Common.{◌≡◌, ◌≤◌, ℕ, List, ap, sym, ◌∙◌, arith}
+use Rattle.std.proofs.Common.{◌≡◌, ◌≤◌, ℕ, List, map, ap, sym, ◌∙◌, arith}
 use Rattle.source_tree.specs.SyntaxView.{pou_view}
 use Rattle.naming.specs.FileScope.{pou_at}
 use Rattle.decl_types.specs.Bodies.{file_in}
+use Rattle.decl_types.specs.ToldView.{told_view}
 use Rattle.typing.specs.Places.{count_of_cells, sizes_of, variables_at}
 use Rattle.pou_cells.specs.Placing.{capped, capped_cells}
-use Rattle.pou_cells.specs.ToldPlaces.{told_at}
+use Rattle.pou_cells.specs.ToldPlaces.{told_at, told_count}
 use Rattle.pou_cells.specs.ToldMembers.{told_members}
-use Rattle.pou_cells.proofs.SizeLemmas.{capped_count, many_cells, few_cells}
+use Rattle.pou_cells.proofs.SizeLemmas.{capped_told, capped_count, many_cells, few_cells}
 use Rattle.pou_cells.proofs.PlacedLemmas.{not_placed, few_placed}
 use Rattle.pou_cells.proofs.placed_pous.placed_members.Goals as goal
 
@@ -19,6 +20,14 @@ returns-then-capped_cells-gt-MOST_CELLS c =
     let counted : c.capped_cells.result ≡ capped count =
     c.capped_cells.ensures ∙ ap (capped_cells c.args.sizes.now) c.told_at-variables.ensures ∙ ap (λ (t : List ℕ). capped_cells t (told_at f k)) c.requires.sizes ∙ capped_count f s k in
     sym (not_placed f (pou_at f k) (many_cells count c.capped_cells.result counted c.if-capped_cells-gt-MOST_CELLS.true))
+
+pub members_in-requires : goal.members_in-requires
+members_in-requires c =
+    let sizes = c.args.sizes.now in
+    let ts = map told_view c.told_at-variables.result.now in
+    let few : c.capped_cells.result ≤ 16777216 = omega (arith, c.if-capped_cells-gt-MOST_CELLS.false) in
+    let count = few_cells (told_count sizes ts) c.capped_cells.result (c.capped_cells.ensures ∙ capped_told sizes ts) few in
+    omega (arith, count)
 
 pub returns : goal.returns
 returns c =

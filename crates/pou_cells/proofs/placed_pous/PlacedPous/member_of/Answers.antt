@@ -1,16 +1,29 @@
-use Rattle.std.proofs.Common.{ℕ, List, ◌-◌, ap, ◌∙◌}
+use Rattle.std.proofs.Common.{◌≡◌, ◌<◌, ◌^◌, ℕ, List, ◌-◌, ap, ◌∙◌, arith}
 use Rattle.std.specs.Prelude.{option_and_then}
 use Rattle.std.specs.List.{slice_get}
 use Rattle.source_tree.specs.SyntaxView.{name_view}
 use Rattle.typing.specs.declared.member.Member.{Member}
-use Rattle.typing.specs.Places.{sizes_of}
+use Rattle.typing.specs.Members.{member_at}
+use Rattle.typing.specs.Places.{count_of_cells, sizes_of, variables_at}
 use Rattle.decl_types.specs.Bodies.{file_in}
 use Rattle.pou_cells.proofs.TableLemmas.{member_at-is}
-use Rattle.pou_cells.proofs.PlacedLemmas.{members_placed}
+use Rattle.pou_cells.proofs.PlacedLemmas.{members_placed, placed_few}
+use Rattle.pou_cells.proofs.RoomLemmas.{low_some}
 use Rattle.pou_cells.proofs.placed_pous.PlacedPous.member_of.Goals as goal
 
-pub returns : goal.returns
-returns c =
+pub returns-clause-member : goal.returns-clause-member
+returns-clause-member c =
     let f = file_in c.args.self.now.pous.domains in
     member_at-is f (sizes_of f) c.args.number (name_view c.args.name.now).text c.bound-bound.result c.member_bound.result c.bound-bound.ensures
     (c.member_bound.ensures ∙ ap (λ (ms : List Member). option_and_then (λ (b : ℕ). slice_get ms (b - 1)) c.bound-bound.result) (c.members_at.ensures ∙ members_placed f c.args.number c.requires))
+
+pub returns-clause-low : goal.returns-clause-low
+returns-clause-low c =
+    let f = file_in c.args.self.now.pous.domains in
+    let text = (name_view c.args.name.now).text in
+    let member : c.member_bound.result ≡ member_at f (sizes_of f) c.args.number text =
+    member_at-is f (sizes_of f) c.args.number text c.bound-bound.result c.member_bound.result c.bound-bound.ensures
+    (c.member_bound.ensures ∙ ap (λ (ms : List Member). option_and_then (λ (b : ℕ). slice_get ms (b - 1)) c.bound-bound.result) (c.members_at.ensures ∙ members_placed f c.args.number c.requires)) in
+    let few = placed_few f c.args.number c.requires in
+    let low : count_of_cells f (sizes_of f) (variables_at f c.args.number) < 2 ^ 62 = omega (arith, few) in
+    low_some f (sizes_of f) c.args.number text c.member_bound.result low member

@@ -13,6 +13,7 @@ invariant_of-result c =
       ordered = c.in_ok-called.ensures;
       numbered = c.in_ok-numbers.ensures;
       judged = c.in_ok-told.ensures;
-      known = c.in_ok-members.ensures;
-      given = c.in_ok-ports.ensures ∙ ap (map (λ v. ports_of v.items)) c.deref-4.ensures.value ∙ ports_of_all c.in_ok-members.members.items (all_members f []) c.in_ok-members.ensures;
+      known = c.in_ok-members.ensures.members;
+      given = c.in_ok-ports.ensures ∙ ap (map (λ v. ports_of v.items)) c.deref-4.ensures.value ∙ ports_of_all c.in_ok-members.members.items (all_members f []) c.in_ok-members.ensures.members;
+      few = c.in_ok-members.ensures.few;
     }
