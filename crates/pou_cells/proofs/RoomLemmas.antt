@@ -21,7 +21,7 @@ use Rattle.typing.specs.TypedStatements.{place_cell, cell_of}
 use Rattle.decl_types.specs.declared.told.Told.{Told}
 use Rattle.decl_types.specs.Told.{ToldData}
 use Rattle.decl_types.specs.ToldView.{told_view}
-use Rattle.pou_cells.specs.ToldPlaces.{told_cells, told_count, told_front, told_first_places, told_first_place, told_places_behind, HavePlaces}
+use Rattle.pou_cells.specs.ToldPlaces.{told_cells, told_count, told_front, told_first_places, told_places_behind, HavePlaces}
 use Rattle.pou_cells.proofs.SizeLemmas.{with_front, with_rest}
 
 -- ---- by what is told of variables
@@ -41,13 +41,6 @@ begins_with_room s function_block ts few = let front = front_few s false ts in r
 begins_with_room s program ts few = let front = front_few s false ts in record { front = omega (arith, few); rest = omega (arith, front, few) }
 
 -- one variable more
-pub room_here : (s : List ℕ) (next : Next) (t : ToldData) (ts : List ToldData) → HavePlaces s next (t ∷ ts) → told_first_place next t + told_cells s t < 2 ^ 64
-room_here s next t ts room = by (is_front next.of_function t.role)
-  where
-    by : (b : Bool) → (if b then next.front else next.rest) + told_cells s t < 2 ^ 64
-    by true = omega (arith, room.front)
-    by false = omega (arith, room.rest)
-
 pub room_behind : (s : List ℕ) (next : Next) (t : ToldData) (ts : List ToldData) → HavePlaces s next (t ∷ ts) → HavePlaces s (told_places_behind s next t) ts
 room_behind s next t ts room = by (is_front next.of_function t.role)
   where

@@ -1,11 +1,11 @@
 -- Sizes that no number of 64 bits passes.
 use Rattle.std.proofs.Common.{◌≡◌, ℕ, zero, suc, ◌+◌, ◌-◌, ◌^◌, ◌<◌, ◌≤◌, Bool, true, false, if◌then◌else◌, List, [], ◌∷◌, map, replicate, set, Option, Some, None, refl, sym, ap, ◌∙◌, arith, ⊎_elim, add_comm}
-use Rattle.std.specs.Prelude.{nat_lt, nat_le, ◌==◌}
+use Rattle.std.specs.Prelude.{nat_lt, nat_le}
 use Rattle.std.specs.List.{AllByRecursion}
 use Rattle.std.proofs.Math.Nat.{min-eq_left, min-eq_right}
 use Rattle.std.proofs.Math.ListN.{get_or-map as get_or-mapped}
 use Rattle.std.proofs.lemmas.List.{map-set}
-use Rattle.std.proofs.lemmas.Bool.{cases_lt, lt-ltb, le-ltb, le-leb, lt-leb, ne_eqb}
+use Rattle.std.proofs.lemmas.Bool.{cases_lt, lt-ltb, le-ltb, le-leb, lt-leb}
 use Rattle.source_tree.specs.Syntax.{PouKindData, function, function_block, program, FileData}
 use Rattle.naming.specs.Scopes.{is_step}
 use Rattle.typing.specs.declared.next.Next.{Next}
@@ -64,7 +64,7 @@ by_cell : (x : Bool) (m n : ℕ) → m ≡ capped n → (if x then m else 0) ≡
 by_cell true m n e = e
 by_cell false m n e = refl
 
-pub capped_taken : (s : List ℕ) (t : ToldData) → told_cells (map capped s) t ≡ capped (told_cells s t)
+capped_taken : (s : List ℕ) (t : ToldData) → told_cells (map capped s) t ≡ capped (told_cells s t)
 capped_taken s t =
     by_cell (has_cell t.role) (if is_step t.role then 2 else size_among (map capped s) t.block) (if is_step t.role then 2 else size_among s t.block)
     (by_step (is_step t.role) (size_among (map capped s) t.block) (size_among s t.block) (capped_size s t.block))
@@ -84,14 +84,6 @@ capped_once s (t ∷ ts) = capped_twice (told_cells s t + capped_cells s ts)
 
 pub capped_start : (s : List ℕ) (ts : List ToldData) → capped (0 + capped_cells s ts) ≡ capped_cells s ts
 capped_start s ts = let same : 0 + capped_cells s ts ≡ capped_cells s ts = omega arith in ap capped same ∙ capped_once s ts
-
--- one variable more
-pub capped_more : (s : List ℕ) (t : ToldData) (ts : List ToldData) (count next : ℕ) → next ≡ capped (count + told_cells s t) → capped (next + capped_cells s ts) ≡ capped (count + capped_cells s (t ∷ ts))
-capped_more s t ts count next is =
-    let n = told_cells s t in
-    let r = capped_cells s ts in
-    let sum : count + n + r ≡ count + (n + r) = omega arith in
-    ap (λ (x : ℕ). capped (x + r)) is ∙ capped_left (count + n) r ∙ ap capped sum ∙ sym (capped_right count (n + r))
 
 -- how many cells a POU has
 pub capped_count : (f : FileData) (s : List ℕ) (k : ℕ) → capped_cells (map capped s) (told_at f k) ≡ capped (count_of_cells f s (variables_at f k))
@@ -174,23 +166,6 @@ members_exact s next (t ∷ ts) all =
 
 pub all_exact : (s : List ℕ) (kind : PouKindData) (ts : List ToldData) → AllByRecursion (IsExact s) ts → told_members (map capped s) kind ts ≡ told_members s kind ts
 all_exact s kind ts all = ap (λ (n : Next). told_members_from (map capped s) n ts) (first_exact s kind ts all) ∙ members_exact s (told_first_places s kind ts) ts all
-
--- a block without cells is one by its capped size
-pub none_capped : (s : List ℕ) (b : ℕ) → (size_among (map capped s) (Some b) == 0) ≡ (size_among s (Some b) == 0)
-none_capped s b = ap (λ (n : ℕ). n == 0) (capped_size s (Some b)) ∙ by (size_among s (Some b))
-  where
-    by : (n : ℕ) → (capped n == 0) ≡ (n == 0)
-    by zero = refl
-    by (suc n) =
-        let some : (suc n == 0) ≡ false = ne_eqb (suc n) 0 (λ e. let h : ⊥ = omega (arith, e) in h) in
-        ⊎_elim (λ (x : suc n < 2 ^ 64 - 1). ap (λ (m : ℕ). m == 0) (capped_small (suc n) x)) (λ (x : 2 ^ 64 - 1 ≤ suc n). ap (λ (m : ℕ). m == 0) (capped_great (suc n) x) ∙ sym some) (cases_lt (suc n) (2 ^ 64 - 1))
-
--- a place behind so many cells, where a number of 64 bits tells it
-pub place_exact : (place n next : ℕ) → 1 ≤ place → next ≡ place + capped n → next < 2 ^ 64 → next ≡ place + n
-place_exact place n next some is word =
-    ⊎_elim (λ (x : n < 2 ^ 64 - 1). is ∙ ap (λ (m : ℕ). place + m) (capped_small n x))
-    (λ (x : 2 ^ 64 - 1 ≤ n). let great = capped_great n x in absurd (omega (arith, is, great, some, word)))
-    (cases_lt n (2 ^ 64 - 1))
 
 -- ---- which POUs are few
 
