@@ -1,12 +1,12 @@
 // The candidates of charts: of each two steps of a chart not both are active.
-ghost use Rattle.std.specs.Prelude.{◌≡◌, ◌+◌, ◌*◌, ◌<◌, ◌≤◌, ◌^◌, ◌++◌, codes, length, nat_le, [], string_bytes, if◌then◌else◌, IfOk, OnOk};
+ghost use Rattle.std.specs.Prelude.{◌≡◌, ◌+◌, ◌*◌, ◌<◌, ◌≤◌, ◌^◌, ◌++◌, ◌&&◌, codes, length, nat_le, [], string_bytes, if◌then◌else◌, IfOk, OnOk};
 ghost use Rattle.plc_types.specs.declared.elementary.Elementary.TheVariants as types;
 ghost use Rattle.plc_types.specs.declared.operator.UnaryOperator.TheVariants.{Not};
 ghost use Rattle.plc_types.specs.declared.operator.Operator.TheVariants.{And};
 ghost use Rattle.program_tree.specs.Tree.{cell, unary, chain, no_operands, operand};
 ghost use Rattle.program_tree.specs.View.{expr_view, cells_view};
 ghost use Rattle.scan_model.specs.Pairs.{candidate_view, candidates_view};
-ghost use Rattle.scan_model.specs.Candidates.{path_at, not_both, not_both_with, not_both_among, exclusive_steps, paths_of};
+ghost use Rattle.scan_model.specs.Candidates.{path_at, not_both, not_both_with, not_both_among, stands_among, exclusive_steps, paths_of};
 ghost use Rattle.candidates.specs.PairView.{old_of, new_of};
 
 use crate::pair::Pair;
@@ -121,42 +121,39 @@ fn add_among(
     Ok(())
 }
 
-// The sum of two numbers of cells; memory cannot have so many.
-fn sum(first: usize, second: usize) -> Result<usize, AllocError>
-    ensures { IfOk result (λ n. n ≡ first + second) }
+// Whether the cells of the steps of a chart, which has at most 16, stand among the cells of its program.
+fn stands_among(cells: &[Cell], chart: ChartCells) -> bool
+    requires { chart.steps ≤ 16 }
+    ensures { result ≡ stands_among (paths_of (cells_view cells.now)) chart }
 {
-    match first.checked_add(second) {
-        Some(sum) => Ok(sum),
-        None => Err(AllocError),
-    }
+    chart.first <= cells.len() && 2 * chart.steps <= cells.len() - chart.first
 }
 
-// Each two steps of a chart, where it has at most 16.
+// Each two steps of a chart, where it has at most 16 and stands among the cells of its program.
 fn add_chart(
     alloc: Global,
     half: &Half<'_>,
     chart: ChartCells,
     found: &mut Vec<Candidate>,
 ) -> Result<(), AllocError>
-    ensures { OnOk result (candidates_view found.new.items ≡ candidates_view found.old.items ++ (if nat_le chart.steps 16 then not_both_among half.now.program.now half.now.start (paths_of (cells_view half.now.cells.now)) chart.first chart.steps else [])) }
+    requires { half.now.start + length half.now.cells.now < 2 ^ 64 }
+    ensures { OnOk result (candidates_view found.new.items ≡ candidates_view found.old.items ++ (if nat_le chart.steps 16 && stands_among (paths_of (cells_view half.now.cells.now)) chart then not_both_among half.now.program.now half.now.start (paths_of (cells_view half.now.cells.now)) chart.first chart.steps else [])) }
 {
-    if chart.steps <= 16 {
-        // All places of its cells are numbers.
-        let begin = sum(half.start, chart.first)?;
-        sum(begin, 2 * chart.steps)?;
+    if chart.steps <= 16 && stands_among(half.cells, chart) {
         add_among(alloc, half, chart.first, chart.steps, found)
     } else {
         Ok(())
     }
 }
 
-// Each two steps of each chart that has at most 16.
+// Each two steps of each chart that has at most 16 and stands among the cells of its program.
 fn add_charts(
     alloc: Global,
     half: &Half<'_>,
     charts: &[ChartCells],
     found: &mut Vec<Candidate>,
 ) -> Result<(), AllocError>
+    requires { half.now.start + length half.now.cells.now < 2 ^ 64 }
     ensures { OnOk result (candidates_view found.new.items ≡ candidates_view found.old.items ++ exclusive_steps half.now.program.now half.now.start (paths_of (cells_view half.now.cells.now)) charts.now) }
 {
     for chart in charts {

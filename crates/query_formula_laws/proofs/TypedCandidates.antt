@@ -1,6 +1,6 @@
 -- The candidates of a comparison are typed where its clauses and cells are.
 use Rattle.std.proofs.Common.{◌≡◌, ℕ, zero, suc, ◌+◌, ◌<◌, Bool, true, false, refl, sym, ◌∙◌, ap, subst, List, [], ◌∷◌, ◌++◌, length, map, arith, rules, append_assoc, length-append}
-use Rattle.std.specs.Prelude.{All, codes, nat_le, if◌then◌else◌}
+use Rattle.std.specs.Prelude.{All, codes, nat_le, ◌&&◌, if◌then◌else◌}
 use Rattle.std.specs.Str.{bytes_eq}
 use Rattle.std.proofs.lemmas.Bool.{false≢true}
 use Rattle.std.proofs.lemmas.List.{append-nil}
@@ -17,7 +17,7 @@ use Rattle.program_tree.specs.Tree.{Expression, number, cell, CellData}
 use Rattle.program_tree.specs.declared.typed.ChartCells.{ChartCells}
 use Rattle.scan_model.specs.Scans.{initial}
 use Rattle.scan_model.specs.Pairs.{CandidateData}
-use Rattle.scan_model.specs.Candidates.{is_equal, same_if, same_as, same_cells, numbered, relate_clauses, initial_values, not_both, not_both_with, not_both_among, exclusive_steps, paths_of, candidates_of}
+use Rattle.scan_model.specs.Candidates.{is_equal, same_if, same_as, same_cells, numbered, relate_clauses, initial_values, not_both, not_both_with, not_both_among, stands_among, exclusive_steps, paths_of, candidates_of}
 use Rattle.queries.specs.Comparisons.{Comparison}
 use Rattle.node_core.specs.NodeLaws.{kinds_of}
 use Rattle.node_core.specs.Stores.{of_cell, place_at}
@@ -141,8 +141,8 @@ module _ (c : Comparison) where
   steps-typed : (program : List ℕ) (start : ℕ) (paths : List (List ℕ)) (charts : List ChartCells) → All (λ (k : ChartCells). AreSteps all start k.first k.steps) charts → Typed (exclusive_steps program start paths charts)
   steps-typed program start paths [] h = none
   steps-typed program start paths (k ∷ charts) h =
-      both (if nat_le k.steps 16 then not_both_among program start paths k.first k.steps else []) (exclusive_steps program start paths charts)
-      (typed_by (nat_le k.steps 16) (not_both_among program start paths k.first k.steps) [] (among-typed program start paths k.first k.steps (All-head (λ (x : ChartCells). AreSteps all start x.first x.steps) k charts h)) none)
+      both (if nat_le k.steps 16 && stands_among paths k then not_both_among program start paths k.first k.steps else []) (exclusive_steps program start paths charts)
+      (typed_by (nat_le k.steps 16 && stands_among paths k) (not_both_among program start paths k.first k.steps) [] (among-typed program start paths k.first k.steps (All-head (λ (x : ChartCells). AreSteps all start x.first x.steps) k charts h)) none)
       (steps-typed program start paths charts (All-tail (λ (x : ChartCells). AreSteps all start x.first x.steps) k charts h))
 
   pub candidates_are_typed : HasTypedClauses c → IsTypedComparison c

@@ -1,5 +1,5 @@
 -- The candidates of a relation between two programs: clauses that may hold after every scan, each with its printed name.
-use Rattle.std.specs.Prelude.{ℕ, zero, suc, ◌+◌, nat_le, List, [], ◌∷◌, ◌++◌, length, codes, decimal, map, Bool, pos, if◌then◌else◌, slice_index_or}
+use Rattle.std.specs.Prelude.{ℕ, zero, suc, ◌+◌, ◌*◌, nat_le, List, [], ◌∷◌, ◌++◌, length, codes, decimal, map, Bool, ◌&&◌, pos, if◌then◌else◌, slice_index_or}
 use Rattle.std.specs.Fmt.{signed_decimal}
 use Rattle.std.specs.Str.{bytes_eq}
 use Rattle.plc_types.specs.declared.data_type.DataType.{DataType}
@@ -74,11 +74,16 @@ not_both_among program start paths place zero = []
 not_both_among program start paths place (suc steps) =
     not_both_with program start paths place (place + 2) steps ++ not_both_among program start paths (place + 2) steps
 
--- each two steps of each chart that has at most 16 steps
+-- The cells of a chart's steps stand among the cells of its program. Each step has two cells, of which the first says whether it is active. A chart
+-- of a program that a text states always stands so; one of a program made by hand might not.
+abbrev pub stands_among : List (List ℕ) → ChartCells → Bool
+stands_among paths c = nat_le (c.first + 2 * c.steps) (length paths)
+
+-- each two steps of each chart that has at most 16 steps and stands among the cells of its program
 abbrev pub exclusive_steps : List ℕ → ℕ → List (List ℕ) → List ChartCells → List CandidateData
 exclusive_steps program start paths [] = []
 exclusive_steps program start paths (c ∷ cs) =
-    (if nat_le c.steps 16 then not_both_among program start paths c.first c.steps else []) ++ exclusive_steps program start paths cs
+    (if nat_le c.steps 16 && stands_among paths c then not_both_among program start paths c.first c.steps else []) ++ exclusive_steps program start paths cs
 
 abbrev pub paths_of : List CellData → List (List ℕ)
 paths_of cells = map (λ c. c.path) cells
