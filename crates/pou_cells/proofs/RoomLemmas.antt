@@ -1,5 +1,5 @@
 -- Where the cells of variables stand at most.
-use Rattle.std.proofs.Common.{◌≡◌, ℕ, suc, ◌+◌, ◌*◌, ◌^◌, ◌<◌, ◌≤◌, Bool, true, false, if◌then◌else◌, List, [], ◌∷◌, length, map, drop, get_or, drop-cons, Option, Some, None, refl, sym, ap, subst, ◌∙◌, ⊎_elim, arith}
+use Rattle.std.proofs.Common.{◌≡◌, ℕ, ◌+◌, ◌*◌, ◌^◌, ◌<◌, ◌≤◌, Bool, true, false, if◌then◌else◌, List, [], ◌∷◌, length, Option, Some, None, refl, sym, subst, ⊎_elim, arith}
 use Rattle.std.specs.Prelude.{option_and_then, IfSome}
 use Rattle.std.proofs.lemmas.Bool.{cases_lt}
 use Rattle.std.proofs.lemmas.Option.{slice_get_past}
@@ -18,10 +18,8 @@ use Rattle.typing.specs.Variables.{initial_of}
 use Rattle.typing.specs.Places.{has_cell, size_among, is_front, in_front, cells_taken, count_of_cells, variables_in, variables_at, first_places, first_place, places_behind}
 use Rattle.typing.specs.Members.{member_of, member_among, member_in, member_at, variable_or_value, named_in}
 use Rattle.typing.specs.TypedStatements.{place_cell, cell_of}
-use Rattle.decl_types.specs.declared.told.Told.{Told}
 use Rattle.decl_types.specs.Told.{ToldData}
-use Rattle.decl_types.specs.ToldView.{told_view}
-use Rattle.pou_cells.specs.ToldPlaces.{told_cells, told_count, told_front, told_first_places, told_places_behind, HavePlaces}
+use Rattle.pou_cells.specs.ToldPlaces.{told_cells, told_count, told_front, told_first_places, HavePlaces}
 use Rattle.pou_cells.proofs.SizeLemmas.{with_front, with_rest}
 
 -- ---- by what is told of variables
@@ -39,22 +37,6 @@ pub begins_with_room : (s : List ℕ) (kind : PouKindData) (ts : List ToldData) 
 begins_with_room s (function t) ts few = let front = front_few s true ts in record { front = omega (arith, few); rest = omega (arith, front, few) }
 begins_with_room s function_block ts few = let front = front_few s false ts in record { front = omega (arith, few); rest = omega (arith, front, few) }
 begins_with_room s program ts few = let front = front_few s false ts in record { front = omega (arith, few); rest = omega (arith, front, few) }
-
--- one variable more
-pub room_behind : (s : List ℕ) (next : Next) (t : ToldData) (ts : List ToldData) → HavePlaces s next (t ∷ ts) → HavePlaces s (told_places_behind s next t) ts
-room_behind s next t ts room = by (is_front next.of_function t.role)
-  where
-    by : (b : Bool) → HavePlaces s (if b then with_front next (told_cells s t) else with_rest next (told_cells s t)) ts
-    by true = record { front = omega (arith, room.front); rest = omega (arith, room.rest) }
-    by false = record { front = omega (arith, room.front); rest = omega (arith, room.rest) }
-
--- the same in a walk along what is told
-pub room_next : (s : List ℕ) (next : Next) (tolds : List Told) (i : ℕ) (t : Told) → i < length tolds → t ≡ get_or tolds i t → HavePlaces s next (map told_view (drop i tolds))
-    → HavePlaces s (told_places_behind s next (told_view t)) (map told_view (drop (i + 1) tolds))
-room_next s next tolds i t below is room =
-    let step : suc i ≡ i + 1 = omega arith in
-    let same : drop i tolds ≡ t ∷ drop (i + 1) tolds = drop-cons tolds i t below ∙ ap (λ (x : Told). x ∷ drop (suc i) tolds) (sym is) ∙ ap (λ (n : ℕ). t ∷ drop n tolds) step in
-    room_behind s next (told_view t) (map told_view (drop (i + 1) tolds)) (subst (λ (l : List Told). HavePlaces s next (map told_view l)) same room)
 
 -- where each block counts as one without cells, a variable takes two at most
 two_at_most : (t : ToldData) → told_cells [] t ≤ 2
