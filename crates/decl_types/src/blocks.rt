@@ -1,13 +1,13 @@
 // The POUs of a file by their numbers, and the blocks of instances.
 ghost use Rattle.std.specs.Prelude.{◌≡◌, false, option_map, unwrap_or};
 ghost use Rattle.source_tree.specs.SyntaxView.{name_view, type_view, pou_view, file_view};
-ghost use Rattle.naming.specs.FileScope.{pou_at, standing, is_block, pou_number, block_number};
+ghost use Rattle.naming.specs.FileScope.{pou_at, standing, is_block, block_number};
 ghost use Rattle.naming.specs.Scopes.{block_of, block_of_type};
 ghost use Rattle.naming.specs.ScopeView.{variable_view};
 ghost use Rattle.typing.specs.Members.{is_function, function_number};
 
 use file_bindings::Resolved;
-use naming::{Declared, Role, Standing};
+use naming::{Declared, Role, pou_number};
 use source_tree::{Name, Pou, PouKind, TypeName};
 
 /// The POU of a number, where there is one.
@@ -39,21 +39,11 @@ fn is_function(pou: Option<&Pou>) -> bool
     }
 }
 
-// The number of a POU that a name stands for.
-fn pou_number(standing: Option<Standing>) -> Option<usize>
-    ensures { result ≡ pou_number standing }
-{
-    match standing {
-        Some(Standing::Pou(number)) => Some(number),
-        _ => None,
-    }
-}
-
 // The FUNCTION_BLOCK that a name stands for, by its number.
-fn block_number(names: &Resolved<'_>, name: &str) -> Option<usize>
-    ensures { result ≡ block_number (file_view names.now.file.now) (standing (file_view names.now.file.now) name.now) }
+fn block_number(names: &Resolved<'_>, name: &Name) -> Option<usize>
+    ensures { let f = file_view names.now.file.now in result ≡ block_number f (standing f (name_view name.now).text) }
 {
-    let number = pou_number(names.standing(name))?;
+    let number = pou_number(names.standing_of_use(name))?;
     if is_block(pou_at(names, number)) {
         Some(number)
     } else {
@@ -79,7 +69,7 @@ fn block_of_type(names: &Resolved<'_>, kind: &TypeName) -> Option<usize>
 {
     match kind {
         TypeName::Elementary(_, _) | TypeName::Subrange(_, _, _) => None,
-        TypeName::Named(name) => block_number(names, name.text.as_str()),
+        TypeName::Named(name) => block_number(names, name),
     }
 }
 

@@ -10,6 +10,7 @@ use crate::file_types::FileTypes;
 use crate::own_domains::{Spelled, own_domains};
 use file_bindings::Resolved;
 use naming::Standing;
+use source_tree::Name;
 use std::alloc::{AllocError, Global};
 use typing::Domain;
 
@@ -26,7 +27,7 @@ pub struct Domains<'p> {
 
 impl<'p> Domains<'p> {
     ghost use Rattle.std.specs.Prelude.{◌≡◌, IfOk};
-    ghost use Rattle.source_tree.specs.SyntaxView.{file_view};
+    ghost use Rattle.source_tree.specs.SyntaxView.{name_view, file_view};
     ghost use Rattle.naming.specs.FileScope.{standing};
     ghost use Rattle.decl_types.specs.Bodies.{file_in};
     ghost use Rattle.typing.specs.Domains.{named_domain};
@@ -40,11 +41,11 @@ impl<'p> Domains<'p> {
         Ok(Domains { types, own, judged })
     }
 
-    /// The domain of a type by its name, in constant time.
-    pub fn named(&self, name: &str) -> Domain
-        ensures { result ≡ named_domain (file_in self.now) (standing (file_in self.now) name.now) }
+    /// The domain of a type by its name, by the number that is kept of its use.
+    pub fn named(&self, name: &Name) -> Domain
+        ensures { result ≡ named_domain (file_in self.now) (standing (file_in self.now) (name_view name.now).text) }
     {
-        match self.types.names.standing(name) {
+        match self.types.names.standing_of_use(name) {
             Some(Standing::Type(number)) => {
                 let end = self.types.names.end_of(number);
                 self.own.get(end).copied().unwrap_or(no_domain())

@@ -44,7 +44,7 @@ pub(crate) fn judged_type(
             judged_subrange_domain(alloc, &domains.types, *kind, *at, bounds)
         }
         TypeName::Named(name) => {
-            let domain = domains.named(name.text.as_str());
+            let domain = domains.named(name);
             Ok((sound_or_silent(domain.whole), domain))
         }
     }
@@ -56,7 +56,7 @@ fn spelled_outcome(domains: &Domains<'_>, spelled: Spelled<'_>) -> Outcome
 {
     match spelled {
         Spelled::Judged(judged) => judged,
-        Spelled::Named(name) => sound_or_silent(domains.named(name.text.as_str()).whole),
+        Spelled::Named(name) => sound_or_silent(domains.named(name).whole),
     }
 }
 

@@ -17,7 +17,7 @@ use Rattle.file_bindings.specs.Bound.{bound_of, bound_named, places_from, variab
 use Rattle.naming.specs.declared.slot.Slot.{Slot}
 use Rattle.naming.specs.declared.variable.Declared.{Declared}
 use Rattle.naming.specs.FileScope.{pous_of, pou_at, is_program}
-use Rattle.pou_scope.specs.NamesView.{scope_named, scopes_named, seens_named}
+use Rattle.pou_scope.specs.NamesView.{scope_named, scopes_named, known_in, seens_named}
 use Rattle.naming.specs.Scopes.{Variable, PouScope, scope_of, variables_in_pou, is_doubled_among, seen}
 use Rattle.naming.specs.ScopeView.{variables_view, seen_view}
 use Rattle.naming.specs.Seen.{Seen}
@@ -78,15 +78,15 @@ pub blocks_of : (f : FileData) (ns : List NamesOfPou) → scopes_named ns ≡ ma
 blocks_of f ns scopes seens number =
     by (slice_get ns number) (pou_at f number)
     (sym (slice_get-map scope_named ns number) ∙ ap (λ ss. slice_get ss number) scopes ∙ slice_get-map scope_of (pous_of f) number)
-    (sym (slice_get-map (λ n. map seen_view n.variables.items) ns number) ∙ ap (λ ss. slice_get ss number) seens ∙ slice_get-map (seen_in f) (pous_of f) number)
+    (sym (slice_get-map known_in ns number) ∙ ap (λ ss. slice_get ss number) seens ∙ slice_get-map (seen_in f) (pous_of f) number)
   where
-    by : (o : Option NamesOfPou) (q : Option PouData) → option_map scope_named o ≡ option_map scope_of q → option_map (λ (n : NamesOfPou). map seen_view n.variables.items) o ≡ option_map (seen_in f) q
+    by : (o : Option NamesOfPou) (q : Option PouData) → option_map scope_named o ≡ option_map scope_of q → option_map known_in o ≡ option_map (seen_in f) q
         → HaveBlocks f (unwrap_or (option_map (λ (n : NamesOfPou). n.variables.items) o) [])
     by None q h k = refl
     by (Some n) None h k = absurd (let e : ⊥ = cc in e)
     by (Some n) (Some p) h k =
         let same : scope_named n ≡ scope_of p = cc in
-        let is : map seen_view n.variables.items ≡ seen_in f p = cc in
+        let is : known_in n ≡ seen_in f p = cc in
         known_blocks f (scope_of p) n.variables.items (is ∙ ap (λ (s : PouScope). map (seen f (scope_of p)) s.variables) (sym same))
 
 -- a place leads to the POU of its number

@@ -5,7 +5,7 @@ ghost use Rattle.file_bindings.specs.Bindings.{AreBindings, HaveBlocks};
 ghost use Rattle.naming.specs.Broken.{is_program_pou};
 ghost use Rattle.naming.specs.FileScope.{pous_of};
 
-use file_scope::{Table, end_at, standing_at, standing_by_number, value_by};
+use file_scope::{Table, end_at, standing_by_number, value_by};
 use naming::{Declared, Slot, Standing};
 use pou_scope::{NamesOfPou, UseNumbers};
 use source_tree::{Item, Name, Pou, SourceFile, TypeDeclaration};
@@ -154,13 +154,6 @@ impl<'f> Resolved<'f> {
         ensures { ∥ types_view result.now ≡ types_of (file_view self.now.file.now) ∥₁ }
     {
         &self.bindings.types
-    }
-
-    /// What a name in upper case stands for in the file's scope, where it is declared there once, in constant time.
-    pub fn standing(&self, name: &str) -> Option<Standing>
-        ensures { result ≡ standing (file_view self.now.file.now) name.now }
-    {
-        standing_at(&self.bindings.table, name)
     }
 
     /// What a name that is used stands for in the file's scope, where it is declared there once, by the number that is kept of its use.

@@ -12,7 +12,7 @@ use naming::{Declared, qualifier, word_of};
 use rules::Outcome;
 use source_tree::{Name, StepAction};
 
-// The name of an action, which is that of this variable.
+// The name of an action, which is that of this variable, or of none.
 fn action_by(seen: Option<&Declared<'_>>, name: &Name) -> Outcome
     ensures { result ≡ outcome_of (action_by (seen_if seen.entry) (name_view name.now)) }
 {

@@ -22,7 +22,7 @@ pub struct Scope<'a, 'f> {
     ghost all: { AreNamesOf (file_in names) pous.now },
 }
 
-// A member of a block, whose name is that of this variable.
+// A member of a block, whose name is that of this variable, or of none.
 fn member_by(seen: Option<&Declared<'_>>, name: &Name) -> Outcome
     ensures { result ≡ outcome_of (member_by (seen_if seen.entry) (name_view name.now)) }
 {
@@ -41,7 +41,7 @@ fn member_by(seen: Option<&Declared<'_>>, name: &Name) -> Outcome
     }
 }
 
-// The name of an argument, which is that of this variable of the FUNCTION.
+// The name of an argument, which is that of this variable of the FUNCTION, or of none.
 fn argument_by(seen: Option<&Declared<'_>>, name: &Name) -> Outcome
     ensures { result ≡ outcome_of (argument_by (seen_if seen.entry) (name_view name.now)) }
 {
@@ -270,7 +270,7 @@ impl<'f> Scope<'_, 'f> {
         }
     }
 
-    /// The name of a block's call, which is that of this variable.
+    /// The name of a block's call, which is that of this variable, or of none.
     pub fn instance(&self, seen: Option<&Declared<'_>>, name: &Name) -> Outcome
         ensures { result ≡ outcome_of (in_instance (file_in self.now.names) (pou_in self.now.names) (seen_if seen.entry) (name_view name.now)) }
     {

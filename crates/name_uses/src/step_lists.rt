@@ -16,7 +16,7 @@ use rules::Outcome;
 use source_tree::{Name, Steps};
 use std::alloc::{AllocError, Global};
 
-// The name of a step, which is that of this variable.
+// The name of a step, which is that of this variable, or of none.
 fn step_by(seen: Option<&Declared<'_>>, name: &Name) -> Outcome
     ensures { result ≡ outcome_of (step_by (seen_if seen.entry) (name_view name.now)) }
 {

@@ -18,7 +18,7 @@ use source_tree::{Bounds, Expr, Name, TypeName};
 impl Names<'_, '_> {
     ghost use Rattle.pou_scope.specs.NamesView.{file_in, pou_in};
 
-    // A name as a value, which is that of this variable.
+    // A name as a value, which is that of this variable, or of none.
     fn value_by(&self, seen: Option<&Declared<'_>>, name: &Name) -> Outcome
         ensures { result ≡ outcome_of (in_value (file_in self.now) (pou_in self.now) (seen_if seen.entry) (name_view name.now)) }
     {
@@ -116,10 +116,11 @@ impl Names<'_, '_> {
         low.and(self.declared_constant(user, &bounds.high))
     }
 
-    // The type of a variable by name.
-    fn named_type(&self, variable: &Declared<'_>, name: &Name) -> Outcome
+    // The type of a variable by name. Keeps the number of the name.
+    fn named_type(&self, numbers: &mut UseNumbers, variable: &Declared<'_>, name: &Name) -> Outcome
         ensures { result ≡ outcome_of (in_named_type (file_in self.now) (variable_view variable.now) (name_view name.now)) }
     {
+        self.note(numbers, name);
         if variable.role.is_result() {
             return Outcome::whole_if(is_typed(self.file, variable));
         }
@@ -133,33 +134,44 @@ impl Names<'_, '_> {
         }
     }
 
-    // The type of a variable of a number.
-    fn type_of(&self, user: usize, variable: &Declared<'_>, kind: &TypeName) -> Outcome
+    // The type of a variable of a number. Keeps the number of its name.
+    fn type_of(
+        &self,
+        numbers: &mut UseNumbers,
+        user: usize,
+        variable: &Declared<'_>,
+        kind: &TypeName,
+    ) -> Outcome
         ensures { result ≡ outcome_of (in_type (file_in self.now) (pou_in self.now) user (variable_view variable.now) (type_view kind.now)) }
     {
         match kind {
             TypeName::Elementary(_, _) => Outcome::ok(),
             TypeName::Subrange(_, _, bounds) => self.bounds(user, bounds),
-            TypeName::Named(name) => self.named_type(variable, name),
+            TypeName::Named(name) => self.named_type(numbers, variable, name),
         }
     }
 
     // The type of a name of a number, where it has one.
-    fn kind_of(&self, user: usize, variable: &Declared<'_>) -> Outcome
+    fn kind_of(&self, numbers: &mut UseNumbers, user: usize, variable: &Declared<'_>) -> Outcome
         ensures { let v = variable_view variable.now in result ≡ outcome_of (in_kind (file_in self.now) (pou_in self.now) user v v.kind) }
     {
         match variable.kind {
-            Some(kind) => self.type_of(user, variable, kind),
+            Some(kind) => self.type_of(numbers, user, variable, kind),
             None => Outcome::ok(),
         }
     }
 
-    /// The declaration of a number.
+    /// The declaration of a number. Keeps the number of its type's name.
     #[tactic(auto, using(rules::proofs::Outcomes::outcome_and))]
-    pub fn declaration(&self, user: usize, variable: &Declared<'_>) -> Outcome
+    pub fn declaration(
+        &self,
+        numbers: &mut UseNumbers,
+        user: usize,
+        variable: &Declared<'_>,
+    ) -> Outcome
         ensures { result ≡ outcome_of (in_declaration (file_in self.now) (pou_in self.now) user (variable_view variable.now)) }
     {
-        let kind = self.kind_of(user, variable);
+        let kind = self.kind_of(numbers, user, variable);
         kind.and(self.initial(user, variable.initial))
     }
 }

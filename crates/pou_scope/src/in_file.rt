@@ -1,4 +1,4 @@
-// What is known of each variable of a POU, by its declaration.
+// The declarations of a POU, each with what is known of it.
 ghost use Rattle.std.specs.Prelude.{◌≡◌, ◌&&◌, map, option_map, unwrap_or, true, IfOk};
 ghost use Rattle.source_tree.specs.SyntaxView.{name_view, tree_view, type_view, file_view};
 ghost use Rattle.naming.specs.Scopes.{is_value_name, is_constant, are_bounds_constant, is_initial_constant, has_constants, scope_with, seen};

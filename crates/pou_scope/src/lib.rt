@@ -3,7 +3,7 @@
 // - `constants`: the constants and types of a POU's declarations, and what their names break
 // - `declarations`: what the declarations of a POU break, and the blocks of its instances
 // - `declared`: the names of a POU in declared order
-// - `in_file`: what is known of each variable of a POU, by its declaration
+// - `in_file`: the declarations of a POU, each with what is known of it
 // - `names`: the names of a POU, in the file around it
 // - `pou_names`: the names of a POU, and what is known of each of its variables
 // - `slots`: the names of a POU, each with the first variable of that name

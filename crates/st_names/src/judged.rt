@@ -55,7 +55,7 @@ fn judge_pou(
 {
     let names = &scope.names;
     let mut outcome = names.own.once;
-    walk_declarations(names, &mut outcome);
+    walk_declarations(names, &mut outcome, numbers);
     let mut uses = Vec::new(alloc);
     append_blocks(names, &mut uses)?;
     walk_body(

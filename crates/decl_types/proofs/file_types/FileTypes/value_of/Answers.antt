@@ -6,7 +6,6 @@ use Rattle.std.proofs.Props.{props}
 use Rattle.source_tree.specs.SyntaxView.{name_view}
 use Rattle.naming.specs.declared.standing.Standing.TheVariants as standings
 use Rattle.naming.specs.FileScope.{standing}
-use Rattle.naming.specs.ScopeView.{types_view}
 use Rattle.decl_types.specs.Bodies.{file_of}
 use Rattle.typing.specs.Domains.{value_at}
 use Rattle.typing_laws.proofs.StandingLemmas.{value_counted, value_listed, value_is}
