@@ -8,7 +8,7 @@ use Rattle.rules.specs.Judgements.{and}
 use Rattle.source_tree.specs.Syntax.{Named, PathData, Tree, program, PouData, FileData}
 use Rattle.naming.specs.declared.role.Role.{Role}
 use Rattle.naming.specs.declared.role.Role.TheVariants as roles
-use Rattle.naming.specs.declared.seen.Seen.{Seen}
+use Rattle.naming.specs.Seen.{Seen}
 use Rattle.naming.specs.declared.standing.Standing.{Standing}
 use Rattle.naming.specs.declared.standing.Standing.TheVariants as standings
 use Rattle.naming.specs.Broken.{in_path}

@@ -1,6 +1,8 @@
 // What is told of the declarations of POUs: each is judged once.
 ghost use Rattle.std.specs.Prelude.{◌≡◌, None, Some, map, option_map, IfOk};
 ghost use Rattle.source_tree.specs.SyntaxView.{tree_view, type_view};
+ghost use Rattle.file_bindings.specs.Bindings.{HaveBlocks};
+ghost use Rattle.naming.specs.Scopes.{block_of};
 ghost use Rattle.naming.specs.ScopeView.{variable_view, variables_view};
 ghost use Rattle.decl_types.specs.Bodies.{file_in};
 ghost use Rattle.decl_types.specs.Told.{told_of, told_in, told_outcome};
@@ -8,7 +10,6 @@ ghost use Rattle.decl_types.specs.ToldView.{told_view};
 ghost use Rattle.rules.specs.Outcomes.{outcome_of};
 ghost use Rattle.typing.specs.Variables.{domain_if, judged_type_if, judged_instance, judged_by_block};
 
-use crate::blocks::block_of;
 use crate::domains::Domains;
 use crate::elementary_domains::elementary_domain;
 use crate::initial_values::judged_initial_value;
@@ -95,13 +96,14 @@ fn judge_declared(
     }
 }
 
-// What is told of a declaration.
+// What is told of a declaration, of which the block is known where it is an instance.
 #[tactic(auto, using(typing_laws::proofs::Judging::judging))]
 fn told_of<'f>(
     alloc: Global,
     domains: &Domains<'_>,
     variable: &Declared<'f>,
 ) -> Result<Told<'f>, AllocError>
+    requires { variable.now.block ≡ block_of (file_in domains.now) (variable_view variable.now) }
     ensures { IfOk result (λ t. told_view t ≡ told_of (file_in domains.now) (variable_view variable.now)) }
 {
     let at = variable.name.at;
@@ -113,7 +115,7 @@ fn told_of<'f>(
         at,
         variable.initial,
     )?;
-    let block = block_of(domains.types.names, variable);
+    let block = variable.block;
     let judged = judge_declared(alloc, domains, variable, block, of_type.and(of_value))?;
     Ok(Told {
         name: variable.name,
@@ -125,12 +127,13 @@ fn told_of<'f>(
     })
 }
 
-/// What is told of declarations, in their order.
+/// What is told of declarations of a file, in their order, of which the blocks of instances are known.
 pub fn told_in<'f>(
     alloc: Global,
     domains: &Domains<'_>,
     variables: &[Declared<'f>],
 ) -> Result<Vec<Told<'f>>, AllocError>
+    requires { HaveBlocks (file_in domains.now) variables.now }
     ensures { IfOk result (λ list. map told_view list.items ≡ told_in (file_in domains.now) (variables_view variables.now)) }
 {
     let mut list = Vec::new(alloc);

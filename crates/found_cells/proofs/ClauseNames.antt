@@ -12,7 +12,7 @@ use Rattle.source_tree.specs.Syntax.{Named, PathData, program, PouData, FileData
 use Rattle.program_tree.specs.Tree.{ProgramData}
 use Rattle.naming.specs.declared.role.Role.{Role}
 use Rattle.naming.specs.declared.role.Role.TheVariants as roles
-use Rattle.naming.specs.declared.seen.Seen.{Seen}
+use Rattle.naming.specs.Seen.{Seen}
 use Rattle.naming.specs.Broken.{misused, unknown, too_deep, member_by, in_member, in_members, in_parts, in_flag, in_named, in_variable}
 use Rattle.naming.specs.FileScope.{pou_at, standing}
 use Rattle.naming.specs.Types.{specification_at}

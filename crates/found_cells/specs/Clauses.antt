@@ -2,7 +2,7 @@
 use Rattle.std.specs.Prelude.{◌≡◌, ℕ, ◌∷◌, Some, true, false}
 use Rattle.plc_types.specs.declared.data_type.DataType.{DataType}
 use Rattle.source_tree.specs.Syntax.{Named, PathData, PouData, FileData}
-use Rattle.naming.specs.declared.seen.Seen.{Seen}
+use Rattle.naming.specs.Seen.{Seen}
 use Rattle.naming.specs.Broken.{in_variable}
 use Rattle.naming.specs.Scopes.{scope_of, seen_named}
 use Rattle.typing.specs.declared.scope.Place.TheVariants as places

@@ -10,7 +10,7 @@ use Rattle.rules.specs.declared.rule.Rule.TheVariants.{ValueType, OutsideType}
 use Rattle.rules.specs.Judgements.{ok, suppressed, require}
 use Rattle.source_tree.specs.Syntax.{Named, Tree, literal, path, enumerator, paren, unary, chain, call, TypeData, of_elementary, of_subrange, of_name, FileData}
 use Rattle.source_tree.specs.Levels.{IsConstant, IsInitialFormed, IsFileLevelled}
-use Rattle.naming.specs.declared.seen.Seen.{Seen}
+use Rattle.naming.specs.Seen.{Seen}
 use Rattle.naming.specs.FileScope.{types_of, standing, is_value}
 use Rattle.naming.specs.Scopes.{Variable, PouScope, seen_named, is_fault, block_of, is_whole_type, is_typed}
 use Rattle.naming.specs.Broken.{misused, in_value_name, in_value, in_declared_constant, in_initial, in_kind, in_declaration, in_declarations, broken_names}

@@ -16,4 +16,4 @@ returns c =
     let k = c.args.number in
     let vs = variables_view c.variables.result.now in
     on_ok c.told_in.result (λ list. map told_view list.items ≡ told_in f vs) (λ list. map told_view list.items ≡ told_at f k)
-    (λ list is. ∥∥₁_elim c.variables.ensures (hlevel props) (λ kept. is ∙ told_variables f vs k kept)) c.told_in.ensures
+    (λ list is. ∥∥₁_elim c.variables.ensures.variables (hlevel props) (λ kept. is ∙ told_variables f vs k kept)) c.told_in.ensures
