@@ -1,8 +1,10 @@
 // A file whose names are bound.
 ghost use Rattle.std.specs.Prelude.{◌≡◌, ◌<◌, [], Some, length, count_by, option_map};
+ghost use Rattle.rules.specs.declared.rule.Refusal.{Refusal};
 ghost use Rattle.source_tree.specs.SyntaxView.{file_view};
 ghost use Rattle.file_bindings.specs.Bindings.{AreBindings, HaveBlocks};
 ghost use Rattle.naming.specs.Broken.{is_program_pou};
+ghost use Rattle.naming.specs.Circles.{IsBroken};
 ghost use Rattle.naming.specs.FileScope.{pous_of};
 
 use file_scope::{Table, end_at, standing_by_number, value_by};
@@ -30,6 +32,7 @@ pub struct Bindings<'f> {
 pub struct Resolved<'f> {
     pub file: &'f SourceFile,
     bindings: Bindings<'f>,
+    ghost unbroken: { (r : Refusal) → ¬ (IsBroken (file_view file.now) r) },
     ghost one: { count_by is_program_pou (pous_of (file_view file.now)) ≡ 1 },
     ghost bound: { AreBindings (file_view file.now) bindings },
 }
@@ -63,8 +66,9 @@ impl<'f> Resolved<'f> {
     ghost use Rattle.naming.specs.Slots.{slot_named};
     ghost use Rattle.naming.specs.Types.{end_of};
 
-    /// A file that has one PROGRAM, with its bindings.
+    /// A file that breaks no rule on names and has one PROGRAM, with its bindings.
     pub fn new(file: &'f SourceFile, bindings: Bindings<'f>) -> Resolved<'f>
+        requires unbroken { (r : Refusal) → ¬ (IsBroken (file_view file.now) r) }
         requires one { count_by is_program_pou (pous_of (file_view file.now)) ≡ 1 }
         requires bound { AreBindings (file_view file.now) bindings }
         ensures { file_view result.file.now ≡ file_view file.now }

@@ -1,2 +1,3 @@
 mod LongLemmas
 pub mod ToldLemmas
+mod ChartRoom

@@ -1,5 +1,5 @@
 -- Where the charts of a POU and of its instances stand among its cells, by what is told of its declarations.
-use Rattle.std.specs.Prelude.{ℕ, ◌+◌, ◌==◌, List, [], ◌∷◌, ◌++◌, count_by, Option, Some, None, if◌then◌else◌}
+use Rattle.std.specs.Prelude.{ℕ, ◌+◌, ◌==◌, max, List, [], ◌∷◌, ◌++◌, count_by, Option, Some, None, if◌then◌else◌}
 use Rattle.program_tree.specs.declared.typed.ChartCells.{ChartCells}
 use Rattle.naming.specs.Scopes.{is_step}
 use Rattle.typing.specs.Places.{is_stored_action, size_among}
@@ -23,3 +23,13 @@ told_charts_of sizes of_block place (t ∷ ts) =
     if is_stored_action t.role then told_charts_of sizes of_block place ts
     else (if is_step t.role then record { first = place; steps = told_steps (t ∷ ts) } ∷ []
     else told_charts_of_variable sizes of_block place t.block ++ told_charts_of sizes of_block (place + told_cells sizes t) ts)
+
+-- how many cells the block of an instance has; of what is no instance none are asked
+abbrev pub told_block_cells : List ℕ → Option ℕ → ℕ
+told_block_cells sizes None = 0
+told_block_cells sizes (Some b) = size_among sizes (Some b)
+
+-- how many cells names ask for: each its own, and an instance at least those of its block
+abbrev pub told_room : List ℕ → List ToldData → ℕ
+told_room sizes [] = 0
+told_room sizes (t ∷ ts) = max (told_cells sizes t) (told_block_cells sizes t.block) + told_room sizes ts

@@ -1,11 +1,12 @@
 // Where the charts of a POU and of its instances stand among its cells.
-ghost use Rattle.std.specs.Prelude.{◌≡◌, ◌≤◌, ◌+◌, ◌++◌, map, IfOk, OnOk};
+ghost use Rattle.std.specs.Prelude.{◌≡◌, ◌<◌, ◌+◌, ◌^◌, ◌++◌, map, true, IfOk, OnOk};
 ghost use Rattle.decl_types.specs.Bodies.{file_in};
 ghost use Rattle.decl_types.specs.ToldView.{told_view};
 ghost use Rattle.pou_cells.specs.ToldPlaces.{told_cells};
-ghost use Rattle.typing.specs.Places.{sizes_of, variables_at};
+ghost use Rattle.typing.specs.Places.{sizes_of, variables_at, count_of_cells};
 ghost use Rattle.typing.specs.ChartPlaces.{block_charts, charts_in};
-ghost use Rattle.st_types.specs.ToldCharts.{told_steps, told_charts_of_variable, told_charts_of};
+ghost use Rattle.typing.specs.Pous.{has_room};
+ghost use Rattle.st_types.specs.ToldCharts.{told_steps, told_charts_of_variable, told_charts_of, told_block_cells, told_room};
 
 use decl_types::Told;
 use pou_cells::{PlacedPous, is_stored_action};
@@ -25,14 +26,12 @@ fn steps_among(variables: &[Told<'_>]) -> usize
     steps
 }
 
-// The place behind the cells of a variable, which begin at a place. One past 64 bits, which no text asks for, is want of memory.
-fn place_behind(placed: &PlacedPous<'_>, place: usize, told: &Told<'_>) -> Result<usize, AllocError>
-    requires { 1 ≤ place }
-    ensures { IfOk result (λ n. n ≡ place + told_cells (sizes_of (file_in placed.now.pous.domains)) (told_view told.now)) }
+// The place behind the cells of a variable, which begin at a place.
+fn place_behind(placed: &PlacedPous<'_>, place: usize, told: &Told<'_>) -> usize
+    requires { place + told_cells (sizes_of (file_in placed.now.pous.domains)) (told_view told.now) < 2 ^ 64 }
+    ensures { result ≡ place + told_cells (sizes_of (file_in placed.now.pous.domains)) (told_view told.now) }
 {
-    place
-        .checked_add(placed.cells_taken(told))
-        .ok_or(AllocError)
+    place + placed.cells_taken(told)
 }
 
 // Appends the charts of an instance of a block, whose cells begin at a place.
@@ -44,7 +43,7 @@ fn write_block(
     block: usize,
     list: &mut Vec<ChartCells>,
 ) -> Result<(), AllocError>
-    requires { 1 ≤ place }
+    requires { place + count_of_cells (file_in placed.now.pous.domains) (sizes_of (file_in placed.now.pous.domains)) (variables_at (file_in placed.now.pous.domains) block) < 2 ^ 64 }
     ensures { OnOk result (list.new.items ≡ list.old.items ++ block_charts (file_in placed.now.pous.domains) depth place block) }
 {
     if depth == 0 {
@@ -62,7 +61,7 @@ fn write_charts(
     variables: &[Told<'_>],
     list: &mut Vec<ChartCells>,
 ) -> Result<(), AllocError>
-    requires { 1 ≤ first }
+    requires { first + told_room (sizes_of (file_in placed.now.pous.domains)) (map told_view variables.now) < 2 ^ 64 }
     ensures { OnOk result (list.new.items ≡ list.old.items ++ told_charts_of (sizes_of (file_in placed.now.pous.domains)) (block_charts (file_in placed.now.pous.domains) depth) first (map told_view variables.now)) }
 {
     let mut place = first;
@@ -79,7 +78,7 @@ fn write_charts(
             return Ok(());
         }
         write_variable(placed, depth, place, told, list)?;
-        place = place_behind(placed, place, told)?;
+        place = place_behind(placed, place, told);
     }
     Ok(())
 }
@@ -93,7 +92,7 @@ fn write_variable(
     told: &Told<'_>,
     list: &mut Vec<ChartCells>,
 ) -> Result<(), AllocError>
-    requires { 1 ≤ place }
+    requires { place + told_block_cells (sizes_of (file_in placed.now.pous.domains)) told.now.block < 2 ^ 64 }
     ensures { OnOk result (list.new.items ≡ list.old.items ++ told_charts_of_variable (sizes_of (file_in placed.now.pous.domains)) (block_charts (file_in placed.now.pous.domains) depth) place told.now.block) }
 {
     let Some(block) = told.block else {
@@ -105,12 +104,13 @@ fn write_variable(
     write_block(placed, depth, place, block, list)
 }
 
-/// The charts of the PROGRAM of a number and of its instances, in the order of their cells.
+/// The charts of the PROGRAM of a number and of its instances, in the order of their cells, of which it has no more than M2 allows.
 pub(crate) fn charts_in(
     alloc: Global,
     placed: &PlacedPous<'_>,
     number: usize,
 ) -> Result<Vec<ChartCells>, AllocError>
+    requires { has_room (file_in placed.now.pous.domains) number ≡ true }
     ensures { IfOk result (λ list. list.items ≡ charts_in (file_in placed.now.pous.domains) (variables_at (file_in placed.now.pous.domains) number)) }
 {
     let mut list = Vec::new(alloc);

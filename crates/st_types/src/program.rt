@@ -1,9 +1,10 @@
 // The typed program of a file's one PROGRAM.
-ghost use Rattle.std.specs.Prelude.{◌≡◌, Some, IfOk};
+ghost use Rattle.std.specs.Prelude.{◌≡◌, true, Some, IfOk};
 ghost use Rattle.source_tree.specs.SyntaxView.{pou_view};
 ghost use Rattle.program_tree.specs.View.{program_view};
 ghost use Rattle.naming.specs.FileScope.{pou_at};
 ghost use Rattle.decl_types.specs.Bodies.{file_in};
+ghost use Rattle.typing.specs.Pous.{has_room};
 ghost use Rattle.running_pous.specs.Stated.{stated_program};
 
 use crate::bodies::pou_body;
@@ -24,7 +25,8 @@ fn type_program(
     number: usize,
     program: &Pou,
 ) -> Result<Program, AllocError>
-    requires { pou_at (file_in placed.now.pous.domains) number ≡ Some (pou_view program.now) }
+    requires pou { pou_at (file_in placed.now.pous.domains) number ≡ Some (pou_view program.now) }
+    requires room { has_room (file_in placed.now.pous.domains) number ≡ true }
     ensures { IfOk result (λ p. program_view p ≡ stated_program (file_in placed.now.pous.domains) number (pou_view program.now)) }
 {
     let body = pou_body(alloc, placed, number, program)?;
@@ -41,11 +43,11 @@ fn type_program(
 }
 
 impl Checked<'_> {
-    ghost use Rattle.std.specs.Prelude.{ℕ, [], true, OnOk};
+    ghost use Rattle.std.specs.Prelude.{ℕ, [], OnOk};
     ghost use Rattle.source_tree.specs.Syntax.{PouData};
     ghost use Rattle.scan_model.specs.InRange.{IsFitToRun};
     ghost use Rattle.file_bindings.specs.Bound.{program_number};
-    ghost use Rattle.typing.specs.Pous.{broken_types, has_room};
+    ghost use Rattle.typing.specs.Pous.{broken_types};
     ghost use Rattle.st_types.specs.CheckedFiles.{file_checked};
 
     /// The typed program of the PROGRAM. Fails where memory runs out.

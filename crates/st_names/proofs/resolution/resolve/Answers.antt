@@ -25,6 +25,9 @@ nothing f none = nothing_left (broken_names f) (λ r h. none r (inl h))
 all_ordered : (f : FileData) → Unbroken f → length (order_of (uses_of f)) ≡ length (pous_of f)
 all_ordered f none = ordered f (nothing f none) (λ r c. none r (inr c))
 
+pub new-requires-clause-unbroken : goal.new-requires-clause-unbroken
+new-requires-clause-unbroken c = subst (IsFirstOf (IsBroken (file_view c.args.file.now))) c.in-None.is c.in_ok-first.ensures.broken
+
 pub new-requires-clause-one : goal.new-requires-clause-one
 new-requires-clause-one c =
     let f = file_view c.args.file.now in

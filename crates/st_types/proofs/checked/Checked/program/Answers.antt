@@ -1,4 +1,4 @@
-use Rattle.std.proofs.Common.{◌≡◌, ℕ, Ok, ap, sym, subst, ◌∙◌}
+use Rattle.std.proofs.Common.{◌≡◌, ℕ, Ok, true, ap, sym, subst, ◌∙◌}
 use Rattle.std.specs.declared.alloc.AllocError.{AllocError}
 use Rattle.source_tree.specs.Syntax.{PouData, FileData}
 use Rattle.source_tree.specs.SyntaxView.{pou_view}
@@ -8,6 +8,7 @@ use Rattle.file_bindings.specs.Bound.{program_number}
 use Rattle.naming.specs.Broken.{is_program_pou}
 use Rattle.naming.specs.FileScope.{pous_of, pou_at}
 use Rattle.decl_types.specs.Bodies.{file_in}
+use Rattle.typing.specs.Pous.{has_room}
 use Rattle.typing_laws.proofs.OnlyPou.{if_each, position_inside}
 use Rattle.typing_laws.proofs.FitLemmas.{typed_program-fit}
 use Rattle.running_pous.specs.Stated.{stated_program}
@@ -32,3 +33,6 @@ returns-clause-fit c =
 
 pub pou-program-requires : goal.pou-program-requires
 pou-program-requires c = position_inside is_program_pou c.args.self.number (pous_of (file_in c.args.self.pous.domains)) c.args.self.one
+
+pub type_program-requires-clause-room : goal.type_program-requires-clause-room
+type_program-requires-clause-room c = subst (λ (f : FileData). has_room f c.args.self.number ≡ true) (sym c.in_ok-placed.ensures) c.args.self.room
