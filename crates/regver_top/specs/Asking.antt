@@ -25,7 +25,7 @@ abbrev pub settled : Asked → Asked
 settled a = if is_refused a then usage else a
 
 -- what the words of a command line ask for
-abbrev pub asked_in : List String → Asked
+abbrev pub asked_in : {A : Type 0} → List (String A) → Asked
 asked_in words = settled (asked (map string_bytes words))
 
 -- what a shelf shows before and after: what is told of each file, and how often reads and writes of it have failed

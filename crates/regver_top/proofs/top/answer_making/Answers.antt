@@ -1,4 +1,4 @@
-use Rattle.std.proofs.Common.{◌≡◌, ◌⊎◌, ℕ, true, false, not, is_some, unwrap_or, Some, None, rules, refl, sym, ap, subst}
+use Rattle.std.proofs.Common.{◌≡◌, ◌⊎◌, not, is_some, unwrap_or, Some, None, rules, refl, sym, ap, subst}
 use Rattle.outside.specs.Causes.{Rose}
 use Rattle.command_line.specs.Asked.{Asked, gen, usage}
 use Rattle.command_answers.specs.declared.status.Status.TheVariants.{WriteFault}
@@ -7,7 +7,7 @@ use Rattle.command_answers.specs.Answers.{Answers}
 use Rattle.command_answers.proofs.AnswerLemmas.{answered}
 use Rattle.command_line.specs.Counts.{count_of}
 use Rattle.gen_command.specs.Reports.{GenReports, KeepsOthers, LeavesFiles, OneFailed}
-use Rattle.regver_top.specs.Asking.{change, is_refused, number, making_in, AreTold, IsAsked, SomeRose, KeepsFiles, LeavesFinding, WriteRose}
+use Rattle.regver_top.specs.Asking.{change, number, making_in, AreTold, IsAsked, SomeRose, KeepsFiles, LeavesFinding, WriteRose}
 use Rattle.regver_top.proofs.Settling.{settled_usage, settled_same}
 use Rattle.regver_top.proofs.top.answer_making.Goals as goal
 
