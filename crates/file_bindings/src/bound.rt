@@ -7,10 +7,11 @@ ghost use Rattle.naming.specs.Broken.{is_program_pou};
 ghost use Rattle.naming.specs.Circles.{IsBroken};
 ghost use Rattle.naming.specs.FileScope.{pous_of};
 
-use file_scope::{Table, end_at, standing_by_number, value_by};
+use file_scope::{Table, end_at, standing_by_number};
 use naming::{Declared, Slot, Standing};
-use pou_scope::{NamesOfPou, UseNumbers};
+use pou_scope::NamesOfPou;
 use source_tree::{Item, Name, Pou, SourceFile, TypeDeclaration};
+use use_numbers::{UseNumbers, value_by};
 
 /// The names of each POU, the types, the numbers of all uses of names, the places of POUs among the items of a file, which POUs
 /// each uses, their order, the number of the PROGRAM, the table of all names, and where types lead to.
@@ -121,6 +122,11 @@ impl<'f> Resolved<'f> {
             None => &[],
             Some(uses) => uses,
         }
+    }
+
+    /// The numbers of all uses of names.
+    pub fn numbers(&self) -> &UseNumbers {
+        &self.bindings.numbers
     }
 
     // The slot of a name that is used, in the POU of a number.

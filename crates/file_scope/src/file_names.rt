@@ -17,6 +17,7 @@ use naming::{Standing, is_library, is_that_value, type_number};
 use rules::{Outcome, Refusal};
 use source_tree::{Name, SourceFile, Specification, TypeName};
 use std::alloc::{AllocError, Global};
+use use_numbers::{UseNumbers, numbered};
 
 /// A file, and the table of its names.
 #[derive(Drop)]
@@ -28,6 +29,17 @@ pub struct FileNames<'a> {
 }
 
 impl FileNames<'_> {
+    ghost use Rattle.use_numbers.specs.UseNumbers.{NotesUse};
+
+    /// Keeps the number of a name that is used, where the file declares it.
+    pub fn note(&self, numbers: &mut UseNumbers, name: &Name)
+        ensures { NotesUse self.now.table (name_view name.now) numbers.old numbers.new }
+    {
+        if let Some((number, _)) = numbered(&self.table, name.text.as_str()) {
+            numbers.keep(name.at, number);
+        }
+    }
+
     /// What a name stands for that the file's scope has once.
     pub fn standing(&self, name: &Name) -> Option<Standing>
         ensures { result ≡ standing (file_view self.now.file.now) (name_view name.now).text }

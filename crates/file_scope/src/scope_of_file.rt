@@ -25,6 +25,7 @@ use naming::{Callee, PouShape, Shape, Standing, is_library, is_type, is_value, p
 use rules::{Outcome, Refusal};
 use source_tree::{Bounds, Expr, Name, Pou, PouKind, SourceFile, Specification, TypeName};
 use std::alloc::{AllocError, Global};
+use use_numbers::UseNumbers;
 
 /// The types of a file, which of them break no rule and are no other types by name, what its POUs are, and for each declaration those
 /// that it uses in a circle.
@@ -222,18 +223,20 @@ impl FileScope<'_> {
         }
     }
 
-    // A bound in the declaration of a number.
-    fn bound(&self, user: usize, bound: &Expr) -> Outcome
+    // A bound in the declaration of a number. Keeps the number of its name.
+    fn bound(&self, numbers: &mut UseNumbers, user: usize, bound: &Expr) -> Outcome
         ensures { result ≡ outcome_of (in_bound (file_view self.now.types.names.file.now) user (tree_view bound.now)) }
     {
         match bound {
             Expr::Path(path) => {
+                self.types.names.note(numbers, &path.first);
                 if self.is_circular_use(user, &path.first) {
                     return misused(&path.first);
                 }
                 self.value_name(&path.first)
             }
             Expr::Enumerator(kind, value) => {
+                self.types.names.note(numbers, value);
                 if self.is_circular_use(user, kind) {
                     return misused(kind);
                 }
@@ -243,19 +246,20 @@ impl FileScope<'_> {
         }
     }
 
-    // The bounds in the declaration of a number.
+    // The bounds in the declaration of a number. Keeps the numbers of their names.
     #[tactic(auto, using(rules::proofs::Outcomes::outcome_and))]
-    fn bounds(&self, user: usize, bounds: &Bounds) -> Outcome
+    fn bounds(&self, numbers: &mut UseNumbers, user: usize, bounds: &Bounds) -> Outcome
         ensures { let f = file_view self.now.types.names.file.now in result ≡ outcome_of (and (in_bound f user (tree_view bounds.now.low)) (in_bound f user (tree_view bounds.now.high))) }
     {
-        let low = self.bound(user, &bounds.low);
-        low.and(self.bound(user, &bounds.high))
+        let low = self.bound(numbers, user, &bounds.low);
+        low.and(self.bound(numbers, user, &bounds.high))
     }
 
-    // A type by name in the declaration of a number.
-    fn declared_type(&self, user: usize, name: &Name) -> Outcome
+    // A type by name in the declaration of a number. Keeps the number of the name.
+    fn declared_type(&self, numbers: &mut UseNumbers, user: usize, name: &Name) -> Outcome
         ensures { result ≡ outcome_of (in_declared_type (file_view self.now.types.names.file.now) user (name_view name.now)) }
     {
+        self.types.names.note(numbers, name);
         if is_type(self.types.names.standing(name)) {
             return Outcome::whole_if(self.is_whole_type_name(name));
         }
@@ -265,23 +269,30 @@ impl FileScope<'_> {
         self.use_at(name)
     }
 
-    /// The specification of a type in the declaration of a number.
-    pub fn specification(&self, user: usize, specification: &Specification) -> Outcome
+    /// The specification of a type in the declaration of a number. Keeps the numbers of its names.
+    pub fn specification(
+        &self,
+        numbers: &mut UseNumbers,
+        user: usize,
+        specification: &Specification,
+    ) -> Outcome
         ensures { result ≡ outcome_of (in_specification (file_view self.now.types.names.file.now) user (specification_view specification.now)) }
     {
         match specification {
-            Specification::Type(TypeName::Named(name)) => self.declared_type(user, name),
-            Specification::Type(TypeName::Subrange(_, _, bounds)) => self.bounds(user, bounds),
+            Specification::Type(TypeName::Named(name)) => self.declared_type(numbers, user, name),
+            Specification::Type(TypeName::Subrange(_, _, bounds)) => {
+                self.bounds(numbers, user, bounds)
+            }
             _ => Outcome::ok(),
         }
     }
 
-    /// The type of the result of a POU, whose declaration has this number, where it is a FUNCTION.
-    pub fn result(&self, user: usize, kind: &PouKind) -> Outcome
+    /// The type of the result of a POU, whose declaration has this number, where it is a FUNCTION. Keeps the number of its name.
+    pub fn result(&self, numbers: &mut UseNumbers, user: usize, kind: &PouKind) -> Outcome
         ensures { result ≡ outcome_of (in_result (file_view self.now.types.names.file.now) user (pou_kind_view kind.now)) }
     {
         match kind {
-            PouKind::Function(TypeName::Named(name)) => self.declared_type(user, name),
+            PouKind::Function(TypeName::Named(name)) => self.declared_type(numbers, user, name),
             _ => Outcome::ok(),
         }
     }

@@ -10,7 +10,6 @@ ghost use Rattle.file_scope.specs.FileView.{file_names_view};
 ghost use Rattle.naming.specs.Library.{is_library};
 ghost use Rattle.naming.specs.Table.{entry_named, count_in, recounted, is_twice, standing_by, used, Holds};
 
-use crate::entries::value_by;
 use crate::names::FileName;
 use crate::refusals::{misused, unknown};
 use indexmap::IndexMap;
@@ -18,6 +17,7 @@ use naming::{Entry, Standing, is_library};
 use rules::{Outcome, Refusal, Rule};
 use source_tree::Name;
 use std::alloc::{AllocError, Global};
+use use_numbers::value_by;
 
 /// The entries of a file's names.
 pub type Table = IndexMap<String, Entry>;

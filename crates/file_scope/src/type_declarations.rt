@@ -16,6 +16,7 @@ use crate::scope_of_file::FileScope;
 use rules::{Outcome, Refusal};
 use source_tree::{Pou, TypeDeclaration};
 use std::alloc::{AllocError, Global};
+use use_numbers::UseNumbers;
 
 // N3 at a type that is there behind all steps of some way, and still leads on.
 fn circle_of(names: &FileNames<'_>, is_reached: bool, declaration: &TypeDeclaration) -> Outcome
@@ -27,10 +28,11 @@ fn circle_of(names: &FileNames<'_>, is_reached: bool, declaration: &TypeDeclarat
     Outcome::ok()
 }
 
-/// Keeps what the declarations of types break, where it comes first.
+/// Keeps what the declarations of types break, where it comes first, and the numbers of the names that they use.
 pub fn walk_types(
     alloc: Global,
     scope: &FileScope<'_>,
+    numbers: &mut UseNumbers,
     types: &[&TypeDeclaration],
     first: &mut Option<Refusal>,
 ) -> Result<(), AllocError>
@@ -43,19 +45,25 @@ pub fn walk_types(
         let is_reached = is_marked(&reached, number);
         let circle = circle_of(names, is_reached, declaration);
         *first = Refusal::earlier(*first, circle.first);
-        let judged = scope.specification(number, &declaration.specification);
+        let judged = scope.specification(numbers, number, &declaration.specification);
         *first = Refusal::earlier(*first, judged.first);
     }
     Ok(())
 }
 
-/// Keeps what the types of results break, where it comes first.
-pub fn walk_results(scope: &FileScope<'_>, pous: &[&Pou], first: &mut Option<Refusal>)
+/// Keeps what the types of results break, where it comes first, and the numbers of their names.
+pub fn walk_results(
+    scope: &FileScope<'_>,
+    numbers: &mut UseNumbers,
+    pous: &[&Pou],
+    first: &mut Option<Refusal>,
+)
     requires { pous_view pous.now ≡ pous_of (file_view scope.now.types.names.file.now) }
     ensures { let f = file_view scope.now.types.names.file.now in first.new ≡ earlier first.old (first_in (in_results f (length (types_of f)) (pous_of f))) }
 {
     let types = scope.types.ends.as_slice().len();
     for (place, pou) in pous.iter().enumerate() {
-        *first = Refusal::earlier(*first, scope.result(types + place, &pou.kind).first);
+        let judged = scope.result(numbers, types + place, &pou.kind);
+        *first = Refusal::earlier(*first, judged.first);
     }
 }

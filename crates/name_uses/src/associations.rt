@@ -11,6 +11,7 @@ use file_scope::{unknown_action, unknown_qualifier};
 use naming::{Declared, qualifier, word_of};
 use rules::Outcome;
 use source_tree::{Name, StepAction};
+use use_numbers::UseNumbers;
 
 // The name of an action, which is that of this variable, or of none.
 fn action_by(seen: Option<&Declared<'_>>, name: &Name) -> Outcome
@@ -47,21 +48,30 @@ fn judged_word(word: Option<&Name>) -> Outcome
     }
 }
 
-// An action that a step names, and its word.
+// An action that a step names, and its word. Keeps the number of the action.
 #[tactic(auto, using(rules::proofs::Outcomes::outcome_and))]
-fn judged_association(scope: &Scope<'_, '_>, action: &StepAction) -> Outcome
+fn judged_association(
+    scope: &Scope<'_, '_>,
+    numbers: &mut UseNumbers,
+    action: &StepAction,
+) -> Outcome
     ensures { result ≡ outcome_of (in_association (file_in scope.now.names) (pou_in scope.now.names) (step_action_view action.now)) }
 {
-    let known = action_by(scope.names.seen(&action.action), &action.action);
+    let known = action_by(scope.names.part(numbers, &action.action), &action.action);
     known.and(judged_word(word_of(&action.brackets)))
 }
 
-/// Keeps what the actions break that a step names.
+/// Keeps what the actions break that a step names, and the numbers of the actions.
 #[tactic(auto, using(rules::proofs::Outcomes::both_on, rules::proofs::Outcomes::both_ok))]
-pub fn walk_associations(scope: &Scope<'_, '_>, actions: &[StepAction], outcome: &mut Outcome)
+pub fn walk_associations(
+    scope: &Scope<'_, '_>,
+    actions: &[StepAction],
+    outcome: &mut Outcome,
+    numbers: &mut UseNumbers,
+)
     ensures { outcome.new ≡ both outcome.old (outcome_of (in_associations (file_in scope.now.names) (pou_in scope.now.names) (step_actions_view actions.now))) }
 {
     for action in actions {
-        *outcome = outcome.and(judged_association(scope, action));
+        *outcome = outcome.and(judged_association(scope, numbers, action));
     }
 }

@@ -9,10 +9,10 @@ ghost use Rattle.rules.specs.Outcomes.{outcome_of, both};
 use crate::chart::judged_chart;
 use crate::scope::Scope;
 use crate::walk::walk_stmts;
-use pou_scope::UseNumbers;
 use rules::Outcome;
 use source_tree::Body;
 use std::alloc::{AllocError, Global};
+use use_numbers::UseNumbers;
 
 /// Keeps what a body breaks and the numbers of its uses of names, and appends the FUNCTIONs that it calls.
 pub fn walk_body(

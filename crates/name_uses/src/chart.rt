@@ -10,35 +10,40 @@ use crate::associations::walk_associations;
 use crate::scope::Scope;
 use crate::step_lists::walk_steps;
 use crate::walk::{walk_expr, walk_stmts};
-use pou_scope::UseNumbers;
 use rules::{Outcome, Rule};
 use source_tree::{ChartAction, ChartPart, ChartStep, ChartTransition, Name};
 use std::alloc::{AllocError, Global};
+use use_numbers::UseNumbers;
 
-// The name of a part.
-fn own_name(scope: &Scope<'_, '_>, name: &Name) -> Outcome
+// The name of a part. Keeps its number.
+fn own_name(scope: &Scope<'_, '_>, numbers: &mut UseNumbers, name: &Name) -> Outcome
     ensures { result ≡ outcome_of (in_own_name (pou_in scope.now.names) (name_view name.now)) }
 {
-    Outcome::whole_if(!scope.names.own.is_doubled(name))
+    Outcome::whole_if(!scope.names.own.is_doubled(numbers, name))
 }
 
-// The name of a transition, where it has one.
-fn own_name_if(scope: &Scope<'_, '_>, name: &Option<Name>) -> Outcome
+// The name of a transition, where it has one. Keeps its number.
+fn own_name_if(scope: &Scope<'_, '_>, numbers: &mut UseNumbers, name: &Option<Name>) -> Outcome
     ensures { result ≡ outcome_of (in_own_name_if (pou_in scope.now.names) (option_map name_view name.now)) }
 {
     match name {
-        Some(name) => own_name(scope, name),
+        Some(name) => own_name(scope, numbers, name),
         None => Outcome::ok(),
     }
 }
 
-// Keeps what a step breaks.
+// Keeps what a step breaks, and the numbers of its names.
 #[tactic(auto, using(rules::proofs::Outcomes::both_on, rules::proofs::Outcomes::both_ok))]
-fn walk_step(scope: &Scope<'_, '_>, step: &ChartStep, outcome: &mut Outcome)
+fn walk_step(
+    scope: &Scope<'_, '_>,
+    step: &ChartStep,
+    outcome: &mut Outcome,
+    numbers: &mut UseNumbers,
+)
     ensures { outcome.new ≡ both outcome.old (outcome_of (in_chart_step (file_in scope.now.names) (pou_in scope.now.names) (chart_step_view step.now))) }
 {
-    *outcome = outcome.and(own_name(scope, &step.name));
-    walk_associations(scope, &step.actions, outcome);
+    *outcome = outcome.and(own_name(scope, numbers, &step.name));
+    walk_associations(scope, &step.actions, outcome, numbers);
 }
 
 // Keeps what a transition breaks, and appends the FUNCTIONs that it calls.
@@ -54,9 +59,9 @@ fn walk_transition(
     ensures judged { OnOk result (outcome.new ≡ both outcome.old (outcome_of (in_transition (file_in scope.now.names) (pou_in scope.now.names) (chart_transition_view transition.now)))) }
     ensures calls { OnOk result (calls.new.items ≡ calls.old.items ++ calls_in (file_in scope.now.names) (chart_transition_view transition.now).condition) }
 {
-    *outcome = outcome.and(own_name_if(scope, &transition.name));
-    walk_steps(alloc, scope, &transition.from, outcome)?;
-    walk_steps(alloc, scope, &transition.to, outcome)?;
+    *outcome = outcome.and(own_name_if(scope, numbers, &transition.name));
+    walk_steps(alloc, scope, &transition.from, outcome, numbers)?;
+    walk_steps(alloc, scope, &transition.to, outcome, numbers)?;
     walk_expr(scope, &transition.condition, outcome, numbers, calls)
 }
 
@@ -72,7 +77,7 @@ fn walk_action(
     ensures judged { OnOk result (outcome.new ≡ both outcome.old (outcome_of (in_action (file_in scope.now.names) (pou_in scope.now.names) (chart_action_view action.now)))) }
     ensures calls { OnOk result (calls.new.items ≡ calls.old.items ++ calls_in_stmts (file_in scope.now.names) (chart_action_view action.now).body) }
 {
-    *outcome = outcome.and(own_name(scope, &action.name));
+    *outcome = outcome.and(own_name(scope, numbers, &action.name));
     walk_stmts(scope, &action.body, outcome, numbers, calls)
 }
 
@@ -90,7 +95,7 @@ fn walk_part(
 {
     match part {
         ChartPart::Step(step) => {
-            walk_step(scope, step, outcome);
+            walk_step(scope, step, outcome, numbers);
             Ok(())
         }
         ChartPart::Transition(transition) => {

@@ -10,9 +10,10 @@ ghost use Rattle.naming.specs.ScopeView.{seen_if, seen_view};
 
 use file_scope::{misused, too_deep, unknown};
 use naming::{Callee, Declared, is_value};
-use pou_scope::{Names, NamesOfPou, UseNumbers};
+use pou_scope::{Names, NamesOfPou};
 use rules::Outcome;
 use source_tree::{Name, Path};
+use use_numbers::UseNumbers;
 
 /// The names of a POU, and those of all POUs of its file.
 #[derive(Clone, Copy)]

@@ -8,10 +8,11 @@ ghost use Rattle.rules.specs.Outcomes.{outcome_of, both};
 
 use crate::scope::Scope;
 use naming::{Callee, append_called};
-use pou_scope::{UseNumbers, instance_of};
+use pou_scope::instance_of;
 use rules::Outcome;
 use source_tree::{Argument, Arm, Connection, Entry, Expr, Iteration, Label, Link, Stmt};
 use std::alloc::AllocError;
+use use_numbers::UseNumbers;
 
 /// Keeps what an expression breaks and the numbers of its uses of names, and appends the FUNCTIONs that it calls.
 #[cycle(walk_expr)]

@@ -1,4 +1,3 @@
 pub mod NoUsesLemmas
 pub mod JudgedLemmas
 pub mod SeenLemmas
-pub mod UseNumbersLemmas

@@ -1,6 +1,5 @@
 pub mod NamesView
 pub mod SlottedView
-pub mod UseNumbers
 pub mod InFileView
 pub mod AllSeen
 pub mod NoUses

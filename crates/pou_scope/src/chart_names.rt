@@ -54,10 +54,34 @@ fn stored_actions(alloc: Global, parts: &[ChartPart]) -> Result<TextSet, AllocEr
     Ok(stored)
 }
 
-// Appends a name of a chart.
+// How many steps and how many actions of a chart stand before a part.
+#[derive(Drop)]
+struct Counts {
+    steps: usize,
+    actions: usize,
+}
+
+impl Counts {
+    // The number of a step that stands here.
+    fn step(&mut self) -> usize {
+        let number = self.steps;
+        self.steps = number.saturating_add(1);
+        number
+    }
+
+    // The number of an action that stands here.
+    fn action(&mut self) -> usize {
+        let number = self.actions;
+        self.actions = number.saturating_add(1);
+        number
+    }
+}
+
+// Appends a name of a chart, of a step or an action with its number.
 fn append_name<'a>(
     list: &mut Vec<Declared<'a>>,
     role: Role,
+    part: Option<usize>,
     name: &'a Name,
 ) -> Result<(), AllocError>
     ensures { OnOk result (variables_view list.new.items ≡ variables_view list.old.items ++ of_chart role (name_view name.now) ∷ []) }
@@ -67,6 +91,7 @@ fn append_name<'a>(
         role,
         kind: None,
         initial: None,
+        part,
         block: None,
         whole: false,
     })?;
@@ -81,7 +106,7 @@ fn append_transition<'a>(
     ensures { OnOk result (variables_view list.new.items ≡ variables_view list.old.items ++ transition_named (option_map name_view name.now)) }
 {
     match name {
-        Some(name) => append_name(list, Role::Transition, name),
+        Some(name) => append_name(list, Role::Transition, None, name),
         None => Ok(()),
     }
 }
@@ -90,16 +115,20 @@ fn append_transition<'a>(
 fn append_part<'a>(
     list: &mut Vec<Declared<'a>>,
     stored: &TextSet,
+    counts: &mut Counts,
     part: &'a ChartPart,
 ) -> Result<(), AllocError>
     ensures { OnOk result (variables_view list.new.items ≡ variables_view list.old.items ++ declared_by_part (has stored.now) (part_view part.now)) }
 {
     match part {
-        ChartPart::Step(step) => append_name(list, Role::of_step(step.is_initial), &step.name),
+        ChartPart::Step(step) => {
+            let role = Role::of_step(step.is_initial);
+            append_name(list, role, Some(counts.step()), &step.name)
+        }
         ChartPart::Transition(transition) => append_transition(list, &transition.name),
         ChartPart::Action(action) => {
             let role = Role::of_action(has(stored, action.name.text.as_str()));
-            append_name(list, role, &action.name)
+            append_name(list, role, Some(counts.action()), &action.name)
         }
     }
 }
@@ -112,8 +141,12 @@ fn append_parts<'a>(
 ) -> Result<(), AllocError>
     ensures { OnOk result (variables_view list.new.items ≡ variables_view list.old.items ++ declared_by_parts (has stored.now) (parts_view parts.now)) }
 {
+    let mut counts = Counts {
+        steps: 0,
+        actions: 0,
+    };
     for part in parts {
-        append_part(list, stored, part)?;
+        append_part(list, stored, &mut counts, part)?;
     }
     Ok(())
 }

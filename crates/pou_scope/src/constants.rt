@@ -9,11 +9,11 @@ ghost use Rattle.naming.specs.ScopeView.{variable_view, seen_if};
 
 use crate::names::Names;
 use crate::typed::is_typed;
-use crate::use_numbers::UseNumbers;
 use file_scope::misused;
 use naming::Declared;
 use rules::Outcome;
 use source_tree::{Bounds, Expr, Name, TypeName};
+use use_numbers::UseNumbers;
 
 impl Names<'_, '_> {
     ghost use Rattle.pou_scope.specs.NamesView.{file_in, pou_in};
@@ -37,13 +37,6 @@ impl Names<'_, '_> {
                 self.file.value_name(name)
             }
         }
-    }
-
-    // A name as a value.
-    fn value(&self, name: &Name) -> Outcome
-        ensures { let n = name_view name.now in result ≡ outcome_of (in_value (file_in self.now) (pou_in self.now) (seen_named (file_in self.now) (pou_in self.now) n.text) n) }
-    {
-        self.value_by(self.seen(name), name)
     }
 
     // A name that is used as a value. Keeps the number of the use.
@@ -81,8 +74,8 @@ impl Names<'_, '_> {
         }
     }
 
-    // A constant in the declaration of a number.
-    fn declared_constant(&self, user: usize, constant: &Expr) -> Outcome
+    // A constant in the declaration of a number. Keeps the number of its name.
+    fn declared_constant(&self, numbers: &mut UseNumbers, user: usize, constant: &Expr) -> Outcome
         ensures { result ≡ outcome_of (in_declared_constant (file_in self.now) (pou_in self.now) user (tree_view constant.now)) }
     {
         match constant {
@@ -90,40 +83,43 @@ impl Names<'_, '_> {
                 if self.own.is_circular(user, &path.first) {
                     return misused(&path.first);
                 }
-                self.value(&path.first)
+                self.value_used(numbers, &path.first)
             }
-            Expr::Enumerator(kind, value) => self.file.enumerator(kind, value),
+            Expr::Enumerator(kind, value) => {
+                self.note(numbers, value);
+                self.file.enumerator(kind, value)
+            }
             _ => Outcome::ok(),
         }
     }
 
-    // An initial value in the declaration of a number.
-    fn initial(&self, user: usize, initial: Option<&Expr>) -> Outcome
+    // An initial value in the declaration of a number. Keeps the number of its name.
+    fn initial(&self, numbers: &mut UseNumbers, user: usize, initial: Option<&Expr>) -> Outcome
         ensures { result ≡ outcome_of (in_initial (file_in self.now) (pou_in self.now) user (option_map (λ e. tree_view e.now) initial.entry)) }
     {
         match initial {
-            Some(value) => self.declared_constant(user, value),
+            Some(value) => self.declared_constant(numbers, user, value),
             None => Outcome::ok(),
         }
     }
 
-    // The bounds in the declaration of a number.
+    // The bounds in the declaration of a number. Keeps the numbers of their names.
     #[tactic(auto, using(rules::proofs::Outcomes::outcome_and))]
-    fn bounds(&self, user: usize, bounds: &Bounds) -> Outcome
+    fn bounds(&self, numbers: &mut UseNumbers, user: usize, bounds: &Bounds) -> Outcome
         ensures { result ≡ outcome_of (and (in_declared_constant (file_in self.now) (pou_in self.now) user (tree_view bounds.now.low)) (in_declared_constant (file_in self.now) (pou_in self.now) user (tree_view bounds.now.high))) }
     {
-        let low = self.declared_constant(user, &bounds.low);
-        low.and(self.declared_constant(user, &bounds.high))
+        let low = self.declared_constant(numbers, user, &bounds.low);
+        low.and(self.declared_constant(numbers, user, &bounds.high))
     }
 
-    // The type of a variable by name. Keeps the number of the name.
+    // The type of a variable by name. Keeps the number of the name, but for that of a result, which is kept with the file's types.
     fn named_type(&self, numbers: &mut UseNumbers, variable: &Declared<'_>, name: &Name) -> Outcome
         ensures { result ≡ outcome_of (in_named_type (file_in self.now) (variable_view variable.now) (name_view name.now)) }
     {
-        self.note(numbers, name);
         if variable.role.is_result() {
             return Outcome::whole_if(is_typed(self.file, variable));
         }
+        self.note(numbers, name);
         if self.file.block_named(name).is_none() {
             return self.file.type_name(name);
         }
@@ -134,7 +130,7 @@ impl Names<'_, '_> {
         }
     }
 
-    // The type of a variable of a number. Keeps the number of its name.
+    // The type of a variable of a number. Keeps the numbers of its names.
     fn type_of(
         &self,
         numbers: &mut UseNumbers,
@@ -146,12 +142,12 @@ impl Names<'_, '_> {
     {
         match kind {
             TypeName::Elementary(_, _) => Outcome::ok(),
-            TypeName::Subrange(_, _, bounds) => self.bounds(user, bounds),
+            TypeName::Subrange(_, _, bounds) => self.bounds(numbers, user, bounds),
             TypeName::Named(name) => self.named_type(numbers, variable, name),
         }
     }
 
-    // The type of a name of a number, where it has one.
+    // The type of a name of a number, where it has one. Keeps the numbers of its names.
     fn kind_of(&self, numbers: &mut UseNumbers, user: usize, variable: &Declared<'_>) -> Outcome
         ensures { let v = variable_view variable.now in result ≡ outcome_of (in_kind (file_in self.now) (pou_in self.now) user v v.kind) }
     {
@@ -161,7 +157,7 @@ impl Names<'_, '_> {
         }
     }
 
-    /// The declaration of a number. Keeps the number of its type's name.
+    /// The declaration of a number. Keeps the numbers of the names that it uses.
     #[tactic(auto, using(rules::proofs::Outcomes::outcome_and))]
     pub fn declaration(
         &self,
@@ -172,6 +168,6 @@ impl Names<'_, '_> {
         ensures { result ≡ outcome_of (in_declaration (file_in self.now) (pou_in self.now) user (variable_view variable.now)) }
     {
         let kind = self.kind_of(numbers, user, variable);
-        kind.and(self.initial(user, variable.initial))
+        kind.and(self.initial(numbers, user, variable.initial))
     }
 }

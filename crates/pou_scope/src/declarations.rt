@@ -8,12 +8,12 @@ ghost use Rattle.naming.specs.ScopeView.{seen_if, seen_view};
 ghost use Rattle.rules.specs.Outcomes.{outcome_of, both};
 
 use crate::names::Names;
-use crate::use_numbers::UseNumbers;
 use naming::{Declared, append_number};
 use rules::Outcome;
 use std::alloc::AllocError;
+use use_numbers::UseNumbers;
 
-/// Keeps what the declarations of a POU break, and the numbers of the names of their types.
+/// Keeps what the declarations of a POU break, and the numbers of the names that they use.
 #[tactic(auto, using(rules::proofs::Outcomes::both_on, rules::proofs::Outcomes::both_ok))]
 pub fn walk_declarations(names: &Names<'_, '_>, outcome: &mut Outcome, numbers: &mut UseNumbers)
     ensures { outcome.new ≡ both outcome.old (outcome_of (in_declarations (file_in names.now) (pou_in names.now) 0 (pou_in names.now).variables)) }

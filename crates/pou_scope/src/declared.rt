@@ -23,6 +23,7 @@ fn append_result<'a>(
             role: Role::Result,
             kind: Some(kind),
             initial: None,
+            part: None,
             block: None,
             whole: false,
         })?;
@@ -43,6 +44,7 @@ fn append_declared<'a>(
         role,
         kind: Some(&declaration.kind),
         initial: declaration.initial.as_ref(),
+        part: None,
         block: None,
         whole: false,
     };

@@ -10,7 +10,6 @@
 // - `slotted`: the variables of a POU, and what is known of their names
 // - `text_set`: sets of texts
 // - `typed`: which variables are instances, and whose types break no rule
-// - `use_numbers`: the numbers of a file's uses of variables, each of the entry of its name in the slots in which it was looked up
 // - `variable_uses`: which variables of a POU use which, and which uses lead back to their user
 #![tactic(auto)]
 
@@ -25,7 +24,6 @@ mod slots;
 mod slotted;
 mod text_set;
 mod typed;
-mod use_numbers;
 mod variable_uses;
 
 pub use declarations::{append_blocks, instance_of, walk_declarations};
@@ -33,4 +31,3 @@ pub use names::Names;
 pub use pou_names::{NamesOfPou, names_of_pou};
 pub use slots::{Slots, slot_at};
 pub use text_set::{add, has};
-pub use use_numbers::UseNumbers;

@@ -6,10 +6,10 @@ ghost use Rattle.naming.specs.ScopeView.{variables_view, seen_view};
 ghost use Rattle.pou_scope.specs.AllSeen.{all_seen};
 
 use crate::pou_names::NamesOfPou;
-use crate::use_numbers::UseNumbers;
-use file_scope::{FileScope, numbered};
+use file_scope::FileScope;
 use naming::Declared;
 use source_tree::Name;
+use use_numbers::UseNumbers;
 
 /// A POU's names, and those of the file around it.
 #[derive(Clone, Copy)]
@@ -22,7 +22,7 @@ pub struct Names<'a, 'f> {
 impl<'f> Names<'_, 'f> {
     ghost use Rattle.naming.specs.ScopeView.{seen_if};
     ghost use Rattle.pou_scope.specs.NamesView.{file_in, pou_in};
-    ghost use Rattle.pou_scope.specs.UseNumbers.{NotesUse};
+    ghost use Rattle.use_numbers.specs.UseNumbers.{NotesUse};
 
     /// The variable of a name.
     pub fn seen(&self, name: &Name) -> Option<&Declared<'f>>
@@ -39,12 +39,21 @@ impl<'f> Names<'_, 'f> {
         self.own.used(numbers, name)
     }
 
+    /// The variable that a name uses as a step or an action of the chart. Keeps the number of that part.
+    pub fn part(&self, numbers: &mut UseNumbers, name: &Name) -> Option<&Declared<'f>>
+        ensures { seen_if result ≡ seen_named (file_in self.now) (pou_in self.now) (name_view name.now).text }
+    {
+        let seen = self.seen(name)?;
+        if let Some(part) = seen.part {
+            numbers.keep(name.at, part);
+        }
+        Some(seen)
+    }
+
     /// Keeps the number of a name that is used, where the file declares it.
     pub fn note(&self, numbers: &mut UseNumbers, name: &Name)
         ensures { NotesUse self.now.file.now.types.names.table (name_view name.now) numbers.old numbers.new }
     {
-        if let Some((number, _)) = numbered(&self.file.types.names.table, name.text.as_str()) {
-            numbers.keep(name.at, number);
-        }
+        self.file.types.names.note(numbers, name);
     }
 }

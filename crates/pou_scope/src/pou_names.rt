@@ -17,14 +17,14 @@ use crate::declared::declared_variables;
 use crate::in_file::all_seen;
 use crate::slots::{Slots, is_fault, slot_at, slots};
 use crate::slotted::Slotted;
-use crate::use_numbers::UseNumbers;
 use crate::variable_uses::variable_circles;
 use call_order::uses_in_circle;
-use file_scope::{FileScope, numbered};
+use file_scope::FileScope;
 use naming::{Declared, Slot, number_by};
 use rules::Outcome;
 use source_tree::{Name, Pou, PouKind};
 use std::alloc::{AllocError, Global};
+use use_numbers::{UseNumbers, numbered};
 
 /// A POU, whether it has FAULT, its variables, their slots by name, whether each is declared once, and for each those that it uses in
 /// a circle.
@@ -77,7 +77,7 @@ pub fn names_of_pou<'a>(
 impl<'f> NamesOfPou<'f> {
     ghost use Rattle.naming.specs.ScopeView.{seen_if};
     ghost use Rattle.pou_scope.specs.NamesView.{scope_named, seen_by};
-    ghost use Rattle.pou_scope.specs.UseNumbers.{NotesUse};
+    ghost use Rattle.use_numbers.specs.UseNumbers.{NotesUse};
 
     // The variables, and their slots.
     fn slotted(&self) -> Slotted<'_>
@@ -91,11 +91,17 @@ impl<'f> NamesOfPou<'f> {
         }
     }
 
-    /// Whether a name is declared twice.
-    pub fn is_doubled(&self, name: &Name) -> bool
+    /// Whether a name is declared twice. Keeps the number of its slot.
+    pub fn is_doubled(&self, numbers: &mut UseNumbers, name: &Name) -> bool
         ensures { result ≡ is_doubled (scope_named self.now) (name_view name.now).text }
     {
-        self.slotted().is_doubled(name)
+        match numbered(&self.slots, name.text.as_str()) {
+            Some((number, slot)) => {
+                numbers.keep(name.at, number);
+                slot.is_doubled
+            }
+            None => self.is_fault(name),
+        }
     }
 
     /// Whether a name is that of FAULT, in a PROGRAM.

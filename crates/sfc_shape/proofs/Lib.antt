@@ -3,3 +3,4 @@ mod FiringOrder
 mod Steps
 mod NumberSteps
 mod AssociationSteps
+mod EntrySteps

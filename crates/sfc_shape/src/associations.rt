@@ -1,16 +1,19 @@
 // The associations of a chart's actions with its steps.
-ghost use Rattle.std.specs.Prelude.{◌≡◌, ℕ, ◌++◌, [], ◌∷◌, List, IfOk, OnOk, if◌then◌else◌};
+ghost use Rattle.std.specs.Prelude.{◌≡◌, ℕ, ◌++◌, [], ◌∷◌, List, true, Some, option_map, IfSome, IfOk, OnOk, if◌then◌else◌};
+ghost use Rattle.std.specs.HashMap.{get_by_text};
 ghost use Rattle.std.specs.Str.{bytes_eq};
 ghost use Rattle.source_tree.specs.SyntaxView.{step_action_view, step_actions_view};
 ghost use Rattle.naming.specs.ChartWords.{qualifier_of};
 ghost use Rattle.sfc_shape.specs.Shapes.{association_with, associated, associated_from};
 ghost use Rattle.sfc_shape.specs.ShapeView.{seen_steps, listed};
+ghost use Rattle.use_numbers.specs.Entries.{text_at};
 
 use indexmap::IndexMap;
 use naming::qualifier;
 use program_tree::{Association, Qualifier};
-use source_tree::{ChartStep, StepAction};
+use source_tree::{ChartAction, ChartStep, StepAction};
 use std::alloc::{AllocError, Global};
+use use_numbers::UseNumbers;
 
 /// The associations of actions, by the action's name.
 pub type Associations = IndexMap<String, Vec<Association>>;
@@ -28,8 +31,53 @@ fn qualifier_of(action: &StepAction) -> Option<Qualifier>
     }
 }
 
+// Enters an action, with no association where it has none yet.
+fn enter(alloc: Global, associations: &mut Associations, name: &str) -> Result<(), AllocError>
+    ensures { OnOk result ((text : List ℕ) → listed associations.new text ≡ listed associations.old text) }
+{
+    let name = String::from_str(alloc, name)?;
+    associations.entry(name)?.or_insert(Vec::new(alloc));
+    Ok(())
+}
+
+// The entries of actions, in their order, with no associations.
+fn entered(alloc: Global, actions: &[&ChartAction]) -> Result<Associations, AllocError>
+    ensures { IfOk result (λ m. (text : List ℕ) → listed m text ≡ []) }
+{
+    let mut associations = IndexMap::new(alloc);
+    for action in actions {
+        enter(alloc, &mut associations, action.name.text.as_str())?;
+    }
+    Ok(associations)
+}
+
+// Whether the entry of a number is that of an action of a name.
+fn is_entry(associations: &Associations, number: usize, name: &str) -> bool
+    ensures { result ≡ true → text_at associations.now number ≡ Some name.now }
+{
+    match associations.get_index(number) {
+        Some((own, _)) => own.as_str() == name,
+        None => false,
+    }
+}
+
+// Adds an association at the entry of a number.
+fn keep_at(
+    associations: &mut Associations,
+    number: usize,
+    name: &str,
+    association: Association,
+) -> Result<(), AllocError>
+    requires { text_at associations.old number ≡ Some name.now }
+    ensures { OnOk result ((text : List ℕ) → listed associations.new text ≡ listed associations.old text ++ (if bytes_eq name.now text then association ∷ [] else [])) }
+{
+    let (_, found) = associations.pair_mut(number);
+    found.push(association)?;
+    Ok(())
+}
+
 // Adds an association of the action of a name.
-fn keep(
+fn keep_by_name(
     alloc: Global,
     associations: &mut Associations,
     name: &str,
@@ -43,9 +91,29 @@ fn keep(
     Ok(())
 }
 
+// Adds an association of the action of a name, of whose entry this is the number; where there is none, or another's, the name is
+// looked up.
+fn keep(
+    alloc: Global,
+    associations: &mut Associations,
+    number: Option<usize>,
+    name: &str,
+    association: Association,
+) -> Result<(), AllocError>
+    ensures { OnOk result ((text : List ℕ) → listed associations.new text ≡ listed associations.old text ++ (if bytes_eq name.now text then association ∷ [] else [])) }
+{
+    match number {
+        Some(number) if is_entry(associations, number, name) => {
+            keep_at(associations, number, name, association)
+        }
+        _ => keep_by_name(alloc, associations, name, association),
+    }
+}
+
 // Adds an association of an action with a step.
 fn associate(
     alloc: Global,
+    uses: &UseNumbers,
     associations: &mut Associations,
     step: usize,
     action: &StepAction,
@@ -54,12 +122,9 @@ fn associate(
 {
     if let Some(qualifier) = qualifier_of(action) {
         let association = Association { qualifier, step };
-        keep(
-            alloc,
-            associations,
-            action.action.text.as_str(),
-            association,
-        )?;
+        let name = &action.action;
+        let number = uses.get(name.at);
+        keep(alloc, associations, number, name.text.as_str(), association)?;
     }
     Ok(())
 }
@@ -67,6 +132,7 @@ fn associate(
 // Adds the associations of a step's actions.
 fn associate_step(
     alloc: Global,
+    uses: &UseNumbers,
     associations: &mut Associations,
     step: usize,
     actions: &[StepAction],
@@ -74,32 +140,69 @@ fn associate_step(
     ensures { OnOk result ((text : List ℕ) → listed associations.new text ≡ listed associations.old text ++ associated text step (step_actions_view actions.now)) }
 {
     for action in actions {
-        associate(alloc, associations, step, action)?;
+        associate(alloc, uses, associations, step, action)?;
     }
     Ok(())
 }
 
-/// The associations of actions with steps, which are counted from 0.
-pub fn associations(alloc: Global, steps: &[&ChartStep]) -> Result<Associations, AllocError>
+/// The associations of actions with steps, which are counted from 0. The entry of an action is found by the number that is kept of its
+/// use.
+pub fn associations(
+    alloc: Global,
+    uses: &UseNumbers,
+    actions: &[&ChartAction],
+    steps: &[&ChartStep],
+) -> Result<Associations, AllocError>
     ensures { IfOk result (λ m. (text : List ℕ) → listed m text ≡ associated_from text 0 (seen_steps steps.now)) }
 {
-    let mut associations = IndexMap::new(alloc);
+    let mut associations = entered(alloc, actions)?;
     for (number, step) in steps.iter().enumerate() {
-        associate_step(alloc, &mut associations, number, &step.actions)?;
+        associate_step(alloc, uses, &mut associations, number, &step.actions)?;
     }
     Ok(associations)
 }
 
-/// The associations of an action, by its name.
-pub fn associations_at(
+// The list at the entry of a number, where it is that of an action of a name.
+fn list_at<'m>(
+    associations: &'m Associations,
+    number: usize,
+    name: &str,
+) -> Option<&'m Vec<Association>>
+    ensures { IfSome result (λ list. Some list.now ≡ get_by_text associations.now name.now) }
+{
+    let (own, list) = associations.get_index(number)?;
+    if own.as_str() == name {
+        Some(list)
+    } else {
+        None
+    }
+}
+
+// The list of the action of a name, of whose entry this is the number; where it is another's, the name is looked up.
+fn list_by<'m>(
+    associations: &'m Associations,
+    number: usize,
+    name: &str,
+) -> Option<&'m Vec<Association>>
+    ensures { option_map (λ list. list.now) result ≡ get_by_text associations.now name.now }
+{
+    match list_at(associations, number, name) {
+        Some(list) => Some(list),
+        None => associations.get(name),
+    }
+}
+
+/// The associations of the action of a name, of whose entry this is the number.
+pub fn associations_by(
     alloc: Global,
     associations: &Associations,
-    text: &str,
+    number: usize,
+    name: &str,
 ) -> Result<Vec<Association>, AllocError>
-    ensures { IfOk result (λ v. v.items ≡ listed associations.now text.now) }
+    ensures { IfOk result (λ v. v.items ≡ listed associations.now name.now) }
 {
     let mut list = Vec::new(alloc);
-    if let Some(found) = associations.get(text) {
+    if let Some(found) = list_by(associations, number, name) {
         for association in found {
             list.push(*association)?;
         }

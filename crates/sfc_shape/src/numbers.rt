@@ -23,8 +23,8 @@ pub fn numbers(alloc: Global, steps: &[&ChartStep]) -> Result<Numbers, AllocErro
     Ok(numbers)
 }
 
-/// The number of a step, by its name.
-pub fn number_at(numbers: &Numbers, text: &str) -> Option<usize>
+// The number of a step, by its name.
+fn number_at(numbers: &Numbers, text: &str) -> Option<usize>
     ensures { result ≡ get_by_text numbers.now text.now }
 {
     numbers.get(text).copied()

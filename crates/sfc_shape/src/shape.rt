@@ -5,18 +5,21 @@ ghost use Rattle.source_tree.specs.SyntaxView.{parts_view};
 ghost use Rattle.sfc_shape.specs.Shapes.{steps_of, transitions_of, actions_of, associations_of, in_firing_order};
 ghost use Rattle.sfc_shape.specs.ShapeView.{seen_steps, seen_transitions, seen_actions, number_found, listed};
 
-use crate::associations::{Associations, associations, associations_at};
+use crate::associations::{Associations, associations, associations_by};
 use crate::firing::put_in_firing_order;
-use crate::numbers::{Numbers, number_at, numbers};
+use crate::numbers::{Numbers, numbers};
 use crate::parts::{actions, steps, transitions};
 use program_tree::Association;
 use source_tree::{Chart, ChartAction, ChartStep, ChartTransition, Name, Steps};
 use std::alloc::{AllocError, Global};
+use use_numbers::{UseNumbers, value_by};
 
-/// A chart by its steps and its actions in the order of the text, and its transitions in the order in which they fire.
+/// A chart by its steps and its actions in the order of the text, and its transitions in the order in which they fire. Its names are
+/// found by the numbers that are kept of their uses.
 #[derive(Drop)]
 pub struct Shape<'a> {
     pub chart: &'a Chart,
+    uses: &'a UseNumbers,
     pub steps: Vec<&'a ChartStep>,
     pub actions: Vec<&'a ChartAction>,
     pub transitions: Vec<&'a ChartTransition>,
@@ -27,8 +30,12 @@ pub struct Shape<'a> {
     ghost associated: { (text : List ℕ) → listed associations text ≡ associations_of (parts_view chart.now.parts.items) text },
 }
 
-/// The shape of a chart.
-pub fn shape_of(alloc: Global, chart: &Chart) -> Result<Shape<'_>, AllocError>
+/// The shape of a chart, where these are the numbers of the file's uses of names.
+pub fn shape_of<'a>(
+    alloc: Global,
+    uses: &'a UseNumbers,
+    chart: &'a Chart,
+) -> Result<Shape<'a>, AllocError>
     ensures parts { IfOk result (λ shape. parts_view shape.chart.now.parts.items ≡ parts_view chart.now.parts.items) }
     ensures steps { IfOk result (λ shape. seen_steps shape.steps.items ≡ steps_of (parts_view chart.now.parts.items)) }
     ensures actions { IfOk result (λ shape. seen_actions shape.actions.items ≡ actions_of (parts_view chart.now.parts.items)) }
@@ -39,9 +46,10 @@ pub fn shape_of(alloc: Global, chart: &Chart) -> Result<Shape<'_>, AllocError>
     let mut transitions = transitions(alloc, &chart.parts)?;
     put_in_firing_order(&mut transitions)?;
     let numbers = numbers(alloc, &steps)?;
-    let associations = associations(alloc, &steps)?;
+    let associations = associations(alloc, uses, &actions, &steps)?;
     Ok(Shape {
         chart,
+        uses,
         steps,
         actions,
         transitions,
@@ -56,11 +64,12 @@ impl Shape<'_> {
     ghost use Rattle.sfc_shape.specs.Shapes.{step_number, step_numbers};
     ghost use Rattle.sfc_shape.specs.PartsView.{parts_in};
 
-    // The number of a step, by its name; where the chart has none of that name, the one behind its last.
+    // The number of the step that a name uses; where the chart has none of that name, the one behind its last.
     fn step_number(&self, name: &Name) -> usize
         ensures { result ≡ step_number 0 (steps_of (parts_in self.now)) (name_view name.now).text }
     {
-        match number_at(&self.numbers, name.text.as_str()) {
+        let kept = self.uses.get(name.at);
+        match value_by(&self.numbers, kept, name.text.as_str()) {
             Some(number) => number,
             None => self.steps.len(),
         }
@@ -91,10 +100,15 @@ impl Shape<'_> {
         Ok(numbers)
     }
 
-    /// The associations of an action, by its name, in the order of the text.
-    pub fn associations(&self, alloc: Global, action: &Name) -> Result<Vec<Association>, AllocError>
+    /// The associations of the action of a name, in the order of the text, where this is its number among the actions.
+    pub fn associations(
+        &self,
+        alloc: Global,
+        number: usize,
+        action: &Name,
+    ) -> Result<Vec<Association>, AllocError>
         ensures { IfOk result (λ v. v.items ≡ associations_of (parts_in self.now) (name_view action.now).text) }
     {
-        associations_at(alloc, &self.associations, action.text.as_str())
+        associations_by(alloc, &self.associations, number, action.text.as_str())
     }
 }

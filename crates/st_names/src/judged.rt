@@ -14,12 +14,13 @@ ghost use Rattle.naming.specs.ScopeView.{pous_view};
 
 use file_scope::FileScope;
 use name_uses::{Scope, walk_body};
-use pou_scope::{Names, NamesOfPou, UseNumbers, append_blocks, names_of_pou, walk_declarations};
+use pou_scope::{Names, NamesOfPou, append_blocks, names_of_pou, walk_declarations};
 use rules::{Outcome, Refusal};
 use source_tree::Pou;
 use std::alloc::{AllocError, Global};
+use use_numbers::UseNumbers;
 
-/// Which POUs of a file are whole, which POUs each uses, and the numbers of their uses of names.
+/// Which POUs of a file are whole, which POUs each uses, and the numbers of the file's uses of names.
 #[derive(Drop)]
 pub struct Judged {
     pub wholes: Vec<bool>,
@@ -69,11 +70,12 @@ fn judge_pou(
     Ok((outcome, uses))
 }
 
-/// Keeps what the POUs of a file break, where it comes first.
+/// Keeps what the POUs of a file break, where it comes first, and the numbers of their uses of names beside those that are kept.
 pub fn judge_pous<'a, 'f>(
     alloc: Global,
     file: &'a FileScope<'f>,
     all: &'a [NamesOfPou<'f>],
+    mut numbers: UseNumbers,
     first: &mut Option<Refusal>,
 ) -> Result<Judged, AllocError>
     requires pous { pous_named all.now ≡ pous_of (file_view file.now.types.names.file.now) }
@@ -85,7 +87,6 @@ pub fn judge_pous<'a, 'f>(
 {
     let mut wholes = Vec::new(alloc);
     let mut all_uses = Vec::new(alloc);
-    let mut numbers = UseNumbers::new(alloc);
     for own in all {
         let names = Names { file, own };
         let (outcome, uses) = judge_pou(alloc, &Scope { names, pous: all }, &mut numbers)?;

@@ -27,6 +27,7 @@ use pou_scope::NamesOfPou;
 use rules::{Fault, Refusal, Rule};
 use source_tree::{Item, Pou, PouKind, SourceFile, TypeDeclaration};
 use std::alloc::{AllocError, Global};
+use use_numbers::UseNumbers;
 
 // Whether a POU is a PROGRAM.
 fn is_program(pou: &Pou) -> bool
@@ -126,9 +127,10 @@ fn judge_file<'a, 'f>(
     ensures wholes { let f = file_view scope.now.types.names.file.now in IfOk result (λ judged. judged.wholes.items ≡ map (λ p. (in_pou f p).whole) (pous_of f)) }
     ensures uses { let f = file_view scope.now.types.names.file.now in IfOk result (λ judged. graph_of judged.uses.items ≡ uses_of f) }
 {
-    walk_types(alloc, scope, &list.types, first)?;
-    walk_results(scope, &list.pous, first);
-    let judged = judge_pous(alloc, scope, all, first)?;
+    let mut numbers = UseNumbers::new(alloc);
+    walk_types(alloc, scope, &mut numbers, &list.types, first)?;
+    walk_results(scope, &mut numbers, &list.pous, first);
+    let judged = judge_pous(alloc, scope, all, numbers, first)?;
     Ok(judged)
 }
 

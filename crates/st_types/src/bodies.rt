@@ -26,6 +26,7 @@ use source_tree::{Body, Pou};
 use std::alloc::{AllocError, Global};
 use stmt_types::{judge_stmts, type_stmts};
 use typing::{Next, Scope};
+use use_numbers::UseNumbers;
 
 // What a body breaks.
 fn judge_body<S: Scope>(alloc: Global, scope: &S, body: &Body) -> Result<Outcome, AllocError>
@@ -92,10 +93,11 @@ fn beginnings(
     Ok(list)
 }
 
-/// The typed statements of a body.
+/// The typed statements of a body, where these are the numbers of the file's uses of names.
 pub(crate) fn type_body<S: Scope>(
     alloc: Global,
     scope: &S,
+    uses: &UseNumbers,
     body: &Body,
 ) -> Result<Vec<TypedStmt>, AllocError>
     requires { HasLowNames (S.means scope.now) }
@@ -104,7 +106,7 @@ pub(crate) fn type_body<S: Scope>(
     match body {
         Body::Statements(stmts) => type_stmts(alloc, scope, stmts),
         Body::Chart(chart) => {
-            let stmt = type_chart(alloc, scope, chart)?;
+            let stmt = type_chart(alloc, scope, uses, chart)?;
             Ok(vec![in alloc; stmt]?)
         }
     }
@@ -126,7 +128,8 @@ fn begin_body<S: Scope>(
     ensures { IfOk result (λ list. stmts_view list.items ≡ begun (file_in placed.now.pous.domains) first (variables_at (file_in placed.now.pous.domains) number) (typed_body (S.means scope.now) (pou_view pou.now).body)) }
 {
     let mut list = beginnings(alloc, &placed.sizes, first, placed.pous.told_at(number))?;
-    let mut behind = type_body(alloc, scope, &pou.body)?;
+    let uses = placed.pous.domains.types.names.numbers();
+    let mut behind = type_body(alloc, scope, uses, &pou.body)?;
     list.append(&mut behind)?;
     Ok(list)
 }

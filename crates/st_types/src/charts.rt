@@ -17,6 +17,7 @@ use source_tree::{Chart, ChartAction, ChartPart, ChartStep, ChartTransition};
 use std::alloc::{AllocError, Global};
 use stmt_types::{judge_stmts, type_stmts};
 use typing::{Meaning, Place, Scope};
+use use_numbers::UseNumbers;
 
 // What a part of a chart breaks.
 fn judge_part<S: Scope>(alloc: Global, scope: &S, part: &ChartPart) -> Result<Outcome, AllocError>
@@ -72,12 +73,13 @@ fn type_action<S: Scope>(
     alloc: Global,
     scope: &S,
     shape: &Shape<'_>,
+    number: usize,
     action: &ChartAction,
 ) -> Result<TypedAction, AllocError>
     ensures { IfOk result (λ a. action_view a ≡ typed_action (S.means scope.now) (parts_in shape.now) (chart_action_view action.now)) }
 {
     let latch = latch_of(meaning_alone(alloc, scope, &action.name)?);
-    let associations = shape.associations(alloc, &action.name)?;
+    let associations = shape.associations(alloc, number, &action.name)?;
     let body = type_stmts(alloc, scope, &action.body)?;
     Ok(TypedAction {
         latch,
@@ -128,8 +130,8 @@ fn type_actions<S: Scope>(
     ensures { IfOk result (λ list. map action_view list.items ≡ map (typed_action (S.means scope.now) (parts_in shape.now)) (seen_actions actions.now)) }
 {
     let mut list = Vec::new(alloc);
-    for action in actions {
-        list.push(type_action(alloc, scope, shape, action)?)?;
+    for (number, action) in actions.iter().enumerate() {
+        list.push(type_action(alloc, scope, shape, number, action)?)?;
     }
     Ok(list)
 }
@@ -149,16 +151,17 @@ fn type_transitions<S: Scope>(
     Ok(list)
 }
 
-/// The typed statement that a chart stands for.
+/// The typed statement that a chart stands for, where these are the numbers of the file's uses of names.
 pub(crate) fn type_chart<S: Scope>(
     alloc: Global,
     scope: &S,
+    uses: &UseNumbers,
     chart: &Chart,
 ) -> Result<TypedStmt, AllocError>
     requires { HasLowNames (S.means scope.now) }
     ensures { IfOk result (λ stmt. stmt_view stmt ≡ typed_chart (S.means scope.now) (parts_view chart.now.parts.items)) }
 {
-    let shape = shape_of(alloc, chart)?;
+    let shape = shape_of(alloc, uses, chart)?;
     let steps = type_steps(alloc, scope, &shape.steps)?;
     let actions = type_actions(alloc, scope, &shape, &shape.actions)?;
     let transitions = type_transitions(alloc, scope, &shape, &shape.transitions)?;

@@ -50,7 +50,8 @@ fn outlined_body(
     ensures { IfOk result (λ list. stmts_view list.items ≡ outlined_body (file_in pous.now.domains) number (pou_view pou.now)) }
 {
     let scope = PouScope { pous, number };
-    type_body(alloc, &scope, &pou.body)
+    let uses = pous.domains.types.names.numbers();
+    type_body(alloc, &scope, uses, &pou.body)
 }
 
 // The body of a FUNCTION, or one that is long where its frame is.

@@ -1,7 +1,7 @@
-use Rattle.std.proofs.Common.{◌≡◌, ◌+◌, ◌<◌, ◌≤◌, ◌^◌, length, map, ap, ◌∙◌, sym, arith}
+use Rattle.std.proofs.Common.{◌≡◌, length, ap, ◌∙◌, sym, arith}
 use Rattle.std.proofs.lemmas.List.{length-map}
 use Rattle.source_tree.specs.SyntaxView.{file_view}
-use Rattle.naming.specs.FileScope.{types_of, pous_of, names_of}
+use Rattle.naming.specs.FileScope.{names_of}
 use Rattle.naming.proofs.DeclarationLemmas.{all_named}
 use Rattle.file_scope.specs.FileView.{file_name_view}
 use Rattle.file_scope.proofs.file_names.file_names.Goals as goal

@@ -1,4 +1,4 @@
-use Rattle.std.proofs.Common.{◌≡◌, List, ◌+◌, ◌∷◌, [], ◌++◌, length, drop, ap, sym, ◌∙◌, arith}
+use Rattle.std.proofs.Common.{◌+◌, ◌∷◌, [], ◌++◌, length, drop, ap, sym, ◌∙◌, arith}
 use Rattle.source_tree.specs.Syntax.{FileData}
 use Rattle.source_tree.specs.SyntaxView.{type_declaration_view, pou_view, item_view, items_view}
 use Rattle.naming.specs.FileScope.{types_of, pous_of, names_of_items}

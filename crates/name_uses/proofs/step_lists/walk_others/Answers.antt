@@ -29,7 +29,7 @@ loop-name-preserved c =
     let more = view-take name_view c.args.others.now i x (omega arith) c.name-item.is in
     let left = view-drop name_view c.args.others.now i x (omega arith) c.name-item.is in
     let texts : first ∷ texts_of (names_view (take (i + 1) c.args.others.now)) ≡ met ++ n.text ∷ [] = ap (λ (ns : List Named). first ∷ texts_of ns) more ∙ texts_push first before n in
-    let known = c.has.ensures ∙ ap (has c.loop-name.met) c.as_str.ensures.value ∙ c.loop-name.invariant.held n.text in
+    let known = c.has-is_met.ensures ∙ ap (has c.loop-name.met) c.as_str.ensures.value ∙ c.loop-name.invariant.held n.text in
     let told = c.judged_listed.ensures ∙ ap (λ b. outcome_of (listed_by (step_by (seen_named f p n.text) n) b n)) known in
     let all = ap (λ ns. both c.loop-name.outcome (outcome_of (in_listed_from f p met ns))) (sym left) ∙ c.loop-name.invariant.judged in
     record {

@@ -5,5 +5,5 @@ use Rattle.sfc_shape.specs.PartsView.{parts_in}
 use Rattle.typing.specs.TypedCharts.{typed_action}
 use Rattle.st_types.proofs.charts.type_actions.Given as goal
 
-abbrev pub invariant-loop-action : goal.invariant-loop-action
-invariant-loop-action g l = map action_view l.list.items ≡ map (typed_action (g.S.Scope.means l.scope) (parts_in l.shape)) (seen_actions (take l.action-index l.actions))
+abbrev pub invariant-loop-number : goal.invariant-loop-number
+invariant-loop-number g l = map action_view l.list.items ≡ map (typed_action (g.S.Scope.means l.scope) (parts_in l.shape)) (seen_actions (take l.number l.actions))

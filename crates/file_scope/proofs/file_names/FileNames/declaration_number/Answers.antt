@@ -1,6 +1,6 @@
-use Rattle.std.proofs.Common.{◌≡◌, ◌+◌, ◌<◌, ◌^◌, length, Some, ap, sym, ◌∙◌, arith, Fits, w64}
+use Rattle.std.proofs.Common.{◌≡◌, Some, ap, sym, ◌∙◌, arith}
 use Rattle.source_tree.specs.SyntaxView.{name_view, file_view}
-use Rattle.naming.specs.FileScope.{types_of, pous_of, standing}
+use Rattle.naming.specs.FileScope.{standing}
 use Rattle.naming.specs.declared.standing.Standing.{Standing}
 use Rattle.naming.specs.declared.standing.Standing.TheVariants as standings
 use Rattle.naming.proofs.DeclarationLemmas.{standing_pou}

@@ -3,7 +3,7 @@ use Rattle.std.specs.String.{string_bytes}
 use Rattle.std.proofs.lemmas.Map.Made.{lookup_key_passes}
 use Rattle.std.proofs.lemmas.Option.{slice_get-map}
 use Rattle.std.proofs.lemmas.Slice.Eq.{bytes_eq-Decides}
-use Rattle.file_scope.proofs.entries.numbered.Goals as goal
+use Rattle.use_numbers.proofs.entries.numbered.Goals as goal
 
 pub returns-clause-number : goal.returns-clause-number
 returns-clause-number g c =

@@ -1,7 +1,7 @@
 // The entries of a table by names, and by the numbers that are kept of them.
 ghost use Rattle.std.specs.Prelude.{◌≡◌, Some, IfSome, option_map};
 ghost use Rattle.std.specs.HashMap.{get_by_text};
-ghost use Rattle.file_scope.specs.Entries.{text_at};
+ghost use Rattle.use_numbers.specs.Entries.{text_at};
 
 use indexmap::IndexMap;
 

@@ -1,6 +1,6 @@
-// The numbers of a file's uses of names, each of the entry of its name in the table in which it was found.
+// The numbers of a file's uses of names, by the places of the names in the text.
 ghost use Rattle.std.specs.Prelude.{◌≡◌, ◌⊎◌, []};
-ghost use Rattle.pou_scope.specs.UseNumbers.{number_at, IsKept};
+ghost use Rattle.use_numbers.specs.UseNumbers.{number_at, IsKept};
 
 use std::alloc::Global;
 use std::marker::Model;
@@ -8,8 +8,9 @@ use std::marker::Model;
 // Half of the bytes that a text has at most.
 const MOST_PLACES: usize = 524_288;
 
-/// The numbers of a file's uses of names, by half of the place of the name, since two names never stand so near: for a variable that
-/// of its slot, else that of its entry among the names of the file. Contracts see the list of them. Whoever reads one compares the
+/// The numbers of a file's uses of names, by half of the place of the name, since two names never stand so near: of a variable that
+/// of its slot, of a step at a transition that of the step among its chart's steps, of an action at a step that of the action among its
+/// chart's actions, else that of the entry among the names of the file. Contracts see the list of them. Whoever reads one compares the
 /// name of its entry.
 #[derive(Drop)]
 pub struct UseNumbers {

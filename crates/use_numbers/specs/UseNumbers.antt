@@ -2,7 +2,7 @@
 use Rattle.std.specs.Prelude.{◌≡◌, ◌⊎◌, ℕ, ◌/◌, nat_eq, List, Option, Some, None, String, slice_index_or, if◌then◌else◌}
 use Rattle.std.specs.HashMap.{HashMap}
 use Rattle.source_tree.specs.Syntax.{Named}
-use Rattle.file_scope.specs.Entries.{text_at}
+use Rattle.use_numbers.specs.Entries.{text_at}
 
 -- the number of the use at a place, where one is kept
 abbrev pub number_at : List (Option ℕ) → ℕ → Option ℕ

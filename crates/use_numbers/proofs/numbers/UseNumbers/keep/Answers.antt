@@ -1,10 +1,10 @@
 use Rattle.std.proofs.Common.{rules, ◌≡◌, ℕ, ◌+◌, ◌-◌, ◌<◌, length, ◌/◌, ◌++◌, take, set, Some, None, get_or, ap, ◌∙◌, inr, arith}
 use Rattle.std.specs.Prelude.{replicate}
 use Rattle.std.proofs.lemmas.List.{take_all}
-use Rattle.pou_scope.specs.UseNumbers.{IsKept}
-use Rattle.pou_scope.proofs.UseNumbersLemmas.{filled, written}
-use Rattle.pou_scope.proofs.use_numbers.UseNumbers.keep.Goals as goal
-use Rattle.pou_scope.proofs.use_numbers.UseNumbers.keep.Goals.{else-len-place-via-then-len-place+else-is_err, else-len-place-via-else-len-place}
+use Rattle.use_numbers.specs.UseNumbers.{IsKept}
+use Rattle.use_numbers.proofs.UseNumbersLemmas.{filled, written}
+use Rattle.use_numbers.proofs.numbers.UseNumbers.keep.Goals as goal
+use Rattle.use_numbers.proofs.numbers.UseNumbers.keep.Goals.{else-len-place-via-then-len-place+else-is_err, else-len-place-via-else-len-place}
 
 pub returns : goal.returns
 returns c =

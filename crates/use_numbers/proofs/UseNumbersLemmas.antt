@@ -4,7 +4,7 @@ use Rattle.std.specs.Prelude.{nat_eq, replicate}
 use Rattle.std.proofs.lemmas.List.{get_or-set_other}
 use Rattle.std.proofs.lemmas.Bool.{eqb-true, eqb-false}
 use Rattle.std.proofs.lemmas.Grind.{get_or-set_at}
-use Rattle.pou_scope.specs.UseNumbers.{IsKept}
+use Rattle.use_numbers.specs.UseNumbers.{IsKept}
 
 none_read : (more k : ℕ) → get_or {A = Option ℕ} (replicate more None) k None ≡ None
 none_read zero k = refl
