@@ -1,11 +1,11 @@
 // Case files: titled cases with sections, marks in their texts, and what is compared.
-//   case_file  titled cases with their sections
-//   section    the words that begin a section
-//   marks      marks in texts
-//   texts      the texts of a case
-//   states     the states of a case, and what is compared with them
-//   report     what a case finds
-//   counts     how many cases there are
+// - `case_file`: titled cases, each of which has sections
+// - `counts`: how many cases there are
+// - `marks`: texts with marks, which stand between « and »
+// - `report`: what a case finds: where something else came than was expected, or why it cannot be run
+// - `section`: the words that begin a section of a case file
+// - `states`: the states before and behind a scan that a case states, and what is compared with them
+// - `texts`: the texts of a case, each from its section or from that of its file's head
 #![tactic(auto)]
 
 mod case_file;

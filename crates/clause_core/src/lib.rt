@@ -1,4 +1,18 @@
 // Literals, clauses and derivations, what makes a derivation right, and what a decider of formulas owes.
+// - `assignment`: values of all variables
+// - `check`: whether a step of a derivation is right
+// - `clause`: clauses as rising lists of literals
+// - `cnf`: formulas: clauses over so many variables
+// - `decider`: what a decider of formulas owes
+// - `freshness`: whether a step's clause is fresh: no held one is a part of it, and unit propagation alone does not derive it
+// - `gate`: AND, XOR and MUX of literals
+// - `hints`: the numbers of the clauses that a step uses
+// - `literal`: a variable, or its negation
+// - `log`: derivations as they are noted
+// - `propagation`: unit propagation over the whole list of clauses
+// - `status`: what is known of a clause
+// - `step`: steps of a derivation, and what they show
+// - `truth`: what is known of each variable
 #![tactic(auto)]
 
 mod assignment;

@@ -1,10 +1,16 @@
 // Doors for the commands, each put to the top call with its files and its output in memory.
-//   answers  what a command answers to files, and what a case expects
-//   files    the files of a command, and what it makes of them
-//   failing  calls that fail in turn
-//   judged   findings that were saved, judged by check
-//   query_counts  how many queries are decided
 //   replay, check, explain, verify, generated, words  the doors
+// - `answers`: what a command answers to files: a status, and below it what is put
+// - `check`: what the command check puts
+// - `explain`: what the command explain puts
+// - `failing`: calls that fail in turn
+// - `files`: the files of a command, and what it makes of them
+// - `generated`: what the command gen puts, and the texts that it saves
+// - `judged`: findings that were saved: check judges them valid
+// - `query_counts`: how many queries verify and gen have decided
+// - `replay`: what the command replay puts
+// - `verify`: what the command verify puts, and the finding that it saves
+// - `words`: command lines, a line each with bars between the words
 #![tactic(auto)]
 
 mod answers;

@@ -1,7 +1,7 @@
 // Which declarations of a file use which, and which uses lead back to their user.
 ghost use Rattle.std.specs.Prelude.{◌≡◌, ◌++◌, map, length, OnOk, IfOk};
 ghost use Rattle.call_order.specs.Uses.{graph_of, HasCircles};
-ghost use Rattle.source_tree.specs.SyntaxView.{name_view, tree_view, type_declaration_view, specification_view, pou_kind_view, pou_view, file_view};
+ghost use Rattle.source_tree.specs.SyntaxView.{name_view, tree_view, specification_view, pou_kind_view, file_view};
 ghost use Rattle.naming.specs.DeclarationUses.{used_by_name, used_by_bound, used_by_specification, used_by_result, declaration_uses};
 ghost use Rattle.naming.specs.FileScope.{types_of, pous_of};
 ghost use Rattle.naming.specs.ScopeView.{types_view, pous_view};

@@ -1,5 +1,5 @@
 // What the uses of types, of their values and of POUs break in a file's scope.
-ghost use Rattle.std.specs.Prelude.{◌≡◌, [], OnOk, IfOk, map, option_map, option_and_then, unwrap_or, is_some};
+ghost use Rattle.std.specs.Prelude.{◌≡◌, [], OnOk, IfOk, map, option_map, option_and_then, unwrap_or};
 ghost use Rattle.call_order.specs.Uses.{graph_of, HasCircles};
 ghost use Rattle.rules.specs.Rules.{earlier, first_in};
 ghost use Rattle.source_tree.specs.SyntaxView.{name_view, tree_view, type_view, specification_view, pou_kind_view, file_view};

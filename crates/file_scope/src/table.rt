@@ -1,5 +1,5 @@
 // The names of a file, each with how often it is declared and what it stands for first.
-ghost use Rattle.std.specs.Prelude.{◌≡◌, ◌<◌, [], OnOk, IfOk, is_some, option_map, nat_lt, if◌then◌else◌, ◌||◌};
+ghost use Rattle.std.specs.Prelude.{◌≡◌, ◌<◌, [], OnOk, IfOk, is_some, option_map, if◌then◌else◌, ◌||◌};
 ghost use Rattle.std.specs.HashMap.{get_by_text};
 ghost use Rattle.rules.specs.Rules.{earlier, first_in};
 ghost use Rattle.source_tree.specs.SyntaxView.{name_view};

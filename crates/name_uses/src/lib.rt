@@ -1,4 +1,4 @@
-// The uses of names in the body of a POU, judged one by one, the numbers of its variables, and the FUNCTIONs that it calls.
+// What the uses of names in the body of a POU break, the numbers of these uses, and the FUNCTIONs that it calls.
 #![tactic(auto)]
 
 mod associations;

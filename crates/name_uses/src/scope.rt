@@ -1,6 +1,6 @@
 // The names that the body of a POU may use, and what their uses break.
 ghost use Rattle.std.specs.Prelude.{◌≡◌, option_map, None};
-ghost use Rattle.source_tree.specs.SyntaxView.{name_view, names_view, path_view, file_view, pou_view};
+ghost use Rattle.source_tree.specs.SyntaxView.{name_view, names_view, path_view};
 ghost use Rattle.naming.specs.Broken.{member_by, in_member, in_members, in_flag, in_named, in_variable, in_outer, in_target, in_path, argument_by, in_argument_named, in_argument_name, in_called, in_enumerator, in_instance, in_connected, callee_of, alone};
 ghost use Rattle.naming.specs.FileScope.{pou_at, standing};
 ghost use Rattle.pou_scope.specs.NamesView.{file_in, pou_in, AreNamesOf};

@@ -1,4 +1,14 @@
 // The rules on names: what a file and a POU declare, what a name stands for, and which rules are broken.
+// - `callee`: what a call in an expression calls
+// - `chart_words`: the words of a chart's associations
+// - `entry`: entries of the table of a file's names
+// - `library`: names that each file's scope has from the start
+// - `pou_shape`: what is known of a POU by its number
+// - `role`: what the names of a POU are for
+// - `shape`: what a type is
+// - `slot`: entries of the table of a POU's names
+// - `standing`: what the names of a file stand for
+// - `variable`: a name of a POU, with what its declaration says of it
 #![tactic(auto)]
 
 mod callee;

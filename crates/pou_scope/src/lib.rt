@@ -29,5 +29,4 @@ mod variable_uses;
 pub use declarations::{append_blocks, instance_of, walk_declarations};
 pub use names::Names;
 pub use pou_names::{NamesOfPou, names_of_pou};
-pub use slots::{Slots, slot_at};
 pub use text_set::{add, has};

@@ -24,8 +24,8 @@ impl<'f> Names<'_, 'f> {
     ghost use Rattle.pou_scope.specs.NamesView.{file_in, pou_in};
     ghost use Rattle.use_numbers.specs.UseNumbers.{NotesUse};
 
-    /// The variable of a name.
-    pub fn seen(&self, name: &Name) -> Option<&Declared<'f>>
+    // The variable of a name.
+    fn seen(&self, name: &Name) -> Option<&Declared<'f>>
         ensures { seen_if result ≡ seen_named (file_in self.now) (pou_in self.now) (name_view name.now).text }
     {
         self.own.seen(name)

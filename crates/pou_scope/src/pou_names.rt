@@ -16,7 +16,6 @@ ghost use Rattle.pou_scope.specs.AllSeen.{seen_in};
 use crate::declared::declared_variables;
 use crate::in_file::all_seen;
 use crate::slots::{Slots, is_fault, slot_at, slots};
-use crate::slotted::Slotted;
 use crate::variable_uses::variable_circles;
 use call_order::uses_in_circle;
 use file_scope::FileScope;
@@ -78,18 +77,6 @@ impl<'f> NamesOfPou<'f> {
     ghost use Rattle.naming.specs.ScopeView.{seen_if};
     ghost use Rattle.pou_scope.specs.NamesView.{scope_named, seen_by};
     ghost use Rattle.use_numbers.specs.UseNumbers.{NotesUse};
-
-    // The variables, and their slots.
-    fn slotted(&self) -> Slotted<'_>
-        ensures fault { result.has_fault ≡ self.now.has_fault }
-        ensures variables { result.variables.now ≡ self.now.variables.items }
-    {
-        Slotted {
-            has_fault: self.has_fault,
-            slots: &self.slots,
-            variables: &self.variables,
-        }
-    }
 
     /// Whether a name is declared twice. Keeps the number of its slot.
     pub fn is_doubled(&self, numbers: &mut UseNumbers, name: &Name) -> bool

@@ -1,18 +1,17 @@
 // One scan of a flat program, and a clause of a relation, in single assignment: exactly the nodes that their definitions list.
-//
-// scans: a scan
-// clauses: a clause
-// statements: flat statements, one behind the other
-// merging: the end of an IF
-// assigning: assignments and conditions
-// words: expressions
-// functions: standard functions
-// making: nodes, one behind the other, up to a limit
-// nodes: what is made
-// trail: which words places hold, and what was changed
-// held: where words are read
-// places: what places take
-// fault: why there are no nodes
+// - `scans`: a scan
+// - `clauses`: a clause
+// - `statements`: flat statements, one behind the other
+// - `merging`: the end of an IF
+// - `assigning`: assignments and conditions
+// - `words`: expressions
+// - `functions`: standard functions
+// - `making`: nodes, one behind the other, up to a limit
+// - `nodes`: what is made
+// - `trail`: which words places hold, and what was changed
+// - `held`: where words are read
+// - `places`: what places take
+// - `fault`: why there are no nodes
 #![tactic(auto)]
 
 mod assigning;

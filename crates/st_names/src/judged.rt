@@ -70,12 +70,11 @@ fn judge_pou(
     Ok((outcome, uses))
 }
 
-/// Keeps what the POUs of a file break, where it comes first, and the numbers of their uses of names beside those that are kept.
+/// Keeps what the POUs of a file break, where it comes first.
 pub fn judge_pous<'a, 'f>(
     alloc: Global,
     file: &'a FileScope<'f>,
     all: &'a [NamesOfPou<'f>],
-    mut numbers: UseNumbers,
     first: &mut Option<Refusal>,
 ) -> Result<Judged, AllocError>
     requires pous { pous_named all.now ≡ pous_of (file_view file.now.types.names.file.now) }
@@ -87,6 +86,7 @@ pub fn judge_pous<'a, 'f>(
 {
     let mut wholes = Vec::new(alloc);
     let mut all_uses = Vec::new(alloc);
+    let mut numbers = UseNumbers::new(alloc);
     for own in all {
         let names = Names { file, own };
         let (outcome, uses) = judge_pou(alloc, &Scope { names, pous: all }, &mut numbers)?;

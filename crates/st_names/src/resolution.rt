@@ -27,7 +27,6 @@ use pou_scope::NamesOfPou;
 use rules::{Fault, Refusal, Rule};
 use source_tree::{Item, Pou, PouKind, SourceFile, TypeDeclaration};
 use std::alloc::{AllocError, Global};
-use use_numbers::UseNumbers;
 
 // Whether a POU is a PROGRAM.
 fn is_program(pou: &Pou) -> bool
@@ -127,10 +126,13 @@ fn judge_file<'a, 'f>(
     ensures wholes { let f = file_view scope.now.types.names.file.now in IfOk result (λ judged. judged.wholes.items ≡ map (λ p. (in_pou f p).whole) (pous_of f)) }
     ensures uses { let f = file_view scope.now.types.names.file.now in IfOk result (λ judged. graph_of judged.uses.items ≡ uses_of f) }
 {
-    let mut numbers = UseNumbers::new(alloc);
-    walk_types(alloc, scope, &mut numbers, &list.types, first)?;
-    walk_results(scope, &mut numbers, &list.pous, first);
-    let judged = judge_pous(alloc, scope, all, numbers, first)?;
+    // The POUs come first: the blocks of the prelude have places of their own text, which may be those of names in the file's types.
+    let mut of_pous = None;
+    let mut judged = judge_pous(alloc, scope, all, &mut of_pous)?;
+    let numbers = &mut judged.numbers;
+    walk_types(alloc, scope, numbers, &list.types, first)?;
+    walk_results(scope, numbers, &list.pous, first);
+    *first = Refusal::earlier(*first, of_pous);
     Ok(judged)
 }
 

@@ -8,8 +8,8 @@ use std::marker::Model;
 // Half of the bytes that a text has at most.
 const MOST_PLACES: usize = 524_288;
 
-/// The numbers of a file's uses of names, by half of the place of the name, since two names never stand so near: of a variable that
-/// of its slot, of a step at a transition that of the step among its chart's steps, of an action at a step that of the action among its
+/// The numbers of a file's uses of names, by half of the place of the name, since two names never stand so near: of a variable, and of the
+/// name of a part of a chart where it is declared, that of its slot, of a step at a transition that of the step among its chart's steps, of an action at a step that of the action among its
 /// chart's actions, else that of the entry among the names of the file. Contracts see the list of them. Whoever reads one compares the
 /// name of its entry.
 #[derive(Drop)]

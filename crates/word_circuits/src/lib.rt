@@ -1,4 +1,13 @@
 // Whole numbers as words of literals, and the operations of a program on them as they make gates: each equal to its definition.
+// - `bits`: operations bit by bit
+// - `choices`: one of two words, the lesser, the greater, and the absolute value
+// - `comparisons`: comparisons of words
+// - `convert`: words of other widths
+// - `divide`: quotients and remainders
+// - `products`: products
+// - `shifts`: shifts and rotations
+// - `sums`: sums, differences and negations
+// - `words`: constants, negated words, and the highest bit
 #![tactic(auto)]
 
 mod bits;

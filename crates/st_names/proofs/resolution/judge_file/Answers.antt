@@ -15,4 +15,4 @@ returns-clause-broken c =
     let pous = in_pous f (pous_of f) in
     let one = c.in_ok-walk_types.ensures ∙ ap (λ o. earlier o (first_in types)) c.requires.once ∙ sym (first_in-append front types) in
     let two = c.walk_results.ensures ∙ ap (λ o. earlier o (first_in results)) one ∙ sym (first_in-append (front ++ types) results) in
-    c.in_ok-judged.ensures.broken ∙ ap (λ o. earlier o (first_in pous)) two ∙ sym (first_in-append (front ++ types ++ results) pous)
+    c.earlier.ensures ∙ ap (λ o. earlier o c.judge_pous.new.first) two ∙ ap (earlier (first_in (front ++ types ++ results))) c.in_ok-judged.ensures.broken ∙ sym (first_in-append (front ++ types ++ results) pous)
