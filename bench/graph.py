@@ -4,8 +4,8 @@ bounds of docs/DECISIONS.md. Needs python3 alone.
 
   bench/graph.py [FOLDER]   the tree in a folder that has crates.txt and crates/; without one, this tree
 
-A crate stands one level above the highest crate that it uses. Lines are those of its files *.rt and *.antt, source those of
-*.rt alone."""
+A crate stands one level above the highest crate that it uses. Lines are those of its files *.rt and *.antt in src, specs and
+proofs, source those of *.rt alone."""
 import re
 import sys
 from pathlib import Path
@@ -26,8 +26,9 @@ def read_uses(top):
 
 def count(folder):
     """Lines of a crate, those of its source, and its functions."""
-    source = [path.read_text() for path in sorted(folder.rglob("*.rt"))]
-    others = [path.read_text() for path in sorted(folder.rglob("*.antt"))]
+    parts = [folder / part for part in ("src", "specs", "proofs")]
+    source = [path.read_text() for part in parts for path in sorted(part.rglob("*.rt"))]
+    others = [path.read_text() for part in parts for path in sorted(part.rglob("*.antt"))]
     rows = sum(text.count("\n") for text in source)
     return rows + sum(text.count("\n") for text in others), rows, sum(len(FUNCTION.findall(text)) for text in source)
 
