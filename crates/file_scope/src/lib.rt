@@ -6,7 +6,7 @@
 // - `names`: the types and POUs of a file, and all names that it declares
 // - `refusals`: judgements of rules on names
 // - `scope_of_file`: what the uses of types, of their values and of POUs break in a file's scope
-// - `table`: the names of a file, each with how often it is declared and what it stands for first
+// - `table`: the names of a file, each with what it stands for first, and whether it is declared twice
 // - `type_declarations`: what the declarations of types break, and the types of results
 #![tactic(auto)]
 

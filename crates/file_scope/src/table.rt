@@ -1,5 +1,5 @@
-// The names of a file, each with how often it is declared and what it stands for first.
-ghost use Rattle.std.specs.Prelude.{◌≡◌, ◌<◌, [], OnOk, IfOk, is_some, option_map, if◌then◌else◌, ◌||◌};
+// The names of a file, each with what it stands for first, and whether it is declared twice.
+ghost use Rattle.std.specs.Prelude.{◌≡◌, [], OnOk, IfOk, is_some, option_map, if◌then◌else◌, ◌||◌};
 ghost use Rattle.std.specs.HashMap.{get_by_text};
 ghost use Rattle.rules.specs.Rules.{earlier, first_in};
 ghost use Rattle.source_tree.specs.SyntaxView.{name_view};
@@ -8,7 +8,7 @@ ghost use Rattle.rules.specs.Judgements.{ok};
 ghost use Rattle.rules.specs.Outcomes.{outcome_of};
 ghost use Rattle.file_scope.specs.FileView.{file_names_view};
 ghost use Rattle.naming.specs.Library.{is_library};
-ghost use Rattle.naming.specs.Table.{entry_named, count_in, recounted, is_twice, standing_by, used, Holds};
+ghost use Rattle.naming.specs.Table.{entry_named, entered, is_doubled_by, standing_by, used, Holds};
 
 use crate::names::FileName;
 use crate::refusals::{misused, unknown};
@@ -29,69 +29,38 @@ pub fn entry_at(table: &Table, text: &str) -> Option<Entry>
     table.get(text).copied()
 }
 
-// How often a name is declared.
-fn count_in(entry: Option<Entry>) -> usize
-    ensures { result ≡ count_in entry }
+/// Whether a file's scope has a name twice, the library's names among them.
+pub fn is_doubled_at(table: &Table, text: &str) -> bool
+    ensures { result ≡ is_doubled_by (get_by_text table.now text.now) }
 {
-    match entry {
-        Some(entry) => entry.count,
-        None => 0,
+    match entry_at(table, text) {
+        Some(entry) => entry.is_doubled,
+        None => false,
     }
-}
-
-// Whether a file's scope has a name twice, the library's names among them.
-fn is_twice(is_library: bool, entry: Option<Entry>) -> bool
-    ensures { result ≡ is_twice is_library entry }
-{
-    let count = count_in(entry);
-    count > 1 || is_library && count > 0
 }
 
 // What a name stands for that the file's scope has once.
-fn standing_by(is_library: bool, entry: Option<Entry>) -> Option<Standing>
-    ensures { result ≡ standing_by is_library entry }
+fn standing_by(entry: Option<Entry>) -> Option<Standing>
+    ensures { result ≡ standing_by entry }
 {
-    let Some(found) = entry else {
-        return None;
-    };
-    if is_twice(is_library, entry) {
-        return None;
+    match entry {
+        Some(entry) if !entry.is_doubled => Some(entry.standing),
+        _ => None,
     }
-    Some(found.standing)
-}
-
-// The use of a name of which none is that fits.
-fn used(is_library: bool, entry: Option<Entry>, name: &Name) -> Outcome
-    ensures { result ≡ outcome_of (used is_library entry (name_view name.now)) }
-{
-    if !is_library && entry.is_none() {
-        return unknown(name);
-    }
-    if is_twice(is_library, entry) {
-        return Outcome::suppressed();
-    }
-    misused(name)
-}
-
-/// Whether a file's scope has a name twice, the library's names among them.
-pub fn is_doubled_at(table: &Table, text: &str) -> bool
-    ensures { result ≡ is_twice (is_library text.now) (get_by_text table.now text.now) }
-{
-    is_twice(is_library(text), entry_at(table, text))
 }
 
 /// What a name stands for that the file's scope has once, in constant time.
 pub fn standing_at(table: &Table, text: &str) -> Option<Standing>
-    ensures { result ≡ standing_by (is_library text.now) (get_by_text table.now text.now) }
+    ensures { result ≡ standing_by (get_by_text table.now text.now) }
 {
-    standing_by(is_library(text), entry_at(table, text))
+    standing_by(entry_at(table, text))
 }
 
 /// The same, where this is the number of its entry; where there is none, or another's, the name is looked up.
 pub fn standing_by_number(table: &Table, number: Option<usize>, text: &str) -> Option<Standing>
-    ensures { result ≡ standing_by (is_library text.now) (get_by_text table.now text.now) }
+    ensures { result ≡ standing_by (get_by_text table.now text.now) }
 {
-    standing_by(is_library(text), value_by(table, number, text))
+    standing_by(value_by(table, number, text))
 }
 
 /// What the first declared of a name stands for, in constant time.
@@ -109,28 +78,45 @@ pub fn use_in(table: &Table, name: &Name) -> Outcome
     ensures { let n = name_view name.now in result ≡ outcome_of (used (is_library n.text) (get_by_text table.now n.text) n) }
 {
     let text = name.text.as_str();
-    used(is_library(text), entry_at(table, text), name)
+    match entry_at(table, text) {
+        Some(entry) => {
+            if entry.is_doubled {
+                Outcome::suppressed()
+            } else {
+                misused(name)
+            }
+        }
+        None => {
+            if is_library(text) {
+                misused(name)
+            } else {
+                unknown(name)
+            }
+        }
+    }
 }
 
-// The entry of a name once it is declared, again or for the first time.
-fn recounted(standing: Standing, known: Option<Entry>) -> Entry
-    requires { count_in known < usize.MAX }
-    ensures { result ≡ recounted standing known }
+// The entry of a name, which may be one of the library, once it is declared, again or for the first time.
+fn entered(is_library: bool, standing: Standing, known: Option<Entry>) -> Entry
+    ensures { result ≡ entered is_library standing known }
 {
     match known {
         Some(entry) => Entry {
-            count: entry.count + 1,
             standing: entry.standing,
+            is_doubled: true,
         },
-        None => Entry { count: 1, standing },
+        None => Entry {
+            standing,
+            is_doubled: is_library,
+        },
     }
 }
 
 // N1 at a name of the library, or of an earlier declaration.
-fn declared_twice(known: Option<Entry>, name: &Name) -> Option<Refusal>
-    ensures { let n = name_view name.now in result ≡ first_in (if is_library n.text || is_some known then twice n else ok).broken }
+fn declared_twice(is_library: bool, known: Option<Entry>, name: &Name) -> Option<Refusal>
+    ensures { let n = name_view name.now in result ≡ first_in (if is_library || is_some known then twice n else ok).broken }
 {
-    if is_library(name.text.as_str()) || known.is_some() {
+    if is_library || known.is_some() {
         return Some(Refusal {
             rule: Rule::DeclaredTwice,
             at: name.at,
@@ -151,9 +137,11 @@ pub fn table_of(
     let mut table = IndexMap::new(alloc);
     for declared in names {
         let name = declared.name;
-        let known = entry_at(&table, name.text.as_str());
-        *first = Refusal::earlier(*first, declared_twice(known, name));
-        let entry = recounted(declared.standing, known);
+        let text = name.text.as_str();
+        let known = entry_at(&table, text);
+        let is_library = is_library(text);
+        *first = Refusal::earlier(*first, declared_twice(is_library, known, name));
+        let entry = entered(is_library, declared.standing, known);
         table.insert(name.text.clone()?, entry)?;
     }
     Ok(table)

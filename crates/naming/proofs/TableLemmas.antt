@@ -1,11 +1,10 @@
 -- One more name in the table of a file, and what the table says of a name.
-use Rattle.std.proofs.Common.{◌≡◌, ℕ, ◌+◌, ◌<◌, ◌≤◌, List, [], ◌∷◌, ◌++◌, length, Bool, true, false, ◌||◌, nat_lt, Option, Some, None, option_map, is_some, refl, sym, ap, ◌∙◌, if◌then◌else◌, count_by, String, arith, add-zero}
+use Rattle.std.proofs.Common.{◌≡◌, ℕ, ◌+◌, List, [], ◌∷◌, ◌++◌, Bool, true, false, ◌||◌, nat_lt, Option, Some, None, option_map, is_some, refl, sym, ap, ◌∙◌, if◌then◌else◌, count_by, String, arith, add-zero}
 use Rattle.std.specs.HashMap.{HashMap, get_by_text, UpdatesBy}
 use Rattle.std.specs.String.{string_bytes, string_eq}
 use Rattle.std.specs.List.{list_any}
 use Rattle.std.specs.Cmp.Lexicographic.{bytes_decides}
 use Rattle.std.proofs.lemmas.Bool.Decides.{nat_tests}
-use Rattle.std.proofs.lemmas.List.Sums.{count_by-le-length}
 use Rattle.std.proofs.lemmas.Map.Text.{hash_map_updates_text}
 use Rattle.rules.specs.declared.rule.Refusal.{Refusal}
 use Rattle.rules.specs.Rules.{earlier, first_in}
@@ -16,7 +15,7 @@ use Rattle.rules.specs.Judgements.{ok}
 use Rattle.naming.specs.Broken.{twice, names_twice, in_file}
 use Rattle.naming.specs.FileScope.{DeclaredName, names_of, is_declared_as, is_doubled_in_file, first_standing, standing}
 use Rattle.naming.specs.Library.{is_library}
-use Rattle.naming.specs.Table.{entry_of, entry_named, count_in, recounted, is_twice, standing_by, used, Holds}
+use Rattle.naming.specs.Table.{entry_of, entry_named, is_doubled_among, is_doubled_by, entered, standing_by, used, Holds}
 use Rattle.naming.proofs.CountLemmas.{count-push, any-count}
 use Rattle.rules.proofs.Outcomes.{earlier_on}
 
@@ -48,28 +47,46 @@ first-any q (x ∷ xs) = by (is_declared_as q x) (first-any q xs)
 none-count : (q : List ℕ) (xs : List DeclaredName) → first_standing q xs ≡ None → count_by (is_declared_as q) xs ≡ 0
 none-count q xs h = let e : nat_lt 0 (count_by (is_declared_as q) xs) ≡ false = sym (any-count (is_declared_as q) xs) ∙ sym (first-any q xs) ∙ ap is_some h in grind (arith, nat_tests)
 
+some-count : (q : List ℕ) (xs : List DeclaredName) (s : Standing) → first_standing q xs ≡ Some s → nat_lt 0 (count_by (is_declared_as q) xs) ≡ true
+some-count q xs s h = sym (any-count (is_declared_as q) xs) ∙ sym (first-any q xs) ∙ ap is_some h
+
+-- one more of the name that others have makes two
+twice_more : (n l : ℕ) → nat_lt 0 n ≡ true → nat_lt 1 (n + 1 + l) ≡ true
+twice_more n l h = grind (arith, nat_tests)
+
+once_more : (n : ℕ) (b : Bool) → n ≡ 0 → nat_lt 1 (n + 1 + (if b then 1 else 0)) ≡ b
+once_more n true h = grind (arith, nat_tests)
+once_more n false h = grind (arith, nat_tests)
+
+-- whether a name is declared twice once one of that name stands behind others, or another
+doubled-own : (q : List ℕ) (xs : List DeclaredName) (d : DeclaredName) → is_declared_as q d ≡ true → is_doubled_among (xs ++ d ∷ []) q ≡ nat_lt 1 (count_by (is_declared_as q) xs + 1 + (if is_library q then 1 else 0))
+doubled-own q xs d h = ap (λ n. nat_lt 1 (n + (if is_library q then 1 else 0))) (count-push (is_declared_as q) xs d ∙ ap (λ b. count_by (is_declared_as q) xs + (if b then 1 else 0)) h)
+
+doubled-other : (q : List ℕ) (xs : List DeclaredName) (d : DeclaredName) → is_declared_as q d ≡ false → is_doubled_among (xs ++ d ∷ []) q ≡ is_doubled_among xs q
+doubled-other q xs d h =
+    ap (λ n. nat_lt 1 (n + (if is_library q then 1 else 0))) (count-push (is_declared_as q) xs d ∙ ap (λ b. count_by (is_declared_as q) xs + (if b then 1 else 0)) h ∙ add-zero (count_by (is_declared_as q) xs))
+
 entry-push : (q : List ℕ) (xs : List DeclaredName) (d : DeclaredName) (o : Option Standing) (b : Bool) → first_standing q xs ≡ o → is_declared_as q d ≡ b
-    → option_map (entry_of (count_by (is_declared_as q) (xs ++ d ∷ []))) (pushed q d o)
-    ≡ (if b then Some (recounted d.1 (option_map (entry_of (count_by (is_declared_as q) xs)) o)) else option_map (entry_of (count_by (is_declared_as q) xs)) o)
-entry-push q xs d (Some s) true e h = ap (λ n. Some (entry_of n s)) (count-push (is_declared_as q) xs d ∙ ap (λ b. count_by (is_declared_as q) xs + (if b then 1 else 0)) h)
-entry-push q xs d (Some s) false e h = ap (λ n. Some (entry_of n s)) (count-push (is_declared_as q) xs d ∙ ap (λ b. count_by (is_declared_as q) xs + (if b then 1 else 0)) h ∙ add-zero (count_by (is_declared_as q) xs))
-entry-push q xs d None true e h =
-    rw h (ap (λ n. Some (entry_of n d.1)) (count-push (is_declared_as q) xs d ∙ ap (λ b. count_by (is_declared_as q) xs + (if b then 1 else 0)) h ∙ ap (λ n. n + 1) (none-count q xs e)))
+    → option_map (entry_of (is_doubled_among (xs ++ d ∷ []) q)) (pushed q d o)
+    ≡ (if b then Some (entered (is_library q) d.1 (option_map (entry_of (is_doubled_among xs q)) o)) else option_map (entry_of (is_doubled_among xs q)) o)
+entry-push q xs d (Some s) true e h = ap (λ t. Some (entry_of t s)) (doubled-own q xs d h ∙ twice_more (count_by (is_declared_as q) xs) (if is_library q then 1 else 0) (some-count q xs s e))
+entry-push q xs d (Some s) false e h = ap (λ t. Some (entry_of t s)) (doubled-other q xs d h)
+entry-push q xs d None true e h = rw h (ap (λ t. Some (entry_of t d.1)) (doubled-own q xs d h ∙ once_more (count_by (is_declared_as q) xs) (is_library q) (none-count q xs e)))
 entry-push q xs d None false e h = rw h refl
 
-pub entry_named-push : (q : List ℕ) (xs : List DeclaredName) (d : DeclaredName) → entry_named (xs ++ d ∷ []) q ≡ (if is_declared_as q d then Some (recounted d.1 (entry_named xs q)) else entry_named xs q)
-entry_named-push q xs d = ap (option_map (entry_of (count_by (is_declared_as q) (xs ++ d ∷ [])))) (first-push q xs d) ∙ entry-push q xs d (first_standing q xs) (is_declared_as q d) refl refl
+pub entry_named-push : (q : List ℕ) (xs : List DeclaredName) (d : DeclaredName) → entry_named (xs ++ d ∷ []) q ≡ (if is_declared_as q d then Some (entered (is_library q) d.1 (entry_named xs q)) else entry_named xs q)
+entry_named-push q xs d = ap (option_map (entry_of (is_doubled_among (xs ++ d ∷ []) q))) (first-push q xs d) ∙ entry-push q xs d (first_standing q xs) (is_declared_as q d) refl refl
 
 entered_at : (q : List ℕ) (xs : List DeclaredName) (d : DeclaredName) (b : Bool) (rest : Option Entry) → is_declared_as q d ≡ b
-    → (if b then Some (recounted d.1 (entry_named xs d.0.text)) else rest) ≡ (if b then Some (recounted d.1 (entry_named xs q)) else rest)
-entered_at q xs d true rest h = ap (λ t. Some (recounted d.1 (entry_named xs t))) (same_declared d q h)
+    → (if b then Some (entered (is_library d.0.text) d.1 (entry_named xs d.0.text)) else rest) ≡ (if b then Some (entered (is_library q) d.1 (entry_named xs q)) else rest)
+entered_at q xs d true rest h = ap (λ t. Some (entered (is_library t) d.1 (entry_named xs t))) (same_declared d q h)
 entered_at q xs d false rest h = refl
 
 module _ {Y S : Type 0} (m n : HashMap (String Y) Entry S) (key : String Y) (xs : List DeclaredName) (d : DeclaredName) (entry : Entry) (known : Option Entry) where
   pub table_push : Holds m (entry_named xs) → UpdatesBy string_eq (string_eq key) m n (Some entry) → string_bytes key ≡ d.0.text
-      → known ≡ get_by_text m d.0.text → entry ≡ recounted d.1 known → Holds n (entry_named (xs ++ d ∷ []))
+      → known ≡ get_by_text m d.0.text → entry ≡ entered (is_library d.0.text) d.1 known → Holds n (entry_named (xs ++ d ∷ []))
   table_push held updates named know new q =
-      let is : entry ≡ recounted d.1 (entry_named xs d.0.text) = new ∙ ap (recounted d.1) (know ∙ held d.0.text) in
+      let is : entry ≡ entered (is_library d.0.text) d.1 (entry_named xs d.0.text) = new ∙ ap (entered (is_library d.0.text) d.1) (know ∙ held d.0.text) in
       hash_map_updates_text (string_bytes key) m n (Some entry) updates q
       ∙ rw (named, is, held q) (entered_at q xs d (is_declared_as q d) (entry_named xs q) refl)
       ∙ sym (entry_named-push q xs d)
@@ -79,18 +96,7 @@ is_some-map f None = refl
 is_some-map f (Some a) = refl
 
 pub entry-any : (q : List ℕ) (xs : List DeclaredName) → is_some (entry_named xs q) ≡ list_any (is_declared_as q) xs
-entry-any q xs = is_some-map (entry_of (count_by (is_declared_as q) xs)) (first_standing q xs) ∙ first-any q xs
-
-pub entry-count : (q : List ℕ) (xs : List DeclaredName) → count_in (entry_named xs q) ≡ count_by (is_declared_as q) xs
-entry-count q xs = by (first_standing q xs) refl
-  where
-    by : (o : Option Standing) → first_standing q xs ≡ o → count_in (option_map (entry_of (count_by (is_declared_as q) xs)) o) ≡ count_by (is_declared_as q) xs
-    by None e = sym (none-count q xs e)
-    by (Some s) e = refl
-
--- a count of some of the names is below the number of all
-pub count-below : (q : List ℕ) (xs : List DeclaredName) (known : Option Entry) (n k : ℕ) → known ≡ entry_named xs q → length xs ≤ k → k < n → count_in known < n
-count-below q xs known n k e h l = omega (arith, count_by-le-length (is_declared_as q) xs, ap count_in e ∙ entry-count q xs)
+entry-any q xs = is_some-map (entry_of (is_doubled_among xs q)) (first_standing q xs) ∙ first-any q xs
 
 abbrev own : DeclaredName → Bool → List Refusal
 own d known = (if is_library d.0.text || known then twice d.0 else ok).broken
@@ -104,30 +110,60 @@ names_push a b r before rest d known know told new =
 
 -- ---- what the table says
 
-pub twice-named : (f : FileData) (q : List ℕ) → is_twice (is_library q) (entry_named (names_of f) q) ≡ is_doubled_in_file f q
-twice-named f q = ap (λ n. nat_lt 1 (n + (if is_library q then 1 else 0))) (entry-count q (names_of f))
+-- a name that is not declared is not declared twice
+none_doubled : (q : List ℕ) (xs : List DeclaredName) → first_standing q xs ≡ None → is_doubled_among xs q ≡ false
+none_doubled q xs h = by (is_library q)
+  where
+    none : count_by (is_declared_as q) xs ≡ 0
+    none = none-count q xs h
+
+    by : (l : Bool) → nat_lt 1 (count_by (is_declared_as q) xs + (if l then 1 else 0)) ≡ false
+    by true = grind (arith, nat_tests, none)
+    by false = grind (arith, nat_tests, none)
+
+pub twice-named : (f : FileData) (q : List ℕ) → is_doubled_by (entry_named (names_of f) q) ≡ is_doubled_in_file f q
+twice-named f q = by (first_standing q (names_of f)) refl
+  where
+    by : (o : Option Standing) → first_standing q (names_of f) ≡ o → is_doubled_by (option_map (entry_of (is_doubled_among (names_of f) q)) o) ≡ is_doubled_among (names_of f) q
+    by None e = sym (none_doubled q (names_of f) e)
+    by (Some s) e = refl
 
 abbrev nothing : Option Standing
 nothing = None
 
-pub standing-named : (f : FileData) (q : List ℕ) → standing_by (is_library q) (entry_named (names_of f) q) ≡ standing f q
+pub standing-named : (f : FileData) (q : List ℕ) → standing_by (entry_named (names_of f) q) ≡ standing f q
 unfolding standing
-standing-named f q = by (first_standing q (names_of f)) (is_library q)
+standing-named f q = by (first_standing q (names_of f)) (is_doubled_among (names_of f) q)
   where
     same : (b : Bool) → nothing ≡ (if b then nothing else nothing)
     same true = refl
     same false = refl
 
-    by : (o : Option Standing) (l : Bool) → standing_by l (option_map (entry_of (count_by (is_declared_as q) (names_of f))) o) ≡ (if nat_lt 1 (count_by (is_declared_as q) (names_of f) + (if l then 1 else 0)) then None else o)
-    by None l = same (nat_lt 1 (count_by (is_declared_as q) (names_of f) + (if l then 1 else 0)))
-    by (Some s) l = refl
+    by : (o : Option Standing) (b : Bool) → standing_by (option_map (entry_of b) o) ≡ (if b then None else o)
+    by None b = same b
+    by (Some s) b = refl
 
 pub first-named : (f : FileData) (q : List ℕ) → option_map (λ (e : Entry). e.standing) (entry_named (names_of f) q) ≡ first_standing q (names_of f)
 first-named f q = by (first_standing q (names_of f))
   where
-    by : (o : Option Standing) → option_map (λ (e : Entry). e.standing) (option_map (entry_of (count_by (is_declared_as q) (names_of f))) o) ≡ o
+    by : (o : Option Standing) → option_map (λ (e : Entry). e.standing) (option_map (entry_of (is_doubled_among (names_of f) q)) o) ≡ o
     by None = refl
     by (Some s) = refl
 
 pub used-named : (f : FileData) (n : Named) → used (is_library n.text) (entry_named (names_of f) n.text) n ≡ in_file f n
-used-named f n = rw (entry-any n.text (names_of f), entry-count n.text (names_of f)) refl
+used-named f n = by (first_standing n.text (names_of f)) refl (is_library n.text) refl
+  where
+    q : List ℕ
+    q = n.text
+
+    found : (o : Option Standing) → first_standing q (names_of f) ≡ o → list_any (is_declared_as q) (names_of f) ≡ is_some o
+    found o e = sym (first-any q (names_of f)) ∙ ap is_some e
+
+    known : (l : Bool) → (l || true) ≡ true
+    known true = refl
+    known false = refl
+
+    by : (o : Option Standing) → first_standing q (names_of f) ≡ o → (l : Bool) → is_library q ≡ l → used l (option_map (entry_of (is_doubled_among (names_of f) q)) o) n ≡ in_file f n
+    by None e true h = rw (none_doubled q (names_of f) e, h) refl
+    by None e false h = rw (h, found None e) refl
+    by (Some s) e l h = rw (h, found (Some s) e, known l) refl

@@ -1,5 +1,5 @@
--- What is known of a name of a file, in one place: how often it is declared, and what it stands for first.
-use Rattle.std.specs.Prelude.{◌≡◌, ℕ, ◌+◌, List, Bool, ◌||◌, nat_lt, Option, Some, None, is_some, option_map, if◌then◌else◌, String, count_by}
+-- What is known of a name of a file, in one place: what it stands for first, and whether it is declared twice.
+use Rattle.std.specs.Prelude.{◌≡◌, ℕ, ◌+◌, List, Bool, true, false, nat_lt, Option, Some, None, option_map, if◌then◌else◌, String, count_by}
 use Rattle.std.specs.HashMap.{HashMap, get_by_text}
 use Rattle.source_tree.specs.Syntax.{Named}
 use Rattle.naming.specs.declared.standing.Standing.{Standing}
@@ -7,33 +7,35 @@ use Rattle.naming.specs.declared.entry.Entry.{Entry}
 use Rattle.rules.specs.Judgements.{Judgement, suppressed}
 use Rattle.naming.specs.Broken.{unknown, misused}
 use Rattle.naming.specs.FileScope.{DeclaredName, is_declared_as, first_standing}
+use Rattle.naming.specs.Library.{is_library}
 
-abbrev pub entry_of : ℕ → Standing → Entry
-entry_of count s = record { count = count; standing = s }
+abbrev pub entry_of : Bool → Standing → Entry
+entry_of doubled s = record { standing = s; is_doubled = doubled }
+
+-- a name that is declared twice, where the library's names are declared from the start
+abbrev pub is_doubled_among : List DeclaredName → List ℕ → Bool
+is_doubled_among ds text = nat_lt 1 (count_by (is_declared_as text) ds + (if is_library text then 1 else 0))
 
 abbrev pub entry_named : List DeclaredName → List ℕ → Option Entry
-entry_named ds text = option_map (entry_of (count_by (is_declared_as text) ds)) (first_standing text ds)
+entry_named ds text = option_map (entry_of (is_doubled_among ds text)) (first_standing text ds)
 
-abbrev pub count_in : Option Entry → ℕ
-count_in None = 0
-count_in (Some e) = e.count
+-- the entry of a name, which may be one of the library, once it is declared, again or for the first time
+abbrev pub entered : Bool → Standing → Option Entry → Entry
+entered library s None = entry_of library s
+entered library s (Some e) = entry_of true e.standing
 
--- the entry of a name once it is declared, again or for the first time
-abbrev pub recounted : Standing → Option Entry → Entry
-recounted s None = entry_of 1 s
-recounted s (Some e) = entry_of (e.count + 1) e.standing
+abbrev pub is_doubled_by : Option Entry → Bool
+is_doubled_by None = false
+is_doubled_by (Some e) = e.is_doubled
 
--- a name that the file's scope has twice, the library's among them
-abbrev pub is_twice : Bool → Option Entry → Bool
-is_twice library e = nat_lt 1 (count_in e + (if library then 1 else 0))
+abbrev pub standing_by : Option Entry → Option Standing
+standing_by None = None
+standing_by (Some e) = if e.is_doubled then None else Some e.standing
 
-abbrev pub standing_by : Bool → Option Entry → Option Standing
-standing_by library None = None
-standing_by library (Some e) = if is_twice library (Some e) then None else Some e.standing
-
--- the use of a name, where none is that fits
+-- the use of a name, which may be one of the library, where none is that fits
 abbrev pub used : Bool → Option Entry → Named → Judgement
-used library e n = if library || is_some e then (if is_twice library e then suppressed else misused n) else unknown n
+used library None n = if library then misused n else unknown n
+used library (Some e) n = if e.is_doubled then suppressed else misused n
 
 -- a map holds what a look-up finds
 abbrev pub Holds : {Y X S : Type 0} → HashMap (String Y) X S → (List ℕ → Option X) → Type 0

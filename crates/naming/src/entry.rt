@@ -1,9 +1,10 @@
 // Entries of a table.
 use crate::standing::Standing;
 
-/// How often a file declares a name, and what the first of them stands for.
+/// What the first declared of a name of a file stands for, and whether the file's scope has the name twice, the library's names among
+/// them.
 #[derive(Clone, Copy)]
 pub struct Entry {
-    pub count: usize,
     pub standing: Standing,
+    pub is_doubled: bool,
 }
