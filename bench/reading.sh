@@ -6,7 +6,7 @@ set -euo pipefail
 source "$(dirname -- "$(readlink -f -- "${BASH_SOURCE[0]}")")/beside.sh"
 runs=${1:-5}
 names=("${@:2}")
-[ ${#names[@]} -gt 0 ] || names=(statements chain elsifs entries labels functions relates)
+[ ${#names[@]} -gt 0 ] || names=(statements chain elsifs entries labels functions constants charts relates)
 
 python3 "$top/bench/reading/make_texts.py" .
 echo "[[]]" >trace

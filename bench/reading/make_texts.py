@@ -2,7 +2,8 @@
 """Writes texts of at most 1 MiB into a folder, each of one construct: NAME.st, a program, and NAME.rel, a relation of it with itself.
 
 statements, chain: assignments, and the operands of one. elsifs: the tests of one IF. entries, labels: 32,768 entries of one CASE,
-and as many labels of one entry. functions: 9,000 FUNCTIONs, each of which calls the one before. relates: RELATE lines.
+and as many labels of one entry. functions: 9,000 FUNCTIONs, each of which calls the one before. constants: FUNCTIONs whose constants begin
+with values of an enumeration. charts: blocks with charts of 900 steps. relates: RELATE lines.
 Use: make_texts.py FOLDER
 """
 import sys
@@ -24,6 +25,27 @@ def functions():
     return first + "".join(each) + "PROGRAM M VAR_OUTPUT n : INT; END_VAR n := F8999(n); END_PROGRAM\n"
 
 
+def constants():
+    values = ", ".join(f"e{k}" for k in range(200))
+    each = lambda k: (
+        f"FUNCTION F{k} : INT VAR CONSTANT c, d, f : E := e{k % 200}; g : E := E#e{(k + 1) % 200}; END_VAR END_FUNCTION\n"
+    )
+    return filled(f"TYPE E : ({values}); END_TYPE\n", each, "PROGRAM M VAR_OUTPUT n : INT; END_VAR END_PROGRAM\n")
+
+
+def chart(count):
+    steps = [f"STEP step{k}: act{k}(N); act{(k + 1) % count}(P); END_STEP\n" for k in range(count)]
+    moves = [f"TRANSITION FROM step{k} TO step{(k + 1) % count} := i; END_TRANSITION\n" for k in range(count)]
+    actions = [f"ACTION act{k}: q := i; END_ACTION\n" for k in range(count)]
+    return "INITIAL_" + "".join(steps + moves + actions)
+
+
+def charts():
+    body = chart(900)
+    each = lambda k: f"FUNCTION_BLOCK B{k} VAR_INPUT i : BOOL; END_VAR VAR_OUTPUT q : BOOL; END_VAR\n{body}END_FUNCTION_BLOCK\n"
+    return filled("", each, "PROGRAM M VAR_OUTPUT n : INT; END_VAR END_PROGRAM\n")
+
+
 PLAIN = HEAD + "RELATE TRUE;\n"
 TEXTS = {
     "statements": lambda: (PROGRAMS["statements"](), PLAIN),
@@ -32,6 +54,8 @@ TEXTS = {
     "entries": lambda: (PROGRAMS["labels of a CASE"](), PLAIN),
     "labels": lambda: (labels(), PLAIN),
     "functions": lambda: (functions(), PLAIN),
+    "constants": lambda: (constants(), PLAIN),
+    "charts": lambda: (charts(), PLAIN),
     "relates": lambda: (SMALL, filled(HEAD, lambda k: f"RELATE old.n = new.n OR old.n > {k};\n", "")),
 }
 
