@@ -114,7 +114,7 @@ impl Clause {
     }
 }
 
-/// The set of some literals has a literal of any kind exactly where they have.
+/// The set of some literals has a literal that passes a test exactly where they have.
 pub fn law_set_of()
     ensures same { (literals : List Lit) (test : Lit → Bool)
         → list_any test (set_of literals) ≡ list_any test literals }

@@ -1,7 +1,7 @@
 // Calls that fail in turn.
 use crate::files::{Ended, Run, fill, run_program};
 use case_files::{Case, CaseFault, Mismatch, Word, compare, expected_text_of, malformed};
-use outside::{CallKind, Failure, MemShelf};
+use outside::{Failure, MemShelf, OutsideCall};
 use regver_top::Status;
 use std::alloc::{AllocError, Global};
 
@@ -34,23 +34,23 @@ pub(crate) fn compare_failing(
     let lines = run_program(alloc, tried.words, &mut shelf, Vec::new(alloc))?.lines;
     let whole = Whole { lines, shelf };
     for line in text.lines() {
-        let (kind, count) = calls_of(alloc, line)?;
-        compare_calls(alloc, tried, &whole, kind, count, found)?;
+        let (call, count) = calls_of(alloc, line)?;
+        compare_calls(alloc, tried, &whole, call, count, found)?;
     }
     Ok(())
 }
 
-// The kind of calls that a line names, and how many there are.
-fn calls_of(alloc: Global, line: &str) -> Result<(CallKind, u64), CaseFault> {
+// The call that a line names, and how many times it is made.
+fn calls_of(alloc: Global, line: &str) -> Result<(OutsideCall, u64), CaseFault> {
     let (name, count) = line.split_once(' ').unwrap_or((line, ""));
     let Ok(count) = count.trim().parse::<u64>() else {
         return Err(malformed(alloc, "this is no number of calls: ", line));
     };
     match name {
-        "reads" => Ok((CallKind::Read, count)),
-        "creates" => Ok((CallKind::Create, count)),
-        "appends" => Ok((CallKind::Append, count)),
-        "puts" => Ok((CallKind::Put, count)),
+        "reads" => Ok((OutsideCall::Read, count)),
+        "creates" => Ok((OutsideCall::Create, count)),
+        "appends" => Ok((OutsideCall::Append, count)),
+        "puts" => Ok((OutsideCall::Put, count)),
         _ => Err(malformed(alloc, "there are no such calls: ", line)),
     }
 }
@@ -73,7 +73,7 @@ fn compare_calls(
     alloc: Global,
     tried: &Run<'_>,
     whole: &Whole,
-    kind: CallKind,
+    call: OutsideCall,
     count: u64,
     found: &mut Vec<Mismatch>,
 ) -> Result<(), AllocError> {
@@ -85,10 +85,10 @@ fn compare_calls(
         };
         let number = before.saturating_add(1);
         for kept in KEPT {
-            let failure = Failure { kind, number, kept };
+            let failure = Failure { call, number, kept };
             let got = answer_to(alloc, tried, whole, failure)?;
             if got != expected {
-                let what = format!(in alloc; "{kind:?} {number} fails, with {kept} bytes kept")?;
+                let what = format!(in alloc; "{call:?} {number} fails, with {kept} bytes kept")?;
                 compare(alloc, what.as_str(), expected, got, found)?;
             }
         }
@@ -114,7 +114,7 @@ fn answer_to(
     })
 }
 
-// Whether a call that failed was answered by its fault, and was the last of its kind.
+// Whether a call that failed was answered by its fault, and was the last of those that do the same.
 fn is_fault(
     tried: &Run<'_>,
     whole: &Whole,
@@ -123,19 +123,19 @@ fn is_fault(
     shelf: &MemShelf,
 ) -> bool {
     let counts = shelf.counts();
-    match (failure.kind, ended.status) {
-        (CallKind::Read, Status::ReadFault) => {
+    match (failure.call, ended.status) {
+        (OutsideCall::Read, Status::ReadFault) => {
             counts.reads == failure.number
                 && ended.lines.as_slice() == b"READ FAULT\n".as_slice()
                 && tried.saved.iter().all(|name| shelf.bytes(name) == BEFORE)
         }
-        (CallKind::Create, Status::WriteFault) => {
+        (OutsideCall::Create, Status::WriteFault) => {
             counts.creates == failure.number && is_cut_off(tried, whole, ended, shelf)
         }
-        (CallKind::Append, Status::WriteFault) => {
+        (OutsideCall::Append, Status::WriteFault) => {
             counts.appends == failure.number && is_cut_off(tried, whole, ended, shelf)
         }
-        (CallKind::Put, Status::WriteFault) => {
+        (OutsideCall::Put, Status::WriteFault) => {
             ended.puts == failure.number
                 && whole.lines.starts_with(&ended.lines)
                 && has_fronts(tried, whole, shelf)

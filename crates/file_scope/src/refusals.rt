@@ -34,7 +34,7 @@ pub fn circular(name: &Name) -> Outcome
 pub fn misused(name: &Name) -> Outcome
     ensures { result ≡ outcome_of (misused (name_view name.now)) }
 {
-    Outcome::breaks(Rule::WrongKind, name.at)
+    Outcome::breaks(Rule::WrongUse, name.at)
 }
 
 /// N4 at the first name behind a variable or a value that has no members.

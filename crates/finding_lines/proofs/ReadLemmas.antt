@@ -173,7 +173,7 @@ pub derived-some : (bytes rest back end : List ℕ) (ls hs : List ℤ) → bytes
 derived-some bytes rest back end ls hs whole first second e =
     whole ∙ ap (λ r. codes "D" ++ r) (first.whole ∙ ap (λ b. ended ls ++ b) (second.whole ∙ ap (λ m. ended hs ++ m) e ∙ append-nil (ended hs)))
 
--- no line of a kind without a row
+-- no line without a row
 pub short-none : (bytes : List ℕ)
     → bytes ≢ codes "REGVER FINDING 1"
     → ((q : Asked) → AskedFits q → bytes ≢ codes "LOG" ++ asked q)

@@ -42,7 +42,7 @@ pub record AreNonzero (ns : List ℤ) : Type 0 where
   pub numbers : AreNumbers ns
   pub nonzero : All (λ n. n ≢ pos 0) ns
 
--- the line is of a kind that has no row of numbers
+-- the line is one that has no row of numbers
 abbrev pub HasNoRow : Line → Type 0
 HasNoRow Header = Unit {0}
 HasNoRow (Seen inputs) = ⊥

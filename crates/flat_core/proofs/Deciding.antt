@@ -108,6 +108,6 @@ module _ (cells : ℕ) (cs : List Scratch) where
 there : {P : Type 0} → Decided P → ∥ P ∥₁ → P
 there d h = elim d [ inl have ↦ have | inr none ↦ absurd (not_there h none) ]
 
--- each flat program keeps the rules of its kind
+-- each flat program keeps the rules of flat programs
 pub flat-kept : (f : Flat) → IsFlat (flat_program_view f)
 flat-kept f = let v = flat_program_view f in there (flats_decided (length v.cells) v.scratch [] v.body) f.rules

@@ -20,7 +20,7 @@ impl Flat {
     ghost use Rattle.flat_core.specs.FlatRules.{IsFlat};
     ghost use Rattle.flat_core.specs.FlatView.{flat_program_view};
 
-    /// The law that a flat program keeps the rules of its kind. It does nothing.
+    /// The law that a flat program keeps the rules of flat programs. It does nothing.
     pub fn keeps_rules(&self)
         ensures { IsFlat (flat_program_view self.now) }
     {}

@@ -14,7 +14,7 @@ use Rattle.flat_form.specs.WellTyped.{IsWellTyped}
 abbrev pub LeavesTheSame : ProgramData → FlatData → Type 0
 LeavesTheSame p f = (s : State) → IsInRange (ranges_of p.cells) s → flat_scanned f s ≡ scanned p s
 
--- a well-typed program's flat form does, and keeps the rules of its kind
+-- a well-typed program's flat form does, and keeps the rules of flat programs
 abbrev pub FlatFormKeepsMeaning : Type 0
 FlatFormKeepsMeaning = (p : ProgramData) → IsFitToRun p → IsWellTyped p → LeavesTheSame p (flat_program p)
 

@@ -20,7 +20,7 @@ pub record Made : Type 0 where
   pub lit : Lit
   pub net : Netlist
 
--- the same kind and the same operands
+-- the same form and the same operands
 abbrev pub same_gate : Gate → Gate → Bool
 same_gate (And a b) (And c d) = same_lit a c && same_lit b d
 same_gate (And a b) (Xor c d) = false

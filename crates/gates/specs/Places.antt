@@ -17,12 +17,12 @@ form_number forms.Mux = 16
 abbrev pub bit_of : Bool → ℕ
 bit_of b = cond b 1 0
 
-abbrev pub kind_number : StoredGate → ℕ
-kind_number s = bit_of s.negative_one + 2 * bit_of s.negative_two + 4 * bit_of s.negative_three + form_number s.form
+abbrev pub form_and_signs : StoredGate → ℕ
+form_and_signs s = bit_of s.negative_one + 2 * bit_of s.negative_two + 4 * bit_of s.negative_three + form_number s.form
 
 -- gates of one largest operand lie within 1,024 places
 abbrev pub scatter_of : StoredGate → ℕ
-scatter_of s = (s.one * 663608941 + s.two * 810543755 + s.three * 611861347 + kind_number s * 444758533) / 1048576 % 1024
+scatter_of s = (s.one * 663608941 + s.two * 810543755 + s.three * 611861347 + form_and_signs s * 444758533) / 1048576 % 1024
 
 abbrev pub slot_of : StoredGate → ℕ
 slot_of s = 2 * max (max s.one s.two) s.three + scatter_of s

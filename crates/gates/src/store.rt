@@ -46,14 +46,14 @@ fn scatter(gate: &StoredGate) -> usize
     ensures scatter { result ≡ scatter_of gate.now }
     ensures small { result < 1024 }
 {
-    let kind = u64::from(gate.negative_one)
+    let form_and_signs = u64::from(gate.negative_one)
         + 2 * u64::from(gate.negative_two)
         + 4 * u64::from(gate.negative_three)
         + form_number(gate.form);
     let mixed = u64::from(gate.one) * 663_608_941
         + u64::from(gate.two) * 810_543_755
         + u64::from(gate.three) * 611_861_347
-        + kind * 444_758_533;
+        + form_and_signs * 444_758_533;
     (mixed / 1_048_576 % 1024) as usize
 }
 

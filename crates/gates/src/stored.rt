@@ -4,7 +4,7 @@ ghost use Rattle.gates.specs.Stored.{gate_of, stored_of, of_operands};
 
 use clause_core::{Gate, Lit};
 
-/// The kind of a gate.
+/// The form of a gate.
 #[derive(Clone, Copy, PartialEq, Eq, Hash)]
 pub enum Form {
     And,

@@ -6,7 +6,7 @@ use queries::Decoded;
 pub enum Answer {
     /// What it asks for.
     Found(Decoded),
-    /// There is nothing of the kind: a derivation of the empty clause from its formula.
+    /// There is none: a derivation of the empty clause from its formula.
     Refuted(Log),
     /// As many derived clauses as are allowed, and no answer.
     Spent(Log),

@@ -2,7 +2,7 @@
 use Rattle.std.specs.Prelude.{ℕ, ◌+◌, List, [], ◌∷◌, ◌++◌, length, codes, count_by, ◌==◌, ◌&&◌, ◌||◌, not, Bool, false, true, Option, Some, None, option_map, option_and_then, is_some, unwrap_or, if◌then◌else◌}
 use Rattle.std.specs.List.{list_any}
 use Rattle.std.specs.Str.{bytes_eq}
-use Rattle.rules.specs.declared.rule.Rule.TheVariants.{DeclaredTwice, UnknownName, InTermsOfItself, WrongKind, NotOneProgram, NotOneInitialStep, UnknownStep, UnknownAction, StepTwice, UnknownQualifier}
+use Rattle.rules.specs.declared.rule.Rule.TheVariants.{DeclaredTwice, UnknownName, InTermsOfItself, WrongUse, NotOneProgram, NotOneInitialStep, UnknownStep, UnknownAction, StepTwice, UnknownQualifier}
 use Rattle.rules.specs.declared.rule.Refusal.{Refusal}
 use Rattle.source_tree.specs.Syntax.{Named, PathData, Tree, literal, path, enumerator, paren, unary, chain, call, Links, no_links, link, Arguments, no_arguments, argument, ConnectionData, input, output, Stmt, empty, assign, invoke, branch, cases, iterate, Stmts, no_stmts, stmt, Arms, no_arms, arm, Entries, no_entries, entry, Otherwise, no_else, else_stmts, LabelData, IterationData, TypeData, of_elementary, of_subrange, of_name, SpecificationData, of_type, of_values, TypeDeclarationData, StepActionData, ChartStepData, StepsData, one_step, several_steps, ChartTransitionData, ChartActionData, PartData, step_part, transition_part, action_part, BodyData, statements, chart as chart_body, PouKindData, function, function_block, program, PouData, FileData}
 use Rattle.naming.specs.declared.callee.Callee.{Callee}
@@ -28,7 +28,7 @@ abbrev pub circular : Named → Judgement
 circular n = breaks InTermsOfItself n.at
 
 abbrev pub misused : Named → Judgement
-misused n = breaks WrongKind n.at
+misused n = breaks WrongUse n.at
 
 -- N1 in the file's scope: a name of an earlier declaration, or of the library
 abbrev pub names_twice : List DeclaredName → List DeclaredName → List Refusal

@@ -1,4 +1,4 @@
--- What each kind of node makes of its operands' words.
+-- What each node makes of its operands' words.
 use Rattle.std.specs.Prelude.{ℕ, Bool, List, [], ◌∷◌}
 use Rattle.clause_core.specs.declared.literal.Lit.{Lit}
 use Rattle.plc_types.specs.declared.elementary.Elementary.{Elementary}

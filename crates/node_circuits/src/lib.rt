@@ -1,4 +1,4 @@
-// Nodes as words of a circuit: each node in turn makes the word and the gates that its kind names, from the words before it.
+// Nodes as words of a circuit: each node in turn makes the word and the gates that its operation names, from the words before it.
 #![tactic(auto)]
 
 mod node_rows;

@@ -35,24 +35,6 @@ impl IntType {
             hi: greatest(width, signed),
         }
     }
-
-    /// The subrange from `lo` to `hi`.
-    pub fn subrange(self, lo: i128, hi: i128) -> IntType
-        requires from { self.lo ≤ℤ lo }
-        requires ordered { lo ≤ℤ hi }
-        requires up_to { hi ≤ℤ self.hi }
-        ensures width { result.width ≡ self.width }
-        ensures sign { result.signed ≡ self.signed }
-        ensures from_lo { result.lo ≡ lo }
-        ensures up_to_hi { result.hi ≡ hi }
-    {
-        IntType {
-            width: self.width,
-            signed: self.signed,
-            lo,
-            hi,
-        }
-    }
 }
 
 // The least number of a width and sign.

@@ -2,7 +2,7 @@
 use Rattle.std.specs.Prelude.{◌≡◌, ◌≢◌, ◌==◌, if◌then◌else◌, ℕ, List, [], Option, Some}
 use Rattle.outside.specs.declared.memory_shelf.MemShelf.{MemShelf}
 use Rattle.outside.specs.declared.sure.SureShelf.{SureShelf}
-use Rattle.outside.specs.declared.failures.CallKind.{CallKind}
+use Rattle.outside.specs.declared.failures.OutsideCall.{OutsideCall}
 use Rattle.outside.specs.declared.failures.Failure.{Failure}
 use Rattle.outside.specs.Failures.{Schedule, next_failure}
 use Rattle.outside.specs.Files.{file_at, bytes_at}
@@ -19,9 +19,9 @@ bytes_of shelf name = bytes_at shelf.files.items name
 abbrev pub schedule_of : MemShelf → Schedule
 schedule_of shelf = record { failures = shelf.failures.items; counts = shelf.counts }
 
--- the failure of the next call of that kind, if it is on the list
-abbrev pub failure_ahead : MemShelf → CallKind → Option Failure
-failure_ahead shelf kind = next_failure (schedule_of shelf) kind
+-- the failure of the next of that call, if it is on the list
+abbrev pub failure_ahead : MemShelf → OutsideCall → Option Failure
+failure_ahead shelf call = next_failure (schedule_of shelf) call
 
 -- the files but this one stay
 abbrev pub OtherFilesStay : MemShelf → MemShelf → List ℕ → Type 0

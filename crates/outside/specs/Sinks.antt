@@ -1,7 +1,7 @@
 -- What a sink in memory shows of itself.
 use Rattle.std.specs.Prelude.{ℕ, List, Option}
 use Rattle.outside.specs.declared.memory_sink.MemSink.{MemSink}
-use Rattle.outside.specs.declared.failures.CallKind.TheVariants.{Put}
+use Rattle.outside.specs.declared.failures.OutsideCall.TheVariants.{Put}
 use Rattle.outside.specs.declared.failures.Failure.{Failure}
 use Rattle.outside.specs.declared.sure.SureSink.{SureSink}
 use Rattle.outside.specs.Failures.{Schedule, next_failure}

@@ -4,7 +4,7 @@ ghost use Rattle.outside.specs.Contents.{Adds, IsRead, OthersStay, Empties};
 ghost use Rattle.outside.specs.Causes.{HasFileCause, NoneFell};
 ghost use Rattle.outside.specs.Failures.{FailsAsListed, after_call, faults_after, schedule_at_start};
 
-use crate::failures::{self, CallCounts, CallKind, Failure};
+use crate::failures::{self, CallCounts, Failure, OutsideCall};
 use crate::files::{self, MemFile};
 use crate::{OutErr, Shelf};
 use std::alloc::{AllocError, Global};
@@ -67,7 +67,7 @@ impl MemShelf {
         files::find(&self.files, name).unwrap_or(&[])
     }
 
-    /// How many calls of each kind there were.
+    /// How many there were of each call.
     pub fn counts(&self) -> CallCounts
         ensures { result ≡ (schedule_of self.now).counts }
     {
@@ -93,15 +93,15 @@ impl Shelf for MemShelf {
         ensures within { IfOk result (λ count. count ≤ length buf.new) }
         ensures bytes { IfOk result (λ count. IsRead (bytes_of self.old name.now) from buf.new count) }
         ensures kept { file_of self.new ≡ file_of self.old }
-        ensures ok { OnOk result (IsNone (failure_ahead self.old CallKind.Read) × IsSome (file_of self.old name.now)) }
-        ensures err { OnErr result (IsSome (failure_ahead self.old CallKind.Read) ⊎ IsNone (file_of self.old name.now)) }
+        ensures ok { OnOk result (IsNone (failure_ahead self.old OutsideCall.Read) × IsSome (file_of self.old name.now)) }
+        ensures err { OnErr result (IsSome (failure_ahead self.old OutsideCall.Read) ⊎ IsNone (file_of self.old name.now)) }
         ensures no_memory { ¬ IsErrOf result OutErr.Memory }
-        ensures schedule { schedule_of self.new ≡ after_call (schedule_of self.old) CallKind.Read }
+        ensures schedule { schedule_of self.new ≡ after_call (schedule_of self.old) OutsideCall.Read }
         ensures faults { read_faults_of self.new ≡ faults_after (read_faults_of self.old) result }
         ensures cause { HasFileCause (λ _. read_faults_of self.old) (λ _. read_faults_of self.new) name.now result }
         ensures writes { write_faults_of self.new ≡ write_faults_of self.old }
     {
-        if failures::next(&self.failures, &mut self.counts, CallKind::Read).is_none() {
+        if failures::next(&self.failures, &mut self.counts, OutsideCall::Read).is_none() {
             if let Some(bytes) = files::find(&self.files, name) {
                 return Ok(files::copy_from(bytes, from, buf));
             }
@@ -112,17 +112,17 @@ impl Shelf for MemShelf {
 
     fn create(&mut self, name: &str) -> Result<(), OutErr>
         ensures ok { OnOk result (file_of self.new name.now ≡ Some []) }
-        ensures kept { IfSome (failure_ahead self.old CallKind.Create) (λ failure. IsErrOf result OutErr.Fault →
+        ensures kept { IfSome (failure_ahead self.old OutsideCall.Create) (λ failure. IsErrOf result OutErr.Fault →
             file_of self.new name.now ≡ left_by_create failure (file_of self.old name.now)) }
         ensures memory { IsErrOf result OutErr.Memory → file_of self.new name.now ≡ file_of self.old name.now }
         ensures others { OtherFilesStay self.old self.new name.now }
-        ensures listed { FailsAsListed (failure_ahead self.old CallKind.Create) result }
-        ensures schedule { schedule_of self.new ≡ after_call (schedule_of self.old) CallKind.Create }
+        ensures listed { FailsAsListed (failure_ahead self.old OutsideCall.Create) result }
+        ensures schedule { schedule_of self.new ≡ after_call (schedule_of self.old) OutsideCall.Create }
         ensures faults { write_faults_of self.new ≡ faults_after (write_faults_of self.old) result }
         ensures cause { HasFileCause (λ _. write_faults_of self.old) (λ _. write_faults_of self.new) name.now result }
         ensures reads { read_faults_of self.new ≡ read_faults_of self.old }
     {
-        match failures::next(&self.failures, &mut self.counts, CallKind::Create) {
+        match failures::next(&self.failures, &mut self.counts, OutsideCall::Create) {
             None => {
                 files::empty(self.alloc, &mut self.files, name)?;
                 Ok(())
@@ -139,17 +139,17 @@ impl Shelf for MemShelf {
 
     fn append(&mut self, name: &str, bytes: &[u8]) -> Result<(), OutErr>
         ensures ok { OnOk result (file_of self.new name.now ≡ Some (bytes_of self.old name.now ++ bytes.now)) }
-        ensures kept { IfSome (failure_ahead self.old CallKind.Append) (λ failure. IsErrOf result OutErr.Fault →
+        ensures kept { IfSome (failure_ahead self.old OutsideCall.Append) (λ failure. IsErrOf result OutErr.Fault →
             file_of self.new name.now ≡ Some (bytes_of self.old name.now ++ take failure.kept bytes.now)) }
         ensures memory { IsErrOf result OutErr.Memory → file_of self.new name.now ≡ file_of self.old name.now }
         ensures others { OtherFilesStay self.old self.new name.now }
-        ensures listed { FailsAsListed (failure_ahead self.old CallKind.Append) result }
-        ensures schedule { schedule_of self.new ≡ after_call (schedule_of self.old) CallKind.Append }
+        ensures listed { FailsAsListed (failure_ahead self.old OutsideCall.Append) result }
+        ensures schedule { schedule_of self.new ≡ after_call (schedule_of self.old) OutsideCall.Append }
         ensures faults { write_faults_of self.new ≡ faults_after (write_faults_of self.old) result }
         ensures cause { HasFileCause (λ _. write_faults_of self.old) (λ _. write_faults_of self.new) name.now result }
         ensures reads { read_faults_of self.new ≡ read_faults_of self.old }
     {
-        match failures::next(&self.failures, &mut self.counts, CallKind::Append) {
+        match failures::next(&self.failures, &mut self.counts, OutsideCall::Append) {
             None => {
                 files::add(self.alloc, &mut self.files, name, bytes)?;
                 Ok(())

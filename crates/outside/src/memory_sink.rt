@@ -4,7 +4,7 @@ ghost use Rattle.outside.specs.Contents.{Adds};
 ghost use Rattle.outside.specs.Causes.{HasCause};
 ghost use Rattle.outside.specs.Failures.{FailsAsListed, after_call, faults_after, schedule_at_start};
 
-use crate::failures::{self, CallCounts, CallKind, Failure};
+use crate::failures::{self, CallCounts, Failure, OutsideCall};
 use crate::{OutErr, Sink};
 use std::alloc::Global;
 
@@ -41,7 +41,7 @@ impl MemSink {
         &self.bytes
     }
 
-    /// How many calls of each kind there were.
+    /// How many there were of each call.
     pub fn counts(&self) -> CallCounts
         ensures { result ≡ (schedule_of self.now).counts }
     {
@@ -64,12 +64,12 @@ impl Sink for MemSink {
             taken_by self.new ≡ taken_by self.old ++ take failure.kept bytes.now) }
         ensures memory { IsErrOf result OutErr.Memory → taken_by self.new ≡ taken_by self.old }
         ensures listed { FailsAsListed (failure_ahead self.old) result }
-        ensures schedule { schedule_of self.new ≡ after_call (schedule_of self.old) CallKind.Put }
+        ensures schedule { schedule_of self.new ≡ after_call (schedule_of self.old) OutsideCall.Put }
         ensures faults { faults_of self.new ≡ faults_after (faults_of self.old) result }
         ensures added { Adds (Some (taken_by self.old)) (Some (taken_by self.new)) bytes.now result }
         ensures cause { HasCause (faults_of self.old) (faults_of self.new) result }
     {
-        match failures::next(&self.failures, &mut self.counts, CallKind::Put) {
+        match failures::next(&self.failures, &mut self.counts, OutsideCall::Put) {
             None => {
                 self.bytes.extend_from_slice(bytes)?;
                 Ok(())

@@ -1,4 +1,4 @@
-// What the kinds of proposals look at: the cells, what they were seen to hold, and classes of equal cells.
+// What the forms of proposals look at: the cells, what they were seen to hold, and classes of equal cells.
 use crate::subject::{Sort, Subject};
 use scan_model::Side;
 use seen_values::{Classes, Seen, Signature, mixed, signatures};

@@ -1,4 +1,4 @@
-// All kinds, the strongest first.
+// All forms, the strongest first.
 use crate::bounds::add_bounds;
 use crate::equal::{add_equal, add_last_own, add_opposite};
 use crate::exclusive::add_exclusive;
@@ -12,7 +12,7 @@ use scan_model::Side;
 use seen_values::Seen;
 use std::alloc::{AllocError, Global};
 
-// The kinds that tie the cells of one program to those of the other; in a second round, behind the last own cells.
+// The forms that tie the cells of one program to those of the other; in a second round, behind the last own cells.
 fn add_ties(
     facts: &mut Facts<'_>,
     is_second: bool,
@@ -28,7 +28,7 @@ fn add_ties(
     add_junctions(facts, Side::Old, found)
 }
 
-// The kinds on one program.
+// The forms on one program.
 fn add_others(
     facts: &Facts<'_>,
     edges: &[i64],
@@ -42,7 +42,7 @@ fn add_others(
     add_bounds(facts, edges, 1, found)
 }
 
-/// Clauses that held on all pairs that were seen, the strongest kinds first. The numbers that stand in the texts rise. Where there are
+/// Clauses that held on all pairs that were seen, the strongest forms first. The numbers that stand in the texts rise. Where there are
 /// more than `room`, the last own cells of each class come before all others, so that each class is tied before one is tied twice.
 pub fn proposals(
     alloc: Global,

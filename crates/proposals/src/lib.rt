@@ -1,9 +1,9 @@
-// Clauses that held on all pairs that were tried, by kinds, the strongest first. They are proposed, and tested by others.
+// Clauses that held on all pairs that were tried, by their forms, the strongest first. They are proposed, and tested by others.
 // - `bounds`: bounds of integer cells, widened to numbers that stand in the texts
 // - `equal`: equal cells, and opposite ones
 // - `exclusive`: BOOL cells of one program of which not both are TRUE
-// - `facts`: what the kinds of proposals look at
-// - `find`: all kinds, the strongest first
+// - `facts`: what the forms of proposals look at
+// - `find`: all forms, the strongest first
 // - `flags`: BOOL cells that are TRUE exactly where another cell has a value
 // - `junctions`: BOOL cells that are AND, OR or AND NOT of two of the other program
 // - `proposal`: what may be proposed

@@ -6,7 +6,7 @@ use Rattle.std.specs.Str.{bytes_eq}
 use Rattle.std.proofs.lemmas.List.Elements.{All-nil, All-cons}
 use Rattle.std.proofs.lemmas.List.Kept.{AllPairs-cons}
 use Rattle.std.proofs.lemmas.Slice.Eq.{bytes_eq-Decides}
-use Rattle.rules.specs.declared.rule.Rule.TheVariants.{WrongKind, InputCount, InputsDiffer}
+use Rattle.rules.specs.declared.rule.Rule.TheVariants.{WrongUse, InputCount, InputsDiffer}
 use Rattle.plc_types.specs.Enumerations.{paired_type}
 use Rattle.source_tree.specs.Syntax.{Named}
 use Rattle.program_tree.specs.Cells.{is_input}
@@ -28,12 +28,12 @@ use Rattle.relation_file.proofs.BelongsLemmas.{or_nothing, nothing_of_both, hold
 
 -- ---- a name of an INPUT line that breaks nothing
 
-not_again : (b again : Bool) (n : Named) → (if b then unless (not again) InputCount n.at else breaks WrongKind n.at) ≡ [] → again ≡ false
+not_again : (b again : Bool) (n : Named) → (if b then unless (not again) InputCount n.at else breaks WrongUse n.at) ≡ [] → again ≡ false
 not_again true true n h = absurd (let e : ⊥ = cc in e)
 not_again true false n h = refl
 not_again false again n h = absurd (let e : ⊥ = cc in e)
 
-is_one_input : (b again : Bool) (n : Named) → (if b then unless (not again) InputCount n.at else breaks WrongKind n.at) ≡ [] → b ≡ true
+is_one_input : (b again : Bool) (n : Named) → (if b then unless (not again) InputCount n.at else breaks WrongUse n.at) ≡ [] → b ≡ true
 is_one_input true again n h = refl
 is_one_input false again n h = absurd (let e : ⊥ = cc in e)
 

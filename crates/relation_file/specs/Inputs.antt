@@ -2,7 +2,7 @@
 use Rattle.std.specs.Prelude.{ℕ, List, [], ◌∷◌, ◌++◌, Bool, true, false, not, ◌&&◌, Option, Some, None, if◌then◌else◌}
 use Rattle.std.specs.List.{list_all}
 use Rattle.std.specs.Ordering.{int_eq}
-use Rattle.rules.specs.declared.rule.Rule.TheVariants.{UnknownName, WrongKind, InputCount}
+use Rattle.rules.specs.declared.rule.Rule.TheVariants.{UnknownName, WrongUse, InputCount}
 use Rattle.rules.specs.declared.rule.Refusal.{Refusal}
 use Rattle.plc_types.specs.declared.range.Range.{Range}
 use Rattle.plc_types.specs.declared.data_type.DataType.{DataType}
@@ -41,8 +41,8 @@ names_in side (l ∷ ls) = named_by side l.content ++ names_in side ls
 -- What a name of an INPUT line breaks: N2 where it is no variable; N4 where it is a constant or an instance, which are no cells, or
 -- no input; P2 where a line before has named it.
 abbrev pub broken_at_cell : Bool → Bool → Named → Option (ℕ × CellData) → List Refusal
-broken_at_cell again without_cell n None = if without_cell then breaks WrongKind n.at else breaks UnknownName n.at
-broken_at_cell again without_cell n (Some (place, c)) = if is_input c.part then unless (not again) InputCount n.at else breaks WrongKind n.at
+broken_at_cell again without_cell n None = if without_cell then breaks WrongUse n.at else breaks UnknownName n.at
+broken_at_cell again without_cell n (Some (place, c)) = if is_input c.part then unless (not again) InputCount n.at else breaks WrongUse n.at
 
 -- the names of the lines before come first
 abbrev pub broken_input : List (List ℕ) → ProgramData → Named → List Refusal

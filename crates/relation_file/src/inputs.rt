@@ -43,13 +43,13 @@ fn at_cell(
     ensures { result ≡ first_in (broken_at_cell again without_cell (name_view name.now) (found_view cell.entry)) }
 {
     match cell {
-        None if without_cell => breaks(Rule::WrongKind, name.at),
+        None if without_cell => breaks(Rule::WrongUse, name.at),
         None => breaks(Rule::UnknownName, name.at),
         Some((_, cell)) => {
             if is_input(cell.part) {
                 unless(!again, Rule::InputCount, name.at)
             } else {
-                breaks(Rule::WrongKind, name.at)
+                breaks(Rule::WrongUse, name.at)
             }
         }
     }

@@ -20,7 +20,7 @@ in_order : List Rule
 in_order =
     rules_of.TooLong ∷ rules_of.StrayByte ∷ rules_of.OpenComment ∷ rules_of.NumberForm ∷ rules_of.NumberSize ∷ rules_of.WordLength ∷
     rules_of.LeftOutWord ∷ rules_of.TooDeep ∷ rules_of.NoTree ∷ rules_of.LineOrder ∷ rules_of.NumberLimits ∷ rules_of.NoSide ∷
-    rules_of.DeclaredTwice ∷ rules_of.UnknownName ∷ rules_of.InTermsOfItself ∷ rules_of.WrongKind ∷ rules_of.NotOneProgram ∷
+    rules_of.DeclaredTwice ∷ rules_of.UnknownName ∷ rules_of.InTermsOfItself ∷ rules_of.WrongUse ∷ rules_of.NotOneProgram ∷
     rules_of.NotOneInitialStep ∷ rules_of.UnknownStep ∷ rules_of.UnknownAction ∷ rules_of.StepTwice ∷ rules_of.UnknownQualifier ∷
     rules_of.InputsDiffer ∷ rules_of.InputCount ∷ rules_of.OperandType ∷ rules_of.ValueType ∷ rules_of.OutsideType ∷ rules_of.NotAssignable ∷
     rules_of.ArgumentCount ∷ rules_of.Overlap ∷ rules_of.NotConstant ∷ rules_of.StepZero ∷ rules_of.TooManyTurns ∷ rules_of.OutsideControl ∷
@@ -47,7 +47,7 @@ rule_at-rank_of rules_of.NoSide = refl
 rule_at-rank_of rules_of.DeclaredTwice = refl
 rule_at-rank_of rules_of.UnknownName = refl
 rule_at-rank_of rules_of.InTermsOfItself = refl
-rule_at-rank_of rules_of.WrongKind = refl
+rule_at-rank_of rules_of.WrongUse = refl
 rule_at-rank_of rules_of.NotOneProgram = refl
 rule_at-rank_of rules_of.NotOneInitialStep = refl
 rule_at-rank_of rules_of.UnknownStep = refl

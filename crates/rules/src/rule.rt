@@ -37,8 +37,8 @@ pub enum Rule {
     UnknownName,
     /// N3: a type is declared in terms of itself, also through others. Its place is the type's name.
     InTermsOfItself,
-    /// N4: a name is of the wrong kind. Its place is the name's.
-    WrongKind,
+    /// N4: a name stands where what it names cannot stand. Its place is the name's.
+    WrongUse,
     /// N5: there is not exactly one PROGRAM. Its place is 0.
     NotOneProgram,
     /// C1: a chart has not exactly one initial step. Its place is that of the chart's first part.
@@ -117,7 +117,7 @@ impl Rule {
             Rule::DeclaredTwice => "N1",
             Rule::UnknownName => "N2",
             Rule::InTermsOfItself => "N3",
-            Rule::WrongKind => "N4",
+            Rule::WrongUse => "N4",
             Rule::NotOneProgram => "N5",
             Rule::NotOneInitialStep => "C1",
             Rule::UnknownStep => "C2",

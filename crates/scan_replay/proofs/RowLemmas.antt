@@ -14,14 +14,6 @@ use Rattle.meaning.specs.Effects.{range_at}
 use Rattle.scan_model.specs.Scans.{ranges_of}
 use Rattle.scan_model.specs.InRange.{Row, IsInRange, fits_places, put_at}
 
--- no row fits places of another number
-pub unequal_lengths : (rs : List Range) (ps : List ℕ) (vs : Row) → length ps ≢ length vs → fits_places rs ps vs ≡ false
-unequal_lengths rs [] [] other = absurd (other refl)
-unequal_lengths rs [] (v ∷ vs) other = refl
-unequal_lengths rs (p ∷ ps) [] other = refl
-unequal_lengths rs (p ∷ ps) (v ∷ vs) other =
-    and_right (in_range v (range_at rs p)) _ (unequal_lengths rs ps vs (λ e. other (ap suc e)))
-
 nothing_left : (i : ℕ) (vs : Row) → length vs ≤ i → drop i vs ≡ []
 nothing_left i vs over = grind (arith, common_steps)
 

@@ -2,7 +2,6 @@
 ghost use Rattle.std.specs.Prelude.{◌≡◌, IfOk, slice_set};
 ghost use Rattle.plc_types.specs.Types.{in_range};
 ghost use Rattle.program_tree.specs.View.{cells_view};
-ghost use Rattle.meaning.specs.Effects.{range_at};
 ghost use Rattle.scan_model.specs.Scans.{ranges_of};
 
 use plc_types::Range;
@@ -18,18 +17,6 @@ pub fn ranges_of(alloc: Global, cells: &[Cell]) -> Result<Vec<Range>, AllocError
         ranges.push(cell.range)?;
     }
     Ok(ranges)
-}
-
-/// The range of a cell; where there is no cell no value is in it.
-#[inline(always)]
-pub fn range_at(cells: &[Cell], place: usize) -> Range
-    ensures { result ≡ range_at (ranges_of (cells_view cells.now)) place }
-{
-    if place < cells.len() {
-        cells[place].range
-    } else {
-        Range { low: 1, high: 0 }
-    }
 }
 
 /// Whether a value lies in a range.

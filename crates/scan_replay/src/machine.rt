@@ -8,7 +8,7 @@ ghost use Rattle.scan_replay.specs.Machines.{fits_inputs, with_inputs};
 
 use crate::cells::ranges_of;
 use crate::run::scan;
-use crate::states::{copy_over, put_all, row_fits, start, state_fits, value_at};
+use crate::states::{copy_over, put_all, start, state_fits, value_at};
 use interpreter::add_room;
 use plc_types::Range;
 use program_tree::Program;
@@ -74,13 +74,6 @@ impl<'p> Machine<'p> {
         ensures in_range { IsInRange (ranges_of (cells_view self.new.program.cells.items)) self.new.state }
     {
         scan(self.program, &self.ranges, &mut self.state, &mut self.stack);
-    }
-
-    /// Whether a row has one number for each VAR_INPUT cell, in its range.
-    pub fn inputs_fit(&self, row: &[i64]) -> bool
-        ensures { result ≡ fits_inputs self.now.program row.now }
-    {
-        row_fits(&self.program.cells, &self.inputs, row)
     }
 
     /// Puts the numbers of a row into the VAR_INPUT cells, in declared order.

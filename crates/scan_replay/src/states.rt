@@ -2,9 +2,9 @@
 ghost use Rattle.std.specs.Prelude.{◌≡◌, ◌<◌, ◌↔◌, pos, length, slice_index_or, IsTrue, IfOk};
 ghost use Rattle.program_tree.specs.View.{cells_view};
 ghost use Rattle.scan_model.specs.Scans.{ranges_of, initial};
-ghost use Rattle.scan_model.specs.InRange.{IsInRange, fits_places, put_at};
+ghost use Rattle.scan_model.specs.InRange.{IsInRange, put_at};
 
-use crate::cells::{is_in_range, put, range_at};
+use crate::cells::{is_in_range, put};
 use program_tree::Cell;
 use std::alloc::{AllocError, Global};
 
@@ -28,21 +28,6 @@ pub fn state_fits(cells: &[Cell], values: &[i64]) -> bool
     }
     for (place, cell) in cells.iter().enumerate() {
         if !is_in_range(values[place], cell.range) {
-            return false;
-        }
-    }
-    true
-}
-
-/// Whether a row has one number for each of the places, in its cell's range.
-pub fn row_fits(cells: &[Cell], places: &[usize], row: &[i64]) -> bool
-    ensures { result ≡ fits_places (ranges_of (cells_view cells.now)) places.now row.now }
-{
-    if places.len() != row.len() {
-        return false;
-    }
-    for i in 0..places.len() {
-        if !is_in_range(row[i], range_at(cells, places[i])) {
             return false;
         }
     }
