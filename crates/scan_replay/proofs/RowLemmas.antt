@@ -10,9 +10,8 @@ use Rattle.program_tree.specs.View.{cells_view}
 use Rattle.scan_model.specs.declared.relation.InputLine.{InputLine}
 use Rattle.scan_model.specs.Pairs.{Pair, range_of_line, fits_lines, loaded}
 use Rattle.meaning.specs.Values.{State}
-use Rattle.meaning.specs.Effects.{range_at}
 use Rattle.scan_model.specs.Scans.{ranges_of}
-use Rattle.scan_model.specs.InRange.{Row, IsInRange, fits_places, put_at}
+use Rattle.scan_model.specs.InRange.{Row, IsInRange, put_at}
 
 nothing_left : (i : ℕ) (vs : Row) → length vs ≤ i → drop i vs ≡ []
 nothing_left i vs over = grind (arith, common_steps)
