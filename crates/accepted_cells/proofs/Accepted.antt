@@ -74,11 +74,11 @@ module _ (text : List ℕ) (p : ProgramData) (h : StatesProgram text p) where
   points : HaveNoPoints h.file
   points = no_points text h.file h.states
 
-  kind : h.pou.kind ≡ program
-  kind = is_program_there h.file h.number h.pou h.one.is h.one.there
+  as_program : h.pou.pou_type ≡ program
+  as_program = is_program_there h.file h.number h.pou h.one.is h.one.there
 
   own_apart : Apart own.cells
-  own_apart = program_apart h.file (each_once h.file once) points h.number h.pou h.one.there kind (once h.number h.pou h.one.there)
+  own_apart = program_apart h.file (each_once h.file once) points h.number h.pou h.one.there as_program (once h.number h.pou h.one.there)
 
   pub apart : Apart p.cells
   apart = subst (λ (x : ProgramData). Apart x.cells) (sym h.program) own_apart
@@ -86,12 +86,12 @@ module _ (text : List ℕ) (p : ProgramData) (h : StatesProgram text p) where
   pub distinct : IsDistinct bytes_eq (paths_of p.cells)
   distinct =
       subst (λ (x : ProgramData). IsDistinct bytes_eq (paths_of x.cells)) (sym h.program)
-      (program_distinct h.file (each_once h.file once) points h.number h.pou h.one.there kind (once h.number h.pou h.one.there))
+      (program_distinct h.file (each_once h.file once) points h.number h.pou h.one.there as_program (once h.number h.pou h.one.there))
 
   pub cells_of_names : HasCellsOfNames h.file h.number p.cells
   cells_of_names path place m leads n q is_q =
       let paths : HasPaths p.cells path place m =
-      subst (λ (x : ProgramData). HasPaths x.cells path place m) (sym h.program) (paths_stand h.file used ordered h.number h.pou h.one.there kind path place m leads) in
+      subst (λ (x : ProgramData). HasPaths x.cells path place m) (sym h.program) (paths_stand h.file used ordered h.number h.pou h.one.there as_program path place m leads) in
       let at = paths n q is_q in
       only_cell p.cells apart (place + n) at.cell q m.meaning.kind m.meaning.range at.there at.named at.typed at.ranged
 
@@ -109,9 +109,9 @@ module _ (text : List ℕ) (p : ProgramData) (h : StatesProgram text p) where
   stands_for_cell q m place is means at =
       subst (λ (x : ProgramData). StandsForCell x q place m) (sym h.program)
       (record {
-        only = only_found own own own_apart q m place (as_old h.file used ordered h.number h.pou h.one.there kind once points q m place is means at own old_word refl);
-        as_old = λ new n word. as_old h.file used ordered h.number h.pou h.one.there kind once points q m place is means at new n word;
-        as_new = λ old n word. as_new h.file used ordered h.number h.pou h.one.there kind once points q m place is means at old n word;
+        only = only_found own own own_apart q m place (as_old h.file used ordered h.number h.pou h.one.there as_program once points q m place is means at own old_word refl);
+        as_old = λ new n word. as_old h.file used ordered h.number h.pou h.one.there as_program once points q m place is means at new n word;
+        as_new = λ old n word. as_new h.file used ordered h.number h.pou h.one.there as_program once points q m place is means at old n word;
       })
 
   pub writes_its_cell : (q : PathData) (e : Tree) → IsAssigned q e h.pou.body → WritesItsCell h.file h.number p q e
@@ -123,7 +123,7 @@ module _ (text : List ℕ) (p : ProgramData) (h : StatesProgram text p) where
       let within = body_bound h.file none levels h.number h.pou h.one.there in
       let sound = in_body scope uses q e h.pou.body within whole.body is in
       let target = target_of scope sound.controls q e sound.whole in
-      let at = target_cell h.file used ordered h.number h.pou h.one.there kind q target.meaning target.assignable sound.named target.means in
+      let at = target_cell h.file used ordered h.number h.pou h.one.there as_program q target.meaning target.assignable sound.named target.means in
       let given = typed scope (kind_at (scope.means (by_path q))) e in
       let body : IsWrittenAmong (cell_of (scope.means (by_path q))) given p.body =
       subst (λ (x : ProgramData). IsWrittenAmong (cell_of (scope.means (by_path q))) given x.body) (sym h.program) (body_writes h.file h.number h.pou q e is) in

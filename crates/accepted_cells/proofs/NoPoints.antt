@@ -2,7 +2,7 @@
 use Rattle.std.proofs.Common.{ℕ, zero, suc, List, [], ◌∷◌, ◌++◌, map, Bool, Option, Some, None, sym, subst}
 use Rattle.std.specs.List.{AllByRecursion, slice_get}
 use Rattle.source_tree.specs.declared.token.Mark.TheVariants as marks
-use Rattle.source_tree.specs.Syntax.{Symbol, mark, Named, DeclarationData, VariablesData, PartData, step_part, transition_part, action_part, BodyData, statements, chart as chart_body, PouKindData, function, function_block, program, PouData, ItemData, types, pou, FileData}
+use Rattle.source_tree.specs.Syntax.{Symbol, mark, Named, DeclarationData, VariablesData, PartData, step_part, transition_part, action_part, BodyData, statements, chart as chart_body, PouTypeData, function, function_block, program, PouData, ItemData, types, pou, FileData}
 use Rattle.source_tree.specs.Prints.{name_symbol, print, print_others, print_type, print_initial, print_declaration, print_declarations, section_marks, print_variables, print_name, print_steps, print_priority, print_part, print_parts, print_body, beginning_of, end_of, print_result, print_pou, print_item, print_file}
 use Rattle.naming.specs.declared.role.Role.{Role}
 use Rattle.naming.specs.ChartWords.{is_stored}
@@ -76,7 +76,7 @@ body_plain (chart_body ps) all = parts_plain (is_stored ps) ps all
 
 -- ---- POUs
 
-result_plain : (k : PouKindData) (n : Named) → HasNoPoint n.text → AllByRecursion IsNamed (result_of k n)
+result_plain : (k : PouTypeData) (n : Named) → HasNoPoint n.text → AllByRecursion IsNamed (result_of k n)
 result_plain (function t) n is = (is, tt)
 result_plain function_block n is = tt
 result_plain program n is = tt
@@ -86,15 +86,15 @@ IsPlainPou p = AllByRecursion IsNamed (variables_in_pou p)
 
 pou_plain : (p : PouData) → AllByRecursion IsPlain (print_pou p) → IsPlainPou p
 pou_plain p all =
-    let last : List Symbol = mark (end_of p.kind) ∷ [] in
+    let last : List Symbol = mark (end_of p.pou_type) ∷ [] in
     let more : List Symbol = print_body p.body ++ last in
     let behind : List Symbol = print_variables p.variables ++ more in
-    let whole : AllByRecursion IsPlain (mark (beginning_of p.kind) ∷ name_symbol p.name ∷ (print_result p.kind ++ behind)) = all in
-    let rest = both (print_result p.kind) behind whole.1.1 in
+    let whole : AllByRecursion IsPlain (mark (beginning_of p.pou_type) ∷ name_symbol p.name ∷ (print_result p.pou_type ++ behind)) = all in
+    let rest = both (print_result p.pou_type) behind whole.1.1 in
     let vars = both (print_variables p.variables) more rest.1 in
     let body = both (print_body p.body) last vars.1 in
-    all-append IsNamed (result_of p.kind p.name ++ variables_of p.variables) (names_in_body p.body)
-    (all-append IsNamed (result_of p.kind p.name) (variables_of p.variables) (result_plain p.kind p.name whole.1.0) (variables_plain p.variables vars.0)) (body_plain p.body body.0)
+    all-append IsNamed (result_of p.pou_type p.name ++ variables_of p.variables) (names_in_body p.body)
+    (all-append IsNamed (result_of p.pou_type p.name) (variables_of p.variables) (result_plain p.pou_type p.name whole.1.0) (variables_plain p.variables vars.0)) (body_plain p.body body.0)
 
 abbrev IsPlainItem : ItemData → Type 0
 IsPlainItem (types ds) = Unit {0}

@@ -6,8 +6,8 @@ use Rattle.std.specs.Char.{to_ascii_uppercase}
 use Rattle.std.proofs.lemmas.Bool.{and_parts, false≢true}
 use Rattle.std.proofs.lemmas.Bool.Decides.{nat_tests}
 use Rattle.std.proofs.lemmas.List.Elements.{All-head, All-tail}
-use Rattle.source_tree.specs.declared.token.Kind.{Kind}
-use Rattle.source_tree.specs.declared.token.Kind.TheVariants.{Word, Number, Sign}
+use Rattle.source_tree.specs.declared.token.TokenClass.{TokenClass}
+use Rattle.source_tree.specs.declared.token.TokenClass.TheVariants.{Word, Number, Sign}
 use Rattle.source_tree.specs.declared.token.Terminal.{Terminal}
 use Rattle.source_tree.specs.declared.token.Terminal.TheVariants as terminals
 use Rattle.source_tree.specs.declared.token.Tok.{Tok}
@@ -77,7 +77,7 @@ no_sign : (text : List ℕ) → is_name (entry_or terminals.LeftOut signs text) 
 unfolding signs
 no_sign text = none_among signs text refl
 
-name_plain : (kind : Kind) (slice : List ℕ) → is_formed (token kind slice) ≡ true → terminal_of kind slice ≡ terminals.Name → HasNoPoint (upper slice)
+name_plain : (class : TokenClass) (slice : List ℕ) → is_formed (token class slice) ≡ true → terminal_of class slice ≡ terminals.Name → HasNoPoint (upper slice)
 unfolding terminal_of
 name_plain Word slice formed is = word_plain slice formed
 name_plain Number slice formed is = absurd (false≢true (ap is_name is))
@@ -110,16 +110,16 @@ plain_by (terminals.Part w) slice at named = tt
 plain_by (terminals.Mark m) slice at named = tt
 plain_by terminals.LeftOut slice at named = tt
 
-symbol_plain : (t : Tok) → is_formed (token t.kind t.slice.now) ≡ true → IsClassified t → IsPlain (symbol t)
-symbol_plain t formed is = plain_by t.terminal t.slice.now t.at (λ named. name_plain t.kind t.slice.now formed (sym is ∙ named))
+symbol_plain : (t : Tok) → is_formed (token t.class t.slice.now) ≡ true → IsClassified t → IsPlain (symbol t)
+symbol_plain t formed is = plain_by t.terminal t.slice.now t.at (λ named. name_plain t.class t.slice.now formed (sym is ∙ named))
 
 abbrev IsFormed : Lexeme → Type 0
-IsFormed l = is_formed (token l.kind l.slice) ≡ true
+IsFormed l = is_formed (token l.class l.slice) ≡ true
 
 lexemes_formed : (text : List ℕ) (at : ℕ) (pieces : List Piece) → AreJoined text pieces → AllByRecursion IsFormed (lexemes at pieces)
 lexemes_formed text at [] joined = tt
 lexemes_formed text at (gap slice ∷ pieces) joined = lexemes_formed joined.0 (at + length slice) pieces joined.2
-lexemes_formed text at (token kind slice ∷ pieces) joined = (joined.1.formed, lexemes_formed joined.0 (at + length slice) pieces joined.2)
+lexemes_formed text at (token class slice ∷ pieces) joined = (joined.1.formed, lexemes_formed joined.0 (at + length slice) pieces joined.2)
 
 all_plain : (ts : List Tok) → AllByRecursion IsFormed (lexemes_of ts) → All IsClassified ts → AllByRecursion IsPlain (symbols ts)
 all_plain [] formed classified = tt

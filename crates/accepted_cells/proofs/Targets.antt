@@ -117,12 +117,12 @@ module _ (f : FileData) (m : Meaning) (may : m.assignable ≡ true) where
       own_cell b v is same
   cell_meant b v is (n ∷ ns) means = step_or_instance (is_step b.role) b v is n means
 
-module _ (f : FileData) (used : UsesItsBlocks f) (ordered : IsOrdered f) (k : ℕ) (p : PouData) (there : pou_at f k ≡ Some p) (kind : p.kind ≡ program) (q : PathData) (m : Meaning) (may : m.assignable ≡ true)
+module _ (f : FileData) (used : UsesItsBlocks f) (ordered : IsOrdered f) (k : ℕ) (p : PouData) (there : pou_at f k ≡ Some p) (as_program : p.pou_type ≡ program) (q : PathData) (m : Meaning) (may : m.assignable ≡ true)
     (named : (in_path f (names_of p) (seen_named f (names_of p) q.first.text) q).whole ≡ true) where
   by_member : (o : Option Member) → member_at f (sizes_of f) k q.first.text ≡ o → variable_or_value f (sizes_of f) q.first.text q.members o ≡ Some m → IsCellTarget f p q m
   by_member None found means = absurd (no_value f (standing f q.first.text) m may means)
   by_member (Some b) found means =
-      let name = program_name f used ordered k p there kind q.first.text b found in
+      let name = program_name f used ordered k p there as_program q.first.text b found in
       let v = name.at.variable in
       let known : seen_named f (names_of p) q.first.text ≡ Some (seen f (names_of p) v) = ap (λ (o : Option Variable). option_map (seen f (names_of p)) o) name.at.named in
       let whole = sym (ap (λ (o : Option Seen). (in_path f (names_of p) o q).whole) known) ∙ named in

@@ -99,4 +99,4 @@ pub body_writes : (f : FileData) (k : ℕ) (p : PouData) (q : PathData) (e : Tre
 body_writes f k p q e is =
     let scope = scope_of f (sizes_of f) k in
     let vs = variables_in_pou p in
-    in_begun (cell scope q e) (value scope q e) f (first_places f (sizes_of f) p.kind vs) vs (typed_body scope p.body) (in_body scope q e p.body is)
+    in_begun (cell scope q e) (value scope q e) f (first_places f (sizes_of f) p.pou_type vs) vs (typed_body scope p.body) (in_body scope q e p.body is)

@@ -1,7 +1,7 @@
 -- The first cells of two variables of a POU are one cell where the variables are one, whatever the sizes of blocks.
 use Rattle.std.proofs.Common.{◌≡◌, ◌⊎◌, inl, inr, ℕ, suc, ◌+◌, ◌<◌, ◌≤◌, ◌==◌, List, [], ◌∷◌, Bool, true, false, Some, option_map, if◌then◌else◌, refl, sym, ap, ◌∙◌, arith}
 use Rattle.std.proofs.lemmas.Bool.Decides.{nat_tests}
-use Rattle.source_tree.specs.Syntax.{PouKindData, function, function_block, program, FileData}
+use Rattle.source_tree.specs.Syntax.{PouTypeData, function, function_block, program, FileData}
 use Rattle.naming.specs.Scopes.{Variable, is_of_name, variable_named}
 use Rattle.typing.specs.declared.next.Next.{Next}
 use Rattle.typing.specs.Places.{cells_taken, count_of_cells, is_front, in_front, first_places, first_place, places_behind}
@@ -37,7 +37,7 @@ module _ (f : FileData) (sizes : List ℕ) where
   abbrev pub IsOrdered : Next → List Variable → Type 0
   IsOrdered next vs = next.front + front_count next vs ≤ next.rest
 
-  pub begins_ordered : (k : PouKindData) (vs : List Variable) → IsOrdered (first_places f sizes k vs) vs
+  pub begins_ordered : (k : PouTypeData) (vs : List Variable) → IsOrdered (first_places f sizes k vs) vs
   begins_ordered (function t) vs = omega arith
   begins_ordered function_block vs = omega arith
   begins_ordered program vs = omega arith

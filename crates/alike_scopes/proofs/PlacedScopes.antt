@@ -36,7 +36,7 @@ module _ (f : FileData) (a b : List ℕ) where
     where
       by : (o : Option PouData) → P (option_and_then (member_in f a text) o) (option_and_then (member_in f b text) o)
       by None = none
-      by (Some x) = let vs = variables_in_pou x in both_among text P none some (first_places f a x.kind vs) (first_places f b x.kind vs) vs
+      by (Some x) = let vs = variables_in_pou x in both_among text P none some (first_places f a x.pou_type vs) (first_places f b x.pou_type vs) vs
 
   place_alike : (v : Variable) (c d : ℕ) → unplaced (place_at f c v) ≡ unplaced (place_at f d v)
   place_alike v c d = by (has_cell v.role)

@@ -1,7 +1,7 @@
 -- A name that may be called is that of a FUNCTION of the file.
 use Rattle.std.proofs.Common.{◌≡◌, ℕ, Bool, true, false, true≢false, not, ◌&&◌, List, Option, Some, None, option_map, option_and_then, if◌then◌else◌, refl, sym, ap, ◌∙◌, subst}
 use Rattle.std.specs.Option.{unwrap_or}
-use Rattle.source_tree.specs.Syntax.{PouKindData, function, function_block, program, PouData, FileData}
+use Rattle.source_tree.specs.Syntax.{PouTypeData, function, function_block, program, PouData, FileData}
 use Rattle.naming.specs.declared.callee.Callee.{Callee}
 use Rattle.naming.specs.declared.callee.Callee.TheVariants as callees
 use Rattle.naming.specs.Library.{is_library}
@@ -15,23 +15,23 @@ module _ (f : FileData) where
   pub record IsFunctionOf (text : List ℕ) (number : ℕ) : Type 0 where
     pub pou : PouData
     pub there : pou_at f number ≡ Some pou
-    pub is : is_function pou.kind ≡ true
+    pub is : is_function pou.pou_type ≡ true
     pub named : pou_number (standing f text) ≡ Some number
 
-  callable : (k : PouKindData) → is_callable f k ≡ true → is_function k ≡ true
+  callable : (k : PouTypeData) → is_callable f k ≡ true → is_function k ≡ true
   callable (function t) h = refl
   callable function_block h = absurd (true≢false (sym h))
   callable program h = absurd (true≢false (sym h))
 
   number_by : (text : List ℕ) (j number : ℕ) → pou_number (standing f text) ≡ Some j → (o : Option PouData) → pou_at f j ≡ o
-      → (if unwrap_or (option_map (is_callable f) (option_map (λ p. p.kind) o)) false then Some j else None) ≡ Some number → IsFunctionOf text number
+      → (if unwrap_or (option_map (is_callable f) (option_map (λ p. p.pou_type) o)) false then Some j else None) ≡ Some number → IsFunctionOf text number
   number_by text j number named None e h = absurd (let z : ⊥ = cc in z)
-  number_by text j number named (Some x) e h = on (is_callable f x.kind) refl h
+  number_by text j number named (Some x) e h = on (is_callable f x.pou_type) refl h
     where
-      on : (b : Bool) → is_callable f x.kind ≡ b → (if b then Some j else None) ≡ Some number → IsFunctionOf text number
+      on : (b : Bool) → is_callable f x.pou_type ≡ b → (if b then Some j else None) ≡ Some number → IsFunctionOf text number
       on true c i =
           let same : j ≡ number = cc in
-          let own : IsFunctionOf text j = record { pou = x; there = e; is = callable x.kind c; named = named } in
+          let own : IsFunctionOf text j = record { pou = x; there = e; is = callable x.pou_type c; named = named } in
           subst (IsFunctionOf text) same own
       on false c i = absurd (let z : ⊥ = cc in z)
 
@@ -55,7 +55,7 @@ module _ (f : FileData) where
   pub function_is : (text : List ℕ) (number : ℕ) → IsFunctionOf text number → function_number f (standing f text) ≡ Some number
   function_is text number r =
       ap (option_and_then (number_if f is_function)) r.named
-      ∙ ap (λ (o : Option PouData). if unwrap_or (option_map is_function (option_map (λ p. p.kind) o)) false then Some number else None) r.there
+      ∙ ap (λ (o : Option PouData). if unwrap_or (option_map is_function (option_map (λ p. p.pou_type) o)) false then Some number else None) r.there
       ∙ ap (λ (b : Bool). if b then Some number else None) r.is
 
 pub callee_some : (c : Callee) → is_function_called c ≡ true → (number : ℕ) × (c ≡ callees.Function number)

@@ -126,7 +126,7 @@ module _ (f : FileData) (inside : Bool) (before : List ℕ) (v : Variable) (know
     pub are_cells : AreOf (cells_at f inside before v) (paths_behind own_path member)
     are_cells = kind_by (is_step v.role) (is_stored_action v.role) (has_cell v.role) (block_of f v) refl refl refl refl
 
-module _ (f : FileData) (used : UsesItsBlocks f) (ordered : IsOrdered f) (k : ℕ) (p : PouData) (there : pou_at f k ≡ Some p) (kind : p.kind ≡ program) where
+module _ (f : FileData) (used : UsesItsBlocks f) (ordered : IsOrdered f) (k : ℕ) (p : PouData) (there : pou_at f k ≡ Some p) (as_program : p.pou_type ≡ program) where
   abbrev cells : List CellData
   cells = (typed_program f k p).cells
 
@@ -140,7 +140,7 @@ module _ (f : FileData) (used : UsesItsBlocks f) (ordered : IsOrdered f) (k : �
 
   pub paths_stand : (path : List ℕ) (place : ℕ) (m : Member) → StandsFor f k path place m → HasPaths cells path place m
   paths_stand path place m leads =
-      let at = located f used ordered k p there kind path place m leads in
+      let at = located f used ordered k p there as_program path place m leads in
       subst (λ (x : Member). HasPaths cells path place x) (sym at.is) (subst (λ (l : List ℕ). HasPaths cells l place (member_of f m.cell at.variable)) (sym at.spelt) (paths_of_variable path place m at))
 
   -- ---- the cells of a name of the PROGRAM
@@ -148,14 +148,14 @@ module _ (f : FileData) (used : UsesItsBlocks f) (ordered : IsOrdered f) (k : �
   named_by : (v : Variable) → IsUsedBlock f k v → (o : Option ℕ) → block_of f v ≡ o → cells_at f false [] v ≡ named_cells f v
   named_by v uses None block = rw block refl
   named_by v uses (Some b) block =
-      let i = is_instance f used ordered k (low f used ordered k p there) (program_reached f ordered k p there kind) false [] v uses b block in
+      let i = is_instance f used ordered k (low f used ordered k p there) (program_reached f ordered k p there as_program) false [] v uses b block in
       let has : has_cell v.role ≡ true = local_cell v.role (instance_local f v b block) in
       let named : named_cells f v ≡ cells_by f v (Some b) = rw (has, block) refl in
       i.cells ∙ sym named
 
   pub cells_stand : (text : List ℕ) (m : Member) → member_at f (sizes_of f) k text ≡ Some m → HasNamedCells f p cells text m
   cells_stand text m found =
-      let name = program_name f used ordered k p there kind text m found in
+      let name = program_name f used ordered k p there as_program text m found in
       let v = name.at.variable in
       let same = named_by v name.uses (block_of f v) refl in
       record {

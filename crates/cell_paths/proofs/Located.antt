@@ -31,8 +31,8 @@ marked_at [] k p at is = absurd (let h : ⊥ = cc in h)
 marked_at (x ∷ ps) zero p at is = let same : x ≡ p = cc in ap is_program_pou same ∙ is
 marked_at (x ∷ ps) (suc k) p at is = marked_at ps k p at is
 
-pub program_reached : (f : FileData) → IsOrdered f → (k : ℕ) (p : PouData) → pou_at f k ≡ Some p → p.kind ≡ program → is_marked (reached f) k ≡ true
-program_reached f ordered k p there kind = (reached_exact f ordered k).1 (inl (marked_at (pous_of f) k p there (ap is_program kind)))
+pub program_reached : (f : FileData) → IsOrdered f → (k : ℕ) (p : PouData) → pou_at f k ≡ Some p → p.pou_type ≡ program → is_marked (reached f) k ≡ true
+program_reached f ordered k p there as_program = (reached_exact f ordered k).1 (inl (marked_at (pous_of f) k p there (ap is_program as_program)))
 
 module _ (f : FileData) (used : UsesItsBlocks f) (ordered : IsOrdered f) where
   -- a variable of a POU that is reached, whose cells stand among others at a place
@@ -64,20 +64,20 @@ module _ (f : FileData) (used : UsesItsBlocks f) (ordered : IsOrdered f) where
       let whole : cells_at f inside before v ≡ cells_of_variable f (own_blocks f) inside (Some before) v (Some b) = rw (has, block) refl in
       record { below = at.1; marked = marked; cells = whole ∙ instance_cells f used ordered inside (Some before) v b at.1 marked }
 
-  module _ (k : ℕ) (p : PouData) (there : pou_at f k ≡ Some p) (kind : p.kind ≡ program) where
+  module _ (k : ℕ) (p : PouData) (there : pou_at f k ≡ Some p) (as_program : p.pou_type ≡ program) where
     abbrev cells : List CellData
     cells = (typed_program f k p).cells
 
     own_located : (text : List ℕ) (m : Member) → member_at f (sizes_of f) k text ≡ Some m → IsLocated cells text m.cell m
     own_located text m found =
-        let name = program_name f used ordered k p there kind text m found in
+        let name = program_name f used ordered k p there as_program text m found in
         record {
           number = k;
           inside = false;
           before = [];
           variable = name.at.variable;
           below = low f used ordered k p there;
-          marked = program_reached f ordered k p there kind;
+          marked = program_reached f ordered k p there as_program;
           uses = name.uses;
           kind = name.kind;
           spelt = sym name.spelt;
@@ -93,7 +93,7 @@ module _ (f : FileData) (used : UsesItsBlocks f) (ordered : IsOrdered f) where
         let i = is_instance outer.number outer.below outer.marked outer.inside outer.before v outer.uses b of_v in
         let before = outer.before ++ v.name.text ++ codes "." in
         let pou = block_there f used ordered v b of_v in
-        let name = block_name f used ordered b pou.pou pou.there pou.kind before text n found in
+        let name = block_name f used ordered b pou.pou pou.there pou.as_block before text n found in
         let w = name.at.variable in
         let path_is : path ++ codes "." ++ text ≡ before ++ w.name.text = ap (λ (l : List ℕ). l ++ codes "." ++ text) outer.spelt ∙ ap (λ (l : List ℕ). before ++ l) (sym name.spelt) in
         record {

@@ -3,7 +3,7 @@ use Rattle.std.proofs.Common.{◌≡◌, ℕ, Bool, true, false, if◌then◌els
 use Rattle.std.specs.Prelude.{unwrap_or}
 use Rattle.std.specs.List.{AllByRecursion}
 use Rattle.std.proofs.lemmas.Slice.Eq.{bytes_eq-Decides}
-use Rattle.source_tree.specs.Syntax.{PouKindData, function, function_block, program, PouData, FileData}
+use Rattle.source_tree.specs.Syntax.{PouTypeData, function, function_block, program, PouData, FileData}
 use Rattle.program_tree.specs.Tree.{CellData}
 use Rattle.naming.specs.FileScope.{pou_at, is_block}
 use Rattle.naming.specs.Scopes.{Variable, variables_in_pou, is_of_name, variable_named, block_of}
@@ -30,10 +30,10 @@ pub text_named : (text : List ℕ) (vs : List Variable) (w : Variable) → varia
 text_named text [] w found = absurd (let h : ⊥ = cc in h)
 text_named text (v ∷ vs) w found = text_by (is_of_name text v) text v w (variable_named text vs) refl found (text_named text vs w)
 
-kind_of_block : (kind : PouKindData) → is_block kind ≡ true → kind ≡ function_block
-kind_of_block (function t) is = absurd (let h : ⊥ = cc in h)
-kind_of_block function_block is = refl
-kind_of_block program is = absurd (let h : ⊥ = cc in h)
+type_of_block : (pou_type : PouTypeData) → is_block pou_type ≡ true → pou_type ≡ function_block
+type_of_block (function t) is = absurd (let h : ⊥ = cc in h)
+type_of_block function_block is = refl
+type_of_block program is = absurd (let h : ⊥ = cc in h)
 
 module _ (f : FileData) (used : UsesItsBlocks f) (ordered : IsOrdered f) where
   -- the variable of a name of the POU of a number, whose cells stand among others at a place
@@ -54,7 +54,7 @@ module _ (f : FileData) (used : UsesItsBlocks f) (ordered : IsOrdered f) where
     lengths_known inside before =
         subst (λ (ws : List Variable). AllByRecursion (HasLength f inside before) ws) (same_variables f used ordered k p there) (have_lengths f used ordered k (low f used ordered k p there) inside before)
 
-    named_by : (o inside : Bool) (before : List ℕ) (head : List CellData) → first_places f (sizes_of f) p.kind vs ≡ places_from f (sizes_of f) o (length head) vs → (text : List ℕ) (m : Member)
+    named_by : (o inside : Bool) (before : List ℕ) (head : List CellData) → first_places f (sizes_of f) p.pou_type vs ≡ places_from f (sizes_of f) o (length head) vs → (text : List ℕ) (m : Member)
         → member_at f (sizes_of f) k text ≡ Some m → IsName k inside before (head ++ all_cells f inside before (in_order o vs)) p text m
     named_by o inside before head same text m found =
         let among : member_among f (sizes_of f) text (places_from f (sizes_of f) o (length head) vs) vs ≡ Some m =
@@ -67,24 +67,24 @@ module _ (f : FileData) (used : UsesItsBlocks f) (ordered : IsOrdered f) where
           kind = named_all HasKind text vs (kinds_known p) at.variable at.named;
         }
 
-    pub program_name : p.kind ≡ program → (text : List ℕ) (m : Member) → member_at f (sizes_of f) k text ≡ Some m → IsName k false [] (typed_program f k p).cells p text m
-    program_name kind text m found = named_by false false [] (fault_cell ∷ []) (ap (λ (q : PouKindData). first_places f (sizes_of f) q vs) kind) text m found
+    pub program_name : p.pou_type ≡ program → (text : List ℕ) (m : Member) → member_at f (sizes_of f) k text ≡ Some m → IsName k false [] (typed_program f k p).cells p text m
+    program_name as_program text m found = named_by false false [] (fault_cell ∷ []) (ap (λ (q : PouTypeData). first_places f (sizes_of f) q vs) as_program) text m found
 
-    pub block_name : p.kind ≡ function_block → (before : List ℕ) (text : List ℕ) (m : Member) → member_at f (sizes_of f) k text ≡ Some m → IsName k true before (own_blocks f (Some before) k) p text m
-    block_name kind before text m found =
+    pub block_name : p.pou_type ≡ function_block → (before : List ℕ) (text : List ℕ) (m : Member) → member_at f (sizes_of f) k text ≡ Some m → IsName k true before (own_blocks f (Some before) k) p text m
+    block_name as_block before text m found =
         let cells : own_blocks f (Some before) k ≡ all_cells f true before (in_order false vs) =
         block_is f used ordered k (low f used ordered k p there) (Some before) ∙ ap (λ (ws : List Variable). all_cells f true before (in_order false ws)) (same_variables f used ordered k p there) in
-        subst (λ (owner : List CellData). IsName k true before owner p text m) (sym cells) (named_by false true before [] (ap (λ (q : PouKindData). first_places f (sizes_of f) q vs) kind) text m found)
+        subst (λ (owner : List CellData). IsName k true before owner p text m) (sym cells) (named_by false true before [] (ap (λ (q : PouTypeData). first_places f (sizes_of f) q vs) as_block) text m found)
 
   -- the block of an instance
   pub record IsBlock (b : ℕ) : Type 0 where
     pub pou : PouData
     pub there : pou_at f b ≡ Some pou
-    pub kind : pou.kind ≡ function_block
+    pub as_block : pou.pou_type ≡ function_block
 
-  block_by : (b : ℕ) (o : Option PouData) → pou_at f b ≡ o → unwrap_or (option_map is_block (option_map (λ (p : PouData). p.kind) o)) false ≡ true → IsBlock b
+  block_by : (b : ℕ) (o : Option PouData) → pou_at f b ≡ o → unwrap_or (option_map is_block (option_map (λ (p : PouData). p.pou_type) o)) false ≡ true → IsBlock b
   block_by b None there is = absurd (let h : ⊥ = cc in h)
-  block_by b (Some p) there is = record { pou = p; there = there; kind = kind_of_block p.kind is }
+  block_by b (Some p) there is = record { pou = p; there = there; as_block = type_of_block p.pou_type is }
 
   pub block_there : (v : Variable) (b : ℕ) → block_of f v ≡ Some b → IsBlock b
   block_there v b is = block_by b (pou_at f b) refl (instance_block f v b is)

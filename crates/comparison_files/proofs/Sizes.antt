@@ -5,8 +5,8 @@ use Rattle.std.proofs.lemmas.Bool.{false≢true}
 use Rattle.std.proofs.lemmas.List.{length-map}
 use Rattle.program_tree.specs.Tree.{ProgramData}
 use Rattle.scan_model.specs.Pairs.{RelationData}
-use Rattle.source_tree.specs.declared.token.Kind.{Kind}
-use Rattle.source_tree.specs.declared.token.Kind.TheVariants.{Word, Number, Sign}
+use Rattle.source_tree.specs.declared.token.TokenClass.{TokenClass}
+use Rattle.source_tree.specs.declared.token.TokenClass.TheVariants.{Word, Number, Sign}
 use Rattle.source_tree.specs.declared.token.Mark.TheVariants.{Semicolon}
 use Rattle.source_tree.specs.declared.token.Tok.{Tok}
 use Rattle.source_tree.specs.Syntax.{Symbol, mark}
@@ -25,7 +25,7 @@ use Rattle.product_build.specs.Limits.{HasFewLines}
 
 -- ---- tokens
 
-some_byte : (k : Kind) (slice : List ℕ) → is_formed (token k slice) ≡ true → 1 ≤ length slice
+some_byte : (k : TokenClass) (slice : List ℕ) → is_formed (token k slice) ≡ true → 1 ≤ length slice
 some_byte Word [] h = absurd (false≢true h)
 some_byte Number [] h = absurd (false≢true h)
 some_byte Sign [] h = absurd (false≢true h)

@@ -6,7 +6,7 @@ ghost use Rattle.typing.specs.Members.{is_function, function_number};
 
 use file_bindings::Resolved;
 use naming::pou_number;
-use source_tree::{Name, Pou, PouKind};
+use source_tree::{Name, Pou, PouType};
 
 /// The POU of a number, where there is one.
 pub fn pou_at<'a>(names: &'a Resolved<'_>, number: usize) -> Option<&'a Pou>
@@ -20,11 +20,11 @@ pub fn pou_at<'a>(names: &'a Resolved<'_>, number: usize) -> Option<&'a Pou>
 }
 
 fn is_function(pou: Option<&Pou>) -> bool
-    ensures { result ≡ unwrap_or (option_map (λ p. is_function (pou_view p.now).kind) pou.entry) false }
+    ensures { result ≡ unwrap_or (option_map (λ p. is_function (pou_view p.now).pou_type) pou.entry) false }
 {
     match pou {
         None => false,
-        Some(pou) => matches!(pou.kind, PouKind::Function(_)),
+        Some(pou) => matches!(pou.pou_type, PouType::Function(_)),
     }
 }
 

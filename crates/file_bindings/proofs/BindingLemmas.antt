@@ -106,7 +106,7 @@ place_at from (pou p ∷ is) (suc k) place h = let r = place_at (from + 1) is k 
 -- a name is bound as its slot says
 pub bound_slot : (text : List ℕ) (o : Option PouData) → option_map (λ s. s.number) (option_and_then (λ p. slot_named (scope_of p) text) o) ≡ option_and_then (λ p. bound_named (variables_in_pou p) text) o
 bound_slot text None = refl
-bound_slot text (Some p) = by (is_doubled_among (is_program p.kind) (variables_in_pou p) text) (found text 1 (variables_in_pou p))
+bound_slot text (Some p) = by (is_doubled_among (is_program p.pou_type) (variables_in_pou p) text) (found text 1 (variables_in_pou p))
   where
     by : (d : Bool) (o : Option (ℕ × Variable)) → option_map (λ (s : Slot). s.number) (option_map (slot_of d) o) ≡ option_map bound_of o
     by d None = refl

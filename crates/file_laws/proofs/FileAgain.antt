@@ -30,7 +30,7 @@ module _ (turns depth : ℕ) where
       rw (after_type (print_types ds ++ mark EndType ∷ rest), types_again turns turns [] ds rest fits len len) refl
 
   no_types : (p : PouData) (rest : List Symbol) → after marks.Type (print_pou p ++ rest) ≡ None
-  no_types p rest = ap (after marks.Type) (pou_shape p rest) ∙ no_type p.kind (name_symbol p.name ∷ (print_result p.kind ++ (print_variables p.variables ++ (print_body p.body ++ mark (end_of p.kind) ∷ rest))))
+  no_types p rest = ap (after marks.Type) (pou_shape p rest) ∙ no_type p.pou_type (name_symbol p.name ∷ (print_result p.pou_type ++ (print_variables p.variables ++ (print_body p.body ++ mark (end_of p.pou_type) ∷ rest))))
 
   pou_item_again : (p : PouData) (rest : List Symbol) → PouFits p depth → length (print_pou p ++ rest) ≤ turns → item turns depth (print_pou p ++ rest) ≡ Some (Some (pou_item p, rest))
   unfolding item

@@ -35,8 +35,8 @@ body_fits limit (chart_body ps) rest levelled h = chart_fits limit ps rest level
 item_fits : (limit : ℕ) (i : ItemData) (rest : List Symbol) → IsItemLevelled i → NestsWithin limit nothing_open (print_item i ++ rest) → ItemFits i limit
 item_fits limit (types_item ds) rest levelled h = levelled
 item_fits limit (pou_item p) rest levelled h =
-    let heading : List Symbol = mark (beginning_of p.kind) ∷ name_symbol p.name ∷ print_result p.kind in
-    let last : List Symbol = mark (end_of p.kind) ∷ rest in
+    let heading : List Symbol = mark (beginning_of p.pou_type) ∷ name_symbol p.name ∷ print_result p.pou_type in
+    let last : List Symbol = mark (end_of p.pou_type) ∷ rest in
     let behind_heading = nests-behind limit heading (print_variables p.variables ++ (print_body p.body ++ last)) nothing_open (subst (NestsWithin limit nothing_open) (pou_shape p rest) h) in
     let inner = nests-behind limit (print_variables p.variables) (print_body p.body ++ last) nothing_open behind_heading in
     (levelled.0, levelled.1, levelled.2, levelled.3, body_fits limit p.body last levelled.4 inner)

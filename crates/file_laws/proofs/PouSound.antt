@@ -1,7 +1,7 @@
 -- POUs that are read print the symbols that were taken.
 use Rattle.std.proofs.Common.{◌≡◌, ℕ, Bool, true, false, ◌&&◌, not, List, [], ◌∷◌, ◌++◌, Option, Some, None, refl, sym, ap, subst, ◌∙◌, append_assoc}
 use Rattle.source_tree.specs.declared.token.Mark.TheVariants.{Colon, Function, FunctionBlock, Program}
-use Rattle.source_tree.specs.Syntax.{Symbol, name, elementary, mark, Named, Stmts, TypeData, of_elementary, of_name, VariablesData, PartData, BodyData, statements as statement_body, chart as chart_body, PouKindData, function, function_block, program, PouData}
+use Rattle.source_tree.specs.Syntax.{Symbol, name, elementary, mark, Named, Stmts, TypeData, of_elementary, of_name, VariablesData, PartData, BodyData, statements as statement_body, chart as chart_body, PouTypeData, function, function_block, program, PouData}
 use Rattle.source_tree.specs.Prints.{name_symbol, print_type, print_variables, print_body, beginning_of, end_of, print_result, print_pou}
 use Rattle.source_tree.specs.Levels.{AreVariablesFormed, IsResultFormed, HasSections, MayDo}
 use Rattle.grammar.specs.Ends.{begins_part}
@@ -23,20 +23,20 @@ BodyFits (statement_body ss) d = StmtsFit ss d
 BodyFits (chart_body ps) d = ChartFits ps d
 
 abbrev pub PouFits : PouData → ℕ → Type 0
-PouFits p d = IsResultFormed p.kind × HasSections p.kind p.variables × AreVariablesFormed p.variables × MayDo p.kind p.body × BodyFits p.body d
+PouFits p d = IsResultFormed p.pou_type × HasSections p.pou_type p.variables × AreVariablesFormed p.variables × MayDo p.pou_type p.body × BodyFits p.body d
 
 -- how a POU's symbols stand before others
 pub pou_shape : (p : PouData) (rest : List Symbol)
-    → print_pou p ++ rest ≡ mark (beginning_of p.kind) ∷ name_symbol p.name ∷ (print_result p.kind ++ (print_variables p.variables ++ (print_body p.body ++ mark (end_of p.kind) ∷ rest)))
+    → print_pou p ++ rest ≡ mark (beginning_of p.pou_type) ∷ name_symbol p.name ∷ (print_result p.pou_type ++ (print_variables p.variables ++ (print_body p.body ++ mark (end_of p.pou_type) ∷ rest)))
 pou_shape p rest =
-    let last : List Symbol = print_body p.body ++ mark (end_of p.kind) ∷ [] in
-    ap (λ (x : List Symbol). mark (beginning_of p.kind) ∷ name_symbol p.name ∷ x) (
-    append_assoc (print_result p.kind) (print_variables p.variables ++ last) rest
-    ∙ ap (λ (x : List Symbol). print_result p.kind ++ x) (
+    let last : List Symbol = print_body p.body ++ mark (end_of p.pou_type) ∷ [] in
+    ap (λ (x : List Symbol). mark (beginning_of p.pou_type) ∷ name_symbol p.name ∷ x) (
+    append_assoc (print_result p.pou_type) (print_variables p.variables ++ last) rest
+    ∙ ap (λ (x : List Symbol). print_result p.pou_type ++ x) (
     append_assoc (print_variables p.variables) last rest
-    ∙ ap (λ (x : List Symbol). print_variables p.variables ++ x) (append_assoc (print_body p.body) (mark (end_of p.kind) ∷ []) rest)))
+    ∙ ap (λ (x : List Symbol). print_variables p.variables ++ x) (append_assoc (print_body p.body) (mark (end_of p.pou_type) ∷ []) rest)))
 
-has_sections : (k : PouKindData) (vs : List VariablesData) → AreSectionsWhere (is_function k) vs → HasSections k vs
+has_sections : (k : PouTypeData) (vs : List VariablesData) → AreSectionsWhere (is_function k) vs → HasSections k vs
 has_sections (function t) vs h = h
 has_sections function_block vs h = tt
 has_sections program vs h = tt
@@ -56,20 +56,20 @@ answered_is (name t at ∷ ts) y e =
 answered_is ts y e = absurd cc
 
 module _ (turns depth : ℕ) where
-  abbrev BodyIs : PouKindData → List Symbol → BodyData × List Symbol → Type 0
+  abbrev BodyIs : PouTypeData → List Symbol → BodyData × List Symbol → Type 0
   BodyIs k ts y = (ts ≡ print_body y.0 ++ y.1) × MayDo k y.0 × BodyFits y.0 depth
 
-  statements_allowed : (k : PouKindData) (ss : Stmts) → MayDo k (statement_body ss)
+  statements_allowed : (k : PouTypeData) (ss : Stmts) → MayDo k (statement_body ss)
   statements_allowed (function t) ss = tt
   statements_allowed function_block ss = tt
   statements_allowed program ss = tt
 
-  chart_allowed : (k : PouKindData) (ps : List PartData) (begun : Bool) → (not (is_function k) && begun) ≡ true → MayDo k (chart_body ps)
+  chart_allowed : (k : PouTypeData) (ps : List PartData) (begun : Bool) → (not (is_function k) && begun) ≡ true → MayDo k (chart_body ps)
   chart_allowed (function t) ps begun is = absurd cc
   chart_allowed function_block ps begun is = tt
   chart_allowed program ps begun is = tt
 
-  body_go : (k : PouKindData) (ts : List Symbol) (y : BodyData × List Symbol) (b : Bool) → (not (is_function k) && begins_part ts) ≡ b → body_or turns depth ts b ≡ Some y → BodyIs k ts y
+  body_go : (k : PouTypeData) (ts : List Symbol) (y : BodyData × List Symbol) (b : Bool) → (not (is_function k) && begins_part ts) ≡ b → body_or turns depth ts b ≡ Some y → BodyIs k ts y
   body_go k ts y true is e =
       let a = bind_some (chart turns depth ts) (λ (ps : List PartData × List Symbol). Some (chart_body ps.0, ps.1)) y e in
       let c = chart_is turns depth ts a.0 a.1 in
@@ -81,14 +81,14 @@ module _ (turns depth : ℕ) where
       let whole : BodyIs k ts (statement_body a.0.0, a.0.1) = (c.0, statements_allowed k a.0.0, c.1) in
       subst (BodyIs k ts) (some_is (statement_body a.0.0, a.0.1) y a.2) whole
 
-  body_is : (k : PouKindData) (ts : List Symbol) (y : BodyData × List Symbol) → body turns depth (is_function k) ts ≡ Some y → BodyIs k ts y
+  body_is : (k : PouTypeData) (ts : List Symbol) (y : BodyData × List Symbol) → body turns depth (is_function k) ts ≡ Some y → BodyIs k ts y
   unfolding body
   body_is k ts y e = body_go k ts y (not (is_function k) && begins_part ts) refl e
 
   abbrev pub PouIs : List Symbol → PouData × List Symbol → Type 0
   PouIs ts y = (ts ≡ print_pou y.0 ++ y.1) × PouFits y.0 depth
 
-  pou_of_is : (k : PouKindData) (n : Named) (ts : List Symbol) (y : PouData × List Symbol) → IsResultFormed k → pou_of turns depth k n ts ≡ Some y → PouIs (mark (beginning_of k) ∷ name_symbol n ∷ (print_result k ++ ts)) y
+  pou_of_is : (k : PouTypeData) (n : Named) (ts : List Symbol) (y : PouData × List Symbol) → IsResultFormed k → pou_of turns depth k n ts ≡ Some y → PouIs (mark (beginning_of k) ∷ name_symbol n ∷ (print_result k ++ ts)) y
   unfolding pou_of
   pou_of_is k n ts y result e =
       let v = bind_some (variables turns (is_function k) turns [] ts) _ y e in
@@ -96,7 +96,7 @@ module _ (turns depth : ℕ) where
       let c = bind_some (after (end_of k) b.0.1) _ y b.2 in
       let vs = variables_are turns (is_function k) turns [] ts v.0 v.1 in
       let bs = body_is k v.0.1 b.0 b.1 in
-      let found : PouData = record { kind = k; name = n; variables = v.0.0; body = b.0.0 } in
+      let found : PouData = record { pou_type = k; name = n; variables = v.0.0; body = b.0.0 } in
       let sections : ts ≡ print_variables v.0.0 ++ v.0.1 = vs.2 ∙ ap (λ (x : List VariablesData). print_variables x ++ v.0.1) (sym vs.1) in
       let formed : AreVariablesFormed v.0.0 = subst AreVariablesFormed (sym vs.1) vs.3 in
       let has : HasSections k v.0.0 = has_sections k v.0.0 (subst (AreSectionsWhere (is_function k)) (sym vs.1) vs.4) in
@@ -117,7 +117,7 @@ module _ (turns depth : ℕ) where
       let parts = named_is ts a.0.0 a.0.1 a.1 ∙ ap (λ (x : List Symbol). name_symbol a.0.0 ∷ x) (after_is Colon a.0.1 b.0 b.1 ∙ ap (λ (x : List Symbol). mark Colon ∷ x) r.0) in
       (ap (λ (x : List Symbol). mark Function ∷ x) parts ∙ p.0, p.1)
 
-  other_pou_is : (k : PouKindData) (ts : List Symbol) (y : PouData × List Symbol) → IsResultFormed k → print_result k ≡ [] → other_pou turns depth k ts ≡ Some y → PouIs (mark (beginning_of k) ∷ ts) y
+  other_pou_is : (k : PouTypeData) (ts : List Symbol) (y : PouData × List Symbol) → IsResultFormed k → print_result k ≡ [] → other_pou turns depth k ts ≡ Some y → PouIs (mark (beginning_of k) ∷ ts) y
   unfolding other_pou
   other_pou_is k ts y result none e =
       let a = bind_some (named ts) _ y e in

@@ -8,7 +8,7 @@ ghost use Rattle.grammar.specs.Reading.{Begins, Gives, ahead};
 use crate::charts::{begins_part, chart};
 use crate::declaration::variables;
 use grammar::{DEPTH, Stop};
-use source_tree::{Body, Mark, Name, Pou, PouKind, Terminal, Tok, TypeName};
+use source_tree::{Body, Mark, Name, Pou, PouType, Terminal, Tok, TypeName};
 use st_reader::{after, expect, named, refuse, statements, token, upper};
 use std::alloc::Global;
 
@@ -54,44 +54,44 @@ fn body(
     Ok((Body::Statements(found), at))
 }
 
-fn is_function(kind: &PouKind) -> bool
-    ensures { result ≡ spec.is_function (view.pou_kind_view kind.now) }
+fn is_function(pou_type: &PouType) -> bool
+    ensures { result ≡ spec.is_function (view.pou_type_view pou_type.now) }
 {
-    match kind {
-        PouKind::Function(_) => true,
-        PouKind::FunctionBlock | PouKind::Program => false,
+    match pou_type {
+        PouType::Function(_) => true,
+        PouType::FunctionBlock | PouType::Program => false,
     }
 }
 
 /// The word that a POU ends with.
-fn end_of(kind: &PouKind) -> Mark
-    ensures { result ≡ prints.end_of (view.pou_kind_view kind.now) }
+fn end_of(pou_type: &PouType) -> Mark
+    ensures { result ≡ prints.end_of (view.pou_type_view pou_type.now) }
 {
-    match kind {
-        PouKind::Function(_) => Mark::EndFunction,
-        PouKind::FunctionBlock => Mark::EndFunctionBlock,
-        PouKind::Program => Mark::EndProgram,
+    match pou_type {
+        PouType::Function(_) => Mark::EndFunction,
+        PouType::FunctionBlock => Mark::EndFunctionBlock,
+        PouType::Program => Mark::EndProgram,
     }
 }
 
-/// A POU of a kind and a name, from the place behind them.
+/// A POU of a type and a name, from the place behind them.
 #[tactic(auto, unfolding(grammar::specs::Pous::pou_of))]
 fn pou_of(
     alloc: Global,
-    kind: PouKind,
+    pou_type: PouType,
     name: Name,
     toks: &[Tok<'_>],
     end: usize,
     at: usize,
 ) -> Result<(Pou, usize), Stop>
-    ensures { Gives view.pou_view toks.now result (spec.pou_of (length toks.now) DEPTH (view.pou_kind_view kind) (view.name_view name) (ahead toks.now at)) }
+    ensures { Gives view.pou_view toks.now result (spec.pou_of (length toks.now) DEPTH (view.pou_type_view pou_type) (view.name_view name) (ahead toks.now at)) }
 {
-    let of_function = is_function(&kind);
+    let of_function = is_function(&pou_type);
     let (variables, at) = variables(alloc, of_function, toks, end, at)?;
     let (body, at) = body(alloc, of_function, toks, end, at)?;
-    let at = expect(end_of(&kind), toks, end, at)?;
+    let at = expect(end_of(&pou_type), toks, end, at)?;
     let found = Pou {
-        kind,
+        pou_type,
         name,
         variables,
         body,
@@ -112,22 +112,22 @@ fn function_pou(
     let (name, at) = named(alloc, toks, end, at)?;
     let at = expect(Mark::Colon, toks, end, at)?;
     let (answer, at) = answered(alloc, toks, end, at)?;
-    pou_of(alloc, PouKind::Function(answer), name, toks, end, at)
+    pou_of(alloc, PouType::Function(answer), name, toks, end, at)
 }
 
 /// A function block or a program, from the place behind FUNCTION_BLOCK or PROGRAM.
 #[tactic(auto, unfolding(grammar::specs::Pous::other_pou))]
 fn other_pou(
     alloc: Global,
-    kind: PouKind,
+    pou_type: PouType,
     toks: &[Tok<'_>],
     end: usize,
     at: usize,
 ) -> Result<(Pou, usize), Stop>
-    ensures { Gives view.pou_view toks.now result (spec.other_pou (length toks.now) DEPTH (view.pou_kind_view kind) (ahead toks.now at)) }
+    ensures { Gives view.pou_view toks.now result (spec.other_pou (length toks.now) DEPTH (view.pou_type_view pou_type) (ahead toks.now at)) }
 {
     let (name, at) = named(alloc, toks, end, at)?;
-    pou_of(alloc, kind, name, toks, end, at)
+    pou_of(alloc, pou_type, name, toks, end, at)
 }
 
 /// The POU that the word at a place begins, or None where it is neither FUNCTION, FUNCTION_BLOCK nor PROGRAM.
@@ -144,11 +144,11 @@ pub fn pou_begun(
         return Ok(Some(function_pou(alloc, toks, end, at)?));
     }
     if let Some(at) = after(Mark::FunctionBlock, toks, at) {
-        let kind = PouKind::FunctionBlock;
-        return Ok(Some(other_pou(alloc, kind, toks, end, at)?));
+        let pou_type = PouType::FunctionBlock;
+        return Ok(Some(other_pou(alloc, pou_type, toks, end, at)?));
     }
     let Some(at) = after(Mark::Program, toks, at) else {
         return Ok(None);
     };
-    Ok(Some(other_pou(alloc, PouKind::Program, toks, end, at)?))
+    Ok(Some(other_pou(alloc, PouType::Program, toks, end, at)?))
 }

@@ -1,7 +1,7 @@
 // Which declarations of a file use which, and which uses lead back to their user.
 ghost use Rattle.std.specs.Prelude.{◌≡◌, ◌++◌, map, length, OnOk, IfOk};
 ghost use Rattle.call_order.specs.Uses.{graph_of, HasCircles};
-ghost use Rattle.source_tree.specs.SyntaxView.{name_view, tree_view, specification_view, pou_kind_view, file_view};
+ghost use Rattle.source_tree.specs.SyntaxView.{name_view, tree_view, specification_view, pou_type_view, file_view};
 ghost use Rattle.naming.specs.DeclarationUses.{used_by_name, used_by_bound, used_by_specification, used_by_result, declaration_uses};
 ghost use Rattle.naming.specs.FileScope.{types_of, pous_of};
 ghost use Rattle.naming.specs.ScopeView.{types_view, pous_view};
@@ -9,7 +9,7 @@ ghost use Rattle.naming.specs.ScopeView.{types_view, pous_view};
 use crate::file_names::FileNames;
 use call_order::circular_uses;
 use naming::append_number;
-use source_tree::{Expr, Name, Pou, PouKind, Specification, TypeDeclaration, TypeName};
+use source_tree::{Expr, Name, Pou, PouType, Specification, TypeDeclaration, TypeName};
 use std::alloc::{AllocError, Global};
 
 // The names of a file, and how many types it has.
@@ -58,11 +58,11 @@ impl Numbered<'_> {
     }
 
     // Appends the declaration that the type of a result uses.
-    fn append_result(&self, used: &mut Vec<usize>, kind: &PouKind) -> Result<(), AllocError>
-        ensures { OnOk result (used.new.items ≡ used.old.items ++ used_by_result (file_view self.now.names.now.file.now) (pou_kind_view kind.now)) }
+    fn append_result(&self, used: &mut Vec<usize>, pou_type: &PouType) -> Result<(), AllocError>
+        ensures { OnOk result (used.new.items ≡ used.old.items ++ used_by_result (file_view self.now.names.now.file.now) (pou_type_view pou_type.now)) }
     {
-        match kind {
-            PouKind::Function(TypeName::Named(name)) => self.append_name(used, name),
+        match pou_type {
+            PouType::Function(TypeName::Named(name)) => self.append_name(used, name),
             _ => Ok(()),
         }
     }
@@ -91,11 +91,11 @@ impl Numbered<'_> {
         all: &mut Vec<Vec<usize>>,
         pous: &[&Pou],
     ) -> Result<(), AllocError>
-        ensures { let f = file_view self.now.names.now.file.now in OnOk result (graph_of all.new.items ≡ graph_of all.old.items ++ map (λ p. used_by_result f p.kind) (pous_view pous.now)) }
+        ensures { let f = file_view self.now.names.now.file.now in OnOk result (graph_of all.new.items ≡ graph_of all.old.items ++ map (λ p. used_by_result f p.pou_type) (pous_view pous.now)) }
     {
         for pou in pous {
             let mut used = Vec::new(alloc);
-            self.append_result(&mut used, &pou.kind)?;
+            self.append_result(&mut used, &pou.pou_type)?;
             all.push(used)?;
         }
         Ok(())

@@ -2,11 +2,11 @@
 ghost use Rattle.std.specs.Prelude.{◌≡◌, [], OnOk, IfOk, map, option_map, option_and_then, unwrap_or};
 ghost use Rattle.call_order.specs.Uses.{graph_of, HasCircles};
 ghost use Rattle.rules.specs.Rules.{earlier, first_in};
-ghost use Rattle.source_tree.specs.SyntaxView.{name_view, tree_view, type_view, specification_view, pou_kind_view, file_view};
+ghost use Rattle.source_tree.specs.SyntaxView.{name_view, tree_view, type_view, specification_view, pou_type_view, file_view};
 ghost use Rattle.naming.specs.Broken.{names_twice, is_broken_function, is_broken_name, in_scope, in_type_name, in_value_name, in_enumeration, in_enumerator, in_bound, in_declared_type, in_specification, in_result, is_callable, callee_of};
 ghost use Rattle.naming.specs.DeclarationUses.{declaration_uses, is_circular_use};
 ghost use Rattle.naming.specs.Ends.{Marks};
-ghost use Rattle.naming.specs.FileScope.{types_of, pous_of, names_of, standing, kind_at, pou_number, block_number, number_if};
+ghost use Rattle.naming.specs.FileScope.{types_of, pous_of, names_of, standing, pou_type_at, pou_number, block_number, number_if};
 ghost use Rattle.file_scope.specs.FileView.{file_names_view};
 ghost use Rattle.rules.specs.Judgements.{and};
 ghost use Rattle.rules.specs.Outcomes.{outcome_of};
@@ -23,7 +23,7 @@ use crate::refusals::{misused, unknown};
 use call_order::uses_in_circle;
 use naming::{Callee, PouShape, Shape, Standing, is_library, is_type, is_value, pou_number};
 use rules::{Outcome, Refusal};
-use source_tree::{Bounds, Expr, Name, Pou, PouKind, SourceFile, Specification, TypeName};
+use source_tree::{Bounds, Expr, Name, Pou, PouType, SourceFile, Specification, TypeName};
 use std::alloc::{AllocError, Global};
 use use_numbers::UseNumbers;
 
@@ -77,22 +77,22 @@ impl Wholes<'_> {
     }
 
     // What a POU is.
-    fn pou_shape(&self, kind: &PouKind) -> PouShape
-        ensures { result ≡ pou_shape (file_view self.now.types.now.names.file.now) (pou_kind_view kind.now) }
+    fn pou_shape(&self, pou_type: &PouType) -> PouShape
+        ensures { result ≡ pou_shape (file_view self.now.types.now.names.file.now) (pou_type_view pou_type.now) }
     {
-        match kind {
-            PouKind::Function(kind) => PouShape::Function(self.is_whole_type(kind)),
-            PouKind::FunctionBlock => PouShape::Block,
-            PouKind::Program => PouShape::Program,
+        match pou_type {
+            PouType::Function(kind) => PouShape::Function(self.is_whole_type(kind)),
+            PouType::FunctionBlock => PouShape::Block,
+            PouType::Program => PouShape::Program,
         }
     }
 
     // What each POU is.
     fn pou_shapes(&self, alloc: Global, pous: &[&Pou]) -> Result<Vec<PouShape>, AllocError>
-        ensures { let f = file_view self.now.types.now.names.file.now in IfOk result (λ shapes. shapes.items ≡ map (λ p. pou_shape f (pou_kind_view p.now.kind)) pous.now) }
+        ensures { let f = file_view self.now.types.now.names.file.now in IfOk result (λ shapes. shapes.items ≡ map (λ p. pou_shape f (pou_type_view p.now.pou_type)) pous.now) }
     {
         pous.iter()
-            .map(|pou| self.pou_shape(&pou.kind))
+            .map(|pou| self.pou_shape(&pou.pou_type))
             .collect(alloc)
     }
 }
@@ -131,7 +131,7 @@ impl FileScope<'_> {
 
     // What the POU of a number is.
     fn pou_shape_at(&self, number: usize) -> Option<PouShape>
-        ensures { result ≡ option_map (pou_shape (file_view self.now.types.names.file.now)) (kind_at (file_view self.now.types.names.file.now) number) }
+        ensures { result ≡ option_map (pou_shape (file_view self.now.types.names.file.now)) (pou_type_at (file_view self.now.types.names.file.now) number) }
     {
         self.pous.get(number).copied()
     }
@@ -288,11 +288,11 @@ impl FileScope<'_> {
     }
 
     /// The type of the result of a POU, whose declaration has this number, where it is a FUNCTION. Keeps the number of its name.
-    pub fn result(&self, numbers: &mut UseNumbers, user: usize, kind: &PouKind) -> Outcome
-        ensures { result ≡ outcome_of (in_result (file_view self.now.types.names.file.now) user (pou_kind_view kind.now)) }
+    pub fn result(&self, numbers: &mut UseNumbers, user: usize, pou_type: &PouType) -> Outcome
+        ensures { result ≡ outcome_of (in_result (file_view self.now.types.names.file.now) user (pou_type_view pou_type.now)) }
     {
-        match kind {
-            PouKind::Function(TypeName::Named(name)) => self.declared_type(numbers, user, name),
+        match pou_type {
+            PouType::Function(TypeName::Named(name)) => self.declared_type(numbers, user, name),
             _ => Outcome::ok(),
         }
     }

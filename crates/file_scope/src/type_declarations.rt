@@ -63,7 +63,7 @@ pub fn walk_results(
 {
     let types = scope.types.ends.as_slice().len();
     for (place, pou) in pous.iter().enumerate() {
-        let judged = scope.result(numbers, types + place, &pou.kind);
+        let judged = scope.result(numbers, types + place, &pou.pou_type);
         *first = Refusal::earlier(*first, judged.first);
     }
 }

@@ -145,7 +145,7 @@ record IsCellOf (f : FileData) (k : ℕ) (q : PathData) (m : Meaning) (c : ℕ) 
   kind : member.meaning.kind ≡ m.kind
   range : member.meaning.range ≡ m.range
 
-module _ (f : FileData) (used : UsesItsBlocks f) (ordered : IsOrdered f) (k : ℕ) (p : PouData) (there : pou_at f k ≡ Some p) (kind : p.kind ≡ program) where
+module _ (f : FileData) (used : UsesItsBlocks f) (ordered : IsOrdered f) (k : ℕ) (p : PouData) (there : pou_at f k ≡ Some p) (as_program : p.pou_type ≡ program) where
   module _ (first : Named) (b : Member) (found : member_at f (sizes_of f) k first.text ≡ Some b) (v : Variable) (is_v : b ≡ member_of f b.cell v) (m : Meaning) (c : ℕ) (at : m.place ≡ places.Cell c) where
     abbrev IsCell : List Named → Type 0
     IsCell ns = let q : PathData = record { first = first; members = ns } in IsCellOf f k q m c
@@ -202,7 +202,7 @@ module _ (f : FileData) (used : UsesItsBlocks f) (ordered : IsOrdered f) (k : �
     inner_cell block is_block of_v n whole w inner means =
         let same : seen_from b.cell w ≡ m = cc in
         let pou = block_there f used ordered v block of_v in
-        let name = block_name f used ordered block pou.pou pou.there pou.kind [] n.text w inner in
+        let name = block_name f used ordered block pou.pou pou.there pou.as_block [] n.text w inner in
         let u = name.at.variable in
         let role : w.role ≡ u.role = ap (λ (x : Member). x.role) name.at.is in
         let seen_u = member_seen f block n pou.pou pou.there whole u name.at.named in
@@ -255,7 +255,7 @@ module _ (f : FileData) (used : UsesItsBlocks f) (ordered : IsOrdered f) (k : �
       → variable_or_value f (sizes_of f) q.first.text q.members o ≡ Some m → IsCellOf f k q m c
   cell_by_member q m c is at None found means = absurd (no_value f (standing f q.first.text) m c means at)
   cell_by_member q m c is at (Some b) found means =
-      let name = program_name f used ordered k p there kind q.first.text b found in
+      let name = program_name f used ordered k p there as_program q.first.text b found in
       let v = name.at.variable in
       let known : Some (seen f (names_of p) v) ≡ Some is.seen = sym (ap (λ (o : Option Variable). option_map (seen f (names_of p)) o) name.at.named) ∙ is.known in
       let same : is.seen ≡ seen f (names_of p) v = cc in
@@ -279,7 +279,7 @@ module _ (f : FileData) (used : UsesItsBlocks f) (ordered : IsOrdered f) (k : �
         let cell = cell_by_member q m c is at (member_at f (sizes_of f) k q.first.text) refl means in
         let here = cell.at in
         let place : start + (cell.place + 0) ≡ start + c = omega (arith, here) in
-        cells_found f used ordered once no_points k p there kind cell.path cell.place cell.member cell.stands 0 (joined names) cell.first paired start
+        cells_found f used ordered once no_points k p there as_program cell.path cell.place cell.member cell.stands 0 (joined names) cell.first paired start
         ∙ ap (λ (x : Meaning). Some x) (clause_same paired (start + (cell.place + 0)) (start + c) cell.member.meaning place cell.kind cell.range)
 
     member_found : (paired : DataType → DataType) (start : ℕ) → member_by_path paired start own_program names ≡ Some (in_clause paired (start + c) m)

@@ -48,11 +48,11 @@ module _ (paired : DataType → DataType) (path : List ℕ) where
       ap (λ (t : DataType). let x : Meaning = record { place = places.Cell place; kind = paired t; range = d.range; whole = true; assignable = false; control = false } in x) kind
       ∙ ap (λ (r : Range). let x : Meaning = record { place = places.Cell place; kind = paired m.kind; range = r; whole = true; assignable = false; control = false } in x) range
 
-pub cells_found : (f : FileData) → UsesItsBlocks f → IsOrdered f → AreNamedOnce f → HaveNoPoints f → (k : ℕ) (p : PouData) → pou_at f k ≡ Some p → p.kind ≡ program
+pub cells_found : (f : FileData) → UsesItsBlocks f → IsOrdered f → AreNamedOnce f → HaveNoPoints f → (k : ℕ) (p : PouData) → pou_at f k ≡ Some p → p.pou_type ≡ program
     → (path : List ℕ) (place : ℕ) (m : Member) → StandsFor f k path place m → (n : ℕ) (q : List ℕ) → slice_get (paths_behind path m) n ≡ Some q
     → (paired : DataType → DataType) (start : ℕ) → cell_among paired q start (typed_program f k p).cells ≡ Some (in_clause paired (start + (place + n)) m.meaning)
-cells_found f used ordered once no_points k p there kind path place m leads n q is_q paired start =
-    let at = paths_stand f used ordered k p there kind path place m leads n q is_q in
-    let apart = program_apart f (each_once f once) no_points k p there kind (once k p there) in
+cells_found f used ordered once no_points k p there as_program path place m leads n q is_q paired start =
+    let at = paths_stand f used ordered k p there as_program path place m leads n q is_q in
+    let apart = program_apart f (each_once f once) no_points k p there as_program (once k p there) in
     found paired q start (typed_program f k p).cells apart (place + n) at.cell at.there at.named
     ∙ ap (λ (x : Meaning). Some x) (meaning_of_cell paired q (start + (place + n)) at.cell m.meaning at.typed at.ranged)

@@ -7,7 +7,7 @@ use Rattle.std.proofs.lemmas.Bool.{false≢true}
 use Rattle.std.proofs.lemmas.List.{append-nil, append_cancel_left}
 use Rattle.std.proofs.lemmas.Map.Keys.{IsDistinct-head, IsDistinct-tail, IsDistinct-cons}
 use Rattle.std.proofs.lemmas.Slice.Eq.{bytes_eq-Decides}
-use Rattle.source_tree.specs.Syntax.{PouKindData, program, PouData, FileData}
+use Rattle.source_tree.specs.Syntax.{PouTypeData, program, PouData, FileData}
 use Rattle.program_tree.specs.Tree.{CellData}
 use Rattle.naming.specs.FileScope.{pous_of, pou_at, is_program}
 use Rattle.naming.specs.Broken.{variables_twice}
@@ -200,7 +200,7 @@ module _ (f : FileData) (once : (b : ℕ) → IsDistinct same_name (variables_at
 
   -- ---- the cells of a PROGRAM
 
-  module _ (k : ℕ) (p : PouData) (there : pou_at f k ≡ Some p) (kind : p.kind ≡ program) (whole : (variables_twice (is_program p.kind) [] (variables_in_pou p)).whole ≡ true) where
+  module _ (k : ℕ) (p : PouData) (there : pou_at f k ≡ Some p) (as_program : p.pou_type ≡ program) (whole : (variables_twice (is_program p.pou_type) [] (variables_in_pou p)).whole ≡ true) where
     abbrev vs : List Variable
     vs = variables_in_pou p
 
@@ -211,7 +211,7 @@ module _ (f : FileData) (once : (b : ℕ) → IsDistinct same_name (variables_at
     named = subst (λ (ws : List Variable). AllByRecursion IsNamed ws) (ap variables_in there) (no_points k)
 
     no_fault : AllByRecursion (λ v. is_fault_name v ≡ false) vs
-    no_fault = none_fault [] vs (subst (λ (q : PouKindData). (variables_twice (is_program q) [] vs).whole ≡ true) kind whole)
+    no_fault = none_fault [] vs (subst (λ (q : PouTypeData). (variables_twice (is_program q) [] vs).whole ≡ true) as_program whole)
 
     pub program_apart : Apart (typed_program f k p).cells
     program_apart =
@@ -220,7 +220,7 @@ module _ (f : FileData) (once : (b : ℕ) → IsDistinct same_name (variables_at
         let cells = cells_of f of_block false (Some []) ordered in
         let out = IsOut is_fault_name in
         let names = all-in_order out false vs (all_out is_fault_name vs named no_fault) in
-        let differ = order_differs vs (names_differ (is_program p.kind) [] vs whole) in
+        let differ = order_differs vs (names_differ (is_program p.pou_type) [] vs whole) in
         let begun = blocks_begun depth in (
           all_more (IsOne [] out) (IsOther fault_cell)
               (λ c one. paths_differ [] (codes "FAULT") one.variable.name.text (codes "FAULT") c.path refl one.holds.0
@@ -239,4 +239,4 @@ each_once f once b = by (pou_at f b) refl
   where
     by : (o : Option PouData) → pou_at f b ≡ o → IsDistinct same_name (variables_in o)
     by None e = tt
-    by (Some p) e = names_differ (is_program p.kind) [] (variables_in_pou p) (once b p e)
+    by (Some p) e = names_differ (is_program p.pou_type) [] (variables_in_pou p) (once b p e)

@@ -9,7 +9,7 @@ use Rattle.typing.specs.Places.{variables_at}
 
 -- each name of a POU is declared once, and none of a PROGRAM is FAULT
 abbrev pub AreNamedOnce : FileData → Type 0
-AreNamedOnce f = (k : ℕ) (p : PouData) → pou_at f k ≡ Some p → (variables_twice (is_program p.kind) [] (variables_in_pou p)).whole ≡ true
+AreNamedOnce f = (k : ℕ) (p : PouData) → pou_at f k ≡ Some p → (variables_twice (is_program p.pou_type) [] (variables_in_pou p)).whole ≡ true
 
 -- a name without a point, as each name of a text is
 abbrev pub HasNoPoint : List ℕ → Type 0

@@ -23,7 +23,7 @@ ghost use Rattle.found_cells.specs.Clauses.{IsWholePath, of_program, in_clause};
 
 /// Where each name of a POU is declared once, and no point stands in a name, no two cells of a PROGRAM have one path.
 pub fn law_paths_once()
-    ensures { (f : FileData) → AreNamedOnce f → HaveNoPoints f → (k : ℕ) (p : PouData) → pou_at f k ≡ Some p → p.kind ≡ program
+    ensures { (f : FileData) → AreNamedOnce f → HaveNoPoints f → (k : ℕ) (p : PouData) → pou_at f k ≡ Some p → p.pou_type ≡ program
         → IsDistinct bytes_eq (paths_of (typed_program f k p).cells) }
 {}
 
@@ -34,7 +34,7 @@ pub fn law_fault()
 
 /// Where that is so, the cell that is found by the path of names is the one at their place.
 pub fn law_found_cells()
-    ensures { (f : FileData) → UsesItsBlocks f → IsOrdered f → AreNamedOnce f → HaveNoPoints f → (k : ℕ) (p : PouData) → pou_at f k ≡ Some p → p.kind ≡ program
+    ensures { (f : FileData) → UsesItsBlocks f → IsOrdered f → AreNamedOnce f → HaveNoPoints f → (k : ℕ) (p : PouData) → pou_at f k ≡ Some p → p.pou_type ≡ program
         → (path : List ℕ) (place : ℕ) (m : Member) → StandsFor f k path place m → (n : ℕ) (q : List ℕ) → slice_get (paths_behind path m) n ≡ Some q
         → (paired : DataType → DataType) (start : ℕ) → cell_among paired q start (typed_program f k p).cells ≡ Some (in_clause paired (start + (place + n)) m.meaning) }
 {}
@@ -42,7 +42,7 @@ pub fn law_found_cells()
 /// The path of a cell in the statements of a PROGRAM is that of the same cell in clauses: behind `old`, where the PROGRAM is OLD, and behind
 /// `new`, where it is NEW, whose cells stand behind those of OLD.
 pub fn law_clause_names()
-    ensures { (f : FileData) → UsesItsBlocks f → IsOrdered f → AreNamedOnce f → HaveNoPoints f → (k : ℕ) (p : PouData) → pou_at f k ≡ Some p → p.kind ≡ program
+    ensures { (f : FileData) → UsesItsBlocks f → IsOrdered f → AreNamedOnce f → HaveNoPoints f → (k : ℕ) (p : PouData) → pou_at f k ≡ Some p → p.pou_type ≡ program
         → (q : PathData) (m : Meaning) (c : ℕ) → IsWholePath f p q → (scope_of f (sizes_of f) k).means (by_path q) ≡ Some m → m.place ≡ places.Cell c
         → (other : ProgramData) (n : Named)
         → (n.text ≡ codes "OLD" → pair_means (typed_program f k p) other (by_path (of_program n q)) ≡ Some (in_clause own_type c m))

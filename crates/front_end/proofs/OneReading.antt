@@ -20,7 +20,7 @@ use Rattle.front_end.specs.Texts.{HasTokens, HasNoTokens, too_long, by_token, Ha
 
 -- what a lexeme is for the grammar, and its place
 abbrev placed_lexeme : Lexeme → Symbol × ℕ
-placed_lexeme l = (symbol_of (terminal_of l.kind l.slice) l.slice l.at, l.at)
+placed_lexeme l = (symbol_of (terminal_of l.class l.slice) l.slice l.at, l.at)
 
 placed_token : (t : Tok) → IsClassified t → placed_symbol t ≡ placed_lexeme (lexeme_of t)
 placed_token t h = ap (λ k. (let p : Symbol × ℕ = (symbol_of k t.slice.now t.at, t.at) in p)) h

@@ -30,7 +30,7 @@ open_iterations open_so_far s = open_so_far
 abbrev pub nothing_open : Open
 nothing_open = record { parentheses = 0; ifs = 0; cases = 0; iterations = 0 }
 
--- how many are open, of all kinds
+-- how many are open in all
 abbrev pub total : Open → ℕ
 total o = o.parentheses + o.ifs + o.cases + o.iterations
 

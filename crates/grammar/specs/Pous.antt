@@ -1,7 +1,7 @@
 -- Reading POUs.
 use Rattle.std.specs.Prelude.{ℕ, Bool, true, false, ◌&&◌, not, List, [], ◌∷◌, Option, Some, None}
 use Rattle.source_tree.specs.declared.token.Mark.TheVariants.{Colon, Function, FunctionBlock, Program}
-use Rattle.source_tree.specs.Syntax.{Symbol, name, elementary, Named, TypeData, of_elementary, of_name, BodyData, statements as statement_body, chart as chart_body, PouKindData, function, function_block, program, PouData}
+use Rattle.source_tree.specs.Syntax.{Symbol, name, elementary, Named, TypeData, of_elementary, of_name, BodyData, statements as statement_body, chart as chart_body, PouTypeData, function, function_block, program, PouData}
 use Rattle.source_tree.specs.Prints.{end_of}
 use Rattle.grammar.specs.Ends.{begins_part}
 use Rattle.grammar.specs.Reading.{Read, ◌>>=◌, after, named}
@@ -15,7 +15,7 @@ answered (elementary kind at ∷ ts) = Some (of_elementary kind at, ts)
 answered (name t at ∷ ts) = Some (of_name (record { text = t; at = at }), ts)
 answered ts = None
 
-abbrev pub is_function : PouKindData → Bool
+abbrev pub is_function : PouTypeData → Bool
 is_function (function t) = true
 is_function function_block = false
 is_function program = false
@@ -30,18 +30,18 @@ module _ (turns depth : ℕ) where
   unfoldable pub body : Bool → Read BodyData
   body of_function ts = body_or ts (not of_function && begins_part ts)
 
-  -- a POU of this kind and name, behind them: its sections, what it does, and the word that closes
-  unfoldable pub pou_of : PouKindData → Named → Read PouData
+  -- a POU of this type and name, behind them: its sections, what it does, and the word that closes
+  unfoldable pub pou_of : PouTypeData → Named → Read PouData
   pou_of k n ts =
       variables turns (is_function k) turns [] ts >>= λ vs. body (is_function k) vs.1 >>= λ b. after (end_of k) b.1 >>= λ rest.
-      Some (record { kind = k; name = n; variables = vs.0; body = b.0 }, rest)
+      Some (record { pou_type = k; name = n; variables = vs.0; body = b.0 }, rest)
 
   -- behind FUNCTION
   unfoldable pub function_pou : Read PouData
   function_pou ts = named ts >>= λ n. after Colon n.1 >>= λ ts. answered ts >>= λ t. pou_of (function t.0) n.0 t.1
 
   -- behind FUNCTION_BLOCK or PROGRAM
-  unfoldable pub other_pou : PouKindData → Read PouData
+  unfoldable pub other_pou : PouTypeData → Read PouData
   other_pou k ts = named ts >>= λ n. pou_of k n.0 n.1
 
   abbrev pub pou_or : Option (List Symbol) → Option (List Symbol) → Option (List Symbol) → Option (Option (PouData × List Symbol))

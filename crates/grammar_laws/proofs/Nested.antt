@@ -31,7 +31,7 @@ module _ (limit : ℕ) where
   one_less : (o p : Open) → total p ≡ total o + 1 → total p ≤ limit → left o ≡ suc (left p)
   one_less o p more h = omega arith
 
-  -- one more of a kind
+  -- one more is open
   abbrev in_parentheses : Open → Open
   in_parentheses o = record { parentheses = o.parentheses + 1; ifs = o.ifs; cases = o.cases; iterations = o.iterations }
 

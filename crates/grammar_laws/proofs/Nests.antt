@@ -38,7 +38,7 @@ open_iterations-le b c (iteration at) le = omega arith
 open_iterations-le b c (mark m) le = closes-le b c (same_mark m EndFor) le
 open_iterations-le b c s le = le
 
--- no more of any kind
+-- no more of any is open
 abbrev Fewer : Open → Open → Type 0
 Fewer o p = (o.parentheses ≤ p.parentheses) × (o.ifs ≤ p.ifs) × (o.cases ≤ p.cases) × (o.iterations ≤ p.iterations)
 

@@ -4,7 +4,7 @@ use Rattle.std.specs.List.{list_any}
 use Rattle.std.specs.Str.{bytes_eq}
 use Rattle.rules.specs.declared.rule.Rule.TheVariants.{DeclaredTwice, UnknownName, InTermsOfItself, WrongUse, NotOneProgram, NotOneInitialStep, UnknownStep, UnknownAction, StepTwice, UnknownQualifier}
 use Rattle.rules.specs.declared.rule.Refusal.{Refusal}
-use Rattle.source_tree.specs.Syntax.{Named, PathData, Tree, literal, path, enumerator, paren, unary, chain, call, Links, no_links, link, Arguments, no_arguments, argument, ConnectionData, input, output, Stmt, empty, assign, invoke, branch, cases, iterate, Stmts, no_stmts, stmt, Arms, no_arms, arm, Entries, no_entries, entry, Otherwise, no_else, else_stmts, LabelData, IterationData, TypeData, of_elementary, of_subrange, of_name, SpecificationData, of_type, of_values, TypeDeclarationData, StepActionData, ChartStepData, StepsData, one_step, several_steps, ChartTransitionData, ChartActionData, PartData, step_part, transition_part, action_part, BodyData, statements, chart as chart_body, PouKindData, function, function_block, program, PouData, FileData}
+use Rattle.source_tree.specs.Syntax.{Named, PathData, Tree, literal, path, enumerator, paren, unary, chain, call, Links, no_links, link, Arguments, no_arguments, argument, ConnectionData, input, output, Stmt, empty, assign, invoke, branch, cases, iterate, Stmts, no_stmts, stmt, Arms, no_arms, arm, Entries, no_entries, entry, Otherwise, no_else, else_stmts, LabelData, IterationData, TypeData, of_elementary, of_subrange, of_name, SpecificationData, of_type, of_values, TypeDeclarationData, StepActionData, ChartStepData, StepsData, one_step, several_steps, ChartTransitionData, ChartActionData, PartData, step_part, transition_part, action_part, BodyData, statements, chart as chart_body, PouTypeData, function, function_block, program, PouData, FileData}
 use Rattle.naming.specs.declared.callee.Callee.{Callee}
 use Rattle.naming.specs.declared.callee.Callee.TheVariants as callees
 use Rattle.naming.specs.Seen.{Seen}
@@ -13,7 +13,7 @@ use Rattle.naming.specs.declared.standing.Standing.TheVariants as standings
 use Rattle.rules.specs.Judgements.{Judgement, whole_if, ok, suppressed, and, breaks}
 use Rattle.naming.specs.Library.{is_library}
 use Rattle.naming.specs.ChartWords.{qualifier_named, word_of}
-use Rattle.naming.specs.FileScope.{types_of, pous_of, DeclaredName, names_of, is_declared_as, is_known, is_doubled_in_file, standing, is_type, is_value, pou_number, pou_at, kind_at, number_if, is_program}
+use Rattle.naming.specs.FileScope.{types_of, pous_of, DeclaredName, names_of, is_declared_as, is_known, is_doubled_in_file, standing, is_type, is_value, pou_number, pou_at, pou_type_at, number_if, is_program}
 use Rattle.naming.specs.Types.{end_of, end_specification, is_circular, are_first, is_whole_end, is_whole_type_name}
 use Rattle.naming.specs.DeclarationUses.{is_circular_use, is_circular_variable}
 use Rattle.naming.specs.Scopes.{Variable, PouScope, scope_of, is_local, is_input, is_seen, is_result, is_step, is_action, is_transition, is_of_name, is_fault, is_doubled, block_of_type, is_whole_type, is_typed, seen_named}
@@ -47,14 +47,14 @@ abbrev pub in_file : FileData → Named → Judgement
 in_file f n = if is_known f n.text then (if is_doubled_in_file f n.text then suppressed else misused n) else unknown n
 
 -- the type of a FUNCTION's result breaks no rule
-abbrev pub is_whole_result : FileData → PouKindData → Bool
+abbrev pub is_whole_result : FileData → PouTypeData → Bool
 is_whole_result f (function t) = is_whole_type f t
 is_whole_result f function_block = true
 is_whole_result f program = true
 
 -- a FUNCTION whose declaration breaks a rule by the type of its result, by its number
 abbrev pub is_broken_function : FileData → ℕ → Bool
-is_broken_function f number = not (unwrap_or (option_map (is_whole_result f) (kind_at f number)) true)
+is_broken_function f number = not (unwrap_or (option_map (is_whole_result f) (pou_type_at f number)) true)
 
 -- a name of a type or of a FUNCTION whose declaration breaks a rule
 abbrev pub is_broken_name : FileData → Option Standing → Bool
@@ -123,7 +123,7 @@ in_types f number [] = []
 in_types f number (d ∷ ds) =
     (if is_circular f number then circular d.name else ok).broken ++ (in_specification f number d.specification).broken ++ in_types f (number + 1) ds
 
-abbrev pub in_result : FileData → ℕ → PouKindData → Judgement
+abbrev pub in_result : FileData → ℕ → PouTypeData → Judgement
 in_result f user (function (of_elementary kind at)) = ok
 in_result f user (function (of_subrange kind at b)) = ok
 in_result f user (function (of_name n)) = in_declared_type f user n
@@ -133,7 +133,7 @@ in_result f user program = ok
 -- what the types of results break, of POUs whose declarations are counted from a number on
 abbrev pub in_results : FileData → ℕ → List PouData → List Refusal
 in_results f number [] = []
-in_results f number (p ∷ ps) = (in_result f number p.kind).broken ++ in_results f (number + 1) ps
+in_results f number (p ∷ ps) = (in_result f number p.pou_type).broken ++ in_results f (number + 1) ps
 
 -- N4 at the first name behind a variable or a value that has no members
 abbrev pub too_deep : List Named → Judgement
@@ -188,7 +188,7 @@ in_path f p (Some s) q = in_variable f s q
 in_path f p None q = if not (is_fault p.has_fault q.first.text) && is_value (standing f q.first.text) then too_deep q.members else in_outer f p q.first
 
 -- a FUNCTION whose declaration breaks no rule
-abbrev pub is_callable : FileData → PouKindData → Bool
+abbrev pub is_callable : FileData → PouTypeData → Bool
 is_callable f (function t) = is_whole_type f t
 is_callable f function_block = false
 is_callable f program = false
@@ -475,7 +475,7 @@ in_pous f [] = []
 in_pous f (p ∷ ps) = (in_pou f p).broken ++ in_pous f ps
 
 abbrev pub is_program_pou : PouData → Bool
-is_program_pou p = is_program p.kind
+is_program_pou p = is_program p.pou_type
 
 -- N5: there is exactly one PROGRAM
 abbrev pub not_one : List PouData → List Refusal

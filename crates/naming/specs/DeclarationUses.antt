@@ -2,7 +2,7 @@
 -- result, and a variable by its bounds and its initial value.
 use Rattle.std.specs.Prelude.{ℕ, ◌+◌, List, [], ◌∷◌, ◌++◌, length, map, Bool, false, Option, Some, None}
 use Rattle.call_order.specs.Uses.{Graph, is_in_circle}
-use Rattle.source_tree.specs.Syntax.{Named, Tree, literal, path, enumerator, paren, unary, chain, call, TypeData, of_elementary, of_subrange, of_name, SpecificationData, of_type, of_values, PouKindData, function, function_block, program, FileData}
+use Rattle.source_tree.specs.Syntax.{Named, Tree, literal, path, enumerator, paren, unary, chain, call, TypeData, of_elementary, of_subrange, of_name, SpecificationData, of_type, of_values, PouTypeData, function, function_block, program, FileData}
 use Rattle.naming.specs.declared.standing.Standing.{Standing}
 use Rattle.naming.specs.declared.standing.Standing.TheVariants as standings
 use Rattle.naming.specs.FileScope.{types_of, pous_of, standing}
@@ -41,7 +41,7 @@ used_by_specification f (of_type (of_elementary kind at)) = []
 used_by_specification f (of_type (of_subrange kind at b)) = used_by_bound f b.low ++ used_by_bound f b.high
 used_by_specification f (of_type (of_name n)) = used_by_name f n
 
-abbrev pub used_by_result : FileData → PouKindData → List ℕ
+abbrev pub used_by_result : FileData → PouTypeData → List ℕ
 used_by_result f (function (of_elementary kind at)) = []
 used_by_result f (function (of_subrange kind at b)) = []
 used_by_result f (function (of_name n)) = used_by_name f n
@@ -50,7 +50,7 @@ used_by_result f program = []
 
 -- for each declaration of a file those that it uses
 unfoldable pub declaration_uses : FileData → Graph
-declaration_uses f = map (λ d. used_by_specification f d.specification) (types_of f) ++ map (λ p. used_by_result f p.kind) (pous_of f)
+declaration_uses f = map (λ d. used_by_specification f d.specification) (types_of f) ++ map (λ p. used_by_result f p.pou_type) (pous_of f)
 
 abbrev pub is_circular_number : Graph → ℕ → Option ℕ → Bool
 is_circular_number g user None = false

@@ -2,7 +2,7 @@
 use Rattle.std.specs.Prelude.{ℕ, ◌+◌, List, [], ◌∷◌, ◌++◌, length, count_by, Bool, true, false, ◌||◌, nat_lt, Option, Some, None, option_map, option_and_then, unwrap_or, if◌then◌else◌}
 use Rattle.std.specs.List.{list_any, slice_get}
 use Rattle.std.specs.Str.{bytes_eq}
-use Rattle.source_tree.specs.Syntax.{Named, SpecificationData, of_type, of_values, TypeDeclarationData, PouKindData, function, function_block, program, PouData, types, pou, FileData}
+use Rattle.source_tree.specs.Syntax.{Named, SpecificationData, of_type, of_values, TypeDeclarationData, PouTypeData, function, function_block, program, PouData, types, pou, FileData}
 use Rattle.naming.specs.declared.standing.Standing.{Standing}
 use Rattle.naming.specs.declared.standing.Standing.TheVariants as standings
 use Rattle.naming.specs.Library.{is_library}
@@ -82,15 +82,15 @@ is_value (Some (standings.Pou p)) = false
 abbrev pub pou_at : FileData → ℕ → Option PouData
 pou_at f number = slice_get (pous_of f) number
 
-abbrev pub kind_at : FileData → ℕ → Option PouKindData
-kind_at f number = option_map (λ p. p.kind) (pou_at f number)
+abbrev pub pou_type_at : FileData → ℕ → Option PouTypeData
+pou_type_at f number = option_map (λ p. p.pou_type) (pou_at f number)
 
-abbrev pub is_program : PouKindData → Bool
+abbrev pub is_program : PouTypeData → Bool
 is_program (function t) = false
 is_program function_block = false
 is_program program = true
 
-abbrev pub is_block : PouKindData → Bool
+abbrev pub is_block : PouTypeData → Bool
 is_block (function t) = false
 is_block function_block = true
 is_block program = false
@@ -102,8 +102,8 @@ pou_number (Some (standings.Value t k)) = None
 pou_number (Some (standings.Pou p)) = Some p
 
 -- a POU that passes a test by what it is, by its number
-abbrev pub number_if : FileData → (PouKindData → Bool) → ℕ → Option ℕ
-number_if f test number = if unwrap_or (option_map test (kind_at f number)) false then Some number else None
+abbrev pub number_if : FileData → (PouTypeData → Bool) → ℕ → Option ℕ
+number_if f test number = if unwrap_or (option_map test (pou_type_at f number)) false then Some number else None
 
 -- the FUNCTION_BLOCK that a name stands for, by its number
 abbrev pub block_number : FileData → Option Standing → Option ℕ

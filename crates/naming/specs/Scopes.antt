@@ -4,7 +4,7 @@ use Rattle.std.specs.Prelude.{ℕ, List, [], ◌∷◌, ◌++◌, map, codes, co
 use Rattle.std.specs.Str.{bytes_eq}
 use Rattle.source_tree.specs.declared.syntax.Section.{Section}
 use Rattle.source_tree.specs.declared.syntax.Section.TheVariants as sections
-use Rattle.source_tree.specs.Syntax.{Named, Tree, literal, path, enumerator, paren, unary, chain, call, TypeData, of_elementary, of_subrange, of_name, DeclarationData, VariablesData, PartData, step_part, transition_part, action_part, BodyData, statements, chart, PouKindData, function, function_block, program, PouData, FileData}
+use Rattle.source_tree.specs.Syntax.{Named, Tree, literal, path, enumerator, paren, unary, chain, call, TypeData, of_elementary, of_subrange, of_name, DeclarationData, VariablesData, PartData, step_part, transition_part, action_part, BodyData, statements, chart, PouTypeData, function, function_block, program, PouData, FileData}
 use Rattle.naming.specs.declared.role.Role.{Role}
 use Rattle.naming.specs.declared.role.Role.TheVariants as roles
 use Rattle.naming.specs.Seen.{Seen}
@@ -40,7 +40,7 @@ variables_of [] = []
 variables_of (v ∷ vs) = declared_in (role_of v.section) v.declarations ++ variables_of vs
 
 -- a FUNCTION's own name is a variable, of the type of its result
-abbrev pub result_of : PouKindData → Named → List Variable
+abbrev pub result_of : PouTypeData → Named → List Variable
 result_of (function t) n = record { name = n; role = roles.Result; kind = Some t; initial = None } ∷ []
 result_of function_block n = []
 result_of program n = []
@@ -77,7 +77,7 @@ names_in_body (chart ps) = declared_by_parts (is_stored ps) ps
 -- the names of a POU: of a FUNCTION first its own name, then the variables that are declared, in their order, and then the names of a
 -- chart
 abbrev pub variables_in_pou : PouData → List Variable
-variables_in_pou p = result_of p.kind p.name ++ variables_of p.variables ++ names_in_body p.body
+variables_in_pou p = result_of p.pou_type p.name ++ variables_of p.variables ++ names_in_body p.body
 
 abbrev pub is_local : Role → Bool
 is_local roles.Input = false
@@ -189,7 +189,7 @@ abbrev pub scope_with : Bool → List Variable → PouScope
 scope_with has_fault vs = record { has_fault = has_fault; variables = vs }
 
 abbrev pub scope_of : PouData → PouScope
-scope_of p = scope_with (is_program p.kind) (variables_in_pou p)
+scope_of p = scope_with (is_program p.pou_type) (variables_in_pou p)
 
 -- FAULT, where a POU has it
 abbrev pub is_fault : Bool → List ℕ → Bool

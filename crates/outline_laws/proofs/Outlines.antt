@@ -9,7 +9,7 @@ use Rattle.call_order.specs.Marks.{is_marked}
 use Rattle.call_order.specs.Uses.{is_among, order_of}
 use Rattle.call_order.proofs.Orders.{each_in}
 use Rattle.rules.specs.declared.rule.Refusal.{Refusal}
-use Rattle.source_tree.specs.Syntax.{TypeData, PouKindData, function, function_block, program, PouData, FileData}
+use Rattle.source_tree.specs.Syntax.{TypeData, PouTypeData, function, function_block, program, PouData, FileData}
 use Rattle.program_tree.specs.Tree.{Statements, CalledData}
 use Rattle.naming.specs.Broken.{broken_names}
 use Rattle.naming.specs.Circles.{uses_in, uses_of, IsBroken}
@@ -59,7 +59,7 @@ module _ (f : FileData) (used : UsesItsBlocks f) (ordered : length (order_of (us
       let vs = variables_in_pou p in
       let t = scope_of f (sizes_of f) k in
       let same = same_body c (scope_of f [] k) t (scopes_alike f [] (sizes_of f) k) (blocks_alike f [] (sizes_of f) k) p.body in
-      subst (λ (n : ℕ). n ≤ count_of_all c (pou_body f k p)) (sym same) (less_begun c f (first_places f (sizes_of f) p.kind vs) vs (typed_body t p.body))
+      subst (λ (n : ℕ). n ≤ count_of_all c (pou_body f k p)) (sym same) (less_begun c f (first_places f (sizes_of f) p.pou_type vs) vs (typed_body t p.body))
 
   frame_length : (k : ℕ) (p : PouData) → pou_at f k ≡ Some p → 200001 < get_or (sizes_of f) k 0 → 200003 ≤ length (map type_of_cell (frame_cells f p))
   frame_length k p at long = ⊎_elim marked unmarked (cases_Bool (is_marked (reached f) k))
@@ -91,17 +91,17 @@ module _ (f : FileData) (used : UsesItsBlocks f) (ordered : length (order_of (us
       record { frame = refl; runs = λ c. omega arith; calls = inr (frame_length k p at (omega (arith, low, long))) }
   function_outlined k t p at false is = record { frame = refl; runs = λ c. omega arith; calls = inl (λ c. rw is (body_less k p c)) }
 
-  by_kind : (k : ℕ) (p : PouData) → pou_at f k ≡ Some p → (kind : PouKindData) → IsOutlined (outlined_of f sizes k kind p) (called_of f k kind p)
-  by_kind k p at (function t) = function_outlined k t p at (is_long sizes k) refl
-  by_kind k p at function_block = record { frame = refl; runs = body_less k p; calls = inl (λ c. omega arith) }
-  by_kind k p at program = record { frame = refl; runs = body_less k p; calls = inl (λ c. omega arith) }
+  by_type : (k : ℕ) (p : PouData) → pou_at f k ≡ Some p → (pou_type : PouTypeData) → IsOutlined (outlined_of f sizes k pou_type p) (called_of f k pou_type p)
+  by_type k p at (function t) = function_outlined k t p at (is_long sizes k) refl
+  by_type k p at function_block = record { frame = refl; runs = body_less k p; calls = inl (λ c. omega arith) }
+  by_type k p at program = record { frame = refl; runs = body_less k p; calls = inl (λ c. omega arith) }
 
   pou_outlined : (k : ℕ) → IsOutlined (outlined_if f sizes k (pou_at f k)) (called_if f k (pou_at f k))
   pou_outlined k = by (pou_at f k) refl
     where
       by : (o : Option PouData) → pou_at f k ≡ o → IsOutlined (outlined_if f sizes k o) (called_if f k o)
       by None at = record { frame = refl; runs = λ c. omega arith; calls = inl (λ c. omega arith) }
-      by (Some p) at = by_kind k p at p.kind
+      by (Some p) at = by_type k p at p.pou_type
 
   each_outlined : (ks : List ℕ) (n : ℕ) → IsOutlined (slice_index_or (map (λ k. outlined_if f sizes k (pou_at f k)) ks) n nothing) (slice_index_or (map (λ k. called_if f k (pou_at f k)) ks) n nothing)
   each_outlined [] n = record { frame = refl; runs = λ c. omega arith; calls = inl (λ c. omega arith) }

@@ -25,12 +25,12 @@ not_placed f (Some p) many = ap (λ (b : Bool). if b then Some (members_in f (si
 
 -- one of few is, by what is told of its variables and by capped sizes
 pub few_placed : (f : FileData) (k : ℕ) (p : PouData) (ms : List Member) → pou_at f k ≡ Some p → count_of_cells f (sizes_of f) (variables_at f k) ≤ 16777216
-    → ms ≡ told_members (map capped (sizes_of f)) p.kind (told_at f k) → Some ms ≡ placed_at f k
+    → ms ≡ told_members (map capped (sizes_of f)) p.pou_type (told_at f k) → Some ms ≡ placed_at f k
 few_placed f k p ms there few is =
     let s = sizes_of f in
     let ts = told_at f k in
     let counted = told_count-is f s (variables_at f k) in
-    let exact = all_exact s p.kind ts (exact_told s ts (omega (arith, counted, few))) in
+    let exact = all_exact s p.pou_type ts (exact_told s ts (omega (arith, counted, few))) in
     let members : ms ≡ members_in f s p = is ∙ exact ∙ told_members_at-is f s k p ts refl there ∙ ap (members_if f s) there in
     let small : is_few f p ≡ true = le-leb (count_of_cells f s (variables_in_pou p)) 16777216 (subst (λ (o : Option PouData). count_of_cells f s (variables_in o) ≤ 16777216) there few) in
     ap (λ (l : List Member). Some l) members
@@ -109,7 +109,7 @@ block_among f s text next (v ∷ vs) m all e =
 block_if : (f : FileData) (s text : List ℕ) (o : Option PouData) (m : Member) → list_all (λ t. is_placed_block f t.block) (told_in f (variables_in o)) ≡ true
     → option_and_then (member_in f s text) o ≡ Some m → is_placed_block f m.block ≡ true
 block_if f s text None m all e = absurd (let h : ⊥ = cc in h)
-block_if f s text (Some p) m all e = let vs = variables_in_pou p in block_among f s text (first_places f s p.kind vs) vs m all e
+block_if f s text (Some p) m all e = let vs = variables_in_pou p in block_among f s text (first_places f s p.pou_type vs) vs m all e
 
 pub block_placed : (f : FileData) (k : ℕ) (s text : List ℕ) (m : Member) → is_placed f k ≡ true → member_at f s k text ≡ Some m → is_placed_block f m.block ≡ true
 block_placed f k s text m placed e =

@@ -3,7 +3,7 @@ use Rattle.std.proofs.Common.{◌≡◌, ℕ, ◌+◌, ◌*◌, ◌^◌, ◌<◌
 use Rattle.std.specs.Prelude.{option_and_then, IfSome}
 use Rattle.std.proofs.lemmas.Bool.{cases_lt}
 use Rattle.std.proofs.lemmas.Option.{slice_get_past}
-use Rattle.source_tree.specs.Syntax.{Named, PouKindData, function, function_block, program, PouData, FileData}
+use Rattle.source_tree.specs.Syntax.{Named, PouTypeData, function, function_block, program, PouData, FileData}
 use Rattle.naming.specs.declared.standing.Standing.{Standing}
 use Rattle.naming.specs.declared.standing.Standing.TheVariants as standings
 use Rattle.naming.specs.Broken.{alone}
@@ -33,7 +33,7 @@ front_few s o (t ∷ ts) = by (is_front o t.role) (front_few s o ts)
     by true rest = omega (arith, rest)
     by false rest = omega (arith, rest)
 
-pub begins_with_room : (s : List ℕ) (kind : PouKindData) (ts : List ToldData) → told_count s ts < 2 ^ 62 → HavePlaces s (told_first_places s kind ts) ts
+pub begins_with_room : (s : List ℕ) (pou_type : PouTypeData) (ts : List ToldData) → told_count s ts < 2 ^ 62 → HavePlaces s (told_first_places s pou_type ts) ts
 begins_with_room s (function t) ts few = let front = front_few s true ts in record { front = omega (arith, few); rest = omega (arith, front, few) }
 begins_with_room s function_block ts few = let front = front_few s false ts in record { front = omega (arith, few); rest = omega (arith, front, few) }
 begins_with_room s program ts few = let front = front_few s false ts in record { front = omega (arith, few); rest = omega (arith, front, few) }
@@ -100,7 +100,7 @@ front_count f s o (v ∷ vs) = by (is_front o v.role) (front_count f s o vs)
     by true rest = omega (arith, rest)
     by false rest = omega (arith, rest)
 
-low_in : (f : FileData) (s text : List ℕ) (kind : PouKindData) (vs : List Variable) (m : Member) → member_among f s text (first_places f s kind vs) vs ≡ Some m → IsLow (1 + 2 * count_of_cells f s vs) m
+low_in : (f : FileData) (s text : List ℕ) (pou_type : PouTypeData) (vs : List Variable) (m : Member) → member_among f s text (first_places f s pou_type vs) vs ≡ Some m → IsLow (1 + 2 * count_of_cells f s vs) m
 low_in f s text (function t) vs m is =
     let front = front_count f s true vs in low_among f s text (1 + 2 * count_of_cells f s vs) (first_places f s (function t) vs) vs m (omega arith) (omega (arith, front)) is
 low_in f s text function_block vs m is =
@@ -110,7 +110,7 @@ low_in f s text program vs m is =
 
 low_if : (f : FileData) (s text : List ℕ) (o : Option PouData) (m : Member) → option_and_then (member_in f s text) o ≡ Some m → IsLow (1 + 2 * count_of_cells f s (variables_in o)) m
 low_if f s text None m is = absurd (let h : ⊥ = cc in h)
-low_if f s text (Some p) m is = low_in f s text p.kind (variables_in_pou p) m is
+low_if f s text (Some p) m is = low_in f s text p.pou_type (variables_in_pou p) m is
 
 -- of the POU of a number
 low_at : (f : FileData) (s : List ℕ) (k : ℕ) (text : List ℕ) (m : Member) → member_at f s k text ≡ Some m → m.cell ≤ 1 + 2 * count_of_cells f s (variables_at f k)

@@ -6,7 +6,7 @@ use Rattle.std.proofs.Math.Nat.{min-eq_left, min-eq_right}
 use Rattle.std.proofs.Math.ListN.{get_or-map as get_or-mapped}
 use Rattle.std.proofs.lemmas.List.{map-set}
 use Rattle.std.proofs.lemmas.Bool.{cases_lt, lt-ltb, le-ltb, le-leb, lt-leb}
-use Rattle.source_tree.specs.Syntax.{PouKindData, function, function_block, program, FileData}
+use Rattle.source_tree.specs.Syntax.{PouTypeData, function, function_block, program, FileData}
 use Rattle.naming.specs.Scopes.{is_step}
 use Rattle.typing.specs.declared.next.Next.{Next}
 use Rattle.typing.specs.declared.member.Member.{Member}
@@ -140,7 +140,7 @@ count_exact s o (t ∷ ts) all = by (is_front o t.role) (count_exact s o ts all.
     by true rest = λ i. all.0 i + rest i
     by false rest = rest
 
-pub first_exact : (s : List ℕ) (kind : PouKindData) (ts : List ToldData) → AllByRecursion (IsExact s) ts → told_first_places (map capped s) kind ts ≡ told_first_places s kind ts
+pub first_exact : (s : List ℕ) (pou_type : PouTypeData) (ts : List ToldData) → AllByRecursion (IsExact s) ts → told_first_places (map capped s) pou_type ts ≡ told_first_places s pou_type ts
 first_exact s (function t) ts all = ap (λ (n : ℕ). record { of_function = true; front = 1; rest = 1 + n }) (count_exact s true ts all)
 first_exact s function_block ts all = ap (λ (n : ℕ). record { of_function = false; front = 0; rest = 0 + n }) (count_exact s false ts all)
 first_exact s program ts all = ap (λ (n : ℕ). record { of_function = false; front = 1; rest = 1 + n }) (count_exact s false ts all)
@@ -164,8 +164,8 @@ members_exact s next (t ∷ ts) all =
     ap (λ (ms : List Member). told_member (told_first_place next t) t ∷ ms)
     (ap (λ (n : Next). told_members_from (map capped s) n ts) (behind_exact s next t all.0) ∙ members_exact s (told_places_behind s next t) ts all.1)
 
-pub all_exact : (s : List ℕ) (kind : PouKindData) (ts : List ToldData) → AllByRecursion (IsExact s) ts → told_members (map capped s) kind ts ≡ told_members s kind ts
-all_exact s kind ts all = ap (λ (n : Next). told_members_from (map capped s) n ts) (first_exact s kind ts all) ∙ members_exact s (told_first_places s kind ts) ts all
+pub all_exact : (s : List ℕ) (pou_type : PouTypeData) (ts : List ToldData) → AllByRecursion (IsExact s) ts → told_members (map capped s) pou_type ts ≡ told_members s pou_type ts
+all_exact s pou_type ts all = ap (λ (n : Next). told_members_from (map capped s) n ts) (first_exact s pou_type ts all) ∙ members_exact s (told_first_places s pou_type ts) ts all
 
 -- ---- which POUs are few
 

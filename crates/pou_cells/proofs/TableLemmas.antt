@@ -69,10 +69,10 @@ ports_at-is f sizes vs k o known got = ap (λ x. unwrap_or x []) (listed (ports_
 
 found_or_not : (f : FileData) (sizes : List ℕ) (p : PouData) (text : List ℕ) (x : Option (ℕ × Variable)) (got : Option Member) → found text 1 (variables_in_pou p) ≡ x
     → got ≡ option_and_then (λ b. slice_get (members_in f sizes p) (b - 1)) (option_map bound_of x) → got ≡ member_in f sizes text p
-found_or_not f sizes p text None got is e = let vs = variables_in_pou p in e ∙ sym (not_found_is f sizes text (first_places f sizes p.kind vs) vs 1 is)
+found_or_not f sizes p text None got is e = let vs = variables_in_pou p in e ∙ sym (not_found_is f sizes text (first_places f sizes p.pou_type vs) vs 1 is)
 found_or_not f sizes p text (Some x) got is e =
     let vs = variables_in_pou p in
-    let known : IsFound f sizes text (first_places f sizes p.kind vs) vs 1 x.0 = found_is f sizes text (first_places f sizes p.kind vs) vs 1 x.0 x.1 is in
+    let known : IsFound f sizes text (first_places f sizes p.pou_type vs) vs 1 x.0 = found_is f sizes text (first_places f sizes p.pou_type vs) vs 1 x.0 x.1 is in
     e ∙ known.same
 
 by_pou : (f : FileData) (sizes : List ℕ) (text : List ℕ) (o : Option PouData) (r : Option ℕ) (got : Option Member) → r ≡ option_and_then (λ p. bound_named (variables_in_pou p) text) o

@@ -1,6 +1,6 @@
 -- What is told of the variables of a POU has the cells, places and meanings of these.
 use Rattle.std.proofs.Common.{◌≡◌, ℕ, ◌+◌, Bool, true, false, if◌then◌else◌, List, [], ◌∷◌, Some, refl, sym, ap, ◌∙◌}
-use Rattle.source_tree.specs.Syntax.{PouKindData, function, function_block, program, PouData, FileData}
+use Rattle.source_tree.specs.Syntax.{PouTypeData, function, function_block, program, PouData, FileData}
 use Rattle.naming.specs.FileScope.{pou_at}
 use Rattle.naming.specs.Scopes.{Variable, variables_in_pou}
 use Rattle.typing.specs.declared.next.Next.{Next}
@@ -39,7 +39,7 @@ front_count : (f : FileData) (sizes : List ℕ) (of_function : Bool) (vs : List 
     → told_count sizes (told_front of_function (told_in f vs)) ≡ count_of_cells f sizes (in_front of_function vs)
 front_count f sizes of_function vs = ap (told_count sizes) (told_front-is f of_function vs) ∙ told_count-is f sizes (in_front of_function vs)
 
-pub told_first_places-is : (f : FileData) (sizes : List ℕ) (kind : PouKindData) (vs : List Variable) → told_first_places sizes kind (told_in f vs) ≡ first_places f sizes kind vs
+pub told_first_places-is : (f : FileData) (sizes : List ℕ) (pou_type : PouTypeData) (vs : List Variable) → told_first_places sizes pou_type (told_in f vs) ≡ first_places f sizes pou_type vs
 told_first_places-is f sizes (function t) vs = ap (λ (n : ℕ). record { of_function = true; front = 1; rest = 1 + n }) (front_count f sizes true vs)
 told_first_places-is f sizes function_block vs = ap (λ (n : ℕ). record { of_function = false; front = 0; rest = 0 + n }) (front_count f sizes false vs)
 told_first_places-is f sizes program vs = ap (λ (n : ℕ). record { of_function = false; front = 1; rest = 1 + n }) (front_count f sizes false vs)
@@ -55,12 +55,12 @@ told_members_from-is f sizes next (v ∷ vs) =
     ap (λ (m : Member). m ∷ told_members_from sizes (places_behind f sizes next v) (told_in f vs)) (told_member-is f (first_place next v) v)
     ∙ ap (λ (ms : List Member). member_of f (first_place next v) v ∷ ms) (told_members_from-is f sizes (places_behind f sizes next v) vs)
 
-pub told_members-is : (f : FileData) (sizes : List ℕ) (p : PouData) → told_members sizes p.kind (told_in f (variables_in_pou p)) ≡ members_in f sizes p
+pub told_members-is : (f : FileData) (sizes : List ℕ) (p : PouData) → told_members sizes p.pou_type (told_in f (variables_in_pou p)) ≡ members_in f sizes p
 told_members-is f sizes p =
     let vs = variables_in_pou p in
-    ap (λ (next : Next). told_members_from sizes next (told_in f vs)) (told_first_places-is f sizes p.kind vs) ∙ told_members_from-is f sizes (first_places f sizes p.kind vs) vs
+    ap (λ (next : Next). told_members_from sizes next (told_in f vs)) (told_first_places-is f sizes p.pou_type vs) ∙ told_members_from-is f sizes (first_places f sizes p.pou_type vs) vs
 
 -- those of the POU of a number
-pub told_members_at-is : (f : FileData) (sizes : List ℕ) (k : ℕ) (p : PouData) (ts : List ToldData) → ts ≡ told_at f k → pou_at f k ≡ Some p → told_members sizes p.kind ts ≡ members_at f sizes k
+pub told_members_at-is : (f : FileData) (sizes : List ℕ) (k : ℕ) (p : PouData) (ts : List ToldData) → ts ≡ told_at f k → pou_at f k ≡ Some p → told_members sizes p.pou_type ts ≡ members_at f sizes k
 told_members_at-is f sizes k p ts is there =
-    ap (told_members sizes p.kind) (is ∙ ap (λ o. told_in f (variables_in o)) there) ∙ told_members-is f sizes p ∙ sym (ap (members_if f sizes) there)
+    ap (told_members sizes p.pou_type) (is ∙ ap (λ o. told_in f (variables_in o)) there) ∙ told_members-is f sizes p ∙ sym (ap (members_if f sizes) there)

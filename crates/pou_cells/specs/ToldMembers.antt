@@ -1,6 +1,6 @@
 -- The variables of POUs, by what is told of their declarations.
 use Rattle.std.specs.Prelude.{ℕ, List, [], ◌∷◌, map, if◌then◌else◌}
-use Rattle.source_tree.specs.Syntax.{PouKindData, FileData}
+use Rattle.source_tree.specs.Syntax.{PouTypeData, FileData}
 use Rattle.naming.specs.FileScope.{pous_of}
 use Rattle.naming.specs.Scopes.{variables_in_pou}
 use Rattle.typing.specs.declared.scope.Place.TheVariants as places
@@ -34,5 +34,5 @@ abbrev pub told_members_from : List ℕ → Next → List ToldData → List Memb
 told_members_from sizes next [] = []
 told_members_from sizes next (t ∷ ts) = told_member (told_first_place next t) t ∷ told_members_from sizes (told_places_behind sizes next t) ts
 
-abbrev pub told_members : List ℕ → PouKindData → List ToldData → List Member
-told_members sizes kind ts = told_members_from sizes (told_first_places sizes kind ts) ts
+abbrev pub told_members : List ℕ → PouTypeData → List ToldData → List Member
+told_members sizes pou_type ts = told_members_from sizes (told_first_places sizes pou_type ts) ts

@@ -1,6 +1,6 @@
 -- Where the cells of a POU's names stand, by what is told of their declarations.
 use Rattle.std.specs.Prelude.{ℕ, ◌+◌, ◌<◌, ◌^◌, List, [], ◌∷◌, filter, Bool, true, false, if◌then◌else◌}
-use Rattle.source_tree.specs.Syntax.{PouKindData, function, function_block, program, FileData}
+use Rattle.source_tree.specs.Syntax.{PouTypeData, function, function_block, program, FileData}
 use Rattle.naming.specs.Scopes.{is_step}
 use Rattle.typing.specs.declared.next.Next.{Next}
 use Rattle.typing.specs.Places.{has_cell, size_among, is_front, variables_at}
@@ -26,7 +26,7 @@ told_places_from sizes of_function first ts =
     record { of_function = of_function; front = first; rest = first + told_count sizes (told_front of_function ts) }
 
 -- where the cells of a POU begin
-abbrev pub told_first_places : List ℕ → PouKindData → List ToldData → Next
+abbrev pub told_first_places : List ℕ → PouTypeData → List ToldData → Next
 told_first_places sizes (function t) ts = told_places_from sizes true 1 ts
 told_first_places sizes function_block ts = told_places_from sizes false 0 ts
 told_first_places sizes program ts = told_places_from sizes false 1 ts

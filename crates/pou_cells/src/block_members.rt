@@ -1,6 +1,6 @@
 // The names of POUs, and what they stand for.
 ghost use Rattle.std.specs.Prelude.{◌≡◌, ◌<◌, ◌+◌, ◌^◌, map, IfOk};
-ghost use Rattle.source_tree.specs.SyntaxView.{pou_kind_view};
+ghost use Rattle.source_tree.specs.SyntaxView.{pou_type_view};
 ghost use Rattle.typing.specs.Members.{seen_from, place_of_input, port_of, ports_of};
 ghost use Rattle.decl_types.specs.ToldView.{told_view};
 ghost use Rattle.pou_cells.specs.ToldPlaces.{told_count};
@@ -9,7 +9,7 @@ ghost use Rattle.pou_cells.specs.ToldMembers.{told_meaning, told_member, told_me
 use crate::places::{first_place, first_places, places_behind};
 use crate::roles::{has_cell, may_be_assigned, may_control};
 use decl_types::Told;
-use source_tree::PouKind;
+use source_tree::PouType;
 use std::alloc::{AllocError, Global};
 use typing::{Meaning, Member, Place, Port};
 
@@ -54,14 +54,14 @@ fn member_of(cell: usize, told: &Told<'_>) -> Member
 pub fn members_in(
     alloc: Global,
     sizes: &[usize],
-    kind: &PouKind,
+    pou_type: &PouType,
     tolds: &[Told<'_>],
 ) -> Result<Vec<Member>, AllocError>
     requires { told_count sizes.now (map told_view tolds.now) < 2 ^ 62 }
-    ensures { IfOk result (λ list. list.items ≡ told_members sizes.now (pou_kind_view kind.now) (map told_view tolds.now)) }
+    ensures { IfOk result (λ list. list.items ≡ told_members sizes.now (pou_type_view pou_type.now) (map told_view tolds.now)) }
 {
     let mut list = Vec::new(alloc);
-    let mut next = first_places(sizes, kind, tolds);
+    let mut next = first_places(sizes, pou_type, tolds);
     for told in tolds {
         list.push(member_of(first_place(next, told), told))?;
         next = places_behind(sizes, next, told);

@@ -49,7 +49,7 @@ fn placed_members(
         return Ok(None);
     }
     let pou = pous.domains.types.names.pou(number);
-    let members = members_in(alloc, sizes, &pou.kind, variables)?;
+    let members = members_in(alloc, sizes, &pou.pou_type, variables)?;
     Ok(Some(members))
 }
 

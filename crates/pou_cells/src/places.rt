@@ -1,13 +1,13 @@
 // Where the cells of a POU's names stand.
 ghost use Rattle.std.specs.Prelude.{◌≡◌, ◌<◌, ◌≤◌, ◌+◌, ◌^◌, map};
-ghost use Rattle.source_tree.specs.SyntaxView.{pou_kind_view};
+ghost use Rattle.source_tree.specs.SyntaxView.{pou_type_view};
 ghost use Rattle.typing.specs.Places.{size_among};
 ghost use Rattle.decl_types.specs.ToldView.{told_view};
 ghost use Rattle.pou_cells.specs.ToldPlaces.{told_cells, told_count, told_front, told_places_from, told_first_places, told_first_place, told_places_behind};
 
 use crate::roles::{has_cell, is_front};
 use decl_types::Told;
-use source_tree::PouKind;
+use source_tree::PouType;
 use typing::Next;
 
 /// How many cells an instance of a block takes, or a variable that is none.
@@ -61,14 +61,14 @@ fn places_from(sizes: &[usize], of_function: bool, first: usize, tolds: &[Told<'
 }
 
 /// Where the cells of a POU's variables begin.
-pub fn first_places(sizes: &[usize], kind: &PouKind, tolds: &[Told<'_>]) -> Next
+pub fn first_places(sizes: &[usize], pou_type: &PouType, tolds: &[Told<'_>]) -> Next
     requires { told_count sizes.now (map told_view tolds.now) < 2 ^ 62 }
-    ensures { result ≡ told_first_places sizes.now (pou_kind_view kind.now) (map told_view tolds.now) }
+    ensures { result ≡ told_first_places sizes.now (pou_type_view pou_type.now) (map told_view tolds.now) }
 {
-    match kind {
-        PouKind::Function(_) => places_from(sizes, true, 1, tolds),
-        PouKind::FunctionBlock => places_from(sizes, false, 0, tolds),
-        PouKind::Program => places_from(sizes, false, 1, tolds),
+    match pou_type {
+        PouType::Function(_) => places_from(sizes, true, 1, tolds),
+        PouType::FunctionBlock => places_from(sizes, false, 0, tolds),
+        PouType::Program => places_from(sizes, false, 1, tolds),
     }
 }
 

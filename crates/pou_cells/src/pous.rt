@@ -15,7 +15,7 @@ use crate::tables::{all_members, all_told, told_of_pou};
 use decl_types::{Domains, Told, function_number, pou_at};
 use file_bindings::Resolved;
 use plc_types::DataType;
-use source_tree::{Name, Pou, PouKind};
+use source_tree::{Name, Pou, PouType};
 use std::alloc::{AllocError, Global};
 use typing::{Instance, Meaning, Member, Port, Signature};
 
@@ -42,13 +42,13 @@ pub struct Pous<'p> {
 
 // Whether a POU is a FUNCTION or a FUNCTION_BLOCK.
 fn may_be_called(pou: Option<&Pou>) -> bool
-    ensures { result ≡ may_be_called (option_map (λ p. (pou_view p.now).kind) pou.entry) }
+    ensures { result ≡ may_be_called (option_map (λ p. (pou_view p.now).pou_type) pou.entry) }
 {
     match pou {
         None => false,
-        Some(pou) => match pou.kind {
-            PouKind::Function(_) | PouKind::FunctionBlock => true,
-            PouKind::Program => false,
+        Some(pou) => match pou.pou_type {
+            PouType::Function(_) | PouType::FunctionBlock => true,
+            PouType::Program => false,
         },
     }
 }

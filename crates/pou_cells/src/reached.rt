@@ -7,13 +7,13 @@ ghost use Rattle.naming.specs.FileScope.{pous_of};
 ghost use Rattle.typing.specs.Reached.{with_marks, mark_uses, reached, reached_order};
 
 use file_bindings::Resolved;
-use source_tree::{Pou, PouKind};
+use source_tree::{Pou, PouType};
 use std::alloc::{AllocError, Global};
 
 fn is_program(pou: &Pou) -> bool
     ensures { result ≡ is_program_pou (pou_view pou.now) }
 {
-    matches!(&pou.kind, PouKind::Program)
+    matches!(&pou.pou_type, PouType::Program)
 }
 
 // Which POUs are PROGRAMs.

@@ -65,7 +65,7 @@ fn members_of_pou(
     ensures few { count_of_cells (file_in domains.now) [] (variables_at (file_in domains.now) number) < 2 ^ 62 }
 {
     let pou = domains.types.names.pou(number);
-    members_in(alloc, &[], &pou.kind, told_of_pou(told, number))
+    members_in(alloc, &[], &pou.pou_type, told_of_pou(told, number))
 }
 
 /// The variables of all POUs, at their places where each block counts as one without cells.

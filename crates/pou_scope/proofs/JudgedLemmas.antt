@@ -27,10 +27,10 @@ pou_judged f p body a b d once declared inner =
     let two : b ≡ outcome_of (and front middle) = declared ∙ ap (λ o. both o (outcome_of middle)) once ∙ outcome_and front middle in
     inner ∙ ap (λ o. both o (outcome_of (in_body f p body))) two ∙ outcome_and (and front middle) (in_body f p body)
 
-pub scope_is : (n : NamesOfPou) (p : PouData) → n.has_fault ≡ is_program p.kind → variables_view n.variables.items ≡ variables_in_pou p → scope_named n ≡ scope_of p
+pub scope_is : (n : NamesOfPou) (p : PouData) → n.has_fault ≡ is_program p.pou_type → variables_view n.variables.items ≡ variables_in_pou p → scope_named n ≡ scope_of p
 scope_is n p fault variables =
     ap (λ (b : Bool). record { has_fault = b; variables = variables_view n.variables.items }) fault
-    ∙ ap (λ (vs : List Variable). record { has_fault = is_program p.kind; variables = vs }) variables
+    ∙ ap (λ (vs : List Variable). record { has_fault = is_program p.pou_type; variables = vs }) variables
 
 some_same : {A : Type 0} (a b : A) → Some a ≡ Some b → a ≡ b
 some_same a b h = cc

@@ -1,23 +1,23 @@
 // The names of a POU in declared order.
 ghost use Rattle.std.specs.Prelude.{◌≡◌, ◌++◌, OnOk, IfOk};
-ghost use Rattle.source_tree.specs.SyntaxView.{name_view, pou_kind_view, pou_view, declaration_view, declarations_view, all_variables_view};
+ghost use Rattle.source_tree.specs.SyntaxView.{name_view, pou_type_view, pou_view, declaration_view, declarations_view, all_variables_view};
 ghost use Rattle.naming.specs.Scopes.{declared_by, declared_in, variables_of, result_of, variables_in_pou};
 ghost use Rattle.naming.specs.ScopeView.{variables_view};
 
 use crate::chart_names::append_names_in_body;
 use naming::{Declared, Role};
-use source_tree::{Declaration, Name, Pou, PouKind, Variables};
+use source_tree::{Declaration, Name, Pou, PouType, Variables};
 use std::alloc::{AllocError, Global};
 
 // Appends a FUNCTION's own name.
 fn append_result<'a>(
     list: &mut Vec<Declared<'a>>,
-    kind: &'a PouKind,
+    pou_type: &'a PouType,
     name: &'a Name,
 ) -> Result<(), AllocError>
-    ensures { OnOk result (variables_view list.new.items ≡ variables_view list.old.items ++ result_of (pou_kind_view kind.now) (name_view name.now)) }
+    ensures { OnOk result (variables_view list.new.items ≡ variables_view list.old.items ++ result_of (pou_type_view pou_type.now) (name_view name.now)) }
 {
-    if let PouKind::Function(kind) = kind {
+    if let PouType::Function(kind) = pou_type {
         list.push(Declared {
             name,
             role: Role::Result,
@@ -88,7 +88,7 @@ pub fn declared_variables(alloc: Global, pou: &Pou) -> Result<Vec<Declared<'_>>,
     ensures { IfOk result (λ list. variables_view list.items ≡ variables_in_pou (pou_view pou.now)) }
 {
     let mut list = Vec::new(alloc);
-    append_result(&mut list, &pou.kind, &pou.name)?;
+    append_result(&mut list, &pou.pou_type, &pou.name)?;
     append_sections(&mut list, &pou.variables)?;
     append_names_in_body(alloc, &mut list, &pou.body)?;
     Ok(list)

@@ -1,7 +1,7 @@
 // The names of a POU, and what is known of each of its variables.
 ghost use Rattle.std.specs.Prelude.{◌≡◌, ◌-◌, [], map, option_map, IfOk};
 ghost use Rattle.std.specs.List.{slice_get};
-ghost use Rattle.source_tree.specs.SyntaxView.{name_view, pou_kind_view, pou_view, file_view};
+ghost use Rattle.source_tree.specs.SyntaxView.{name_view, pou_type_view, pou_view, file_view};
 ghost use Rattle.naming.specs.FileScope.{is_program};
 ghost use Rattle.rules.specs.Outcomes.{outcome_of};
 ghost use Rattle.naming.specs.Broken.{variables_twice};
@@ -21,7 +21,7 @@ use call_order::uses_in_circle;
 use file_scope::FileScope;
 use naming::{Declared, Slot, number_by};
 use rules::Outcome;
-use source_tree::{Name, Pou, PouKind};
+use source_tree::{Name, Pou, PouType};
 use std::alloc::{AllocError, Global};
 use use_numbers::{UseNumbers, numbered};
 
@@ -41,10 +41,10 @@ pub struct NamesOfPou<'a> {
 }
 
 // Whether a POU is a PROGRAM.
-fn is_program(kind: &PouKind) -> bool
-    ensures { result ≡ is_program (pou_kind_view kind.now) }
+fn is_program(pou_type: &PouType) -> bool
+    ensures { result ≡ is_program (pou_type_view pou_type.now) }
 {
-    matches!(kind, PouKind::Program)
+    matches!(pou_type, PouType::Program)
 }
 
 /// The names of a POU of a file.
@@ -54,11 +54,11 @@ pub fn names_of_pou<'a>(
     pou: &'a Pou,
 ) -> Result<NamesOfPou<'a>, AllocError>
     ensures pou { IfOk result (λ names. pou_view names.pou.now ≡ pou_view pou.now) }
-    ensures fault { IfOk result (λ names. names.has_fault ≡ is_program (pou_view pou.now).kind) }
+    ensures fault { IfOk result (λ names. names.has_fault ≡ is_program (pou_view pou.now).pou_type) }
     ensures variables { IfOk result (λ names. variables_view names.variables.items ≡ variables_in_pou (pou_view pou.now)) }
     ensures seen { IfOk result (λ names. map seen_view names.variables.items ≡ seen_in (file_view file.now.types.names.file.now) (pou_view pou.now)) }
 {
-    let has_fault = is_program(&pou.kind);
+    let has_fault = is_program(&pou.pou_type);
     let spelled = declared_variables(alloc, pou)?;
     let (slots, once) = slots(alloc, has_fault, &spelled)?;
     let circles = variable_circles(alloc, has_fault, &slots, &spelled)?;

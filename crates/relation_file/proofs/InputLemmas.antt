@@ -17,7 +17,7 @@ use Rattle.candidates.specs.ByPath.{is_among}
 use Rattle.candidates.proofs.PlacedLemmas.{HasPath}
 use Rattle.candidates.specs.Candidates.{before}
 use Rattle.relation_file.specs.Inputs.{names_in, named_by, is_listed, all_listed}
-use Rattle.relation_file.specs.Broken.{program_at, broken_behind, broken_lines, missing_kinds, missing_inputs}
+use Rattle.relation_file.specs.Broken.{program_at, broken_behind, broken_lines, missing_ranks, missing_inputs}
 use Rattle.relation_file.specs.Relations.{input_of, inputs_in}
 use Rattle.relation_file.specs.WellFormed.{cells_of, IsInputAt, HasPlaceOf}
 use Rattle.relation_file.proofs.BelongsLemmas.{nothing_of_both, holds}
@@ -100,7 +100,7 @@ module _ (old new : ProgramData) where
   input_behind : (side : Side) (end : ℕ) (above ls : List LineData) → broken_behind old new end above ls ≡ [] → (place : ℕ) (c : CellData) → slice_get (cells_at side) place ≡ Some c → is_input c.part ≡ true
       → IsNamedOrListed side above ls c.path
   input_behind side end above [] h place c there input =
-      let missing = nothing_of_both (missing_kinds old new end above) (missing_inputs old new end above) h in
+      let missing = nothing_of_both (missing_ranks old new end above) (missing_inputs old new end above) h in
       let is_named = is_among (names_in side above) in
       inl (input_named is_named c (each_passes (is_listed is_named) (cells_at side) place c (all_named side end above missing.1) there) input)
   input_behind side end above (l ∷ ls) h place c there input =

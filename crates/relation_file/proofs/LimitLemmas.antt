@@ -8,8 +8,8 @@ use Rattle.relation_lines.specs.declared.line.Setting.{Setting}
 use Rattle.relation_lines.specs.declared.line.Setting.TheVariants as settings
 use Rattle.relation_lines.specs.declared.line.Condition.TheVariants as conditions
 use Rattle.relation_lines.specs.Lines.{ContentData, setting, faults, paired, single, clause, LineData}
-use Rattle.relation_file.specs.Order.{rank_of_setting, has_kind, has_needed, in_limits}
-use Rattle.relation_file.specs.Broken.{broken_parts, broken_line, broken_behind, broken_lines, missing_kinds, missing_inputs}
+use Rattle.relation_file.specs.Order.{rank_of_setting, has_rank, has_needed, in_limits}
+use Rattle.relation_file.specs.Broken.{broken_parts, broken_line, broken_behind, broken_lines, missing_ranks, missing_inputs}
 use Rattle.relation_file.specs.Relations.{setting_in}
 use Rattle.relation_file.proofs.BelongsLemmas.{or_nothing, nothing_of_both, holds}
 
@@ -22,17 +22,17 @@ needed-depth a b c d e h = (and_parts (a && b) c (and_parts (a && b && c) d (and
 needed-conflicts : (a b c d e : Bool) → (a && b && c && d && e) ≡ true → d ≡ true
 needed-conflicts a b c d e h = (and_parts (a && b && c) d (and_parts (a && b && c && d) e h).0).1
 
--- each kind of number is needed
-needed : (s : Setting) (ls : List LineData) → has_needed ls ≡ true → has_kind (rank_of_setting s) ls ≡ true
-needed settings.Version ls h = needed-version (has_kind 0 ls) (has_kind 1 ls) (has_kind 2 ls) (has_kind 3 ls) (has_kind 6 ls) h
-needed settings.Depth ls h = needed-depth (has_kind 0 ls) (has_kind 1 ls) (has_kind 2 ls) (has_kind 3 ls) (has_kind 6 ls) h
-needed settings.Conflicts ls h = needed-conflicts (has_kind 0 ls) (has_kind 1 ls) (has_kind 2 ls) (has_kind 3 ls) (has_kind 6 ls) h
+-- each setting is needed
+needed : (s : Setting) (ls : List LineData) → has_needed ls ≡ true → has_rank (rank_of_setting s) ls ≡ true
+needed settings.Version ls h = needed-version (has_rank 0 ls) (has_rank 1 ls) (has_rank 2 ls) (has_rank 3 ls) (has_rank 6 ls) h
+needed settings.Depth ls h = needed-depth (has_rank 0 ls) (has_rank 1 ls) (has_rank 2 ls) (has_rank 3 ls) (has_rank 6 ls) h
+needed settings.Conflicts ls h = needed-conflicts (has_rank 0 ls) (has_rank 1 ls) (has_rank 2 ls) (has_rank 3 ls) (has_rank 6 ls) h
 
 module _ (old new : ProgramData) where
   -- what the line of a number says, and then the others
   first_of : (s : Setting) (at : ℕ) (above ls : List LineData) (c : ContentData) → broken_parts old new above c ≡ []
-      → (has_kind (rank_of_setting s) (record { at = at; content = c } ∷ above) ≡ false → in_limits s (setting_in s ls) ≡ true)
-      → has_kind (rank_of_setting s) above ≡ false → in_limits s (setting_in s (record { at = at; content = c } ∷ ls)) ≡ true
+      → (has_rank (rank_of_setting s) (record { at = at; content = c } ∷ above) ≡ false → in_limits s (setting_in s ls) ≡ true)
+      → has_rank (rank_of_setting s) above ≡ false → in_limits s (setting_in s (record { at = at; content = c } ∷ ls)) ≡ true
   first_of settings.Version at above ls (setting settings.Version v place) h later none = holds (in_limits settings.Version v) NumberLimits place h
   first_of settings.Version at above ls (setting settings.Depth v place) h later none = later none
   first_of settings.Version at above ls (setting settings.Conflicts v place) h later none = later none
@@ -61,11 +61,11 @@ module _ (old new : ProgramData) where
   first_of settings.Conflicts at above ls (clause conditions.Relate e) h later none = later none
   first_of settings.Conflicts at above ls (clause conditions.Invariant e) h later none = later none
 
-  limited_behind : (s : Setting) (end : ℕ) (above ls : List LineData) → broken_behind old new end above ls ≡ [] → has_kind (rank_of_setting s) above ≡ false
+  limited_behind : (s : Setting) (end : ℕ) (above ls : List LineData) → broken_behind old new end above ls ≡ [] → has_rank (rank_of_setting s) above ≡ false
       → in_limits s (setting_in s ls) ≡ true
   limited_behind s end above [] h none =
-      let kinds = nothing_of_both (missing_kinds old new end above) (missing_inputs old new end above) h in
-      let there = needed s above (holds (has_needed above) LineOrder end kinds.0) in
+      let ranks = nothing_of_both (missing_ranks old new end above) (missing_inputs old new end above) h in
+      let there = needed s above (holds (has_needed above) LineOrder end ranks.0) in
       absurd (let e : ⊥ = cc in e)
   limited_behind s end above (l ∷ ls) h none =
       let e = nothing_of_both (broken_line old new above l) (broken_behind old new end (l ∷ above) ls) h in

@@ -43,9 +43,9 @@ module _ (old new : ProgramData) where
   abbrev pub broken_line : List LineData → LineData → List Refusal
   broken_line before l = or_own (broken_parts before l.content) (unless (not (is_out_of_order l.content before)) LineOrder l.at)
 
-  -- at the file's end: R1 where a kind is missing, and P2 where an input is
-  abbrev pub missing_kinds : ℕ → List LineData → List Refusal
-  missing_kinds end ls = unless (has_needed ls) LineOrder end
+  -- at the file's end: R1 where a line is missing, and P2 where an input is
+  abbrev pub missing_ranks : ℕ → List LineData → List Refusal
+  missing_ranks end ls = unless (has_needed ls) LineOrder end
 
   abbrev pub missing_inputs : ℕ → List LineData → List Refusal
   missing_inputs end ls =
@@ -53,7 +53,7 @@ module _ (old new : ProgramData) where
 
   -- what lines break behind those before, which stand nearest first, and then what is missing
   abbrev pub broken_behind : ℕ → List LineData → List LineData → List Refusal
-  broken_behind end before [] = missing_kinds end before ++ missing_inputs end before
+  broken_behind end before [] = missing_ranks end before ++ missing_inputs end before
   broken_behind end before (l ∷ ls) = broken_line before l ++ broken_behind end (l ∷ before) ls
 
   -- all that the lines of a file of `end` bytes break of the rules on lines and names

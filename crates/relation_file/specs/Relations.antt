@@ -32,7 +32,7 @@ is_condition conditions.Relate conditions.Relate = true
 is_condition conditions.Invariant conditions.Invariant = true
 is_condition _ _ = false
 
--- the number of a line of this kind
+-- the number of a line of this rank
 abbrev pub number_of : Setting → ContentData → Option ℕ
 number_of wanted (setting s value at) = if is_setting wanted s then Some value else None
 number_of wanted (faults equal at) = None
@@ -40,7 +40,7 @@ number_of wanted (paired a at b) = None
 number_of wanted (single s at a) = None
 number_of wanted (clause c e) = None
 
--- the number of the first line of this kind; where no rule is broken there is one such line
+-- the number of the first line of this rank; where no rule is broken there is one such line
 abbrev pub setting_in : Setting → List LineData → ℕ
 setting_in wanted [] = 0
 setting_in wanted (l ∷ ls) = unwrap_or (number_of wanted l.content) (setting_in wanted ls)

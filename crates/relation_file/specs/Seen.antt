@@ -5,16 +5,16 @@ use Rattle.indexmap.specs.IndexSet.{IndexSet, contains_text}
 use Rattle.source_tree.specs.declared.syntax.Name.{Name}
 use Rattle.scan_model.specs.declared.side.Side.TheVariants as sides
 use Rattle.relation_lines.specs.Lines.{LineData}
-use Rattle.relation_file.specs.declared.kinds.Kinds.{Kinds}
+use Rattle.relation_file.specs.declared.ranks.Ranks.{Ranks}
 use Rattle.relation_file.specs.declared.seen.Seen.{Seen as Kept}
-use Rattle.relation_file.specs.Order.{is_late, has_kind}
+use Rattle.relation_file.specs.Order.{is_late, has_rank}
 use Rattle.candidates.specs.ByPath.{is_among}
 use Rattle.relation_file.specs.Inputs.{names_in}
 
--- the kinds of lines before, nearest first
-pub record HasKinds (kinds : Kinds) (before : List LineData) : Type 0 where
-  pub late : (rank : ℕ) → is_late rank before ≡ nat_lt rank kinds.above
-  pub had : (rank : ℕ) → rank < 8 → has_kind rank before ≡ slice_index_or kinds.had rank false
+-- the ranks of lines before, nearest first
+pub record HasRanks (ranks : Ranks) (before : List LineData) : Type 0 where
+  pub late : (rank : ℕ) → is_late rank before ≡ nat_lt rank ranks.above
+  pub had : (rank : ℕ) → rank < 8 → has_rank rank before ≡ slice_index_or ranks.had rank false
 
 -- a name's text, where there is one
 abbrev pub texts : Option (Bor Name) → List (List ℕ)
@@ -26,6 +26,6 @@ abbrev pub Lists : {Y S : Type 0} → IndexSet (String Y) S → List (List ℕ) 
 Lists set names = contains_text set ≡ is_among names
 
 pub record Recalls (kept : Kept) (before : List LineData) : Type 0 where
-  pub kinds : HasKinds kept.kinds before
+  pub ranks : HasRanks kept.ranks before
   pub of_old : Lists kept.of_old (names_in sides.Old before)
   pub of_new : Lists kept.of_new (names_in sides.New before)

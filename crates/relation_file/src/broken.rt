@@ -7,7 +7,7 @@ ghost use Rattle.relation_lines.specs.Lines.{LineData};
 ghost use Rattle.relation_lines.specs.View.{content_view, line_view};
 ghost use Rattle.relation_file.specs.Order.{in_limits};
 ghost use Rattle.relation_file.specs.Inputs.{all_listed};
-ghost use Rattle.relation_file.specs.Broken.{broken_parts, broken_line, missing_kinds, missing_inputs, broken_lines, broken_content, broken_clauses};
+ghost use Rattle.relation_file.specs.Broken.{broken_parts, broken_line, missing_ranks, missing_inputs, broken_lines, broken_content, broken_clauses};
 ghost use Rattle.relation_file.specs.FirstBroken.{IsFirstBroken};
 ghost use Rattle.relation_file.specs.Stated.{IsFirstOf};
 ghost use Rattle.candidates.specs.PairView.{old_of, new_of};
@@ -55,7 +55,7 @@ fn line_refusal(pair: &Pair<'_>, seen: &Seen, line: &Line) -> Option<Refusal>
     ensures { (before : List LineData) → Recalls seen.now before → result ≡ first_in (broken_line (old_of pair.now) (new_of pair.now) before (line_view line.now)) }
 {
     let parts = parts_refusal(pair, seen, &line.content);
-    let late = seen.kinds.is_out_of_order(&line.content);
+    let late = seen.ranks.is_out_of_order(&line.content);
     parts.or(unless(!late, Rule::LineOrder, line.at))
 }
 
@@ -67,14 +67,14 @@ fn has_inputs(pair: &Pair<'_>, seen: &Seen) -> bool
         && all_listed(&seen.of_new, &pair.new.program.cells)
 }
 
-// What is missing at the end of a file: R1 a kind, and P2 an input.
+// What is missing at the end of a file: R1 a line, and P2 an input.
 fn missing(pair: &Pair<'_>, seen: &Seen, end: usize) -> Option<Refusal>
     ensures { (before : List LineData) → Recalls seen.now before
-        → result ≡ first_in (missing_kinds (old_of pair.now) (new_of pair.now) end before ++ missing_inputs (old_of pair.now) (new_of pair.now) end before) }
+        → result ≡ first_in (missing_ranks (old_of pair.now) (new_of pair.now) end before ++ missing_inputs (old_of pair.now) (new_of pair.now) end before) }
 {
-    let kinds = unless(seen.kinds.has_needed(), Rule::LineOrder, end);
+    let ranks = unless(seen.ranks.has_needed(), Rule::LineOrder, end);
     let inputs = unless(has_inputs(pair, seen), Rule::InputCount, end);
-    Refusal::earlier(kinds, inputs)
+    Refusal::earlier(ranks, inputs)
 }
 
 // What the types of a clause break.

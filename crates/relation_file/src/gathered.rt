@@ -25,7 +25,7 @@ use scan_model::{Candidate, InputLine, Side};
 use source_tree::Expr;
 use std::alloc::{AllocError, Global};
 
-// The number of a line of this kind.
+// The number of a line of this rank.
 fn number_of(wanted: Setting, content: &Content) -> Option<u64>
     ensures { result ≡ number_of wanted (content_view content.now) }
 {
@@ -35,7 +35,7 @@ fn number_of(wanted: Setting, content: &Content) -> Option<u64>
     }
 }
 
-// The number that was found, or else that of a line of this kind.
+// The number that was found, or else that of a line of this rank.
 fn first_number(found: Option<u64>, wanted: Setting, content: &Content) -> Option<u64>
     ensures { result ≡ option_or found (number_of wanted (content_view content.now)) }
 {
@@ -118,7 +118,7 @@ fn typed_in(alloc: Global, pair: &Pair<'_>, clause: &Expr) -> Result<TypedExpr, 
     typed_clause(alloc, &pair.scope, clause)
 }
 
-// The clause of a line, where it is of this kind.
+// The clause of a line, where it is of this rank.
 fn clause_of(
     alloc: Global,
     pair: &Pair<'_>,

@@ -2,11 +2,11 @@
 // - `broken`: what the lines of a relation file break
 // - `gathered`: what the lines of a relation file state, gathered line by line
 // - `inputs`: what INPUT lines break
-// - `kinds`: the kinds of lines, in the order in which they stand
 // - `laws`: laws of relations
 // - `line_pass`: the lines of a file, each gone through as soon as it is read
 // - `listed`: the clauses of a relation file as candidates, before, between and behind those that the two programs have by themselves
 // - `names`: the names of clauses
+// - `ranks`: the ranks of lines
 // - `read`: the relation that a file states
 // - `relation`: the relation that lines state
 // - `seen`: what is kept of the lines so far
@@ -16,11 +16,11 @@
 mod broken;
 mod gathered;
 mod inputs;
-mod kinds;
 mod laws;
 mod line_pass;
 mod listed;
 mod names;
+mod ranks;
 mod read;
 mod relation;
 mod seen;

@@ -6,17 +6,17 @@ ghost use Rattle.relation_lines.specs.View.{content_view, line_view};
 ghost use Rattle.relation_file.specs.Inputs.{named_by};
 ghost use Rattle.relation_file.specs.Seen.{texts, Lists, Recalls};
 
-use crate::kinds::Kinds;
+use crate::ranks::Ranks;
 use indexmap::IndexSet;
 use relation_lines::{Content, Line};
 use scan_model::Side;
 use source_tree::Name;
 use std::alloc::{AllocError, Global};
 
-/// The kinds of the lines so far, and the names by which they name inputs.
+/// The ranks of the lines so far, and the names by which they name inputs.
 #[derive(Drop)]
 pub(crate) struct Seen {
-    pub kinds: Kinds,
+    pub ranks: Ranks,
     pub of_old: IndexSet<String>,
     pub of_new: IndexSet<String>,
 }
@@ -58,7 +58,7 @@ impl Seen {
         ensures { Recalls result [] }
     {
         Seen {
-            kinds: Kinds::new(),
+            ranks: Ranks::new(),
             of_old: IndexSet::new(alloc),
             of_new: IndexSet::new(alloc),
         }
@@ -68,7 +68,7 @@ impl Seen {
     pub(crate) fn note(&mut self, line: &Line) -> Result<(), AllocError>
         ensures { OnOk result ((before : List LineData) → Recalls self.old before → Recalls self.new (line_view line.now ∷ before)) }
     {
-        self.kinds = self.kinds.with(line);
+        self.ranks = self.ranks.with(line);
         list_line(&mut self.of_old, Side::Old, &line.content)?;
         list_line(&mut self.of_new, Side::New, &line.content)?;
         Ok(())

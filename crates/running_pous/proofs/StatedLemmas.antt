@@ -2,7 +2,7 @@
 use Rattle.std.proofs.Common.{◌≡◌, ℕ, zero, suc, ◌+◌, ◌<◌, Bool, true, false, List, [], ◌∷◌, ◌++◌, length, map, drop, get_or, set, replicate, reverse, Option, Some, None, refl, arith, sym, ap, ◌∙◌, append_assoc, Vec, Global}
 use Rattle.std.proofs.lemmas.List.{length-map, length-reverse, reverse-append, drop_more}
 use Rattle.call_order.specs.Uses.{uses_at}
-use Rattle.source_tree.specs.Syntax.{PouKindData, function, function_block, program, PouData, FileData}
+use Rattle.source_tree.specs.Syntax.{PouTypeData, function, function_block, program, PouData, FileData}
 use Rattle.program_tree.specs.declared.typed.TypedStmt.{TypedStmt}
 use Rattle.program_tree.specs.Tree.{Statements, no_statements, CalledData}
 use Rattle.program_tree.specs.View.{stmts_view}
@@ -15,14 +15,14 @@ use Rattle.running_pous.specs.Bodies.{bodies_view, body_if, running_body, bodies
 use Rattle.running_pous.specs.Stated.{stated_if, stated_from}
 
 -- a POU uses what its body uses
-uses-of_kind : (f : FileData) (k : ℕ) (kind : PouKindData) (p : PouData) → uses_of_called (called_of f k kind p) ≡ uses_of_all (pou_body f k p)
-uses-of_kind f k (function t) p = refl
-uses-of_kind f k function_block p = refl
-uses-of_kind f k program p = refl
+uses-of_type : (f : FileData) (k : ℕ) (pou_type : PouTypeData) (p : PouData) → uses_of_called (called_of f k pou_type p) ≡ uses_of_all (pou_body f k p)
+uses-of_type f k (function t) p = refl
+uses-of_type f k function_block p = refl
+uses-of_type f k program p = refl
 
 uses-if : (f : FileData) (k : ℕ) (p : Option PouData) → uses_of_called (called_if f k p) ≡ uses_of_all (body_if f k p)
 uses-if f k None = refl
-uses-if f k (Some p) = uses-of_kind f k p.kind p
+uses-if f k (Some p) = uses-of_type f k p.pou_type p
 
 uses-at : (f : FileData) (ks : List ℕ) (n : ℕ) → n < length ks → uses_at (uses_by (map (λ k. called_if f k (pou_at f k)) ks)) n ≡ uses_of_all (body_if f (get_or ks n 0) (pou_at f (get_or ks n 0)))
 uses-at f [] n low = absurd (omega (arith, low))

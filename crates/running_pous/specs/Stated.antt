@@ -1,7 +1,7 @@
 -- The program that a file states: its typed program, in which a POU that never runs has no statements, and a FUNCTION that never runs keeps only the cells that its
 -- callers name. So nothing is asked of the places in such a POU, however many cells its instances have.
 use Rattle.std.specs.Prelude.{ℕ, ◌+◌, Bool, true, false, List, [], ◌∷◌, length, map, Option, Some, None}
-use Rattle.source_tree.specs.Syntax.{PouKindData, function, function_block, program, PouData, FileData}
+use Rattle.source_tree.specs.Syntax.{PouTypeData, function, function_block, program, PouData, FileData}
 use Rattle.program_tree.specs.Tree.{no_statements, CellData, CalledData, block as typed_block, function as typed_function, ProgramData}
 use Rattle.naming.specs.FileScope.{pous_of, pou_at}
 use Rattle.naming.specs.Scopes.{variables_in_pou}
@@ -15,7 +15,7 @@ abbrev pub front_cells : FileData → PouData → List CellData
 front_cells f p = fault_cell ∷ cells_of f (block_cells f (length (pous_of f))) false None (in_front true (variables_in_pou p))
 
 -- a POU that never runs
-abbrev pub unused_of : FileData → ℕ → PouKindData → PouData → CalledData
+abbrev pub unused_of : FileData → ℕ → PouTypeData → PouData → CalledData
 unused_of f k (function t) p =
     typed_function (map type_of_cell (front_cells f p)) (map (λ c. c.range) (front_cells f p)) (map (λ c. c.initial) (front_cells f p)) no_statements
 unused_of f k function_block p = typed_block no_statements
@@ -23,7 +23,7 @@ unused_of f k program p = typed_block no_statements
 
 abbrev pub unused_if : FileData → ℕ → Option PouData → CalledData
 unused_if f k None = typed_block no_statements
-unused_if f k (Some p) = unused_of f k p.kind p
+unused_if f k (Some p) = unused_of f k p.pou_type p
 
 -- a POU that runs or not
 abbrev pub stated_if : FileData → ℕ → Bool → CalledData

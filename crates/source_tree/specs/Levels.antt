@@ -6,7 +6,7 @@ use Rattle.plc_types.specs.declared.operator.UnaryOperator.TheVariants as signs
 use Rattle.source_tree.specs.declared.syntax.Literal.TheVariants as literals
 use Rattle.source_tree.specs.declared.syntax.Section.{Section}
 use Rattle.source_tree.specs.declared.syntax.Section.TheVariants as sections
-use Rattle.source_tree.specs.Syntax.{Tree, literal, path, enumerator, paren, unary, chain, call, Links, no_links, link, Arguments, no_arguments, argument, ConnectionData, input, output, Stmt, empty, assign, invoke, branch, cases, iterate, Stmts, no_stmts, stmt, Arms, no_arms, arm, Entries, no_entries, entry, Otherwise, no_else, else_stmts, LabelData, IterationData, TypeData, of_elementary, of_subrange, of_name, SpecificationData, of_type, of_values, TypeDeclarationData, DeclarationData, VariablesData, PartData, step_part, transition_part, action_part, BodyData, statements, chart as chart_body, PouKindData, function, function_block, program, PouData, ItemData, types, pou, FileData}
+use Rattle.source_tree.specs.Syntax.{Tree, literal, path, enumerator, paren, unary, chain, call, Links, no_links, link, Arguments, no_arguments, argument, ConnectionData, input, output, Stmt, empty, assign, invoke, branch, cases, iterate, Stmts, no_stmts, stmt, Arms, no_arms, arm, Entries, no_entries, entry, Otherwise, no_else, else_stmts, LabelData, IterationData, TypeData, of_elementary, of_subrange, of_name, SpecificationData, of_type, of_values, TypeDeclarationData, DeclarationData, VariablesData, PartData, step_part, transition_part, action_part, BodyData, statements, chart as chart_body, PouTypeData, function, function_block, program, PouData, ItemData, types, pou, FileData}
 
 -- how loosely an operator binds
 abbrev pub level_of : Operator → ℕ
@@ -164,7 +164,7 @@ AreVariablesFormed [] = Unit {0}
 AreVariablesFormed (v ∷ vs) = AreDeclarationsFormed v.declarations × AreVariablesFormed vs
 
 -- a FUNCTION's result is no subrange that is spelled out
-abbrev pub IsResultFormed : PouKindData → Type 0
+abbrev pub IsResultFormed : PouTypeData → Type 0
 IsResultFormed (function (of_elementary kind at)) = Unit {0}
 IsResultFormed (function (of_subrange kind at b)) = ⊥
 IsResultFormed (function (of_name n)) = Unit {0}
@@ -183,7 +183,7 @@ abbrev pub AreSectionsOfFunction : List VariablesData → Type 0
 AreSectionsOfFunction [] = Unit {0}
 AreSectionsOfFunction (v ∷ vs) = (is_section_of_function v.section ≡ true) × AreSectionsOfFunction vs
 
-abbrev pub HasSections : PouKindData → List VariablesData → Type 0
+abbrev pub HasSections : PouTypeData → List VariablesData → Type 0
 HasSections (function t) vs = AreSectionsOfFunction vs
 HasSections function_block vs = Unit {0}
 HasSections program vs = Unit {0}
@@ -205,7 +205,7 @@ IsBodyLevelled (chart_body []) = ⊥
 IsBodyLevelled (chart_body (p ∷ ps)) = IsPartLevelled p × ArePartsLevelled ps
 
 -- what a FUNCTION does is no chart
-abbrev pub MayDo : PouKindData → BodyData → Type 0
+abbrev pub MayDo : PouTypeData → BodyData → Type 0
 MayDo k (statements ss) = Unit {0}
 MayDo (function t) (chart_body ps) = ⊥
 MayDo function_block (chart_body ps) = Unit {0}
@@ -213,7 +213,7 @@ MayDo program (chart_body ps) = Unit {0}
 
 abbrev pub IsItemLevelled : ItemData → Type 0
 IsItemLevelled (types ds) = AreTypesFormed ds
-IsItemLevelled (pou p) = IsResultFormed p.kind × HasSections p.kind p.variables × AreVariablesFormed p.variables × MayDo p.kind p.body × IsBodyLevelled p.body
+IsItemLevelled (pou p) = IsResultFormed p.pou_type × HasSections p.pou_type p.variables × AreVariablesFormed p.variables × MayDo p.pou_type p.body × IsBodyLevelled p.body
 
 abbrev pub IsFileLevelled : FileData → Type 0
 IsFileLevelled [] = Unit {0}

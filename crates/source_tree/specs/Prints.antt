@@ -10,7 +10,7 @@ use Rattle.plc_types.specs.declared.operator.UnaryOperator.{UnaryOperator}
 use Rattle.plc_types.specs.declared.operator.UnaryOperator.TheVariants as signs
 use Rattle.source_tree.specs.declared.syntax.Section.{Section}
 use Rattle.source_tree.specs.declared.syntax.Section.TheVariants as sections
-use Rattle.source_tree.specs.Syntax.{Symbol, name, number, truth, elementary, negation, operator, opening, iteration, part, mark, Named, PathData, Tree, literal, path, enumerator, paren, unary, chain, call, Links, no_links, link, Arguments, no_arguments, argument, ConnectionData, input, output, Stmt, empty, assign, invoke, branch, cases, iterate, Stmts, no_stmts, stmt, Arms, no_arms, arm, Entries, no_entries, entry, Otherwise, no_else, else_stmts, LabelData, IterationData, BoundsData, TypeData, of_elementary, of_subrange, of_name, SpecificationData, of_type, of_values, TypeDeclarationData, DeclarationData, VariablesData, BracketsData, StepActionData, ChartStepData, StepsData, one_step, several_steps, PriorityData, ChartTransitionData, ChartActionData, PartData, step_part, transition_part, action_part, BodyData, statements, chart as chart_body, PouKindData, function, function_block, program, PouData, ItemData, types, pou, FileData}
+use Rattle.source_tree.specs.Syntax.{Symbol, name, number, truth, elementary, negation, operator, opening, iteration, part, mark, Named, PathData, Tree, literal, path, enumerator, paren, unary, chain, call, Links, no_links, link, Arguments, no_arguments, argument, ConnectionData, input, output, Stmt, empty, assign, invoke, branch, cases, iterate, Stmts, no_stmts, stmt, Arms, no_arms, arm, Entries, no_entries, entry, Otherwise, no_else, else_stmts, LabelData, IterationData, BoundsData, TypeData, of_elementary, of_subrange, of_name, SpecificationData, of_type, of_values, TypeDeclarationData, DeclarationData, VariablesData, BracketsData, StepActionData, ChartStepData, StepsData, one_step, several_steps, PriorityData, ChartTransitionData, ChartActionData, PartData, step_part, transition_part, action_part, BodyData, statements, chart as chart_body, PouTypeData, function, function_block, program, PouData, ItemData, types, pou, FileData}
 
 abbrev pub name_symbol : Named → Symbol
 name_symbol n = name n.text n.at
@@ -215,26 +215,26 @@ print_body (statements ss) = print_stmts ss
 print_body (chart_body ps) = print_parts ps
 
 -- the word that a POU begins with, and the one that it ends with
-abbrev pub beginning_of : PouKindData → Mark
+abbrev pub beginning_of : PouTypeData → Mark
 beginning_of (function t) = marks.Function
 beginning_of function_block = marks.FunctionBlock
 beginning_of program = marks.Program
 
-abbrev pub end_of : PouKindData → Mark
+abbrev pub end_of : PouTypeData → Mark
 end_of (function t) = marks.EndFunction
 end_of function_block = marks.EndFunctionBlock
 end_of program = marks.EndProgram
 
 -- `: type` behind the name of a FUNCTION
-abbrev pub print_result : PouKindData → List Symbol
+abbrev pub print_result : PouTypeData → List Symbol
 print_result (function t) = mark marks.Colon ∷ print_type t
 print_result function_block = []
 print_result program = []
 
 abbrev pub print_pou : PouData → List Symbol
 print_pou p =
-    mark (beginning_of p.kind) ∷ name_symbol p.name
-    ∷ (print_result p.kind ++ (print_variables p.variables ++ (print_body p.body ++ mark (end_of p.kind) ∷ [])))
+    mark (beginning_of p.pou_type) ∷ name_symbol p.name
+    ∷ (print_result p.pou_type ++ (print_variables p.variables ++ (print_body p.body ++ mark (end_of p.pou_type) ∷ [])))
 
 abbrev pub print_specification : SpecificationData → List Symbol
 print_specification (of_type t) = print_type t

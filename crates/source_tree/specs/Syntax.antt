@@ -186,13 +186,13 @@ pub data BodyData : Type 0 where
   chart : List PartData → BodyData
 
 -- what a POU is: a FUNCTION, with the type of its result, a FUNCTION_BLOCK, or a PROGRAM
-pub data PouKindData : Type 0 where
-  function : TypeData → PouKindData
-  function_block : PouKindData
-  program : PouKindData
+pub data PouTypeData : Type 0 where
+  function : TypeData → PouTypeData
+  function_block : PouTypeData
+  program : PouTypeData
 
 pub record PouData : Type 0 where
-  pub kind : PouKindData
+  pub pou_type : PouTypeData
   pub name : Named
   pub variables : List VariablesData
   pub body : BodyData

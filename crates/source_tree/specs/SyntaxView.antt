@@ -43,13 +43,13 @@ use Rattle.source_tree.specs.declared.syntax.ChartPart.TheVariants as chart_part
 use Rattle.source_tree.specs.declared.syntax.Chart.{Chart}
 use Rattle.source_tree.specs.declared.syntax.Body.{Body}
 use Rattle.source_tree.specs.declared.syntax.Body.TheVariants as bodies
-use Rattle.source_tree.specs.declared.syntax.PouKind.{PouKind}
-use Rattle.source_tree.specs.declared.syntax.PouKind.TheVariants as pou_kinds
+use Rattle.source_tree.specs.declared.syntax.PouType.{PouType}
+use Rattle.source_tree.specs.declared.syntax.PouType.TheVariants as pou_types
 use Rattle.source_tree.specs.declared.syntax.Pou.{Pou}
 use Rattle.source_tree.specs.declared.syntax.Item.{Item}
 use Rattle.source_tree.specs.declared.syntax.Item.TheVariants as items
 use Rattle.source_tree.specs.declared.syntax.SourceFile.{SourceFile}
-use Rattle.source_tree.specs.Syntax.{Symbol, name, number, truth, elementary, negation, operator, opening, iteration, part, mark, left_out, Named, PathData, Tree, literal, path, enumerator, paren, unary, chain, call, Links, no_links, link, Arguments, no_arguments, argument, ConnectionData, input, output, Stmt, empty, assign, invoke, branch, cases, iterate, Stmts, no_stmts, stmt, Arms, no_arms, arm, Entries, no_entries, entry, Otherwise, no_else, else_stmts, LabelData, IterationData, BoundsData, TypeData, of_elementary, of_subrange, of_name, SpecificationData, of_type, of_values, TypeDeclarationData, DeclarationData, VariablesData, BracketsData, StepActionData, ChartStepData, StepsData, one_step, several_steps, PriorityData, ChartTransitionData, ChartActionData, PartData, step_part, transition_part, action_part, BodyData, statements, chart as chart_body, PouKindData, function, function_block, program, PouData, ItemData, types, pou, FileData}
+use Rattle.source_tree.specs.Syntax.{Symbol, name, number, truth, elementary, negation, operator, opening, iteration, part, mark, left_out, Named, PathData, Tree, literal, path, enumerator, paren, unary, chain, call, Links, no_links, link, Arguments, no_arguments, argument, ConnectionData, input, output, Stmt, empty, assign, invoke, branch, cases, iterate, Stmts, no_stmts, stmt, Arms, no_arms, arm, Entries, no_entries, entry, Otherwise, no_else, else_stmts, LabelData, IterationData, BoundsData, TypeData, of_elementary, of_subrange, of_name, SpecificationData, of_type, of_values, TypeDeclarationData, DeclarationData, VariablesData, BracketsData, StepActionData, ChartStepData, StepsData, one_step, several_steps, PriorityData, ChartTransitionData, ChartActionData, PartData, step_part, transition_part, action_part, BodyData, statements, chart as chart_body, PouTypeData, function, function_block, program, PouData, ItemData, types, pou, FileData}
 
 -- a text in upper case
 abbrev pub upper : List ℕ → List ℕ
@@ -284,13 +284,13 @@ abbrev pub body_view : Body → BodyData
 body_view (bodies.Statements ss) = statements (stmts_view ss.items)
 body_view (bodies.Chart c) = chart_body (parts_view c.parts.items)
 
-abbrev pub pou_kind_view : PouKind → PouKindData
-pou_kind_view (pou_kinds.Function t) = function (type_view t)
-pou_kind_view pou_kinds.FunctionBlock = function_block
-pou_kind_view pou_kinds.Program = program
+abbrev pub pou_type_view : PouType → PouTypeData
+pou_type_view (pou_types.Function t) = function (type_view t)
+pou_type_view pou_types.FunctionBlock = function_block
+pou_type_view pou_types.Program = program
 
 abbrev pub pou_view : Pou → PouData
-pou_view p = record { kind = pou_kind_view p.kind; name = name_view p.name; variables = all_variables_view p.variables.items; body = body_view p.body }
+pou_view p = record { pou_type = pou_type_view p.pou_type; name = name_view p.name; variables = all_variables_view p.variables.items; body = body_view p.body }
 
 abbrev pub item_view : Item → ItemData
 item_view (items.Types ds) = types (type_declarations_view ds.items)

@@ -4,8 +4,8 @@ use Rattle.plc_types.specs.declared.elementary.Elementary.TheVariants as types
 use Rattle.plc_types.specs.declared.operator.Operator.TheVariants as operators
 use Rattle.source_tree.specs.declared.token.Mark.TheVariants as marks
 use Rattle.source_tree.specs.declared.token.PartWord.TheVariants as part_words
-use Rattle.source_tree.specs.declared.token.Kind.{Kind}
-use Rattle.source_tree.specs.declared.token.Kind.TheVariants as kinds
+use Rattle.source_tree.specs.declared.token.TokenClass.{TokenClass}
+use Rattle.source_tree.specs.declared.token.TokenClass.TheVariants as classes
 use Rattle.source_tree.specs.declared.token.Terminal.{Terminal}
 use Rattle.source_tree.specs.declared.token.Terminal.TheVariants as terminals
 use Rattle.source_tree.specs.declared.token.Tok.{Tok}
@@ -138,13 +138,13 @@ abbrev pub entry_or : Terminal → List Entry → List ℕ → Terminal
 entry_or other [] text = other
 entry_or other (e ∷ es) text = if bytes_eq text e.0 then e.1 else entry_or other es text
 
--- What a token of a kind and a slice is. A word is taken in upper case, and is a name where the tables do not
+-- What a token of a class and a slice is. A word is taken in upper case, and is a name where the tables do not
 -- have it. A number has its value, or 0 where it has none in 64 bits.
-unfoldable pub terminal_of : Kind → List ℕ → Terminal
-terminal_of kinds.Word slice = entry_or terminals.Name words (upper slice)
-terminal_of kinds.Number slice = terminals.Number (unwrap_or (in_64_bits (value_of slice)) 0)
-terminal_of kinds.Sign slice = entry_or terminals.LeftOut signs slice
+unfoldable pub terminal_of : TokenClass → List ℕ → Terminal
+terminal_of classes.Word slice = entry_or terminals.Name words (upper slice)
+terminal_of classes.Number slice = terminals.Number (unwrap_or (in_64_bits (value_of slice)) 0)
+terminal_of classes.Sign slice = entry_or terminals.LeftOut signs slice
 
--- a token's terminal is that of its kind and slice
+-- a token's terminal is that of its class and slice
 abbrev pub IsClassified : Tok → Type 0
-IsClassified t = t.terminal ≡ terminal_of t.kind t.slice.now
+IsClassified t = t.terminal ≡ terminal_of t.class t.slice.now

@@ -1,13 +1,13 @@
 -- Tokens, and which of them a text spells.
 use Rattle.std.specs.Prelude.{◌≡◌, ℕ, ◌+◌, ◌≤◌, List, [], ◌∷◌, ◌++◌, drop, length, slice_index, Bool, true, false, not, ◌&&◌, ◌||◌, ◌==◌, if◌then◌else◌}
 use Rattle.std.specs.List.{list_all}
-use Rattle.source_tree.specs.declared.token.Kind.{Kind}
-use Rattle.source_tree.specs.declared.token.Kind.TheVariants.{Word, Number, Sign}
+use Rattle.source_tree.specs.declared.token.TokenClass.{TokenClass}
+use Rattle.source_tree.specs.declared.token.TokenClass.TheVariants.{Word, Number, Sign}
 use Rattle.source_tree.specs.Bytes.{is_blank, is_letter, is_digit, is_word_byte, is_number_byte, is_sign, is_sign_pair}
 
--- a token: its kind, its slice of the text, and the slice's place there
+-- a token: its class, its slice of the text, and the slice's place there
 pub record Lexeme : Type 0 where
-  pub kind : Kind
+  pub class : TokenClass
   pub slice : List ℕ
   pub at : ℕ
 
@@ -57,11 +57,11 @@ is_gap (b ∷ c ∷ bs) = is_block_opening b c && ends_closed bs || is_line_open
 -- a piece of a text: a gap, or the slice of a token
 pub data Piece : Type 0 where
   gap : List ℕ → Piece
-  token : Kind → List ℕ → Piece
+  token : TokenClass → List ℕ → Piece
 
 abbrev pub slice_of : Piece → List ℕ
 slice_of (gap slice) = slice
-slice_of (token kind slice) = slice
+slice_of (token class slice) = slice
 
 -- a piece is of its own form
 abbrev pub is_formed : Piece → Bool
@@ -72,7 +72,7 @@ is_formed (token Sign slice) = is_sign_text slice
 
 abbrev pub is_gap_piece : Piece → Bool
 is_gap_piece (gap slice) = true
-is_gap_piece (token kind slice) = false
+is_gap_piece (token class slice) = false
 
 abbrev pub opens_comment : List ℕ → Bool
 opens_comment text = is_block_opening (slice_index text 0) (slice_index text 1) || is_line_opening (slice_index text 0) (slice_index text 1)
@@ -93,7 +93,7 @@ AreJoined text (piece ∷ pieces) = (rest : List ℕ) × Begins text piece rest 
 abbrev pub lexemes : ℕ → List Piece → List Lexeme
 lexemes at [] = []
 lexemes at (gap slice ∷ pieces) = lexemes (at + length slice) pieces
-lexemes at (token kind slice ∷ pieces) = record { kind = kind; slice = slice; at = at } ∷ lexemes (at + length slice) pieces
+lexemes at (token class slice ∷ pieces) = record { class = class; slice = slice; at = at } ∷ lexemes (at + length slice) pieces
 
 -- how long a UTF-8 mark at the front of a text is
 abbrev pub mark_len : List ℕ → ℕ

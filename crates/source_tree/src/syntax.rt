@@ -287,7 +287,7 @@ pub enum Body {
 /// What a program organization unit is (IEC 61131-3, 2.5): a FUNCTION, with the type of its result, which is no subrange that
 /// is spelled out; a FUNCTION_BLOCK; or a PROGRAM.
 #[derive(Drop)]
-pub enum PouKind {
+pub enum PouType {
     Function(TypeName),
     FunctionBlock,
     Program,
@@ -296,7 +296,7 @@ pub enum PouKind {
 /// A program organization unit, or POU (IEC 61131-3, 2.5).
 #[derive(Drop)]
 pub struct Pou {
-    pub kind: PouKind,
+    pub pou_type: PouType,
     pub name: Name,
     pub variables: Vec<Variables>,
     pub body: Body,

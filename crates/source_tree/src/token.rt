@@ -56,7 +56,7 @@ pub enum PartWord {
 
 /// What a token is: a word, a number or a sign (IEC 61131-3, 2.1).
 #[derive(Clone, Copy)]
-pub enum Kind {
+pub enum TokenClass {
     Word,
     Number,
     Sign,
@@ -80,10 +80,10 @@ pub enum Terminal {
     LeftOut,
 }
 
-/// A token: its kind, its slice of the text, what it is for the grammar, and its place in bytes from 0.
+/// A token: its class, its slice of the text, what it is for the grammar, and its place in bytes from 0.
 #[derive(Clone, Copy)]
 pub struct Tok<'a> {
-    pub kind: Kind,
+    pub class: TokenClass,
     pub slice: &'a str,
     pub terminal: Terminal,
     pub at: usize,

@@ -4,7 +4,7 @@ use Rattle.std.specs.Prelude.{slice_index, IfSome}
 use Rattle.std.specs.List.{prefix_len}
 use Rattle.std.proofs.lemmas.List.{take-append-drop, length-take-le}
 use Rattle.std.proofs.Math.Seq.{take-append_seam, drop-append_seam}
-use Rattle.source_tree.specs.declared.token.Kind.TheVariants.{Word, Number, Sign}
+use Rattle.source_tree.specs.declared.token.TokenClass.TheVariants.{Word, Number, Sign}
 use Rattle.source_tree.specs.Tokens.{Piece, gap, token, slice_of, is_formed, is_gap_piece, opens_comment, is_block_opening, is_line_opening, is_in_line, Begins}
 use Rattle.st_lexer.specs.declared.front.Front.{Front}
 use Rattle.st_lexer.specs.declared.front.Front.TheVariants.{Gap, Token}
@@ -19,7 +19,7 @@ pub record IsFront (text : List ℕ) (f : Front) : Type 0 where
 
 pub slice_at : (f : Front) (text : List ℕ) → slice_of (piece_at f text) ≡ take (size_of f) text
 slice_at (Gap n) text = refl
-slice_at (Token kind n) text = refl
+slice_at (Token class n) text = refl
 
 gap_chosen : (text : List ℕ) (x y : Bool) (o : Option ℕ) (n : ℕ) (u : Option Front) → x || y ≡ true
     → IfSome (cond x (option_map (λ n. Gap (n + 2)) o) (cond y (Some (Gap n)) u)) (λ f. is_gap_piece (piece_at f text) ≡ true)
@@ -34,7 +34,7 @@ gap_front (b ∷ bs) h = gap_chosen (b ∷ bs) (is_block_opening b (slice_index 
 
 size_like : (p : Piece) (n : ℕ) → size_of (front_like p n) ≡ n
 size_like (gap s) n = refl
-size_like (token kind s) n = refl
+size_like (token class s) n = refl
 
 -- no piece at the front is longer
 covered : (text : List ℕ) (f : Front) (other : Piece) → IsFront text f → Covers text other → length (slice_of other) ≤ size_of f
@@ -80,9 +80,9 @@ no_front text p rest h b =
 
 same_piece : (p q : Piece) (n m : ℕ) → front_like p n ≡ front_like q m → slice_of p ≡ slice_of q → p ≡ q
 same_piece (gap s) (gap t) n m f e = ap gap e
-same_piece (gap s) (token kind t) n m f e = absurd cc
-same_piece (token kind s) (gap t) n m f e = absurd cc
-same_piece (token kind s) (token kind' t) n m f e = cc
+same_piece (gap s) (token class t) n m f e = absurd cc
+same_piece (token class s) (gap t) n m f e = absurd cc
+same_piece (token class s) (token class' t) n m f e = cc
 
 same_slice : (text x y r s : List ℕ) → text ≡ x ++ r → text ≡ y ++ s → length x ≡ length y → (x ≡ y) × (r ≡ s)
 same_slice text x y r s e f l =

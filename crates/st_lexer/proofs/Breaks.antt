@@ -3,7 +3,7 @@ use Rattle.std.proofs.Common.{◌≡◌, ℕ, ◌+◌, ◌<◌, ◌≤◌, List,
 use Rattle.std.specs.Prelude.{All}
 use Rattle.std.proofs.lemmas.List.Elements.{All-same, All-push}
 use Rattle.std.proofs.lemmas.List.{length-take-le}
-use Rattle.source_tree.specs.declared.token.Kind.{Kind}
+use Rattle.source_tree.specs.declared.token.TokenClass.{TokenClass}
 use Rattle.source_tree.specs.Tokens.{Lexeme, token, slice_of, mark_len}
 use Rattle.rules.specs.declared.rule.Rule.{Rule}
 use Rattle.rules.specs.declared.fault.Fault.{Fault}
@@ -99,10 +99,10 @@ pub read_broken : (text : List ℕ) (at : ℕ) (rest : List ℕ) (f : Front) (ru
 read_broken text at rest f rule h broken k = read_first text at rest (proper (piece_at f rest)) (drop (size_of f) rest) rule (begins rest f h) broken k
 
 -- the rule of a token, by its slice
-pub token_says : (kind : Kind) (n : ℕ) (rest slice : List ℕ) (o p : Option Rule) → slice ≡ take n rest → o ≡ piece_rule (token kind slice) → o ≡ p → broken_rule (proper (piece_at (Token kind n) rest)) ≡ p
-token_says kind n rest slice o p e h k = ap (λ s. piece_rule (token kind s)) (sym e) ∙ sym h ∙ k
+pub token_says : (class : TokenClass) (n : ℕ) (rest slice : List ℕ) (o p : Option Rule) → slice ≡ take n rest → o ≡ piece_rule (token class slice) → o ≡ p → broken_rule (proper (piece_at (Token class n) rest)) ≡ p
+token_says class n rest slice o p e h k = ap (λ s. piece_rule (token class s)) (sym e) ∙ sym h ∙ k
 
-pub kept_push : (tokens tokens' : List Lexeme) (l : Lexeme) → tokens' ≡ tokens ++ l ∷ [] → piece_rule (token l.kind l.slice) ≡ None → All KeepsRules tokens → All KeepsRules tokens'
+pub kept_push : (tokens tokens' : List Lexeme) (l : Lexeme) → tokens' ≡ tokens ++ l ∷ [] → piece_rule (token l.class l.slice) ≡ None → All KeepsRules tokens → All KeepsRules tokens'
 kept_push tokens tokens' l e k h = All-same KeepsRules tokens' (tokens ++ l ∷ []) e (All-push KeepsRules tokens l h k)
 
 -- a refusal of the first rule is right

@@ -1,6 +1,6 @@
 -- A text starts with one part, and so is cut in one way.
 use Rattle.std.proofs.Common.{◌≡◌, ℕ, zero, suc, ◌+◌, ◌<◌, ◌≤◌, List, [], ◌∷◌, ◌++◌, length, length-append, drop, true, false, Option, Some, None, refl, sym, ap, ◌∙◌, subst, arith}
-use Rattle.source_tree.specs.declared.token.Kind.TheVariants.{Word, Number, Sign}
+use Rattle.source_tree.specs.declared.token.TokenClass.TheVariants.{Word, Number, Sign}
 use Rattle.source_tree.specs.Tokens.{Piece, gap, token, slice_of, is_formed}
 use Rattle.st_lexer.specs.declared.front.Front.{Front}
 use Rattle.st_lexer.specs.Fronts.{front_of, size_of}

@@ -4,7 +4,7 @@ use Rattle.std.specs.Prelude.{slice_index, IfSome}
 use Rattle.std.specs.List.{list_all, prefix_len}
 use Rattle.std.proofs.lemmas.Bool.Decides.{nat_tests}
 use Rattle.std.proofs.lemmas.Bool.{and_parts, or_cases, false_from_ne_true, false≢true}
-use Rattle.source_tree.specs.declared.token.Kind.TheVariants.{Word, Number, Sign}
+use Rattle.source_tree.specs.declared.token.TokenClass.TheVariants.{Word, Number, Sign}
 use Rattle.source_tree.specs.Bytes.{is_word_byte, is_number_byte, is_letter, is_digit, is_sign, is_sign_pair, is_blank}
 use Rattle.source_tree.specs.Tokens.{Piece, gap, token, slice_of, is_formed, is_gap_piece, is_gap, is_sign_text, opens_comment, is_block_opening, is_line_opening, ends_closed, is_in_line}
 use Rattle.st_lexer.specs.declared.front.Front.{Front}
@@ -15,7 +15,7 @@ use Rattle.st_lexer.proofs.Fits.{prefix_fits, prefix_all, closed_here, closed_is
 -- a front of the sort of a piece, with a size
 abbrev pub front_like : Piece → ℕ → Front
 front_like (gap s) n = Gap n
-front_like (token kind s) n = Token kind n
+front_like (token class s) n = Token class n
 
 -- a text begins with a front of a piece's sort that is at least as long
 pub record Covers (text : List ℕ) (piece : Piece) : Type 0 where
@@ -109,7 +109,7 @@ covers (token Sign s) rest h comment = covers_sign s rest h (false_from_ne_true 
 -- the piece of a front
 abbrev pub piece_at : Front → List ℕ → Piece
 piece_at (Gap n) text = gap (take n text)
-piece_at (Token kind n) text = token kind (take n text)
+piece_at (Token class n) text = token class (take n text)
 
 -- a front, where there is one, is a piece of its own form
 abbrev pub IsFormed : List ℕ → Option Front → Type 0

@@ -4,7 +4,7 @@ use Rattle.std.specs.Prelude.{slice_index, IfSome}
 use Rattle.std.specs.List.{prefix_len}
 use Rattle.std.proofs.lemmas.List.Sums.{prefix_len-le-length}
 use Rattle.std.proofs.lemmas.Bool.Decides.{nat_tests}
-use Rattle.source_tree.specs.declared.token.Kind.TheVariants.{Sign}
+use Rattle.source_tree.specs.declared.token.TokenClass.TheVariants.{Sign}
 use Rattle.source_tree.specs.Bytes.{is_word_byte, is_number_byte, is_letter, is_digit, is_sign, is_sign_pair, is_blank}
 use Rattle.source_tree.specs.Tokens.{is_block_opening, is_line_opening, is_in_line}
 use Rattle.st_lexer.specs.declared.front.Front.{Front}

@@ -1,7 +1,7 @@
 -- How the pieces of a text go on.
 use Rattle.std.proofs.Common.{◌≡◌, ℕ, ◌+◌, List, [], ◌∷◌, ◌++◌, length, take, drop, refl, sym, ap, ◌∙◌, subst, append_assoc, append-nil, arith}
 use Rattle.std.proofs.lemmas.List.{length-take-le}
-use Rattle.source_tree.specs.declared.token.Kind.{Kind}
+use Rattle.source_tree.specs.declared.token.TokenClass.{TokenClass}
 use Rattle.source_tree.specs.Tokens.{Piece, gap, token, Lexeme, Begins, AreJoined, lexemes, Spells, mark_len}
 use Rattle.st_lexer.specs.declared.front.Front.TheVariants.{Gap, Token}
 use Rattle.st_lexer.specs.Fronts.{front_of}
@@ -12,18 +12,18 @@ abbrev pub SpellsFrom : ℕ → List ℕ → List Lexeme → Type 0
 SpellsFrom at text ts = (pieces : List Piece) × AreJoined text pieces × (ts ≡ lexemes at pieces)
 
 -- the token at the front
-abbrev pub front_token : Kind → ℕ → List ℕ → ℕ → Lexeme
-front_token kind n text at = record { kind = kind; slice = take n text; at = at }
+abbrev pub front_token : TokenClass → ℕ → List ℕ → ℕ → Lexeme
+front_token class n text at = record { class = class; slice = take n text; at = at }
 
 pub gap_on : (at n : ℕ) (text : List ℕ) (ts : List Lexeme) → IsFront text (Gap n) → SpellsFrom (at + n) (drop n text) ts → SpellsFrom at text ts
 gap_on at n text ts f (ps, joined, e) =
     let size : n ≡ length (take n text) = sym (length-take-le n text f.within) in
     (gap (take n text) ∷ ps, (drop n text, begins text (Gap n) f, joined), e ∙ ap (λ k. lexemes (at + k) ps) size)
 
-pub token_on : (at n : ℕ) (kind : Kind) (text : List ℕ) (ts : List Lexeme) → IsFront text (Token kind n) → SpellsFrom (at + n) (drop n text) ts → SpellsFrom at text (front_token kind n text at ∷ ts)
-token_on at n kind text ts f (ps, joined, e) =
+pub token_on : (at n : ℕ) (class : TokenClass) (text : List ℕ) (ts : List Lexeme) → IsFront text (Token class n) → SpellsFrom (at + n) (drop n text) ts → SpellsFrom at text (front_token class n text at ∷ ts)
+token_on at n class text ts f (ps, joined, e) =
     let size : n ≡ length (take n text) = sym (length-take-le n text f.within) in
-    (token kind (take n text) ∷ ps, (drop n text, begins text (Token kind n) f, joined), ap (λ l. front_token kind n text at ∷ l) (e ∙ ap (λ k. lexemes (at + k) ps) size))
+    (token class (take n text) ∷ ps, (drop n text, begins text (Token class n) f, joined), ap (λ l. front_token class n text at ∷ l) (e ∙ ap (λ k. lexemes (at + k) ps) size))
 
 -- nothing is left
 pub done_on : (at : ℕ) (text : List ℕ) → length text ≡ 0 → SpellsFrom at text []
@@ -42,9 +42,9 @@ lexed_gap text at n rest tokens f h = record {
   on = λ ts s. h.on ts (gap_on at n rest ts f s);
 }
 
-lexed_token : (text : List ℕ) (at n : ℕ) (kind : Kind) (rest : List ℕ) (tokens : List Lexeme) → IsFront rest (Token kind n) → IsLexed text at rest tokens → IsLexed text (at + n) (drop n rest) (tokens ++ front_token kind n rest at ∷ [])
-lexed_token text at n kind rest tokens f h = record {
-  on = λ ts s. subst (Spells text) (sym (append_assoc tokens (front_token kind n rest at ∷ []) ts)) (h.on (front_token kind n rest at ∷ ts) (token_on at n kind rest ts f s));
+lexed_token : (text : List ℕ) (at n : ℕ) (class : TokenClass) (rest : List ℕ) (tokens : List Lexeme) → IsFront rest (Token class n) → IsLexed text at rest tokens → IsLexed text (at + n) (drop n rest) (tokens ++ front_token class n rest at ∷ [])
+lexed_token text at n class rest tokens f h = record {
+  on = λ ts s. subst (Spells text) (sym (append_assoc tokens (front_token class n rest at ∷ []) ts)) (h.on (front_token class n rest at ∷ ts) (token_on at n class rest ts f s));
 }
 
 pub lexed_end : (text : List ℕ) (at : ℕ) (rest : List ℕ) (tokens : List Lexeme) → length rest ≡ 0 → IsLexed text at rest tokens → Spells text tokens
@@ -54,10 +54,10 @@ lexed_end text at rest tokens z h = subst (Spells text) (append-nil tokens) (h.o
 pub lexed_gap_at : (text : List ℕ) (at n : ℕ) (rest rest' : List ℕ) (tokens : List Lexeme) → IsFront rest (Gap n) → rest' ≡ drop n rest → IsLexed text at rest tokens → IsLexed text (at + n) rest' tokens
 lexed_gap_at text at n rest rest' tokens f e h = subst (λ r. IsLexed text (at + n) r tokens) (sym e) (lexed_gap text at n rest tokens f h)
 
-pub lexed_token_at : (text : List ℕ) (at n : ℕ) (kind : Kind) (rest rest' slice : List ℕ) (tokens tokens' : List Lexeme) → IsFront rest (Token kind n) → rest' ≡ drop n rest → slice ≡ take n rest → tokens' ≡ tokens ++ record { kind = kind; slice = slice; at = at } ∷ [] → IsLexed text at rest tokens → IsLexed text (at + n) rest' tokens'
-lexed_token_at text at n kind rest rest' slice tokens tokens' f e s t h =
-    let all : tokens' ≡ tokens ++ front_token kind n rest at ∷ [] = t ∙ ap (λ x. tokens ++ record { kind = kind; slice = x; at = at } ∷ []) s in
-    subst (λ r. IsLexed text (at + n) r tokens') (sym e) (subst (IsLexed text (at + n) (drop n rest)) (sym all) (lexed_token text at n kind rest tokens f h))
+pub lexed_token_at : (text : List ℕ) (at n : ℕ) (class : TokenClass) (rest rest' slice : List ℕ) (tokens tokens' : List Lexeme) → IsFront rest (Token class n) → rest' ≡ drop n rest → slice ≡ take n rest → tokens' ≡ tokens ++ record { class = class; slice = slice; at = at } ∷ [] → IsLexed text at rest tokens → IsLexed text (at + n) rest' tokens'
+lexed_token_at text at n class rest rest' slice tokens tokens' f e s t h =
+    let all : tokens' ≡ tokens ++ front_token class n rest at ∷ [] = t ∙ ap (λ x. tokens ++ record { class = class; slice = x; at = at } ∷ []) s in
+    subst (λ r. IsLexed text (at + n) r tokens') (sym e) (subst (IsLexed text (at + n) (drop n rest)) (sym all) (lexed_token text at n class rest tokens f h))
 
 no_piece : (text : List ℕ) (p : Piece) (rest : List ℕ) → Begins text p rest → text ≡ [] → ⊥
 no_piece text p rest b e = no_front text p rest (ap front_of e) b

@@ -1,7 +1,7 @@
 -- What stands at the front of a text: a gap or a token, and its size.
 use Rattle.std.specs.Prelude.{ℕ, ◌+◌, List, [], ◌∷◌, drop, slice_index, Option, Some, None, option_map, if◌then◌else◌}
 use Rattle.std.specs.List.{prefix_len}
-use Rattle.source_tree.specs.declared.token.Kind.TheVariants.{Word, Number, Sign}
+use Rattle.source_tree.specs.declared.token.TokenClass.TheVariants.{Word, Number, Sign}
 use Rattle.source_tree.specs.Bytes.{is_blank, is_letter, is_digit, is_word_byte, is_number_byte, is_sign, is_sign_pair}
 use Rattle.source_tree.specs.Tokens.{is_block_opening, is_line_opening, is_closing, is_in_line}
 use Rattle.rules.specs.declared.rule.Rule.{Rule}
@@ -12,7 +12,7 @@ use Rattle.st_lexer.specs.declared.front.Front.TheVariants.{Gap, Token}
 
 abbrev pub size_of : Front → ℕ
 size_of (Gap size) = size
-size_of (Token kind size) = size
+size_of (Token class size) = size
 
 -- how many bytes there are up to and with the first `*)`, where there is one
 abbrev pub closed_len : List ℕ → Option ℕ

@@ -7,7 +7,7 @@ use Rattle.rules.specs.declared.fault.Fault.TheVariants.{Refused, Memory}
 use Rattle.st_lexer.specs.Parts.{IsFirstInText}
 
 abbrev pub lexeme_of : Tok → Lexeme
-lexeme_of t = record { kind = t.kind; slice = t.slice.now; at = t.at }
+lexeme_of t = record { class = t.class; slice = t.slice.now; at = t.at }
 
 abbrev pub lexemes_of : List Tok → List Lexeme
 lexemes_of ts = map lexeme_of ts

@@ -1,6 +1,6 @@
 -- A text as parts, all of it, and the rules that they break.
 use Rattle.std.specs.Prelude.{◌≡◌, ◌<◌, ℕ, ◌+◌, ◌^◌, ◌⊎◌, nat_le, nat_lt, List, [], ◌∷◌, drop, length, slice_index, Bool, true, false, Option, Some, None, if◌then◌else◌}
-use Rattle.source_tree.specs.declared.token.Kind.TheVariants.{Word, Number, Sign}
+use Rattle.source_tree.specs.declared.token.TokenClass.TheVariants.{Word, Number, Sign}
 use Rattle.source_tree.specs.Tokens.{Lexeme, Piece, gap, token, slice_of, Begins, is_block_opening, mark_len}
 use Rattle.rules.specs.declared.rule.Rule.{Rule}
 use Rattle.rules.specs.declared.rule.Rule.TheVariants.{StrayByte, OpenComment, NumberForm, NumberSize, WordLength}
@@ -49,7 +49,7 @@ piece_rule (token Sign slice) = None
 
 -- a token that breaks no rule
 abbrev pub KeepsRules : Lexeme → Type 0
-KeepsRules l = piece_rule (token l.kind l.slice) ≡ None
+KeepsRules l = piece_rule (token l.class l.slice) ≡ None
 
 -- the rule that a part breaks
 abbrev pub broken_rule : Part → Option Rule

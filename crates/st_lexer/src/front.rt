@@ -8,13 +8,13 @@ use crate::classes::{
     blank_len, byte_at, closed_len, is_blank, is_letter, is_sign, is_sign_pair, line_len,
     number_len, word_len,
 };
-use source_tree::Kind;
+use source_tree::TokenClass;
 
 /// A gap or a token, with its size in bytes.
 #[derive(Clone, Copy)]
 pub enum Front {
     Gap(usize),
-    Token(Kind, usize),
+    Token(TokenClass, usize),
 }
 
 fn plain_front(b: u8, rest: &[u8]) -> Option<Front>
@@ -24,13 +24,13 @@ fn plain_front(b: u8, rest: &[u8]) -> Option<Front>
     if is_blank(b) {
         Some(Front::Gap(1))
     } else if is_letter(b) {
-        Some(Front::Token(Kind::Word, word_len(rest) + 1))
+        Some(Front::Token(TokenClass::Word, word_len(rest) + 1))
     } else if b.is_ascii_digit() {
-        Some(Front::Token(Kind::Number, number_len(rest) + 1))
+        Some(Front::Token(TokenClass::Number, number_len(rest) + 1))
     } else if is_sign_pair(b, byte_at(rest, 0)) {
-        Some(Front::Token(Kind::Sign, 2))
+        Some(Front::Token(TokenClass::Sign, 2))
     } else if is_sign(b) {
-        Some(Front::Token(Kind::Sign, 1))
+        Some(Front::Token(TokenClass::Sign, 1))
     } else {
         None
     }

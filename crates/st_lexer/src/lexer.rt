@@ -12,13 +12,13 @@ use crate::classes::mark_len;
 use crate::front::{Front, front_of, gap_len};
 use crate::terminals::terminal;
 use rules::{Fault, Refusal, Rule};
-use source_tree::{Kind, Tok};
+use source_tree::{Tok, TokenClass};
 use std::alloc::Global;
 use std::str;
 
 // The slice of a token as text: tokens are ASCII.
-fn token_text<'a>(kind: Kind, slice: &'a [u8]) -> &'a str
-    requires { is_formed (token kind slice.now) ≡ true }
+fn token_text<'a>(class: TokenClass, slice: &'a [u8]) -> &'a str
+    requires { is_formed (token class slice.now) ≡ true }
     ensures { result.now ≡ slice.now }
 {
     unsafe { str::from_utf8_unchecked(slice) }
@@ -52,15 +52,15 @@ pub fn lex(alloc: Global, text: &[u8]) -> Result<Vec<Tok<'_>>, Fault>
                 at += size;
                 rest = behind;
             }
-            Some(Front::Token(kind, size)) => {
+            Some(Front::Token(class, size)) => {
                 let (slice, behind) = rest.split_at(size);
-                let slice = token_text(kind, slice);
-                let terminal = match terminal(kind, slice) {
+                let slice = token_text(class, slice);
+                let terminal = match terminal(class, slice) {
                     Ok(terminal) => terminal,
                     Err(rule) => return Err(refused(rule, at)),
                 };
                 tokens.push(Tok {
-                    kind,
+                    class,
                     slice,
                     terminal,
                     at,

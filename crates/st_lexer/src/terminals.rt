@@ -9,7 +9,7 @@ use crate::numbers::number;
 use crate::words::word_terminal;
 use plc_types::Operator;
 use rules::Rule;
-use source_tree::{Kind, Mark, Terminal};
+use source_tree::{Mark, Terminal, TokenClass};
 
 const LONGEST_WORD: usize = 64;
 
@@ -62,17 +62,17 @@ fn sign_terminal(slice: &[u8]) -> Terminal
     }
 }
 
-/// What a token of a kind and a slice is, or the rule that it breaks.
+/// What a token of a class and a slice is, or the rule that it breaks.
 #[tactic(auto, unfolding(source_tree::specs::Terminals::terminal_of))]
-pub fn terminal(kind: Kind, slice: &str) -> Result<Terminal, Rule>
-    ensures value { IfOk result (λ t. t ≡ terminal_of kind slice.now) }
-    ensures kept { OnOk result (piece_rule (token kind slice.now) ≡ None) }
-    ensures broken { IfErr result (λ r. piece_rule (token kind slice.now) ≡ Some r) }
+pub fn terminal(class: TokenClass, slice: &str) -> Result<Terminal, Rule>
+    ensures value { IfOk result (λ t. t ≡ terminal_of class slice.now) }
+    ensures kept { OnOk result (piece_rule (token class slice.now) ≡ None) }
+    ensures broken { IfErr result (λ r. piece_rule (token class slice.now) ≡ Some r) }
 {
-    match kind {
-        Kind::Word if slice.len() > LONGEST_WORD => Err(Rule::WordLength),
-        Kind::Word => Ok(word_terminal(slice)),
-        Kind::Number => Ok(Terminal::Number(number(slice.as_bytes())?)),
-        Kind::Sign => Ok(sign_terminal(slice.as_bytes())),
+    match class {
+        TokenClass::Word if slice.len() > LONGEST_WORD => Err(Rule::WordLength),
+        TokenClass::Word => Ok(word_terminal(slice)),
+        TokenClass::Number => Ok(Terminal::Number(number(slice.as_bytes())?)),
+        TokenClass::Sign => Ok(sign_terminal(slice.as_bytes())),
     }
 }

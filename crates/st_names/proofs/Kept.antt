@@ -6,7 +6,7 @@ use Rattle.std.proofs.lemmas.Bool.{and_parts, not-false}
 use Rattle.std.proofs.Math.Bool.{or-true}
 use Rattle.source_tree.specs.declared.syntax.Section.{Section}
 use Rattle.source_tree.specs.declared.syntax.Section.TheVariants as sections
-use Rattle.source_tree.specs.Syntax.{Named, TypeData, of_elementary, of_subrange, of_name, DeclarationData, VariablesData, PartData, step_part, transition_part, action_part, BodyData, statements, chart, PouKindData, function, function_block, program, PouData, FileData}
+use Rattle.source_tree.specs.Syntax.{Named, TypeData, of_elementary, of_subrange, of_name, DeclarationData, VariablesData, PartData, step_part, transition_part, action_part, BodyData, statements, chart, PouTypeData, function, function_block, program, PouData, FileData}
 use Rattle.naming.specs.declared.standing.Standing.{Standing}
 use Rattle.naming.specs.declared.standing.Standing.TheVariants as standings
 use Rattle.st_names.specs.Bound.{are_typed, are_pous_typed}
@@ -112,7 +112,7 @@ module _ (f : FileData) where
   variables_all [] = refl
   variables_all (v ∷ vs) = all_append own_typed (declared_in (role_of v.section) v.declarations) (variables_of vs) (declared_all v.section v.declarations) (variables_all vs)
 
-  result_all : (k : PouKindData) (n : Named) → is_whole_result f k ≡ true → list_all own_typed (result_of k n) ≡ true
+  result_all : (k : PouTypeData) (n : Named) → is_whole_result f k ≡ true → list_all own_typed (result_of k n) ≡ true
   result_all (function t) n h = rw h refl
   result_all function_block n h = refl
   result_all program n h = refl
@@ -143,8 +143,8 @@ module _ (f : FileData) where
   body_typed (statements ss) = refl
   body_typed (chart qs) = parts_typed (is_stored qs) qs
 
-whole_at : (f : FileData) (i : ℕ) (p : PouData) → pou_at f i ≡ Some p → is_broken_function f i ≡ false → is_whole_result f p.kind ≡ true
-whole_at f i p at h = not-false (is_whole_result f p.kind) (rw at at h)
+whole_at : (f : FileData) (i : ℕ) (p : PouData) → pou_at f i ≡ Some p → is_broken_function f i ≡ false → is_whole_result f p.pou_type ≡ true
+whole_at f i p at h = not-false (is_whole_result f p.pou_type) (rw at at h)
 
 pub clean_pou : (f : FileData) (ps : List PouData) (i : ℕ) (p : PouData) → in_pous f ps ≡ [] → slice_get ps i ≡ Some p → (in_pou f p).broken ≡ []
 clean_pou f [] i p h at = absurd (let e : ⊥ = cc in e)
@@ -166,7 +166,7 @@ typed_pous f h =
     let r = parts f h in
     let once = no_doubles f r.1 in
     all_at (λ p. are_typed f (variables_in_pou p)) (pous_of f) (λ i p at.
-    let result = result_all f p.kind p.name (whole_at f i p at (no_broken_function f once r.2 r.3 i)) in
-    let declared = all_append (own_typed f) (result_of p.kind p.name) (variables_of p.variables) result (variables_all f p.variables) in
-    let own = all_append (own_typed f) (result_of p.kind p.name ++ variables_of p.variables) (names_in_body p.body) declared (body_typed f p.body) in
+    let result = result_all f p.pou_type p.name (whole_at f i p at (no_broken_function f once r.2 r.3 i)) in
+    let declared = all_append (own_typed f) (result_of p.pou_type p.name) (variables_of p.variables) result (variables_all f p.variables) in
+    let own = all_append (own_typed f) (result_of p.pou_type p.name ++ variables_of p.variables) (names_in_body p.body) declared (body_typed f p.body) in
     kinds f once r.2 r.3 (scope_of p) 0 (variables_in_pou p) own (declarations_of f (scope_of p) p.body (clean_pou f (pous_of f) i p r.4 at)))

@@ -12,7 +12,7 @@ use Rattle.call_order.proofs.Circles.{some_reaches, reaches-step}
 use Rattle.call_order.proofs.Members.{below-from_use, is_among-head, is_among-cases, is_among-either, is_among-left, is_among-right}
 use Rattle.call_order.proofs.Orders.{below_length, order_of-distinct, behind_uses, each_in}
 use Rattle.call_order.proofs.Ways.{leads_reaches, more_by}
-use Rattle.source_tree.specs.Syntax.{Named, Tree, literal, path, enumerator, paren, unary, chain, call, of_elementary, of_subrange, of_name, SpecificationData, of_type, of_values, TypeDeclarationData, PouKindData, function, function_block, program, PouData, FileData}
+use Rattle.source_tree.specs.Syntax.{Named, Tree, literal, path, enumerator, paren, unary, chain, call, of_elementary, of_subrange, of_name, SpecificationData, of_type, of_values, TypeDeclarationData, PouTypeData, function, function_block, program, PouData, FileData}
 use Rattle.naming.specs.declared.standing.Standing.{Standing}
 use Rattle.naming.specs.declared.standing.Standing.TheVariants as standings
 use Rattle.naming.specs.Broken.{unknown, in_file, is_broken_name, is_broken_function, is_whole_result, unless_circular, in_bound, in_value_name, in_enumeration, in_enumerator, in_declared_type, in_specification, in_result, in_types, in_results}
@@ -125,14 +125,14 @@ module _ (f : FileData) where
       let below = slice_get_within (types_of f) t r.0 r.1 in
       let of_type : TypeDeclarationData → List ℕ = λ d. used_by_specification f d.specification in
       let long = length-map (types_of f) of_type in
-      get_or_append_left (map of_type (types_of f)) (map (λ (p : PouData). used_by_result f p.kind) (pous_of f)) [] t (omega arith)
+      get_or_append_left (map of_type (types_of f)) (map (λ (p : PouData). used_by_result f p.pou_type) (pous_of f)) [] t (omega arith)
       ∙ read_map of_type (types_of f) t r.0 r.1 ∙ ap (used_by_specification f) r.2
 
-  uses-pou : (p : ℕ) (d : PouData) → pou_at f p ≡ Some d → uses_at (declaration_uses f) (length (types_of f) + p) ≡ used_by_result f d.kind
+  uses-pou : (p : ℕ) (d : PouData) → pou_at f p ≡ Some d → uses_at (declaration_uses f) (length (types_of f) + p) ≡ used_by_result f d.pou_type
   unfolding declaration_uses
   uses-pou p d is =
       let of_type : TypeDeclarationData → List ℕ = λ x. used_by_specification f x.specification in
-      let of_pou : PouData → List ℕ = λ x. used_by_result f x.kind in
+      let of_pou : PouData → List ℕ = λ x. used_by_result f x.pou_type in
       let long = length-map (types_of f) of_type in
       ap (λ n. get_or (map of_type (types_of f) ++ map of_pou (pous_of f)) (n + p) []) (sym long)
       ∙ get_or-append-add (map of_type (types_of f)) (map of_pou (pous_of f)) p [] ∙ read_map of_pou (pous_of f) p d is
@@ -140,9 +140,9 @@ module _ (f : FileData) where
   uses-size : length (declaration_uses f) ≡ length (types_of f) + length (pous_of f)
   unfolding declaration_uses
   uses-size =
-      length-append (map (λ (d : TypeDeclarationData). used_by_specification f d.specification) (types_of f)) (map (λ (p : PouData). used_by_result f p.kind) (pous_of f))
-      ∙ ap (λ n. n + length (map (λ (p : PouData). used_by_result f p.kind) (pous_of f))) (length-map (types_of f) (λ (d : TypeDeclarationData). used_by_specification f d.specification))
-      ∙ ap (λ n. length (types_of f) + n) (length-map (pous_of f) (λ (p : PouData). used_by_result f p.kind))
+      length-append (map (λ (d : TypeDeclarationData). used_by_specification f d.specification) (types_of f)) (map (λ (p : PouData). used_by_result f p.pou_type) (pous_of f))
+      ∙ ap (λ n. n + length (map (λ (p : PouData). used_by_result f p.pou_type) (pous_of f))) (length-map (types_of f) (λ (d : TypeDeclarationData). used_by_specification f d.specification))
+      ∙ ap (λ n. length (types_of f) + n) (length-map (pous_of f) (λ (p : PouData). used_by_result f p.pou_type))
 
   -- a declaration is a type or a POU
   declared : (k : ℕ) → k < length (declaration_uses f) → (k < length (types_of f)) ⊎ ((p : ℕ) × (k ≡ length (types_of f) + p) × ((d : PouData) × (pou_at f p ≡ Some d)))
@@ -181,16 +181,16 @@ module _ (f : FileData) where
   -- ---- circles
 
   module _ (once : (q : List ℕ) → is_doubled_in_file f q ≡ false) (clean : in_types f 0 (types_of f) ≡ []) (results : in_results f (length (types_of f)) (pous_of f) ≡ []) where
-    result_at : (number i : ℕ) (ps : List PouData) (p : PouData) → in_results f number ps ≡ [] → slice_get ps i ≡ Some p → (in_result f (number + i) p.kind).broken ≡ []
+    result_at : (number i : ℕ) (ps : List PouData) (p : PouData) → in_results f number ps ≡ [] → slice_get ps i ≡ Some p → (in_result f (number + i) p.pou_type).broken ≡ []
     result_at number i [] p h at = absurd (let e : ⊥ = cc in e)
     result_at number zero (x ∷ ps) p h at =
         let e : x ≡ p = cc in
-        rw add-zero (subst (λ y. (in_result f number y.kind).broken ≡ []) e (nil_left (in_result f number x.kind).broken (in_results f (number + 1) ps) h))
+        rw add-zero (subst (λ y. (in_result f number y.pou_type).broken ≡ []) e (nil_left (in_result f number x.pou_type).broken (in_results f (number + 1) ps) h))
     result_at number (suc i) (x ∷ ps) p h at =
         let same : number + suc i ≡ number + 1 + i = omega arith in
-        rw same (result_at (number + 1) i ps p (nil_right (in_result f number x.kind).broken (in_results f (number + 1) ps) h) at)
+        rw same (result_at (number + 1) i ps p (nil_right (in_result f number x.pou_type).broken (in_results f (number + 1) ps) h) at)
 
-    pub clean_result : (p : ℕ) (d : PouData) → pou_at f p ≡ Some d → (in_result f (length (types_of f) + p) d.kind).broken ≡ []
+    pub clean_result : (p : ℕ) (d : PouData) → pou_at f p ≡ Some d → (in_result f (length (types_of f) + p) d.pou_type).broken ≡ []
     clean_result p d at = result_at (length (types_of f)) p (pous_of f) d results at
 
     -- a use inside a circle is broken, but for that of a type where a type is wanted
@@ -234,7 +234,7 @@ module _ (f : FileData) where
         (is_among-either used (used_by_bound f b.low) (used_by_bound f b.high) m))
     round_type user used (of_type (of_name n)) is m round h = of_type_by n is (name_in_circle user used n m round h)
 
-    round_result : (user used : ℕ) (k : PouKindData) → length (types_of f) ≤ user → is_among used (used_by_result f k) ≡ true → is_in_circle (declaration_uses f) user used ≡ true → (in_result f user k).broken ≡ [] → Round user used
+    round_result : (user used : ℕ) (k : PouTypeData) → length (types_of f) ≤ user → is_among used (used_by_result f k) ≡ true → is_in_circle (declaration_uses f) user used ≡ true → (in_result f user k).broken ≡ [] → Round user used
     round_result user used function_block low m round h = absurd (let e : ⊥ = cc in e)
     round_result user used program low m round h = absurd (let e : ⊥ = cc in e)
     round_result user used (function (of_elementary kind at)) low m round h = absurd (let e : ⊥ = cc in e)
@@ -252,7 +252,7 @@ module _ (f : FileData) where
       where
         of_pou : (p : ℕ) → user ≡ length (types_of f) + p → (d : PouData) → pou_at f p ≡ Some d → is_in_circle (declaration_uses f) user used ≡ true → Round user used
         of_pou p is d there round =
-            let uses : uses_at (declaration_uses f) user ≡ used_by_result f d.kind = ap (uses_at (declaration_uses f)) is ∙ uses-pou p d there in
+            let uses : uses_at (declaration_uses f) user ≡ used_by_result f d.pou_type = ap (uses_at (declaration_uses f)) is ∙ uses-pou p d there in
             round_result user used d.kind (omega arith) (subst (λ (us : List ℕ). is_among used us ≡ true) uses m) round (subst (λ (n : ℕ). (in_result f n d.kind).broken ≡ []) (sym is) (clean_result p d there))
 
     -- what is used inside a circle is a type
@@ -410,7 +410,7 @@ module _ (f : FileData) where
         let some : next_of f t ≡ Some w.0 = ap (option_and_then (named_type f)) is ∙ ap type_number w.1 in
         ap (λ e. is_whole_end f e (specification_at f e)) (end-next t w.0 below some) ∙ w.2
 
-    whole_result_at : (user : ℕ) (k : PouKindData) → AllBefore IsWhole (used_by_result f k) → (in_result f user k).broken ≡ [] → is_whole_result f k ≡ true
+    whole_result_at : (user : ℕ) (k : PouTypeData) → AllBefore IsWhole (used_by_result f k) → (in_result f user k).broken ≡ [] → is_whole_result f k ≡ true
     whole_result_at user function_block known h = refl
     whole_result_at user program known h = refl
     whole_result_at user (function (of_elementary kind at)) known h = refl
@@ -419,7 +419,7 @@ module _ (f : FileData) where
 
     whole_pou_at : (p : ℕ) (o : Option PouData) → pou_at f p ≡ o → AllBefore IsWhole (uses_at (declaration_uses f) (length (types_of f) + p)) → not (unwrap_or (option_map (is_whole_result f) (option_map (λ d. d.kind) o)) true) ≡ false
     whole_pou_at p None e known = refl
-    whole_pou_at p (Some d) e known = ap not (whole_result_at (length (types_of f) + p) d.kind (λ u m. known u (subst (λ (us : List ℕ). is_among u us ≡ true) (sym (uses-pou p d e)) m)) (clean_result p d e))
+    whole_pou_at p (Some d) e known = ap not (whole_result_at (length (types_of f) + p) d.pou_type (λ u m. known u (subst (λ (us : List ℕ). is_among u us ≡ true) (sym (uses-pou p d e)) m)) (clean_result p d e))
 
     whole_step : (k : ℕ) → AllBefore IsWhole (uses_at (declaration_uses f) k) → IsWhole k
     whole_step k known = record {
@@ -452,7 +452,7 @@ module _ (f : FileData) where
     specification_below u (of_type (of_subrange kind at b)) m = ⊎_elim (λ low. bound_below u b.low low) (λ high. bound_below u b.high high) (is_among-either u (used_by_bound f b.low) (used_by_bound f b.high) m)
     specification_below u (of_type (of_name n)) m = name_below u n m
 
-    result_below : (u : ℕ) (k : PouKindData) → is_among u (used_by_result f k) ≡ true → u < length (declaration_uses f)
+    result_below : (u : ℕ) (k : PouTypeData) → is_among u (used_by_result f k) ≡ true → u < length (declaration_uses f)
     result_below u function_block m = absurd (let e : ⊥ = cc in e)
     result_below u program m = absurd (let e : ⊥ = cc in e)
     result_below u (function (of_elementary kind at)) m = absurd (let e : ⊥ = cc in e)
@@ -462,8 +462,8 @@ module _ (f : FileData) where
     used_below : (k u : ℕ) → is_among u (uses_at (declaration_uses f) k) ≡ true → u < length (declaration_uses f)
     used_below k u m = elim (declared k (below-from_use (declaration_uses f) k u m)) as (λ _. u < length (declaration_uses f)) [
       | inl below ↦ let s = specified f k below in specification_below u s.0 (subst (λ (us : List ℕ). is_among u us ≡ true) (uses-type k s.0 s.1) m)
-      | inr p ↦ let uses : uses_at (declaration_uses f) k ≡ used_by_result f p.2.0.kind = ap (uses_at (declaration_uses f)) p.1 ∙ uses-pou p.0 p.2.0 p.2.1 in
-          result_below u p.2.0.kind (subst (λ (us : List ℕ). is_among u us ≡ true) uses m)
+      | inr p ↦ let uses : uses_at (declaration_uses f) k ≡ used_by_result f p.2.0.pou_type = ap (uses_at (declaration_uses f)) p.1 ∙ uses-pou p.0 p.2.0 p.2.1 in
+          result_below u p.2.0.pou_type (subst (λ (us : List ℕ). is_among u us ≡ true) uses m)
     ]
 
     whole_all : (k : ℕ) → k < length (declaration_uses f) → IsWhole k

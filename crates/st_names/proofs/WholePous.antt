@@ -6,7 +6,7 @@ use Rattle.std.specs.Str.{bytes_eq}
 use Rattle.std.proofs.lemmas.Bool.{and_from, and_parts}
 use Rattle.rules.specs.declared.rule.Rule.{Rule}
 use Rattle.rules.specs.declared.rule.Rule.TheVariants.{UnknownStep, UnknownAction, StepTwice, UnknownQualifier, NotOneInitialStep}
-use Rattle.source_tree.specs.Syntax.{Named, PathData, Tree, literal, path, enumerator, paren, unary, chain, call, Links, no_links, link, Arguments, no_arguments, argument, ConnectionData, input, output, Stmt, empty, assign, invoke, branch, cases, iterate, Stmts, no_stmts, stmt, Arms, no_arms, arm, Entries, no_entries, entry, Otherwise, no_else, else_stmts, LabelData, IterationData, TypeData, of_elementary, of_subrange, of_name, SpecificationData, of_type, of_values, StepActionData, PartData, step_part, transition_part, action_part, BodyData, statements, chart as chart_body, PouKindData, PouData, FileData}
+use Rattle.source_tree.specs.Syntax.{Named, PathData, Tree, literal, path, enumerator, paren, unary, chain, call, Links, no_links, link, Arguments, no_arguments, argument, ConnectionData, input, output, Stmt, empty, assign, invoke, branch, cases, iterate, Stmts, no_stmts, stmt, Arms, no_arms, arm, Entries, no_entries, entry, Otherwise, no_else, else_stmts, LabelData, IterationData, TypeData, of_elementary, of_subrange, of_name, SpecificationData, of_type, of_values, StepActionData, PartData, step_part, transition_part, action_part, BodyData, statements, chart as chart_body, PouTypeData, PouData, FileData}
 use Rattle.naming.specs.declared.callee.Callee.{Callee}
 use Rattle.naming.specs.declared.callee.Callee.TheVariants as callees
 use Rattle.naming.specs.Seen.{Seen}
@@ -51,7 +51,7 @@ known_sound false j e a = absurd (true≢false (sym e))
 
 -- ---- the POU of a number that was looked for
 
-if_there : (f : FileData) (test : PouKindData → Bool) (number k : ℕ) → number_if f test number ≡ Some k → (d : PouData) × (pou_at f k ≡ Some d)
+if_there : (f : FileData) (test : PouTypeData → Bool) (number k : ℕ) → number_if f test number ≡ Some k → (d : PouData) × (pou_at f k ≡ Some d)
 if_there f test number k h = by (pou_at f number) refl h
   where
     by : (o : Option PouData) → pou_at f number ≡ o → (if unwrap_or (option_map test (option_map (λ d. d.kind) o)) false then Some number else None) ≡ Some k → (d : PouData) × (pou_at f k ≡ Some d)
@@ -62,7 +62,7 @@ if_there f test number k h = by (pou_at f number) refl h
         on true j = let same : number ≡ k = cc in (d, ap (pou_at f) (sym same) ∙ e)
         on false j = absurd (let n : ⊥ = cc in n)
 
-then_there : (f : FileData) (test : PouKindData → Bool) (o : Option ℕ) (k : ℕ) → option_and_then (number_if f test) o ≡ Some k → (d : PouData) × (pou_at f k ≡ Some d)
+then_there : (f : FileData) (test : PouTypeData → Bool) (o : Option ℕ) (k : ℕ) → option_and_then (number_if f test) o ≡ Some k → (d : PouData) × (pou_at f k ≡ Some d)
 then_there f test None k h = absurd (let n : ⊥ = cc in n)
 then_there f test (Some number) k h = if_there f test number k h
 

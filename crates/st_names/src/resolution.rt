@@ -25,14 +25,14 @@ use file_scope::{
 };
 use pou_scope::NamesOfPou;
 use rules::{Fault, Refusal, Rule};
-use source_tree::{Item, Pou, PouKind, SourceFile, TypeDeclaration};
+use source_tree::{Item, Pou, PouType, SourceFile, TypeDeclaration};
 use std::alloc::{AllocError, Global};
 
 // Whether a POU is a PROGRAM.
 fn is_program(pou: &Pou) -> bool
     ensures { result ≡ is_program_pou (pou_view pou.now) }
 {
-    matches!(&pou.kind, PouKind::Program)
+    matches!(&pou.pou_type, PouType::Program)
 }
 
 // The number of the first PROGRAM.

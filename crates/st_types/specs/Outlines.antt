@@ -2,7 +2,7 @@
 -- more than 200,001 cells has a body of as many statements in the place of its own.
 use Rattle.std.specs.Prelude.{◌≡◌, ℕ, nat_lt, List, [], map, Bool, true, Option, Some, None, if◌then◌else◌, pos}
 use Rattle.std.specs.List.{list_any}
-use Rattle.source_tree.specs.Syntax.{PouKindData, function, function_block, program, PouData, FileData}
+use Rattle.source_tree.specs.Syntax.{PouTypeData, function, function_block, program, PouData, FileData}
 use Rattle.program_tree.specs.declared.typed.Turns.{Turns}
 use Rattle.program_tree.specs.Tree.{repeat, Statements, no_statements, statement, CalledData, block as typed_block, function as typed_function, ProgramData}
 use Rattle.naming.specs.FileScope.{pou_at}
@@ -31,14 +31,14 @@ is_long sizes k = nat_lt 200001 (size_among sizes (Some k))
 abbrev pub has_long : FileData → Bool
 has_long f = list_any (is_long (sizes_of f)) (called_order f)
 
-abbrev pub outlined_of : FileData → List ℕ → ℕ → PouKindData → PouData → CalledData
+abbrev pub outlined_of : FileData → List ℕ → ℕ → PouTypeData → PouData → CalledData
 outlined_of f sizes k (function t) p = typed_function [] [] [] (if is_long sizes k then long_body else outlined_body f k p)
 outlined_of f sizes k function_block p = typed_block (outlined_body f k p)
 outlined_of f sizes k program p = typed_block (outlined_body f k p)
 
 abbrev pub outlined_if : FileData → List ℕ → ℕ → Option PouData → CalledData
 outlined_if f sizes k None = typed_block no_statements
-outlined_if f sizes k (Some p) = outlined_of f sizes k p.kind p
+outlined_if f sizes k (Some p) = outlined_of f sizes k p.pou_type p
 
 abbrev pub outlined_by : FileData → List ℕ → List CalledData
 outlined_by f sizes = map (λ k. outlined_if f sizes k (pou_at f k)) (called_order f)

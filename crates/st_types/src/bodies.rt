@@ -148,7 +148,7 @@ pub(crate) fn pou_body(
     if !placed.is_placed(number) {
         return Err(AllocError);
     }
-    let first = first_places(&placed.sizes, &pou.kind, placed.pous.told_at(number));
+    let first = first_places(&placed.sizes, &pou.pou_type, placed.pous.told_at(number));
     let scope = PlacedScope { placed, number };
     begin_body(alloc, placed, number, first, &scope, pou)
 }

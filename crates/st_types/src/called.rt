@@ -18,7 +18,7 @@ use plc_types::Range;
 use pou_cells::{PlacedPous, size_among};
 use program_tree::{Called, Cell, CellType, Frame, TypedStmt};
 use running_pous::is_marked;
-use source_tree::{Pou, PouKind};
+use source_tree::{Pou, PouType};
 use std::alloc::{AllocError, Global};
 
 // How many cells a frame has at most.
@@ -96,15 +96,15 @@ fn called_of(
 ) -> Result<Called, AllocError>
     requires there { pou_at (file_in placed.now.pous.domains) number ≡ Some (pou_view pou.now) }
     requires body { stmts_view body.items ≡ pou_body (file_in placed.now.pous.domains) number (pou_view pou.now) }
-    ensures { IfOk result (λ called. called_view called ≡ called_of (file_in placed.now.pous.domains) number (pou_view pou.now).kind (pou_view pou.now)) }
+    ensures { IfOk result (λ called. called_view called ≡ called_of (file_in placed.now.pous.domains) number (pou_view pou.now).pou_type (pou_view pou.now)) }
 {
-    match pou.kind {
-        PouKind::Function(_) => {
+    match pou.pou_type {
+        PouType::Function(_) => {
             let cells = frame_cells(alloc, placed, number)?;
             let frame = frame_of(alloc, &cells)?;
             Ok(Called::Function(frame, body))
         }
-        PouKind::FunctionBlock | PouKind::Program => Ok(Called::Block(body)),
+        PouType::FunctionBlock | PouType::Program => Ok(Called::Block(body)),
     }
 }
 
@@ -116,15 +116,15 @@ fn unused_of(
     pou: &Pou,
 ) -> Result<Called, AllocError>
     requires { pou_at (file_in placed.now.pous.domains) number ≡ Some (pou_view pou.now) }
-    ensures { IfOk result (λ called. called_view called ≡ unused_of (file_in placed.now.pous.domains) number (pou_view pou.now).kind (pou_view pou.now)) }
+    ensures { IfOk result (λ called. called_view called ≡ unused_of (file_in placed.now.pous.domains) number (pou_view pou.now).pou_type (pou_view pou.now)) }
 {
-    match pou.kind {
-        PouKind::Function(_) => {
+    match pou.pou_type {
+        PouType::Function(_) => {
             let cells = front_cells(alloc, placed, number)?;
             let frame = frame_of(alloc, &cells)?;
             Ok(Called::Function(frame, Vec::new(alloc)))
         }
-        PouKind::FunctionBlock | PouKind::Program => Ok(Called::Block(Vec::new(alloc))),
+        PouType::FunctionBlock | PouType::Program => Ok(Called::Block(Vec::new(alloc))),
     }
 }
 

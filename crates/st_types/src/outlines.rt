@@ -12,7 +12,7 @@ use crate::checked::Checked;
 use decl_types::pou_at;
 use pou_cells::{PouScope, Pous, size_among};
 use program_tree::{Called, Frame, Program, Turns, TypedStmt};
-use source_tree::{Pou, PouKind};
+use source_tree::{Pou, PouType};
 use std::alloc::{AllocError, Global};
 
 // A frame of more cells is long: a call of its FUNCTION alone becomes more than 200,000 flat statements.
@@ -78,10 +78,10 @@ fn outlined_of(
     number: usize,
     pou: &Pou,
 ) -> Result<Called, AllocError>
-    ensures { IfOk result (λ called. called_view called ≡ outlined_of (file_in pous.now.domains) sizes.now number (pou_view pou.now).kind (pou_view pou.now)) }
+    ensures { IfOk result (λ called. called_view called ≡ outlined_of (file_in pous.now.domains) sizes.now number (pou_view pou.now).pou_type (pou_view pou.now)) }
 {
-    match pou.kind {
-        PouKind::Function(_) => {
+    match pou.pou_type {
+        PouType::Function(_) => {
             let frame = Frame {
                 types: Vec::new(alloc),
                 ranges: Vec::new(alloc),
@@ -90,7 +90,7 @@ fn outlined_of(
             let body = function_body(alloc, pous, sizes, number, pou)?;
             Ok(Called::Function(frame, body))
         }
-        PouKind::FunctionBlock | PouKind::Program => {
+        PouType::FunctionBlock | PouType::Program => {
             let body = outlined_body(alloc, pous, number, pou)?;
             Ok(Called::Block(body))
         }

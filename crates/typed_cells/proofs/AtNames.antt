@@ -19,6 +19,6 @@ cells_at_name f used ordered k p there text m found =
       variable = at.variable;
       named = at.named;
       is = at.is;
-      stand = occurs_stands (variable_places f at.variable) (pou_places f k p.kind p) m.cell at.stands;
-      within = occurs_within (variable_places f at.variable) (pou_places f k p.kind p) m.cell at.stands;
+      stand = occurs_stands (variable_places f at.variable) (pou_places f k p.pou_type p) m.cell at.stands;
+      within = occurs_within (variable_places f at.variable) (pou_places f k p.pou_type p) m.cell at.stands;
     }

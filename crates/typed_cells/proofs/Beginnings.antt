@@ -80,11 +80,11 @@ module _ (f : FileData) (ps : Pous) (b : BodyScope) where
 
 -- the body of a POU, behind the values that its VAR_TEMP variables begin with
 pub begun_is : (f : FileData) (runs : ℕ → Bool) → UsesItsBlocks f → IsOrdered f → AreWhole f → (k : ℕ) (p : PouData) → pou_at f k ≡ Some p → (ss : Statements) → AreTypedParts (pous f runs) (scope_over f k p) ss
-    → AreTypedParts (pous f runs) (scope_over f k p) (begun f (first_places f (sizes_of f) p.kind (variables_in_pou p)) (variables_in_pou p) ss)
+    → AreTypedParts (pous f runs) (scope_over f k p) (begun f (first_places f (sizes_of f) p.pou_type (variables_in_pou p)) (variables_in_pou p) ss)
 begun_is f runs used ordered whole k p there ss typed =
     let whole_p : AllByRecursion (λ v. (judged_variable f v).whole ≡ true) (variables_in_pou p) =
     subst (λ (vs : List Variable). AllByRecursion (λ v. (judged_variable f v).whole ≡ true) vs) (same_variables f used ordered k p there) (each_whole f (variables_at f k) (whole k)) in
-    begun_typed f (pous f runs) (scope_over f k p) (names_in_body p.body) (body_of_chart p.body) ss typed (declared_names p) (first_places f (sizes_of f) p.kind (variables_in_pou p))
+    begun_typed f (pous f runs) (scope_over f k p) (names_in_body p.body) (body_of_chart p.body) ss typed (declared_names p) (first_places f (sizes_of f) p.pou_type (variables_in_pou p))
     (all-left (HasSize f) (declared_names p) (names_in_body p.body) (sizes_known f used ordered k p there)) (declared_plain p)
-    (all-left (λ v. (judged_variable f v).whole ≡ true) (declared_names p) (names_in_body p.body) whole_p) (begins f used ordered k p there) (above_first f p.kind (variables_in_pou p))
-    (below_of f p.kind (declared_names p) (names_in_body p.body) (declared_plain p) (body_of_chart p.body))
+    (all-left (λ v. (judged_variable f v).whole ≡ true) (declared_names p) (names_in_body p.body) whole_p) (begins f used ordered k p there) (above_first f p.pou_type (variables_in_pou p))
+    (below_of f p.pou_type (declared_names p) (names_in_body p.body) (declared_plain p) (body_of_chart p.body))

@@ -1,7 +1,7 @@
 -- A body that breaks no rule and uses only what it may is typed over the cells of its POU.
 use Rattle.std.proofs.Common.{◌≡◌, ℕ, Bool, true, false, List, [], refl}
 use Rattle.call_order.specs.Marks.{is_marked}
-use Rattle.source_tree.specs.Syntax.{PartData, BodyData, statements, chart, PouKindData, function, function_block, program, PouData, FileData}
+use Rattle.source_tree.specs.Syntax.{PartData, BodyData, statements, chart, PouTypeData, function, function_block, program, PouData, FileData}
 use Rattle.std.specs.Prelude.{Some}
 use Rattle.source_tree.specs.Levels.{MayDo}
 use Rattle.program_tree.specs.Tree.{Statement, Statements, assign, call_block, choice, cases, repeat, chart as typed_chart_statement, no_statements, statement}
@@ -38,28 +38,28 @@ module _ (ps : Pous) (b : BodyScope) where
   parts_are no_statements typed = tt
   parts_are (statement t ts) typed = (part_is t typed.0, parts_are ts typed.1)
 
-no_function : (kind : PouKindData) (ps : List PartData) → MayDo kind (chart ps) → is_function kind ≡ false
+no_function : (pou_type : PouTypeData) (ps : List PartData) → MayDo pou_type (chart ps) → is_function pou_type ≡ false
 no_function (function t) ps may = absurd may
 no_function function_block ps may = refl
 no_function program ps may = refl
 
-module _ (f : FileData) (runs : ℕ → Bool) (used : UsesItsBlocks f) (ordered : IsOrdered f) (k : ℕ) (p : PouData) (there : pou_at f k ≡ Some p) (is : is_marked (reached f) k ≡ true) (unique : (variables_twice (is_program p.kind) [] (variables_in_pou p)).whole ≡ true) where
-  chart_fits : (ps : List PartData) → p.body ≡ chart ps → is_function p.kind ≡ false → ArePartsSound (scope_of f (sizes_of f) k) (uses_of_pou f k) ps → ChartFits (scope_over f k p) (scope_of f (sizes_of f) k) ps
+module _ (f : FileData) (runs : ℕ → Bool) (used : UsesItsBlocks f) (ordered : IsOrdered f) (k : ℕ) (p : PouData) (there : pou_at f k ≡ Some p) (is : is_marked (reached f) k ≡ true) (unique : (variables_twice (is_program p.pou_type) [] (variables_in_pou p)).whole ≡ true) where
+  chart_fits : (ps : List PartData) → p.body ≡ chart ps → is_function p.pou_type ≡ false → ArePartsSound (scope_of f (sizes_of f) k) (uses_of_pou f k) ps → ChartFits (scope_over f k p) (scope_of f (sizes_of f) k) ps
   chart_fits ps body plain sound = record {
-    flags = chart_flags f used ordered k p there ps body (is_program p.kind) unique plain;
-    rising = chart_rising f used ordered k p there ps body (is_program p.kind) unique plain;
+    flags = chart_flags f used ordered k p there ps body (is_program p.pou_type) unique plain;
+    rising = chart_rising f used ordered k p there ps body (is_program p.pou_type) unique plain;
     transitions = sound.transitions;
     actions = sound.actions;
   }
 
-  body_as : (b : BodyData) → p.body ≡ b → MayDo p.kind b → IsBodySound (scope_of f (sizes_of f) k) (uses_of_pou f k) b → AreTypedParts (pous f runs) (scope_over f k p) (typed_body (scope_of f (sizes_of f) k) b)
+  body_as : (b : BodyData) → p.body ≡ b → MayDo p.pou_type b → IsBodySound (scope_of f (sizes_of f) k) (uses_of_pou f k) b → AreTypedParts (pous f runs) (scope_over f k p) (typed_body (scope_of f (sizes_of f) k) b)
   body_as (statements ss) body may sound =
       parts_are (pous f runs) (scope_over f k p) (typed_stmts (scope_of f (sizes_of f) k) ss)
       (stmts_are (pous f runs) (scope_over f k p) (last f) (scope_of f (sizes_of f) k) (uses_of_pou f k) (scope_fits f runs used ordered k p there is) [] ss sound.within sound.levelled sound.whole)
   body_as (chart ps) body may sound = (
-    chart_is (pous f runs) (scope_over f k p) (last f) (scope_of f (sizes_of f) k) (uses_of_pou f k) (scope_fits f runs used ordered k p there is) ps (chart_fits ps body (no_function p.kind ps may) sound) sound.within sound.levelled sound.whole,
+    chart_is (pous f runs) (scope_over f k p) (last f) (scope_of f (sizes_of f) k) (uses_of_pou f k) (scope_fits f runs used ordered k p there is) ps (chart_fits ps body (no_function p.pou_type ps may) sound) sound.within sound.levelled sound.whole,
     tt,
   )
 
-  pub body_is_typed : MayDo p.kind p.body → IsBodySound (scope_of f (sizes_of f) k) (uses_of_pou f k) p.body → IsTypedIn f runs k p
+  pub body_is_typed : MayDo p.pou_type p.body → IsBodySound (scope_of f (sizes_of f) k) (uses_of_pou f k) p.body → IsTypedIn f runs k p
   body_is_typed may sound = body_as p.body refl may sound

@@ -2,7 +2,7 @@
 use Rattle.std.proofs.Common.{◌≡◌, ℕ, ◌+◌, ◌≤◌, Bool, true, false, List, [], ◌∷◌, ◌++◌, Option, Some, refl, sym, ap, ◌∙◌, arith, subst, inl, inr, ◌⊎◌, ⊎_elim}
 use Rattle.std.specs.List.{AllByRecursion}
 use Rattle.std.proofs.lemmas.Bool.{both_ways}
-use Rattle.source_tree.specs.Syntax.{PouKindData, function, function_block, program, PouData, FileData}
+use Rattle.source_tree.specs.Syntax.{PouTypeData, function, function_block, program, PouData, FileData}
 use Rattle.naming.specs.Scopes.{Variable, is_of_name, variable_named, names_in_body, variables_in_pou}
 use Rattle.typing.specs.declared.next.Next.{Next}
 use Rattle.typing.specs.declared.member.Member.{Member}
@@ -49,13 +49,13 @@ above f text first next (v ∷ vs) m now found =
     above_by (is_of_name text v) f text first next v vs m refl (above_here first next v (is_front next.of_function v.role) refl now)
     (λ rest. above f text first (places_behind f (sizes_of f) next v) vs m (above_behind f first next v (is_front next.of_function v.role) refl now) rest) found
 
-pub above_first : (f : FileData) (kind : PouKindData) (vs : List Variable) → IsAbove (first_of kind) (first_places f (sizes_of f) kind vs)
+pub above_first : (f : FileData) (pou_type : PouTypeData) (vs : List Variable) → IsAbove (first_of pou_type) (first_places f (sizes_of f) pou_type vs)
 above_first f (function t) vs = record { front = omega arith; rest = omega arith }
 above_first f function_block vs = record { front = omega arith; rest = omega arith }
 above_first f program vs = record { front = omega arith; rest = omega arith }
 
-pub from_first : (f : FileData) (text : List ℕ) (kind : PouKindData) (vs : List Variable) (m : Member) → member_among f (sizes_of f) text (first_places f (sizes_of f) kind vs) vs ≡ Some m → first_of kind ≤ m.cell
-from_first f text kind vs m found = above f text (first_of kind) (first_places f (sizes_of f) kind vs) vs m (above_first f kind vs) found
+pub from_first : (f : FileData) (text : List ℕ) (pou_type : PouTypeData) (vs : List Variable) (m : Member) → member_among f (sizes_of f) text (first_places f (sizes_of f) pou_type vs) vs ≡ Some m → first_of pou_type ≤ m.cell
+from_first f text pou_type vs m found = above f text (first_of pou_type) (first_places f (sizes_of f) pou_type vs) vs m (above_first f pou_type vs) found
 
 -- ---- none of a chart's
 
@@ -145,8 +145,8 @@ front_before (v ∷ ds) ns all = same_front (is_front true v.role) v ds ns refl 
 all_front : (ds : List Variable) → AllByRecursion IsPlain ds → AllFront false ds
 all_front ds all = all-each IsPlain (λ v. is_front false v.role ≡ true) (λ v plain. plain_front v.role plain) ds all
 
-pub below_of : (f : FileData) (kind : PouKindData) (ds ns : List Variable) → AllByRecursion IsPlain ds → AllByRecursion IsOfChart ns
-    → IsBelow f (first_of kind + count_of_cells f (sizes_of f) ds) (first_places f (sizes_of f) kind (ds ++ ns)) ds
+pub below_of : (f : FileData) (pou_type : PouTypeData) (ds ns : List Variable) → AllByRecursion IsPlain ds → AllByRecursion IsOfChart ns
+    → IsBelow f (first_of pou_type + count_of_cells f (sizes_of f) ds) (first_places f (sizes_of f) pou_type (ds ++ ns)) ds
 below_of f (function t) ds ns plain chart =
     let parts = count_parts f true ds in
     let same = ap (count_of_cells f (sizes_of f)) (front_before ds ns chart) in
@@ -155,8 +155,8 @@ below_of f function_block ds ns plain chart = let parts = count_parts f false ds
 below_of f program ds ns plain chart = let parts = count_parts f false ds in record { front = omega (arith, parts); rest = inl (all_front ds plain) }
 
 -- the cells of a name that is none of a chart stand before those of the chart
-pub before_chart : (f : FileData) (text : List ℕ) (p : PouData) (m : Member) → member_among f (sizes_of f) text (first_places f (sizes_of f) p.kind (variables_in_pou p)) (variables_in_pou p) ≡ Some m
+pub before_chart : (f : FileData) (text : List ℕ) (p : PouData) (m : Member) → member_among f (sizes_of f) text (first_places f (sizes_of f) p.pou_type (variables_in_pou p)) (variables_in_pou p) ≡ Some m
     → (w : Variable) → variable_named text (variables_in_pou p) ≡ Some w → is_of_chart w.role ≡ false → m.cell + cells_taken f (sizes_of f) w ≤ chart_place f p
 before_chart f text p m found w named plain =
-    settled f text (chart_place f p) (first_places f (sizes_of f) p.kind (variables_in_pou p)) (declared_names p) (names_in_body p.body) (body_of_chart p.body)
-    (below_of f p.kind (declared_names p) (names_in_body p.body) (declared_plain p) (body_of_chart p.body)) m found w named plain
+    settled f text (chart_place f p) (first_places f (sizes_of f) p.pou_type (variables_in_pou p)) (declared_names p) (names_in_body p.body) (body_of_chart p.body)
+    (below_of f p.pou_type (declared_names p) (names_in_body p.body) (declared_plain p) (body_of_chart p.body)) m found w named plain

@@ -76,7 +76,7 @@ module _ (f : FileData) (used : UsesItsBlocks f) (ordered : IsOrdered f) (k : �
   owner = scope_over f k p
 
   abbrev begin : Next
-  begin = first_places f (sizes_of f) p.kind (variables_in_pou p)
+  begin = first_places f (sizes_of f) p.pou_type (variables_in_pou p)
 
   abbrev names : List PartData → List Variable
   names qs = declared_by_parts (is_stored ps) qs
@@ -105,7 +105,7 @@ module _ (f : FileData) (used : UsesItsBlocks f) (ordered : IsOrdered f) (k : �
         variable = at.variable;
         role = ap (λ (x : Member). x.role) at.is;
         stands = at.stands;
-        first = from_first f v.name.text p.kind (variables_in_pou p) m (sym (member_is f used ordered k p there (sizes_of f) v.name.text) ∙ found);
+        first = from_first f v.name.text p.pou_type (variables_in_pou p) m (sym (member_is f used ordered k p there (sizes_of f) v.name.text) ∙ found);
       }
 
   one_flag : (place : ℕ) → Occurs (whole_cell types.Bool ∷ []) owner.places place → owner.first ≤ place → IsFlagOf owner place
@@ -132,19 +132,19 @@ module _ (f : FileData) (used : UsesItsBlocks f) (ordered : IsOrdered f) (k : �
   behind_part b q qs split = split ∙ sym (append_assoc b (declared_by_part (is_stored ps) q) (names qs))
 
   moved_behind : (b : List Variable) (q : PartData) → (after f begin b).of_function ≡ false → IsMoved (after f begin b) (after f begin (b ++ declared_by_part (is_stored ps) q)) (step_width q) (stored_width (is_stored ps) q)
-  moved_behind b q kind =
-      subst (λ (n : Next). IsMoved (after f begin b) n (step_width q) (stored_width (is_stored ps) q)) (sym (after_append f begin b (declared_by_part (is_stored ps) q))) (part_moved f (is_stored ps) q (after f begin b) kind)
+  moved_behind b q no_function =
+      subst (λ (n : Next). IsMoved (after f begin b) n (step_width q) (stored_width (is_stored ps) q)) (sym (after_append f begin b (declared_by_part (is_stored ps) q))) (part_moved f (is_stored ps) q (after f begin b) no_function)
 
   steps_are : (b : List Variable) (qs : List PartData) → variables_in_pou p ≡ b ++ names qs → (after f begin b).of_function ≡ false → AreSteps b qs
-  steps_are b [] split kind = record { places = refl; flags = tt }
-  steps_are b (step_part s ∷ qs) split kind =
+  steps_are b [] split no_function = record { places = refl; flags = tt }
+  steps_are b (step_part s ∷ qs) split no_function =
       let n = after f begin b in
       let v = of_chart (step_role s.is_initial) s.name in
-      let moved = moved_behind b (step_part s) kind in
-      let rest = steps_are (b ++ v ∷ []) qs (behind_part b (step_part s) qs split) moved.kind in
+      let moved = moved_behind b (step_part s) no_function in
+      let rest = steps_are (b ++ v ∷ []) qs (behind_part b (step_part s) qs split) moved.no_function in
       let at = placed_at b v (names qs) split in
       let cell : cell_of (scope.means (by_path (alone s.name))) ≡ first_place n v = ap cell_of (means_at b v (names qs) split) ∙ step_cell_of f (first_place n v) s.is_initial s.name in
-      let front : first_place n v ≡ n.front = place_front n v (subst (λ (o : Bool). is_front o v.role ≡ true) (sym kind) (step_front s.is_initial)) in
+      let front : first_place n v ≡ n.front = place_front n v (subst (λ (o : Bool). is_front o v.role ≡ true) (sym no_function) (step_front s.is_initial)) in
       let same_rest : cells_of_steps qs ≡ steps_from (n.front + 2) qs = rest.places ∙ ap (λ (m : ℕ). steps_from m qs) moved.front in
       let two = two_flags (first_place n v) (occurs_same (variable_places f at.variable) _ owner.places (first_place n v) (step_places f at.variable (ap is_step (sym at.role) ∙ step_is s.is_initial)) at.stands) at.first in
       let flags_at : (c : ℕ) → c ≡ first_place n v → AllByRecursion (IsFlagOf owner) (c ∷ (c + 1) ∷ cells_of_steps qs) =
@@ -153,14 +153,14 @@ module _ (f : FileData) (used : UsesItsBlocks f) (ordered : IsOrdered f) (k : �
         places = ap (λ (c : ℕ). c ∷ (c + 1) ∷ cells_of_steps qs) (cell ∙ front) ∙ ap (λ (l : List ℕ). n.front ∷ (n.front + 1) ∷ l) same_rest;
         flags = flags_at (cell_of (scope.means (by_path (alone s.name)))) cell;
       }
-  steps_are b (transition_part t ∷ qs) split kind =
-      let moved = moved_behind b (transition_part t) kind in
-      let rest = steps_are (b ++ declared_by_part (is_stored ps) (transition_part t)) qs (behind_part b (transition_part t) qs split) moved.kind in
+  steps_are b (transition_part t ∷ qs) split no_function =
+      let moved = moved_behind b (transition_part t) no_function in
+      let rest = steps_are (b ++ declared_by_part (is_stored ps) (transition_part t)) qs (behind_part b (transition_part t) qs split) moved.no_function in
       let front = moved.front in
       record { places = rest.places ∙ ap (λ (m : ℕ). steps_from m qs) (omega (arith, front)); flags = rest.flags }
-  steps_are b (action_part a ∷ qs) split kind =
-      let moved = moved_behind b (action_part a) kind in
-      let rest = steps_are (b ++ declared_by_part (is_stored ps) (action_part a)) qs (behind_part b (action_part a) qs split) moved.kind in
+  steps_are b (action_part a ∷ qs) split no_function =
+      let moved = moved_behind b (action_part a) no_function in
+      let rest = steps_are (b ++ declared_by_part (is_stored ps) (action_part a)) qs (behind_part b (action_part a) qs split) moved.no_function in
       let front = moved.front in
       record { places = rest.places ∙ ap (λ (m : ℕ). steps_from m qs) (omega (arith, front)); flags = rest.flags }
 
@@ -190,16 +190,16 @@ module _ (f : FileData) (used : UsesItsBlocks f) (ordered : IsOrdered f) (k : �
     flag : st ≡ true → IsFlagOf owner n.rest
 
   latch_at : (b : List Variable) (a : ChartActionData) (qs : List PartData) (st : Bool) → is_stored ps a.name.text ≡ st → variables_in_pou p ≡ b ++ names (action_part a ∷ qs) → (after f begin b).of_function ≡ false → HasLatch (after f begin b) a qs st
-  latch_at b a qs true is split kind =
+  latch_at b a qs true is split no_function =
       let n = after f begin b in
       let v = action_of true a in
       let here : variables_in_pou p ≡ b ++ v ∷ names qs = split ∙ ap (λ (x : Bool). b ++ action_of x a ∷ names qs) is in
       let at = placed_at b v (names qs) here in
-      let place : first_place n v ≡ n.rest = place_rest n v (subst (λ (o : Bool). is_front o roles.StoredAction ≡ false) (sym kind) refl) in
+      let place : first_place n v ≡ n.rest = place_rest n v (subst (λ (o : Bool). is_front o roles.StoredAction ≡ false) (sym no_function) refl) in
       let latch : latch_of (scope.means (by_path (alone a.name))) ≡ Some n.rest = ap latch_of (means_at b v (names qs) here) ∙ stored_latch true (first_place n v) a ∙ ap Some place in
       let flag = one_flag (first_place n v) (occurs_same (variable_places f at.variable) _ owner.places (first_place n v) (stored_places f at.variable (ap is_stored_action (sym at.role))) at.stands) at.first in
       record { places = before_latches a qs (Some n.rest) latch; flag = λ yes_is. subst (λ (c : ℕ). IsFlagOf owner c) place flag }
-  latch_at b a qs false is split kind =
+  latch_at b a qs false is split no_function =
       let n = after f begin b in
       let v = action_of false a in
       let here : variables_in_pou p ≡ b ++ v ∷ names qs = split ∙ ap (λ (x : Bool). b ++ action_of x a ∷ names qs) is in
@@ -223,23 +223,23 @@ module _ (f : FileData) (used : UsesItsBlocks f) (ordered : IsOrdered f) (k : �
   flags_with false c cs one all = all
 
   latches_are : (b : List Variable) (qs : List PartData) → variables_in_pou p ≡ b ++ names qs → (after f begin b).of_function ≡ false → AreLatches b qs
-  latches_are b [] split kind = record { places = refl; flags = tt }
-  latches_are b (step_part s ∷ qs) split kind =
-      let moved = moved_behind b (step_part s) kind in
-      let rest = latches_are (b ++ declared_by_part (is_stored ps) (step_part s)) qs (behind_part b (step_part s) qs split) moved.kind in
+  latches_are b [] split no_function = record { places = refl; flags = tt }
+  latches_are b (step_part s ∷ qs) split no_function =
+      let moved = moved_behind b (step_part s) no_function in
+      let rest = latches_are (b ++ declared_by_part (is_stored ps) (step_part s)) qs (behind_part b (step_part s) qs split) moved.no_function in
       let back = moved.rest in
       record { places = rest.places ∙ ap (λ (m : ℕ). latches_from (is_stored ps) m qs) (omega (arith, back)); flags = rest.flags }
-  latches_are b (transition_part t ∷ qs) split kind =
-      let moved = moved_behind b (transition_part t) kind in
-      let rest = latches_are (b ++ declared_by_part (is_stored ps) (transition_part t)) qs (behind_part b (transition_part t) qs split) moved.kind in
+  latches_are b (transition_part t ∷ qs) split no_function =
+      let moved = moved_behind b (transition_part t) no_function in
+      let rest = latches_are (b ++ declared_by_part (is_stored ps) (transition_part t)) qs (behind_part b (transition_part t) qs split) moved.no_function in
       let back = moved.rest in
       record { places = rest.places ∙ ap (λ (m : ℕ). latches_from (is_stored ps) m qs) (omega (arith, back)); flags = rest.flags }
-  latches_are b (action_part a ∷ qs) split kind =
+  latches_are b (action_part a ∷ qs) split no_function =
       let n = after f begin b in
       let st = is_stored ps a.name.text in
-      let moved = moved_behind b (action_part a) kind in
-      let rest = latches_are (b ++ declared_by_part (is_stored ps) (action_part a)) qs (behind_part b (action_part a) qs split) moved.kind in
-      let has = latch_at b a qs st refl split kind in
+      let moved = moved_behind b (action_part a) no_function in
+      let rest = latches_are (b ++ declared_by_part (is_stored ps) (action_part a)) qs (behind_part b (action_part a) qs split) moved.no_function in
+      let has = latch_at b a qs st refl split no_function in
       record {
         places = has.places ∙ joined st n.rest a qs (after f begin (b ++ declared_by_part (is_stored ps) (action_part a))).rest refl moved.rest rest.places;
         flags = subst (λ (l : List ℕ). AllByRecursion (IsFlagOf owner) l) (sym has.places) (flags_with st n.rest (cells_of_actions qs) has.flag rest.flags);
@@ -254,11 +254,11 @@ module _ (f : FileData) (used : UsesItsBlocks f) (ordered : IsOrdered f) (k : �
   all_flags [] ds one other = other
   all_flags (c ∷ cs) ds one other = (one.0, all_flags cs ds one.1 other)
 
-  module _ (plain : is_function p.kind ≡ false) where
-    start : IsChartNext f p.kind (after f begin (declared_names p)) (declared_names p) ps
+  module _ (plain : is_function p.pou_type ≡ false) where
+    start : IsChartNext f p.pou_type (after f begin (declared_names p)) (declared_names p) ps
     start =
-        subst (λ (vs : List Variable). IsChartNext f p.kind (after f (first_places f (sizes_of f) p.kind vs) (declared_names p)) (declared_names p) ps) (sym split_all)
-        (chart_next f p.kind plain (declared_names p) (is_stored ps) ps (declared_plain p))
+        subst (λ (vs : List Variable). IsChartNext f p.pou_type (after f (first_places f (sizes_of f) p.pou_type vs) (declared_names p)) (declared_names p) ps) (sym split_all)
+        (chart_next f p.pou_type plain (declared_names p) (is_stored ps) ps (declared_plain p))
 
     of_steps : AreSteps (declared_names p) ps
     of_steps = steps_are (declared_names p) ps split_all start.of_chart

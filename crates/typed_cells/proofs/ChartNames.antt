@@ -71,38 +71,38 @@ stored_width stored (transition_part t) = 0
 stored_width stored (action_part a) = if stored a.name.text then 1 else 0
 
 pub record IsMoved (n m : Next) (steps stored : ℕ) : Type 0 where
-  pub kind : m.of_function ≡ false
+  pub no_function : m.of_function ≡ false
   pub front : m.front ≡ n.front + steps
   pub rest : m.rest ≡ n.rest + stored
 
 pub moved_at_front : (f : FileData) (n : Next) (v : Variable) → n.of_function ≡ false → is_front false v.role ≡ true → IsMoved n (places_behind f (sizes_of f) n v) (cells_taken f (sizes_of f) v) 0
-moved_at_front f n v kind front =
-    let is : is_front n.of_function v.role ≡ true = subst (λ (o : Bool). is_front o v.role ≡ true) (sym kind) front in
+moved_at_front f n v no_function front =
+    let is : is_front n.of_function v.role ≡ true = subst (λ (o : Bool). is_front o v.role ≡ true) (sym no_function) front in
     let same = passed_front f (sizes_of f) n v is in
-    record { kind = ap (λ (m : Next). m.of_function) same ∙ kind; front = ap (λ (m : Next). m.front) same; rest = ap (λ (m : Next). m.rest) same ∙ omega arith }
+    record { no_function = ap (λ (m : Next). m.of_function) same ∙ no_function; front = ap (λ (m : Next). m.front) same; rest = ap (λ (m : Next). m.rest) same ∙ omega arith }
 
 pub moved_at_rest : (f : FileData) (n : Next) (v : Variable) → n.of_function ≡ false → is_front false v.role ≡ false → IsMoved n (places_behind f (sizes_of f) n v) 0 (cells_taken f (sizes_of f) v)
-moved_at_rest f n v kind rest =
-    let is : is_front n.of_function v.role ≡ false = subst (λ (o : Bool). is_front o v.role ≡ false) (sym kind) rest in
+moved_at_rest f n v no_function rest =
+    let is : is_front n.of_function v.role ≡ false = subst (λ (o : Bool). is_front o v.role ≡ false) (sym no_function) rest in
     let same = passed_rest f (sizes_of f) n v is in
-    record { kind = ap (λ (m : Next). m.of_function) same ∙ kind; front = ap (λ (m : Next). m.front) same ∙ omega arith; rest = ap (λ (m : Next). m.rest) same }
+    record { no_function = ap (λ (m : Next). m.of_function) same ∙ no_function; front = ap (λ (m : Next). m.front) same ∙ omega arith; rest = ap (λ (m : Next). m.rest) same }
 
 step_moved : (f : FileData) (initial : Bool) (n : Named) (next : Next) → next.of_function ≡ false → IsMoved next (places_behind f (sizes_of f) next (of_chart (step_role initial) n)) 2 0
-step_moved f true n next kind = moved_at_front f next (of_chart (step_role true) n) kind refl
-step_moved f false n next kind = moved_at_front f next (of_chart (step_role false) n) kind refl
+step_moved f true n next no_function = moved_at_front f next (of_chart (step_role true) n) no_function refl
+step_moved f false n next no_function = moved_at_front f next (of_chart (step_role false) n) no_function refl
 
 action_moved : (f : FileData) (stored : Bool) (n : Named) (next : Next) → next.of_function ≡ false → IsMoved next (places_behind f (sizes_of f) next (of_chart (action_role stored) n)) 0 (if stored then 1 else 0)
-action_moved f true n next kind = moved_at_rest f next (of_chart (action_role true) n) kind refl
-action_moved f false n next kind = moved_at_front f next (of_chart (action_role false) n) kind refl
+action_moved f true n next no_function = moved_at_rest f next (of_chart (action_role true) n) no_function refl
+action_moved f false n next no_function = moved_at_front f next (of_chart (action_role false) n) no_function refl
 
 not_moved : (next : Next) → next.of_function ≡ false → IsMoved next next 0 0
-not_moved next kind = record { kind = kind; front = omega arith; rest = omega arith }
+not_moved next no_function = record { no_function = no_function; front = omega arith; rest = omega arith }
 
 transition_moved : (f : FileData) (n : Option Named) (next : Next) → next.of_function ≡ false → IsMoved next (after f next (transition_named n)) 0 0
-transition_moved f None next kind = not_moved next kind
-transition_moved f (Some n) next kind = moved_at_front f next (of_chart roles.Transition n) kind refl
+transition_moved f None next no_function = not_moved next no_function
+transition_moved f (Some n) next no_function = moved_at_front f next (of_chart roles.Transition n) no_function refl
 
 pub part_moved : (f : FileData) (stored : List ℕ → Bool) (q : PartData) (next : Next) → next.of_function ≡ false → IsMoved next (after f next (declared_by_part stored q)) (step_width q) (stored_width stored q)
-part_moved f stored (step_part s) next kind = step_moved f s.is_initial s.name next kind
-part_moved f stored (transition_part t) next kind = transition_moved f t.name next kind
-part_moved f stored (action_part a) next kind = action_moved f (stored a.name.text) a.name next kind
+part_moved f stored (step_part s) next no_function = step_moved f s.is_initial s.name next no_function
+part_moved f stored (transition_part t) next no_function = transition_moved f t.name next no_function
+part_moved f stored (action_part a) next no_function = action_moved f (stored a.name.text) a.name next no_function

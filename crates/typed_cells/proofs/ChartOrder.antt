@@ -1,7 +1,7 @@
 -- The places of a chart's cells rise, those of its steps first.
 use Rattle.std.proofs.Common.{◌≡◌, ℕ, ◌+◌, ◌≤◌, Bool, true, false, if◌then◌else◌, List, [], ◌∷◌, ◌++◌, Option, Some, None, refl, ap, ◌∙◌, arith}
 use Rattle.std.specs.List.{AllByRecursion}
-use Rattle.source_tree.specs.Syntax.{Named, PouKindData, function, function_block, program, PartData, step_part, transition_part, action_part, FileData}
+use Rattle.source_tree.specs.Syntax.{Named, PouTypeData, function, function_block, program, PartData, step_part, transition_part, action_part, FileData}
 use Rattle.program_tree.specs.declared.typed.StepCells.{StepCells}
 use Rattle.program_tree.specs.Tree.{Actions}
 use Rattle.naming.specs.Scopes.{Variable, of_chart, step_role, action_role, transition_named, declared_by_parts}
@@ -90,34 +90,34 @@ count_parts f stored (transition_part t ∷ qs) = let rest = count_parts f store
 count_parts f stored (action_part a ∷ qs) = let rest = count_parts f stored qs in count_action f (stored a.name.text) a.name (declared_by_parts stored qs) ∙ omega (arith, rest)
 
 plain_after : (f : FileData) (ds : List Variable) (n : Next) → n.of_function ≡ false → AllByRecursion IsPlain ds → IsMoved n (after f n ds) (count_of_cells f (sizes_of f) ds) 0
-plain_after f [] n kind plain = record { kind = kind; front = omega arith; rest = omega arith }
-plain_after f (v ∷ ds) n kind plain =
-    let one = moved_at_front f n v kind (plain_front v.role plain.0) in
-    let more = plain_after f ds (places_behind f (sizes_of f) n v) one.kind plain.1 in
+plain_after f [] n no_function plain = record { no_function = no_function; front = omega arith; rest = omega arith }
+plain_after f (v ∷ ds) n no_function plain =
+    let one = moved_at_front f n v no_function (plain_front v.role plain.0) in
+    let more = plain_after f ds (places_behind f (sizes_of f) n v) one.no_function plain.1 in
     let front = one.front in
     let rest = one.rest in
     let more_front = more.front in
     let more_rest = more.rest in
-    record { kind = more.kind; front = omega (arith, front, more_front); rest = omega (arith, rest, more_rest) }
+    record { no_function = more.no_function; front = omega (arith, front, more_front); rest = omega (arith, rest, more_rest) }
 
 -- behind the names that are declared stands the chart
-pub record IsChartNext (f : FileData) (kind : PouKindData) (n : Next) (ds : List Variable) (qs : List PartData) : Type 0 where
+pub record IsChartNext (f : FileData) (pou_type : PouTypeData) (n : Next) (ds : List Variable) (qs : List PartData) : Type 0 where
   pub of_chart : n.of_function ≡ false
-  pub front : n.front ≡ first_of kind + count_of_cells f (sizes_of f) ds
+  pub front : n.front ≡ first_of pou_type + count_of_cells f (sizes_of f) ds
   pub rest : n.rest ≡ n.front + widths qs
 
-next_from : (f : FileData) (kind : PouKindData) (first : ℕ) → first ≡ first_of kind → (ds : List Variable) (stored : List ℕ → Bool) (qs : List PartData) → AllByRecursion IsPlain ds
-    → IsChartNext f kind (after f (places_from f (sizes_of f) false first (ds ++ declared_by_parts stored qs)) ds) ds qs
-next_from f kind first is ds stored qs plain =
+next_from : (f : FileData) (pou_type : PouTypeData) (first : ℕ) → first ≡ first_of pou_type → (ds : List Variable) (stored : List ℕ → Bool) (qs : List PartData) → AllByRecursion IsPlain ds
+    → IsChartNext f pou_type (after f (places_from f (sizes_of f) false first (ds ++ declared_by_parts stored qs)) ds) ds qs
+next_from f pou_type first is ds stored qs plain =
     let moved = plain_after f ds (places_from f (sizes_of f) false first (ds ++ declared_by_parts stored qs)) refl plain in
     let front = moved.front in
     let rest = moved.rest in
     let all = count_plain f ds (declared_by_parts stored qs) plain in
     let parts = count_parts f stored qs in
-    record { of_chart = moved.kind; front = omega (arith, front, is); rest = omega (arith, rest, front, all, parts) }
+    record { of_chart = moved.no_function; front = omega (arith, front, is); rest = omega (arith, rest, front, all, parts) }
 
-pub chart_next : (f : FileData) (kind : PouKindData) → is_function kind ≡ false → (ds : List Variable) (stored : List ℕ → Bool) (qs : List PartData) → AllByRecursion IsPlain ds
-    → IsChartNext f kind (after f (first_places f (sizes_of f) kind (ds ++ declared_by_parts stored qs)) ds) ds qs
+pub chart_next : (f : FileData) (pou_type : PouTypeData) → is_function pou_type ≡ false → (ds : List Variable) (stored : List ℕ → Bool) (qs : List PartData) → AllByRecursion IsPlain ds
+    → IsChartNext f pou_type (after f (first_places f (sizes_of f) pou_type (ds ++ declared_by_parts stored qs)) ds) ds qs
 chart_next f (function t) none ds stored qs plain = absurd (let h : ⊥ = cc in h)
 chart_next f function_block none ds stored qs plain = next_from f function_block 0 refl ds stored qs plain
 chart_next f program none ds stored qs plain = next_from f program 1 refl ds stored qs plain

@@ -2,7 +2,7 @@
 use Rattle.std.proofs.Common.{◌≡◌, ℕ, zero, suc, ◌+◌, ◌≤◌, ◌<◌, Bool, true, false, if◌then◌else◌, List, [], ◌∷◌, ◌++◌, length, map, refl, sym, ap, ◌∙◌, arith, append_assoc}
 use Rattle.std.specs.Prelude.{Option, Some, None}
 use Rattle.std.proofs.lemmas.List.{length-append, length-map, map-append, get_or_append_left}
-use Rattle.source_tree.specs.Syntax.{TypeData, PouKindData, function, PouData, FileData}
+use Rattle.source_tree.specs.Syntax.{TypeData, PouTypeData, function, PouData, FileData}
 use Rattle.program_tree.specs.Tree.{CellData}
 use Rattle.naming.specs.FileScope.{pous_of, pou_at}
 use Rattle.naming.specs.Scopes.{Variable, block_of, variables_in_pou}
@@ -65,11 +65,11 @@ module _ (f : FileData) (q : PouData) where
 
 -- ---- a FUNCTION's frame
 
-frame_by : (f : FileData) (n : ℕ) (t : TypeData) (q : PouData) → pou_at f n ≡ Some q → q.kind ≡ function t → (b : Bool) → frame_of (stated_if f n b) ≡ frame_for (kept_cells f b q)
-frame_by f n t q there kind true = ap (λ (o : Option PouData). frame_of (called_if f n o)) there ∙ ap (λ (k : PouKindData). frame_of (called_of f n k q)) kind
-frame_by f n t q there kind false = ap (λ (o : Option PouData). frame_of (unused_if f n o)) there ∙ ap (λ (k : PouKindData). frame_of (unused_of f n k q)) kind
+frame_by : (f : FileData) (n : ℕ) (t : TypeData) (q : PouData) → pou_at f n ≡ Some q → q.pou_type ≡ function t → (b : Bool) → frame_of (stated_if f n b) ≡ frame_for (kept_cells f b q)
+frame_by f n t q there as_function true = ap (λ (o : Option PouData). frame_of (called_if f n o)) there ∙ ap (λ (k : PouTypeData). frame_of (called_of f n k q)) as_function
+frame_by f n t q there as_function false = ap (λ (o : Option PouData). frame_of (unused_if f n o)) there ∙ ap (λ (k : PouTypeData). frame_of (unused_of f n k q)) as_function
 
-pub frame_is : (f : FileData) (runs : ℕ → Bool) (ordered : IsOrdered f) (n : ℕ) (t : TypeData) (q : PouData) → pou_at f n ≡ Some q → q.kind ≡ function t → IsCalled f ordered n
+pub frame_is : (f : FileData) (runs : ℕ → Bool) (ordered : IsOrdered f) (n : ℕ) (t : TypeData) (q : PouData) → pou_at f n ≡ Some q → q.pou_type ≡ function t → IsCalled f ordered n
     → frames_of (stated_by f runs) (called_number f n) ≡ frame_for (kept_cells f (runs (called_number f n)) q)
-frame_is f runs ordered n t q there kind called =
-    ap frame_of (stated_at f runs (called_number f n) called.below ∙ ap (λ (k : ℕ). stated_if f k (runs (called_number f n))) called.there) ∙ frame_by f n t q there kind (runs (called_number f n))
+frame_is f runs ordered n t q there as_function called =
+    ap frame_of (stated_at f runs (called_number f n) called.below ∙ ap (λ (k : ℕ). stated_if f k (runs (called_number f n))) called.there) ∙ frame_by f n t q there as_function (runs (called_number f n))

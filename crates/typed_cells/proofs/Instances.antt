@@ -5,9 +5,9 @@ use Rattle.std.specs.List.{AllByRecursion}
 use Rattle.std.proofs.lemmas.Bool.{eqb-true}
 use Rattle.call_order.specs.Marks.{is_marked}
 use Rattle.call_order.specs.Uses.{uses_at, is_among}
-use Rattle.source_tree.specs.Syntax.{TypeData, of_elementary, of_subrange, of_name, PouKindData, function, function_block, program, PouData, FileData}
+use Rattle.source_tree.specs.Syntax.{TypeData, of_elementary, of_subrange, of_name, PouTypeData, function, function_block, program, PouData, FileData}
 use Rattle.naming.specs.Circles.{uses_of}
-use Rattle.naming.specs.FileScope.{pous_of, pou_at, kind_at, standing, is_block, pou_number, number_if}
+use Rattle.naming.specs.FileScope.{pous_of, pou_at, pou_type_at, standing, is_block, pou_number, number_if}
 use Rattle.naming.specs.Scopes.{Variable, variables_in_pou, variable_named, is_local, block_of, block_of_type}
 use Rattle.typing.specs.declared.member.Member.{Member}
 use Rattle.typing.specs.declared.scope.Instance.{Instance}
@@ -35,41 +35,41 @@ passing : (b : Bool) (n q : ℕ) → (if b then Some n else None) ≡ Some q →
 passing true n q is = (refl, cc)
 passing false n q is = absurd (let h : ⊥ = cc in h)
 
-pub number_passes : (f : FileData) (test : PouKindData → Bool) (o : Option ℕ) (q : ℕ) → option_and_then (number_if f test) o ≡ Some q → unwrap_or (option_map test (kind_at f q)) false ≡ true
+pub number_passes : (f : FileData) (test : PouTypeData → Bool) (o : Option ℕ) (q : ℕ) → option_and_then (number_if f test) o ≡ Some q → unwrap_or (option_map test (pou_type_at f q)) false ≡ true
 number_passes f test None q is = absurd (let h : ⊥ = cc in h)
 number_passes f test (Some n) q is =
-    let p = passing (unwrap_or (option_map test (kind_at f n)) false) n q is in subst (λ (m : ℕ). unwrap_or (option_map test (kind_at f m)) false ≡ true) p.1 p.0
+    let p = passing (unwrap_or (option_map test (pou_type_at f n)) false) n q is in subst (λ (m : ℕ). unwrap_or (option_map test (pou_type_at f m)) false ≡ true) p.1 p.0
 
-block_passes : (f : FileData) (t : TypeData) (q : ℕ) → block_of_type f t ≡ Some q → unwrap_or (option_map is_block (kind_at f q)) false ≡ true
+block_passes : (f : FileData) (t : TypeData) (q : ℕ) → block_of_type f t ≡ Some q → unwrap_or (option_map is_block (pou_type_at f q)) false ≡ true
 block_passes f (of_elementary kind at) q is = absurd (let h : ⊥ = cc in h)
 block_passes f (of_subrange kind at b) q is = absurd (let h : ⊥ = cc in h)
 block_passes f (of_name n) q is = number_passes f is_block (pou_number (standing f n.text)) q is
 
-kind_passes : (f : FileData) (k : Option TypeData) (q : ℕ) → option_and_then (block_of_type f) k ≡ Some q → unwrap_or (option_map is_block (kind_at f q)) false ≡ true
-kind_passes f None q is = absurd (let h : ⊥ = cc in h)
-kind_passes f (Some t) q is = block_passes f t q is
+type_passes : (f : FileData) (k : Option TypeData) (q : ℕ) → option_and_then (block_of_type f) k ≡ Some q → unwrap_or (option_map is_block (pou_type_at f q)) false ≡ true
+type_passes f None q is = absurd (let h : ⊥ = cc in h)
+type_passes f (Some t) q is = block_passes f t q is
 
 local_passes : (b : Bool) (o : Option ℕ) (q : ℕ) → (if b then o else None) ≡ Some q → o ≡ Some q
 local_passes true o q is = is
 local_passes false o q is = absurd (let h : ⊥ = cc in h)
 
-pub instance_block : (f : FileData) (v : Variable) (q : ℕ) → block_of f v ≡ Some q → unwrap_or (option_map is_block (kind_at f q)) false ≡ true
-instance_block f v q is = kind_passes f v.kind q (local_passes (is_local v.role) (option_and_then (block_of_type f) v.kind) q is)
+pub instance_block : (f : FileData) (v : Variable) (q : ℕ) → block_of f v ≡ Some q → unwrap_or (option_map is_block (pou_type_at f q)) false ≡ true
+instance_block f v q is = type_passes f v.kind q (local_passes (is_local v.role) (option_and_then (block_of_type f) v.kind) q is)
 
-block_may : (o : Option PouKindData) → unwrap_or (option_map is_block o) false ≡ true → may_be_called o ≡ true
+block_may : (o : Option PouTypeData) → unwrap_or (option_map is_block o) false ≡ true → may_be_called o ≡ true
 block_may None is = absurd (let h : ⊥ = cc in h)
 block_may (Some (function t)) is = absurd (let h : ⊥ = cc in h)
 block_may (Some function_block) is = refl
 block_may (Some program) is = absurd (let h : ⊥ = cc in h)
 
-pub function_may : (o : Option PouKindData) → unwrap_or (option_map is_function o) false ≡ true → may_be_called o ≡ true
+pub function_may : (o : Option PouTypeData) → unwrap_or (option_map is_function o) false ≡ true → may_be_called o ≡ true
 function_may None is = absurd (let h : ⊥ = cc in h)
 function_may (Some (function t)) is = refl
 function_may (Some function_block) is = absurd (let h : ⊥ = cc in h)
 function_may (Some program) is = absurd (let h : ⊥ = cc in h)
 
-pub instance_may : (f : FileData) (v : Variable) (q : ℕ) → block_of f v ≡ Some q → may_be_called (kind_at f q) ≡ true
-instance_may f v q is = block_may (kind_at f q) (instance_block f v q is)
+pub instance_may : (f : FileData) (v : Variable) (q : ℕ) → block_of f v ≡ Some q → may_be_called (pou_type_at f q) ≡ true
+instance_may f v q is = block_may (pou_type_at f q) (instance_block f v q is)
 
 -- ---- the cells of an instance
 
@@ -88,7 +88,7 @@ module _ (f : FileData) (used : UsesItsBlocks f) (ordered : IsOrdered f) (k : �
   pub record IsInstance (v : Variable) (b : ℕ) : Type 0 where
     pub below : b < length (pous_of f)
     pub marked : is_marked (reached f) b ≡ true
-    pub callable : may_be_called (kind_at f b) ≡ true
+    pub callable : may_be_called (pou_type_at f b) ≡ true
     pub places : variable_places f v ≡ block_places f b
     pub size : length (block_places f b) ≡ cells_taken f (sizes_of f) v
 
@@ -108,17 +108,17 @@ module _ (f : FileData) (used : UsesItsBlocks f) (ordered : IsOrdered f) (k : �
         size = sym (ap (λ (l : List Scratch). length l) same) ∙ has_size f used ordered k (low f used ordered k p there) v use_of;
       }
 
-  kind_is : kind_at f k ≡ Some p.kind
-  kind_is = ap (λ (o : Option PouData). option_map (λ (q : PouData). q.kind) o) there
+  pou_type_is : pou_type_at f k ≡ Some p.pou_type
+  pou_type_is = ap (λ (o : Option PouData). option_map (λ (q : PouData). q.pou_type) o) there
 
-  before_as : (kind : PouKindData) → kind_at f k ≡ Some kind → (u : ℕ) → u < length (pous_of f) → is_among u (uses_at (uses_of f) k) ≡ true → may_be_called (kind_at f u) ≡ true → called_number f u < before_pou f k kind
+  before_as : (pou_type : PouTypeData) → pou_type_at f k ≡ Some pou_type → (u : ℕ) → u < length (pous_of f) → is_among u (uses_at (uses_of f) k) ≡ true → may_be_called (pou_type_at f u) ≡ true → called_number f u < before_pou f k pou_type
   before_as (function t) same u below uses callable = number_before f ordered k u (low f used ordered k p there) is (ap may_be_called same) uses callable
   before_as function_block same u below uses callable = number_before f ordered k u (low f used ordered k p there) is (ap may_be_called same) uses callable
   before_as program same u below uses callable = (is_called f ordered u below (used_reached f ordered k u is uses) callable).below
 
   -- what a POU uses stands before it
-  pub stands_before : (u : ℕ) → u < length (pous_of f) → is_among u (uses_at (uses_of f) k) ≡ true → may_be_called (kind_at f u) ≡ true → called_number f u < before_pou f k p.kind
-  stands_before u below uses callable = before_as p.kind kind_is u below uses callable
+  pub stands_before : (u : ℕ) → u < length (pous_of f) → is_among u (uses_at (uses_of f) k) ≡ true → may_be_called (pou_type_at f u) ≡ true → called_number f u < before_pou f k p.pou_type
+  stands_before u below uses callable = before_as p.pou_type pou_type_is u below uses callable
 
   module _ (runs : ℕ → Bool) where
     instance_at : (text : List ℕ) (m : Member) (b : ℕ) → member_at f (sizes_of f) k text ≡ Some m → m.block ≡ Some b → InstanceFits (pous f runs) (scope_over f k p) (let i : Instance = record { block = called_number f b; offset = m.cell } in i)
@@ -136,10 +136,10 @@ module _ (f : FileData) (used : UsesItsBlocks f) (ordered : IsOrdered f) (k : �
         let size_here = ap (λ (l : List Scratch). length l) same in
         record {
           before = stands_before b i.below (use_of b of_v) i.callable;
-          named = from_first f text p.kind (variables_in_pou p) m among;
+          named = from_first f text p.pou_type (variables_in_pou p) m among;
           within = omega (arith, bound, size, size_here);
-          stands = subst (λ (l : List Scratch). StandAt l (pou_places f k p.kind p) m.cell) (sym same)
-              (occurs_stands (block_places f b) (pou_places f k p.kind p) m.cell (occurs_same (variable_places f v) (block_places f b) (pou_places f k p.kind p) m.cell i.places at.stands));
+          stands = subst (λ (l : List Scratch). StandAt l (pou_places f k p.pou_type p) m.cell) (sym same)
+              (occurs_stands (block_places f b) (pou_places f k p.pou_type p) m.cell (occurs_same (variable_places f v) (block_places f b) (pou_places f k p.pou_type p) m.cell i.places at.stands));
         }
 
     instance_by : (text : List ℕ) (m : Member) (o : Option ℕ) → m.block ≡ o → member_at f (sizes_of f) k text ≡ Some m → (i : Instance) → option_map (λ b. let j : Instance = record { block = called_number f b; offset = m.cell } in j) o ≡ Some i

@@ -3,7 +3,7 @@ use Rattle.std.proofs.Common.{◌≡◌, ℕ, ◌+◌, ◌≤◌, ◌<◌, Bool,
 use Rattle.std.specs.Prelude.{unwrap_or}
 use Rattle.std.proofs.lemmas.Bool.{false≢true}
 use Rattle.call_order.specs.Marks.{is_marked}
-use Rattle.source_tree.specs.Syntax.{Named, PouKindData, function, function_block, program, PouData, FileData}
+use Rattle.source_tree.specs.Syntax.{Named, PouTypeData, function, function_block, program, PouData, FileData}
 use Rattle.naming.specs.FileScope.{pou_at, is_block}
 use Rattle.naming.specs.Scopes.{Variable, variables_in_pou, variable_named, is_seen, is_step, block_of}
 use Rattle.typing.specs.declared.member.Member.{Member}
@@ -65,17 +65,17 @@ module _ (f : FileData) (used : UsesItsBlocks f) (ordered : IsOrdered f) (k : �
   abbrev scope : BodyScope
   scope = scope_over f k p
 
-  own_by : (text : List ℕ) (m : Member) (found : member_at f (sizes_of f) k text ≡ Some m) (at : IsAtName f (pou_places f k p.kind p) text (variables_in_pou p) m) (has : Bool) → has_cell at.variable.role ≡ has
+  own_by : (text : List ℕ) (m : Member) (found : member_at f (sizes_of f) k text ≡ Some m) (at : IsAtName f (pou_places f k p.pou_type p) text (variables_in_pou p) m) (has : Bool) → has_cell at.variable.role ≡ has
       → MeaningFits scope (last f) (meaning_of f m.cell at.variable)
   own_by text m found at true has whole known =
       let v = at.variable in
       let among = sym (member_is f used ordered k p there (sizes_of f) text) ∙ found in
-      let cell = first_cell f v (pou_places f k p.kind p) m.cell has (no_block f v known) (named_all HasKind text (variables_in_pou p) (kinds_known p) v at.named) at.stands in
+      let cell = first_cell f v (pou_places f k p.pou_type p) m.cell has (no_block f v known) (named_all HasKind text (variables_in_pou p) (kinds_known p) v at.named) at.stands in
       let size = named_all (HasSize f) text (variables_in_pou p) (sizes_known f used ordered k p there) v at.named in
-      let bound = occurs_within (variable_places f v) (pou_places f k p.kind p) m.cell at.stands in
+      let bound = occurs_within (variable_places f v) (pou_places f k p.pou_type p) m.cell at.stands in
       let some = cell.some in
       subst (λ (q : Place). IsAt scope (last f) (meaning_of f m.cell v) q) (sym (name_of_cell f m.cell v has))
-      (cell_at f scope v m.cell (meaning_of f m.cell v) cell (from_first f text p.kind (variables_in_pou p) m among) (omega (arith, bound, some)) refl refl
+      (cell_at f scope v m.cell (meaning_of f m.cell v) cell (from_first f text p.pou_type (variables_in_pou p) m among) (omega (arith, bound, some)) refl refl
       (λ assigned. let before = before_chart f text p m among v at.named (assigned_plain v.role assigned) in omega (arith, before, size, some)) known)
   own_by text m found at false has whole known = subst (λ (q : Place). IsAt scope (last f) (meaning_of f m.cell at.variable) q) (sym (name_of_value f m.cell at.variable has)) (value_at_name f scope at.variable m.cell has known)
 
@@ -86,26 +86,26 @@ module _ (f : FileData) (used : UsesItsBlocks f) (ordered : IsOrdered f) (k : �
 
   -- ---- a member of an instance
 
-  block_pou : (o : Option PouData) → unwrap_or (option_map is_block (option_map (λ (q : PouData). q.kind) o)) false ≡ true → (q : PouData) × (o ≡ Some q) × (q.kind ≡ function_block)
+  block_pou : (o : Option PouData) → unwrap_or (option_map is_block (option_map (λ (q : PouData). q.pou_type) o)) false ≡ true → (q : PouData) × (o ≡ Some q) × (q.pou_type ≡ function_block)
   block_pou None passes = absurd (false≢true passes)
-  block_pou (Some q) passes = (q, refl, only q.kind passes)
+  block_pou (Some q) passes = (q, refl, only q.pou_type passes)
     where
-      only : (kind : PouKindData) → is_block kind ≡ true → kind ≡ function_block
+      only : (pou_type : PouTypeData) → is_block pou_type ≡ true → pou_type ≡ function_block
       only (function t) passes = absurd (false≢true passes)
       only function_block passes = refl
       only program passes = absurd (false≢true passes)
 
   -- of a member that is seen, at its place in its block
-  module _ (b : ℕ) (q : PouData) (at_b : pou_at f b ≡ Some q) (block : q.kind ≡ function_block) (m : Member) (v : Variable) (i : IsInstance f used ordered k p there is v b) (stands : Occurs (variable_places f v) (pou_places f k p.kind p) m.cell)
-      (first : first_of p.kind ≤ m.cell) (before : m.cell + cells_taken f (sizes_of f) v ≤ chart_place f p) where
-    seen_at : (text : List ℕ) (inner : Member) → IsAtName f (pou_places f b q.kind q) text (variables_in_pou q) inner → (w : Variable) → inner ≡ member_of f inner.cell w → HasKind w → is_seen w.role ≡ true
+  module _ (b : ℕ) (q : PouData) (at_b : pou_at f b ≡ Some q) (block : q.pou_type ≡ function_block) (m : Member) (v : Variable) (i : IsInstance f used ordered k p there is v b) (stands : Occurs (variable_places f v) (pou_places f k p.pou_type p) m.cell)
+      (first : first_of p.pou_type ≤ m.cell) (before : m.cell + cells_taken f (sizes_of f) v ≤ chart_place f p) where
+    seen_at : (text : List ℕ) (inner : Member) → IsAtName f (pou_places f b q.pou_type q) text (variables_in_pou q) inner → (w : Variable) → inner ≡ member_of f inner.cell w → HasKind w → is_seen w.role ≡ true
         → Occurs (variable_places f w) (block_places f b) inner.cell → MeaningFits scope (last f) (seen_from m.cell (member_of f inner.cell w))
     seen_at text inner at w same kind seen inside whole known =
         let has : has_cell w.role ≡ true = seen_cell w.role seen in
-        let outer : Occurs (block_places f b) (pou_places f k p.kind p) m.cell = occurs_same (variable_places f v) (block_places f b) (pou_places f k p.kind p) m.cell i.places stands in
-        let all : Occurs (variable_places f w) (pou_places f k p.kind p) (m.cell + inner.cell) = occurs_in (variable_places f w) (block_places f b) (pou_places f k p.kind p) m.cell inner.cell outer inside in
-        let cell = first_cell f w (pou_places f k p.kind p) (m.cell + inner.cell) has (no_block f w known) kind all in
-        let bound = occurs_within (variable_places f w) (pou_places f k p.kind p) (m.cell + inner.cell) all in
+        let outer : Occurs (block_places f b) (pou_places f k p.pou_type p) m.cell = occurs_same (variable_places f v) (block_places f b) (pou_places f k p.pou_type p) m.cell i.places stands in
+        let all : Occurs (variable_places f w) (pou_places f k p.pou_type p) (m.cell + inner.cell) = occurs_in (variable_places f w) (block_places f b) (pou_places f k p.pou_type p) m.cell inner.cell outer inside in
+        let cell = first_cell f w (pou_places f k p.pou_type p) (m.cell + inner.cell) has (no_block f w known) kind all in
+        let bound = occurs_within (variable_places f w) (pou_places f k p.pou_type p) (m.cell + inner.cell) all in
         let bound_inside = occurs_within (variable_places f w) (block_places f b) inner.cell inside in
         let some = cell.some in
         let size = i.size in
@@ -117,7 +117,7 @@ module _ (f : FileData) (used : UsesItsBlocks f) (ordered : IsOrdered f) (k : �
         let w = at.variable in
         let named : variable_named n.text (variables_at f b) ≡ Some w = ap (variable_named n.text) (same_variables f used ordered b q at_b) ∙ at.named in
         let is_seen_w : is_seen w.role ≡ true = subst (λ (o : Option Variable). is_seen_variable o ≡ true) named seen in
-        let places : pou_places f b q.kind q ≡ block_places f b = ap (λ (kind : PouKindData). pou_places f b kind q) block in
+        let places : pou_places f b q.pou_type q ≡ block_places f b = ap (λ (pou_type : PouTypeData). pou_places f b pou_type q) block in
         subst (λ (x : Member). MeaningFits scope (last f) (seen_from m.cell x)) (sym at.is)
         (seen_at n.text inner at w at.is (named_all HasKind n.text (variables_in_pou q) (kinds_known q) w at.named) is_seen_w (subst (λ (l : List Scratch). Occurs (variable_places f w) l inner.cell) places at.stands))
 
@@ -126,7 +126,7 @@ module _ (f : FileData) (used : UsesItsBlocks f) (ordered : IsOrdered f) (k : �
     seen_option n (Some inner) found seen x same =
         let e : seen_from m.cell inner ≡ x = cc in subst (λ (y : Meaning). MeaningFits scope (last f) y) e (seen_member n inner found seen)
 
-  behind_by : (text : List ℕ) (m : Member) → member_at f (sizes_of f) k text ≡ Some m → (n : Named) (block : Option ℕ) → m.block ≡ block → (at : IsAtName f (pou_places f k p.kind p) text (variables_in_pou p) m) → is_seen_member f n (block_of f at.variable) ≡ true
+  behind_by : (text : List ℕ) (m : Member) → member_at f (sizes_of f) k text ≡ Some m → (n : Named) (block : Option ℕ) → m.block ≡ block → (at : IsAtName f (pou_places f k p.pou_type p) text (variables_in_pou p) m) → is_seen_member f n (block_of f at.variable) ≡ true
       → (x : Meaning) → in_instance f (sizes_of f) m.cell n block ≡ Some x → MeaningFits scope (last f) x
   behind_by text m found n None block at seen x same = absurd (let h : ⊥ = cc in h)
   behind_by text m found n (Some b) block at seen x same =
@@ -137,7 +137,7 @@ module _ (f : FileData) (used : UsesItsBlocks f) (ordered : IsOrdered f) (k : �
       let among = sym (member_is f used ordered k p there (sizes_of f) text) ∙ found in
       let bound = before_chart f text p m among v at.named (local_plain v.role (instance_local f v b of_v)) in
       let seen_b : is_seen_variable (variable_named n.text (variables_at f b)) ≡ true = subst (λ (o : Option ℕ). is_seen_member f n o ≡ true) of_v seen in
-      seen_option b pou.0 pou.1 pou.2 m v i at.stands (from_first f text p.kind (variables_in_pou p) m among) bound n (member_at f (sizes_of f) b n.text) refl seen_b x same
+      seen_option b pou.0 pou.1 pou.2 m v i at.stands (from_first f text p.pou_type (variables_in_pou p) m among) bound n (member_at f (sizes_of f) b n.text) refl seen_b x same
 
   -- a step stands for its first cell
   by_step : (text : List ℕ) (m : Member) → member_at f (sizes_of f) k text ≡ Some m → (n : Named) (ns : List Named) → are_seen_behind f (n ∷ ns) (variable_named text (variables_at f k)) ≡ true → (step : Bool) (x : Meaning)

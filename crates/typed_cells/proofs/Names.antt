@@ -3,7 +3,7 @@ use Rattle.std.proofs.Common.{◌≡◌, ℕ, Bool, true, false, List, [], ◌�
 use Rattle.std.specs.List.{AllByRecursion}
 use Rattle.source_tree.specs.declared.syntax.Section.{Section}
 use Rattle.source_tree.specs.declared.syntax.Section.TheVariants as sections
-use Rattle.source_tree.specs.Syntax.{Named, Tree, TypeData, DeclarationData, VariablesData, PartData, step_part, transition_part, action_part, BodyData, statements, chart, PouKindData, function, function_block, program, PouData}
+use Rattle.source_tree.specs.Syntax.{Named, Tree, TypeData, DeclarationData, VariablesData, PartData, step_part, transition_part, action_part, BodyData, statements, chart, PouTypeData, function, function_block, program, PouData}
 use Rattle.naming.specs.declared.role.Role.{Role}
 use Rattle.naming.specs.ChartWords.{is_stored}
 use Rattle.naming.specs.Scopes.{Variable, role_of, declared_by, declared_in, variables_of, result_of, step_role, action_role, transition_named, declared_by_part, declared_by_parts, names_in_body, variables_in_pou, is_result}
@@ -45,13 +45,13 @@ module _ (P : Role → Type 0) where
   all_variables each (v ∷ vs) =
       all-append (λ w. P w.role) (declared_in (role_of v.section) v.declarations) (variables_of vs) (all_declared (role_of v.section) v.declarations (each v.section)) (all_variables each vs)
 
-result_plain : (kind : PouKindData) (n : Named) → AllByRecursion IsPlain (result_of kind n)
+result_plain : (pou_type : PouTypeData) (n : Named) → AllByRecursion IsPlain (result_of pou_type n)
 result_plain (function t) n = (refl, tt)
 result_plain function_block n = tt
 result_plain program n = tt
 
 pub declared_plain : (p : PouData) → AllByRecursion IsPlain (declared_names p)
-declared_plain p = all-append IsPlain (result_of p.kind p.name) (variables_of p.variables) (result_plain p.kind p.name) (all_variables (λ r. is_of_chart r ≡ false) section_plain p.variables)
+declared_plain p = all-append IsPlain (result_of p.pou_type p.name) (variables_of p.variables) (result_plain p.pou_type p.name) (all_variables (λ r. is_of_chart r ≡ false) section_plain p.variables)
 
 step_of_chart : (b : Bool) → is_of_chart (step_role b) ≡ true
 step_of_chart true = refl
@@ -88,7 +88,7 @@ kinds_known p =
     all-append HasKind (declared_names p) (names_in_body p.body) (all-each IsPlain HasKind (λ v plain is. absurd (both_ways _ plain is)) (declared_names p) (declared_plain p))
     (all-each IsOfChart HasKind (λ v chart is. chart.kind) (names_in_body p.body) (body_of_chart p.body))
 
--- ---- a FUNCTION's own name is the only one of its kind
+-- ---- a FUNCTION's own name is the only one of its role
 
 abbrev pub IsOther : Variable → Type 0
 IsOther v = is_result v.role ≡ false

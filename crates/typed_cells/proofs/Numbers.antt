@@ -13,7 +13,7 @@ use Rattle.call_order.proofs.Orders.{behind_uses, only_once, below_length, each_
 use Rattle.source_tree.specs.Syntax.{FileData}
 use Rattle.naming.specs.Broken.{is_program_pou}
 use Rattle.naming.specs.Circles.{uses_in, uses_of}
-use Rattle.naming.specs.FileScope.{pous_of, kind_at}
+use Rattle.naming.specs.FileScope.{pous_of, pou_type_at}
 use Rattle.typing.specs.Reached.{reached, reached_order}
 use Rattle.typing.specs.Members.{may_be_called, called_order, numbered, numbers_of, called_number}
 use Rattle.reach_laws.proofs.ReachedLaws.{IsReachedBy, reached_exact}
@@ -98,7 +98,7 @@ module _ (f : FileData) (ordered : IsOrdered f) where
 
   -- those of some numbers that are reached and may be called
   abbrev may : ℕ → Bool
-  may k = may_be_called (kind_at f k)
+  may k = may_be_called (pou_type_at f k)
 
   abbrev calls : List ℕ → List ℕ
   calls ks = filter may (filter (is_marked (reached f)) ks)

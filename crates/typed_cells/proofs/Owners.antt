@@ -4,7 +4,7 @@ use Rattle.std.specs.List.{AllByRecursion}
 use Rattle.std.proofs.lemmas.List.{length-append, append-nil}
 use Rattle.std.proofs.lemmas.Option.{slice_get_within}
 use Rattle.plc_types.specs.declared.elementary.Elementary.TheVariants as types
-use Rattle.source_tree.specs.Syntax.{PouKindData, function, function_block, program, PouData, FileData}
+use Rattle.source_tree.specs.Syntax.{PouTypeData, function, function_block, program, PouData, FileData}
 use Rattle.naming.specs.FileScope.{pous_of, pou_at}
 use Rattle.naming.specs.Scopes.{Variable, variables_in_pou}
 use Rattle.typing.specs.declared.member.Member.{Member}
@@ -23,12 +23,12 @@ use Rattle.typed_cells.proofs.Lengths.{HasSize, length_all, have_sizes}
 use Rattle.typed_cells.proofs.Walks.{IsNext, IsAtName, find}
 
 -- what stands before the cells of the names of a POU: FAULT
-abbrev pub head_of : PouKindData → List Scratch
+abbrev pub head_of : PouTypeData → List Scratch
 head_of (function t) = whole_cell types.Bool ∷ []
 head_of function_block = []
 head_of program = whole_cell types.Bool ∷ []
 
-pub length_head : (kind : PouKindData) → length (head_of kind) ≡ first_of kind
+pub length_head : (pou_type : PouTypeData) → length (head_of pou_type) ≡ first_of pou_type
 length_head (function t) = refl
 length_head function_block = refl
 length_head program = refl
@@ -55,7 +55,7 @@ begin_next f o head first vs long sizes =
       };
     }
 
-begin_as : (f : FileData) (kind : PouKindData) (vs : List Variable) → AllByRecursion (HasSize f) vs → IsNext f (head_of kind ++ variables_places f (in_order (is_function kind) vs)) (first_places f (sizes_of f) kind vs) vs
+begin_as : (f : FileData) (pou_type : PouTypeData) (vs : List Variable) → AllByRecursion (HasSize f) vs → IsNext f (head_of pou_type ++ variables_places f (in_order (is_function pou_type) vs)) (first_places f (sizes_of f) pou_type vs) vs
 begin_as f (function t) vs sizes = begin_next f true (head_of (function t)) 1 vs refl sizes
 begin_as f function_block vs sizes = begin_next f false (head_of function_block) 0 vs refl sizes
 begin_as f program vs sizes = begin_next f false (head_of program) 1 vs refl sizes
@@ -73,19 +73,19 @@ module _ (f : FileData) (used : UsesItsBlocks f) (ordered : IsOrdered f) (k : �
   cells_take : (before : Option (List ℕ)) (o : Bool) → map of_cell (cells_in f before o (variables_in_pou p)) ≡ variables_places f (in_order o (variables_in_pou p))
   cells_take before o = subst (λ (vs : List Variable). map of_cell (cells_in f before o vs) ≡ variables_places f (in_order o vs)) same_variables (cells_in_take f used ordered k low before o)
 
-  pub places_are : (kind : PouKindData) → pou_places f k kind p ≡ head_of kind ++ variables_places f (in_order (is_function kind) (variables_in_pou p))
+  pub places_are : (pou_type : PouTypeData) → pou_places f k pou_type p ≡ head_of pou_type ++ variables_places f (in_order (is_function pou_type) (variables_in_pou p))
   places_are (function t) = ap (λ (l : List Scratch). whole_cell types.Bool ∷ l) (cells_take None true)
   places_are function_block = block_takes f used ordered k low ∙ ap (λ (vs : List Variable). variables_places f (in_order false vs)) same_variables
   places_are program = ap (λ (l : List Scratch). whole_cell types.Bool ∷ l) (cells_take (Some []) false)
 
-  pub begins : IsNext f (pou_places f k p.kind p) (first_places f (sizes_of f) p.kind (variables_in_pou p)) (variables_in_pou p)
-  begins = subst (λ (l : List Scratch). IsNext f l (first_places f (sizes_of f) p.kind (variables_in_pou p)) (variables_in_pou p)) (sym (places_are p.kind)) (begin_as f p.kind (variables_in_pou p) sizes_known)
+  pub begins : IsNext f (pou_places f k p.pou_type p) (first_places f (sizes_of f) p.pou_type (variables_in_pou p)) (variables_in_pou p)
+  begins = subst (λ (l : List Scratch). IsNext f l (first_places f (sizes_of f) p.pou_type (variables_in_pou p)) (variables_in_pou p)) (sym (places_are p.pou_type)) (begin_as f p.pou_type (variables_in_pou p) sizes_known)
 
   -- the variable of a name is found among those of the POU
-  pub member_is : (sizes text : List ℕ) → member_at f sizes k text ≡ member_among f sizes text (first_places f sizes p.kind (variables_in_pou p)) (variables_in_pou p)
+  pub member_is : (sizes text : List ℕ) → member_at f sizes k text ≡ member_among f sizes text (first_places f sizes p.pou_type (variables_in_pou p)) (variables_in_pou p)
   member_is sizes text = ap (λ (o : Option PouData). option_and_then (member_in f sizes text) o) there
 
   -- the cells at the place of a name are the variable's
-  pub at_name : (text : List ℕ) (m : Member) → member_at f (sizes_of f) k text ≡ Some m → IsAtName f (pou_places f k p.kind p) text (variables_in_pou p) m
+  pub at_name : (text : List ℕ) (m : Member) → member_at f (sizes_of f) k text ≡ Some m → IsAtName f (pou_places f k p.pou_type p) text (variables_in_pou p) m
   at_name text m is =
-      find f (pou_places f k p.kind p) text (first_places f (sizes_of f) p.kind (variables_in_pou p)) (variables_in_pou p) sizes_known begins m (sym (member_is (sizes_of f) text) ∙ is)
+      find f (pou_places f k p.pou_type p) text (first_places f (sizes_of f) p.pou_type (variables_in_pou p)) (variables_in_pou p) sizes_known begins m (sym (member_is (sizes_of f) text) ∙ is)

@@ -6,12 +6,12 @@ use Rattle.std.proofs.lemmas.Bool.{false≢true}
 use Rattle.std.proofs.lemmas.List.{length-append, length-map}
 use Rattle.call_order.specs.Marks.{is_marked}
 use Rattle.call_order.specs.Uses.{uses_at, is_among}
-use Rattle.source_tree.specs.Syntax.{TypeData, PouKindData, function, function_block, program, PouData, FileData}
+use Rattle.source_tree.specs.Syntax.{TypeData, PouTypeData, function, function_block, program, PouData, FileData}
 use Rattle.program_tree.specs.Tree.{CellData}
 use Rattle.naming.specs.declared.role.Role.{Role}
 use Rattle.naming.specs.declared.role.Role.TheVariants as roles
 use Rattle.naming.specs.Circles.{uses_of}
-use Rattle.naming.specs.FileScope.{pous_of, pou_at, kind_at, standing, pou_number}
+use Rattle.naming.specs.FileScope.{pous_of, pou_at, pou_type_at, standing, pou_number}
 use Rattle.naming.specs.Scopes.{Variable, result_of as result_variable, variables_of, names_in_body, variables_in_pou, is_local, is_input, is_result, is_step, block_of}
 use Rattle.typing.specs.declared.next.Next.{Next}
 use Rattle.typing.specs.declared.member.Member.{Member}
@@ -170,8 +170,8 @@ own_name t q = record { name = q.name; role = roles.Result; kind = Some t; initi
 abbrev other_names : PouData → List Variable
 other_names q = variables_of q.variables ++ names_in_body q.body
 
-names_of_function : (t : TypeData) (q : PouData) → q.kind ≡ function t → variables_in_pou q ≡ own_name t q ∷ other_names q
-names_of_function t q kind = ap (λ (k : PouKindData). result_variable k q.name ++ variables_of q.variables ++ names_in_body q.body) kind
+names_of_function : (t : TypeData) (q : PouData) → q.pou_type ≡ function t → variables_in_pou q ≡ own_name t q ∷ other_names q
+names_of_function t q as_function = ap (λ (k : PouTypeData). result_variable k q.name ++ variables_of q.variables ++ names_in_body q.body) as_function
 
 -- what is known of a FUNCTION's frame: its answer and its inputs
 record IsFrame (f : FileData) (owner : List Scratch) (ms : List Member) : Type 0 where
@@ -192,28 +192,28 @@ frame_from f owner t q others sizes now =
     record { answer = λ whole known. member_fits f owner v 1 refl (λ chart. absurd (false≢true chart)) p.here known; answers = let r = rest.room in omega (arith, r); inputs = rest }
 
 module _ (f : FileData) (runs : ℕ → Bool) (used : UsesItsBlocks f) (ordered : IsOrdered f) where
-  module _ (n : ℕ) (t : TypeData) (q : PouData) (there : pou_at f n ≡ Some q) (kind : q.kind ≡ function t) where
-    owner_is : pou_places f n q.kind q ≡ map of_cell (frame_cells f q)
-    owner_is = ap (λ (k : PouKindData). pou_places f n k q) kind
+  module _ (n : ℕ) (t : TypeData) (q : PouData) (there : pou_at f n ≡ Some q) (as_function : q.pou_type ≡ function t) where
+    owner_is : pou_places f n q.pou_type q ≡ map of_cell (frame_cells f q)
+    owner_is = ap (λ (k : PouTypeData). pou_places f n k q) as_function
 
     abbrev members : List Variable → List Member
     members vs = members_of f (sizes_of f) (places_from f (sizes_of f) true 1 vs) vs
 
     members_are : members_at f (sizes_of f) n ≡ members (own_name t q ∷ other_names q)
     members_are =
-        ap (λ (o : Option PouData). members_if f (sizes_of f) o) there ∙ ap (λ (k : PouKindData). members_of f (sizes_of f) (first_places f (sizes_of f) k (variables_in_pou q)) (variables_in_pou q)) kind
-        ∙ ap members (names_of_function t q kind)
+        ap (λ (o : Option PouData). members_if f (sizes_of f) o) there ∙ ap (λ (k : PouTypeData). members_of f (sizes_of f) (first_places f (sizes_of f) k (variables_in_pou q)) (variables_in_pou q)) as_function
+        ∙ ap members (names_of_function t q as_function)
 
     starts : IsNext f (map of_cell (frame_cells f q)) (places_from f (sizes_of f) true 1 (own_name t q ∷ other_names q)) (own_name t q ∷ other_names q)
     starts =
-        subst (λ (vs : List Variable). IsNext f (map of_cell (frame_cells f q)) (places_from f (sizes_of f) true 1 vs) vs) (names_of_function t q kind)
-        (subst (λ (k : PouKindData). IsNext f (map of_cell (frame_cells f q)) (first_places f (sizes_of f) k (variables_in_pou q)) (variables_in_pou q)) kind
-        (subst (λ (l : List Scratch). IsNext f l (first_places f (sizes_of f) q.kind (variables_in_pou q)) (variables_in_pou q)) owner_is (begins f used ordered n q there)))
+        subst (λ (vs : List Variable). IsNext f (map of_cell (frame_cells f q)) (places_from f (sizes_of f) true 1 vs) vs) (names_of_function t q as_function)
+        (subst (λ (k : PouTypeData). IsNext f (map of_cell (frame_cells f q)) (first_places f (sizes_of f) k (variables_in_pou q)) (variables_in_pou q)) as_function
+        (subst (λ (l : List Scratch). IsNext f l (first_places f (sizes_of f) q.pou_type (variables_in_pou q)) (variables_in_pou q)) owner_is (begins f used ordered n q there)))
 
     frame_known : IsFrame f (map of_cell (frame_cells f q)) (members_at f (sizes_of f) n)
     frame_known =
         subst (λ (ms : List Member). IsFrame f (map of_cell (frame_cells f q)) ms) (sym members_are)
-        (frame_from f (map of_cell (frame_cells f q)) t q (others_known q) (subst (λ (vs : List Variable). AllByRecursion (HasSize f) vs) (names_of_function t q kind) (sizes_known f used ordered n q there)) starts)
+        (frame_from f (map of_cell (frame_cells f q)) t q (others_known q) (subst (λ (vs : List Variable). AllByRecursion (HasSize f) vs) (names_of_function t q as_function) (sizes_known f used ordered n q there)) starts)
 
     abbrev of_block : Blocks
     of_block = block_cells f (length (pous_of f))
@@ -226,7 +226,7 @@ module _ (f : FileData) (runs : ℕ → Bool) (used : UsesItsBlocks f) (ordered 
         let few = inputs_few f of_block others (others_known q) behind in
         let inputs : length (ports_of (members_at f (sizes_of f) n)) ≡ length (ports_of (members_of f (sizes_of f) behind others)) = ap (λ (ms : List Member). length (ports_of ms)) members_are in
         let cells : length (front_cells f q) ≡ length (fault_cell ∷ cell_for f false None (own_name t q) ∷ fronts f of_block others) =
-        ap (λ (vs : List Variable). length (fault_cell ∷ fronts f of_block vs)) (names_of_function t q kind) in
+        ap (λ (vs : List Variable). length (fault_cell ∷ fronts f of_block vs)) (names_of_function t q as_function) in
         omega (arith, few, inputs, cells)
 
     pub kept_room : (b : Bool) → 2 ≤ length (kept_cells f b q)
@@ -237,7 +237,7 @@ module _ (f : FileData) (runs : ℕ → Bool) (used : UsesItsBlocks f) (ordered 
       kept = kept_cells f (runs (called_number f n)) q
 
       frame : frames_of (stated_by f runs) (called_number f n) ≡ frame_for kept
-      frame = frame_is f runs ordered n t q there kind called
+      frame = frame_is f runs ordered n t q there as_function called
 
       place_is : (place : ℕ) → place < length (front_cells f q) → place_at (map of_cell (frame_cells f q)) place ≡ scratch_at (frames_of (stated_by f runs) (called_number f n)) place
       place_is place small = kept_at f q (runs (called_number f n)) place small ∙ ap (λ (d : FrameData). scratch_at d place) (sym frame)
@@ -269,20 +269,20 @@ module _ (f : FileData) (runs : ℕ → Bool) (used : UsesItsBlocks f) (ordered 
 
   -- ---- the FUNCTIONs that a POU calls
 
-  function_pou : (o : Option PouData) → unwrap_or (option_map is_function (option_map (λ (q : PouData). q.kind) o)) false ≡ true → (t : TypeData) × (q : PouData) × (o ≡ Some q) × (q.kind ≡ function t)
+  function_pou : (o : Option PouData) → unwrap_or (option_map is_function (option_map (λ (q : PouData). q.pou_type) o)) false ≡ true → (t : TypeData) × (q : PouData) × (o ≡ Some q) × (q.pou_type ≡ function t)
   function_pou None passes = absurd (false≢true passes)
-  function_pou (Some q) passes = let only = only_of q.kind passes in (only.0, q, refl, only.1)
+  function_pou (Some q) passes = let only = only_of q.pou_type passes in (only.0, q, refl, only.1)
     where
-      only_of : (kind : PouKindData) → is_function kind ≡ true → (t : TypeData) × (kind ≡ function t)
+      only_of : (pou_type : PouTypeData) → is_function pou_type ≡ true → (t : TypeData) × (pou_type ≡ function t)
       only_of (function t) passes = (t, refl)
       only_of function_block passes = absurd (false≢true passes)
       only_of program passes = absurd (false≢true passes)
 
   module _ (k : ℕ) (p : PouData) (there : pou_at f k ≡ Some p) (is : is_marked (reached f) k ≡ true) where
-    signature_at_number : (n : ℕ) → unwrap_or (option_map is_function (kind_at f n)) false ≡ true → is_among n (uses_at (uses_of f) k) ≡ true → SignatureFits (pous f runs) (scope_over f k p) (last f) (scope_of f (sizes_of f) k) (signature_of f (sizes_of f) n)
+    signature_at_number : (n : ℕ) → unwrap_or (option_map is_function (pou_type_at f n)) false ≡ true → is_among n (uses_at (uses_of f) k) ≡ true → SignatureFits (pous f runs) (scope_over f k p) (last f) (scope_of f (sizes_of f) k) (signature_of f (sizes_of f) n)
     signature_at_number n passes uses =
         let at = used_below f used ordered k n (low f used ordered k p there) uses in
-        let callable = function_may (kind_at f n) passes in
+        let callable = function_may (pou_type_at f n) passes in
         let called = is_called f ordered n at.1 (used_reached f ordered k n is uses) callable in
         let pou = function_pou (pou_at f n) passes in
         record {

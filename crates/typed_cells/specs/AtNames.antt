@@ -13,5 +13,5 @@ pub record HasCellsAt (f : FileData) (k : ℕ) (p : PouData) (text : List ℕ) (
   pub variable : Variable
   pub named : variable_named text (variables_in_pou p) ≡ Some variable
   pub is : m ≡ member_of f m.cell variable
-  pub stand : StandAt (variable_places f variable) (pou_places f k p.kind p) m.cell
-  pub within : m.cell + length (variable_places f variable) ≤ length (pou_places f k p.kind p)
+  pub stand : StandAt (variable_places f variable) (pou_places f k p.pou_type p) m.cell
+  pub within : m.cell + length (variable_places f variable) ≤ length (pou_places f k p.pou_type p)

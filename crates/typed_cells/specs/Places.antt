@@ -1,6 +1,6 @@
 -- What the places of each POU of a file take, in the order of its cells, and what its body is typed over.
 use Rattle.std.specs.Prelude.{ℕ, ℤ, pos, ◌+◌, List, [], ◌∷◌, ◌++◌, length, map, Bool, false, Option, Some, None, slice_index_or}
-use Rattle.source_tree.specs.Syntax.{SpecificationData, of_type, of_values, PouKindData, function, function_block, program, PouData, FileData}
+use Rattle.source_tree.specs.Syntax.{SpecificationData, of_type, of_values, PouTypeData, function, function_block, program, PouData, FileData}
 use Rattle.program_tree.specs.Tree.{CellData}
 use Rattle.naming.specs.FileScope.{pous_of}
 use Rattle.naming.specs.Types.{specification_at}
@@ -28,37 +28,37 @@ abbrev pub block_places : FileData → ℕ → List Scratch
 block_places f b = map of_cell (block_cells f (length (pous_of f)) None b)
 
 -- those of a POU; before the cells of a FUNCTION and of a PROGRAM stands FAULT
-abbrev pub pou_places : FileData → ℕ → PouKindData → PouData → List Scratch
+abbrev pub pou_places : FileData → ℕ → PouTypeData → PouData → List Scratch
 pou_places f k (function t) p = map of_cell (frame_cells f p)
 pou_places f k function_block p = block_places f k
 pou_places f k program p = map of_cell (fault_cell ∷ cells_in f (Some []) false (variables_in_pou p))
 
 -- where the cells of a POU begin
-abbrev pub first_of : PouKindData → ℕ
+abbrev pub first_of : PouTypeData → ℕ
 first_of (function t) = 1
 first_of function_block = 0
 first_of program = 1
 
 -- how many POUs that may be called stand before one; all before a PROGRAM
-abbrev pub before_pou : FileData → ℕ → PouKindData → ℕ
+abbrev pub before_pou : FileData → ℕ → PouTypeData → ℕ
 before_pou f k (function t) = called_number f k
 before_pou f k function_block = called_number f k
 before_pou f k program = length (called_order f)
 
 -- the names of a POU but those of its chart
 abbrev pub declared_names : PouData → List Variable
-declared_names p = result_of p.kind p.name ++ variables_of p.variables
+declared_names p = result_of p.pou_type p.name ++ variables_of p.variables
 
 -- where the cells of its chart begin, or would: behind those of all other names
 abbrev pub chart_place : FileData → PouData → ℕ
-chart_place f p = first_of p.kind + count_of_cells f (sizes_of f) (declared_names p)
+chart_place f p = first_of p.pou_type + count_of_cells f (sizes_of f) (declared_names p)
 
 abbrev pub scope_over : FileData → ℕ → PouData → BodyScope
 scope_over f k p = record {
-  first = first_of p.kind;
-  places = pou_places f k p.kind p;
+  first = first_of p.pou_type;
+  places = pou_places f k p.pou_type p;
   settable = chart_place f p;
-  pous = before_pou f k p.kind;
+  pous = before_pou f k p.pou_type;
 }
 
 -- the POUs that may be run and called, by their numbers among them, of which some run

@@ -39,14 +39,14 @@ pub fn law_scope_fits()
 /// statements may set.
 pub fn law_chart_cells()
     ensures { (f : FileData) → UsesItsBlocks f → IsOrdered f → (k : ℕ) (p : PouData) → pou_at f k ≡ Some p
-        → (ps : List PartData) → p.body ≡ chart ps → (fault : Bool) → (variables_twice fault [] (variables_in_pou p)).whole ≡ true → is_function p.kind ≡ false
+        → (ps : List PartData) → p.body ≡ chart ps → (fault : Bool) → (variables_twice fault [] (variables_in_pou p)).whole ≡ true → is_function p.pou_type ≡ false
         → All (IsFlagOf (scope_over f k p)) (cells_of_chart (scope_of f (sizes_of f) k) ps) × AreRisingFrom (scope_over f k p).settable (cells_of_chart (scope_of f (sizes_of f) k) ps) }
 {}
 
 /// A body that breaks no rule, and uses only what it may, is typed over the cells of its POU, whichever POUs run.
 pub fn law_bodies()
     ensures { (f : FileData) (runs : ℕ → Bool) → UsesItsBlocks f → IsOrdered f → (k : ℕ) (p : PouData) → pou_at f k ≡ Some p → is_marked (reached f) k ≡ true
-        → (variables_twice (is_program p.kind) [] (variables_in_pou p)).whole ≡ true → MayDo p.kind p.body → IsBodySound (scope_of f (sizes_of f) k) (uses_of_pou f k) p.body
+        → (variables_twice (is_program p.pou_type) [] (variables_in_pou p)).whole ≡ true → MayDo p.pou_type p.body → IsBodySound (scope_of f (sizes_of f) k) (uses_of_pou f k) p.body
         → IsTypedIn f runs k p }
 {}
 
@@ -55,5 +55,5 @@ pub fn law_bodies()
 pub fn law_programs()
     ensures { (f : FileData) (runs : ℕ → Bool) → UsesItsBlocks f → IsOrdered f → AreWhole f
         → ((k : ℕ) (p : PouData) → pou_at f k ≡ Some p → is_marked (reached f) k ≡ true → IsTypedIn f runs k p)
-        → (k : ℕ) (p : PouData) → pou_at f k ≡ Some p → p.kind ≡ program → is_marked (reached f) k ≡ true → IsTypedProgram (shortened f runs k p) }
+        → (k : ℕ) (p : PouData) → pou_at f k ≡ Some p → p.pou_type ≡ program → is_marked (reached f) k ≡ true → IsTypedProgram (shortened f runs k p) }
 {}

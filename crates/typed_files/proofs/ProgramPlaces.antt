@@ -6,7 +6,7 @@ use Rattle.std.proofs.lemmas.List.Sums.{passes_at_first}
 use Rattle.std.proofs.lemmas.Option.{unwrap_or-slice_get}
 use Rattle.std.specs.Prelude.{cond, nat_lt, unwrap_or}
 use Rattle.call_order.specs.Marks.{is_marked}
-use Rattle.source_tree.specs.Syntax.{PouKindData, function, function_block, program, PouData, FileData}
+use Rattle.source_tree.specs.Syntax.{PouTypeData, function, function_block, program, PouData, FileData}
 use Rattle.naming.specs.Broken.{is_program_pou}
 use Rattle.naming.specs.FileScope.{pous_of, pou_at, is_program}
 use Rattle.whole_files.specs.st_names.Bound.{program_number}
@@ -28,13 +28,13 @@ marked_at [] k p at is = absurd (let e : ⊥ = cc in e)
 marked_at (x ∷ ps) zero p at is = let same : x ≡ p = cc in ap is_program_pou same ∙ is
 marked_at (x ∷ ps) (suc k) p at is = marked_at ps k p at is
 
-kind_is : (k : PouKindData) → is_program k ≡ true → k ≡ program
-kind_is (function t) h = absurd (let e : ⊥ = cc in e)
-kind_is function_block h = absurd (let e : ⊥ = cc in e)
-kind_is program h = refl
+pou_type_is : (k : PouTypeData) → is_program k ≡ true → k ≡ program
+pou_type_is (function t) h = absurd (let e : ⊥ = cc in e)
+pou_type_is function_block h = absurd (let e : ⊥ = cc in e)
+pou_type_is program h = refl
 
-pub is_program_there : (f : FileData) (k : ℕ) (p : PouData) → program_number f ≡ Some k → pou_at f k ≡ Some p → p.kind ≡ program
-is_program_there f k p one at = kind_is p.kind (passes_there is_program_pou (pous_of f) k p one at)
+pub is_program_there : (f : FileData) (k : ℕ) (p : PouData) → program_number f ≡ Some k → pou_at f k ≡ Some p → p.pou_type ≡ program
+is_program_there f k p one at = pou_type_is p.pou_type (passes_there is_program_pou (pous_of f) k p one at)
 
 pub is_marked_there : (f : FileData) (k : ℕ) (p : PouData) → program_number f ≡ Some k → pou_at f k ≡ Some p → is_marked (map is_program_pou (pous_of f)) k ≡ true
 is_marked_there f k p one at = marked_at (pous_of f) k p at (passes_there is_program_pou (pous_of f) k p one at)

@@ -3,11 +3,11 @@
 use Rattle.std.specs.Prelude.{ℕ, ◌+◌, ◌-◌, List, [], ◌∷◌, length, map, filter, replicate, Bool, true, false, Option, Some, None, option_map, option_and_then, if◌then◌else◌, slice_index_or, slice_set}
 use Rattle.std.specs.List.{slice_get}
 use Rattle.plc_types.specs.declared.data_type.DataType.TheVariants.{Unknown}
-use Rattle.source_tree.specs.Syntax.{Named, PouKindData, function, function_block, program, PouData, FileData}
+use Rattle.source_tree.specs.Syntax.{Named, PouTypeData, function, function_block, program, PouData, FileData}
 use Rattle.naming.specs.declared.role.Role.{Role}
 use Rattle.naming.specs.declared.role.Role.TheVariants as roles
 use Rattle.naming.specs.declared.standing.Standing.{Standing}
-use Rattle.naming.specs.FileScope.{pous_of, pou_at, kind_at, standing, pou_number, number_if}
+use Rattle.naming.specs.FileScope.{pous_of, pou_at, pou_type_at, standing, pou_number, number_if}
 use Rattle.naming.specs.Scopes.{Variable, variables_in_pou, is_of_name, is_input, is_step, block_of}
 use Rattle.typing.specs.declared.scope.Place.{Place}
 use Rattle.typing.specs.declared.scope.Place.TheVariants as places
@@ -74,7 +74,7 @@ members_of f sizes next [] = []
 members_of f sizes next (v ∷ vs) = member_of f (first_place next v) v ∷ members_of f sizes (places_behind f sizes next v) vs
 
 abbrev pub members_in : FileData → List ℕ → PouData → List Member
-members_in f sizes p = let vs = variables_in_pou p in members_of f sizes (first_places f sizes p.kind vs) vs
+members_in f sizes p = let vs = variables_in_pou p in members_of f sizes (first_places f sizes p.pou_type vs) vs
 
 -- the variable of a name, among those from a place on
 abbrev pub member_among : FileData → List ℕ → List ℕ → Next → List Variable → Option Member
@@ -83,7 +83,7 @@ member_among f sizes text next (v ∷ vs) =
     if is_of_name text v then Some (member_of f (first_place next v) v) else member_among f sizes text (places_behind f sizes next v) vs
 
 abbrev pub member_in : FileData → List ℕ → List ℕ → PouData → Option Member
-member_in f sizes text p = let vs = variables_in_pou p in member_among f sizes text (first_places f sizes p.kind vs) vs
+member_in f sizes text p = let vs = variables_in_pou p in member_among f sizes text (first_places f sizes p.pou_type vs) vs
 
 -- the variable of a name of the POU of a number
 abbrev pub member_at : FileData → List ℕ → ℕ → List ℕ → Option Member
@@ -112,7 +112,7 @@ named_in f sizes number (by_path p) = variable_or_value f sizes p.first.text p.m
 named_in f sizes number (by_value n) = value_at f (standing f n.text)
 
 -- FUNCTIONs and FUNCTION_BLOCKs may be called
-abbrev pub may_be_called : Option PouKindData → Bool
+abbrev pub may_be_called : Option PouTypeData → Bool
 may_be_called None = false
 may_be_called (Some (function t)) = true
 may_be_called (Some function_block) = true
@@ -120,7 +120,7 @@ may_be_called (Some program) = false
 
 -- those that are reached, in the order in which each stands behind those that it uses
 unfoldable pub called_order : FileData → List ℕ
-called_order f = filter (λ k. may_be_called (kind_at f k)) (reached_order f)
+called_order f = filter (λ k. may_be_called (pou_type_at f k)) (reached_order f)
 
 -- the numbers that POUs have among those that may be called, which are counted from a number on
 abbrev pub numbered : List ℕ → ℕ → List ℕ → List ℕ
@@ -163,7 +163,7 @@ signature_of f sizes number = record {
   count = length (ports_of (members_at f sizes number));
 }
 
-abbrev pub is_function : PouKindData → Bool
+abbrev pub is_function : PouTypeData → Bool
 is_function (function t) = true
 is_function function_block = false
 is_function program = false

@@ -1,7 +1,7 @@
 -- Where the cells of a POU's names stand (IEC 61131-3, 2.5 and 2.6): those of variables in declared order, those of an instance of a block
 -- in its place; and behind them those of a chart, first of its steps, and then of its stored actions.
 use Rattle.std.specs.Prelude.{ℕ, ◌+◌, List, [], ◌∷◌, ◌++◌, length, filter, replicate, Bool, true, false, not, ◌||◌, Option, Some, None, if◌then◌else◌, slice_index_or, slice_set}
-use Rattle.source_tree.specs.Syntax.{PouKindData, function, function_block, program, PouData, FileData}
+use Rattle.source_tree.specs.Syntax.{PouTypeData, function, function_block, program, PouData, FileData}
 use Rattle.naming.specs.declared.role.Role.{Role}
 use Rattle.naming.specs.declared.role.Role.TheVariants as roles
 use Rattle.naming.specs.FileScope.{pous_of, pou_at}
@@ -85,7 +85,7 @@ places_from f sizes of_function first vs =
     record { of_function = of_function; front = first; rest = first + count_of_cells f sizes (in_front of_function vs) }
 
 -- where the cells of a POU begin: those of a block at the first, and those of a FUNCTION or a PROGRAM behind FAULT
-abbrev pub first_places : FileData → List ℕ → PouKindData → List Variable → Next
+abbrev pub first_places : FileData → List ℕ → PouTypeData → List Variable → Next
 first_places f sizes (function t) vs = places_from f sizes true 1 vs
 first_places f sizes function_block vs = places_from f sizes false 0 vs
 first_places f sizes program vs = places_from f sizes false 1 vs

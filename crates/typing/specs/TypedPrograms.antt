@@ -5,7 +5,7 @@ use Rattle.program_tree.specs.declared.typed.Part.{Part}
 use Rattle.program_tree.specs.declared.typed.CellType.{CellType}
 use Rattle.program_tree.specs.declared.typed.Part.TheVariants as parts
 use Rattle.plc_types.specs.Types.{range_of}
-use Rattle.source_tree.specs.Syntax.{Named, SpecificationData, of_type, of_values, TypeDeclarationData, BodyData, statements, chart as chart_body, PouKindData, function, function_block, program, PouData, FileData}
+use Rattle.source_tree.specs.Syntax.{Named, SpecificationData, of_type, of_values, TypeDeclarationData, BodyData, statements, chart as chart_body, PouTypeData, function, function_block, program, PouData, FileData}
 use Rattle.program_tree.specs.Tree.{number, assign as typed_assign, Statements, no_statements, statement, CellData, CalledData, block as typed_block, function as typed_function, ProgramData}
 use Rattle.naming.specs.declared.role.Role.{Role}
 use Rattle.naming.specs.declared.role.Role.TheVariants as roles
@@ -158,7 +158,7 @@ typed_body scope (chart_body ps) = statement (typed_chart scope ps) no_statement
 
 -- what the POU of a number does, which begins with its VAR_TEMP variables
 abbrev pub pou_body : FileData → ℕ → PouData → Statements
-pou_body f k p = let vs = variables_in_pou p in begun f (first_places f (sizes_of f) p.kind vs) vs (typed_body (scope_of f (sizes_of f) k) p.body)
+pou_body f k p = let vs = variables_in_pou p in begun f (first_places f (sizes_of f) p.pou_type vs) vs (typed_body (scope_of f (sizes_of f) k) p.body)
 
 -- the cells of a FUNCTION's call, FAULT first
 abbrev pub frame_cells : FileData → PouData → List CellData
@@ -167,7 +167,7 @@ frame_cells f p = fault_cell ∷ cells_in f None true (variables_in_pou p)
 abbrev pub type_of_cell : CellData → CellType
 type_of_cell c = record { kind = c.kind; is_subrange = c.is_subrange }
 
-abbrev pub called_of : FileData → ℕ → PouKindData → PouData → CalledData
+abbrev pub called_of : FileData → ℕ → PouTypeData → PouData → CalledData
 called_of f k (function t) p =
     typed_function (map type_of_cell (frame_cells f p)) (map (λ c. c.range) (frame_cells f p)) (map (λ c. c.initial) (frame_cells f p)) (pou_body f k p)
 called_of f k function_block p = typed_block (pou_body f k p)
@@ -175,7 +175,7 @@ called_of f k program p = typed_block (pou_body f k p)
 
 abbrev pub called_if : FileData → ℕ → Option PouData → CalledData
 called_if f k None = typed_block no_statements
-called_if f k (Some p) = called_of f k p.kind p
+called_if f k (Some p) = called_of f k p.pou_type p
 
 -- the POUs that are reached and may be called
 abbrev pub called_by : FileData → List CalledData

@@ -29,7 +29,7 @@ module _ (f : FileData) (a b : List ℕ) where
     where
       by : (o : Option PouData) → ports_of (members_if f a o) ≡ ports_of (members_if f b o)
       by None = refl
-      by (Some x) = let vs = variables_in_pou x in ports_of_alike (first_places f a x.kind vs) (first_places f b x.kind vs) vs
+      by (Some x) = let vs = variables_in_pou x in ports_of_alike (first_places f a x.pou_type vs) (first_places f b x.pou_type vs) vs
 
   result_by : (m n : Next) (vs : List Variable) → result_of (members_of f a m vs) ≡ result_of (members_of f b n vs)
   result_by m n [] = refl
@@ -40,7 +40,7 @@ module _ (f : FileData) (a b : List ℕ) where
     where
       by : (o : Option PouData) → result_of (members_if f a o) ≡ result_of (members_if f b o)
       by None = refl
-      by (Some x) = let vs = variables_in_pou x in result_by (first_places f a x.kind vs) (first_places f b x.kind vs) vs
+      by (Some x) = let vs = variables_in_pou x in result_by (first_places f a x.pou_type vs) (first_places f b x.pou_type vs) vs
 
   pub signature_alike : (text : List ℕ) → signature_at f a text ≡ signature_at f b text
   signature_alike text = by (function_number f (standing f text))

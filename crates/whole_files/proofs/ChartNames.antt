@@ -12,7 +12,7 @@ use Rattle.rules.specs.declared.rule.Rule.TheVariants.{UnknownStep, StepTwice, N
 use Rattle.rules.specs.Judgements.{ok, suppressed, and, breaks}
 use Rattle.source_tree.specs.declared.syntax.Section.{Section}
 use Rattle.source_tree.specs.declared.syntax.Section.TheVariants as sections
-use Rattle.source_tree.specs.Syntax.{Named, DeclarationData, VariablesData, StepActionData, ChartStepData, PartData, step_part, transition_part, action_part, BodyData, statements, chart as chart_body, PouKindData, function, function_block, program, PouData, FileData}
+use Rattle.source_tree.specs.Syntax.{Named, DeclarationData, VariablesData, StepActionData, ChartStepData, PartData, step_part, transition_part, action_part, BodyData, statements, chart as chart_body, PouTypeData, function, function_block, program, PouData, FileData}
 use Rattle.naming.specs.declared.role.Role.TheVariants as roles
 use Rattle.naming.specs.ChartWords.{qualifier_of, is_storing, stores, is_stored}
 use Rattle.naming.specs.FileScope.{pou_at}
@@ -83,7 +83,7 @@ variables_no_step : (text : List ℕ) (vs : List VariablesData) → HasNoStep te
 variables_no_step text [] = refl
 variables_no_step text (v ∷ vs) = none_either text (declared_in (role_of v.section) v.declarations) (variables_of vs) (declared_no_step text v.section v.declarations) (variables_no_step text vs)
 
-result_no_step : (text : List ℕ) (k : PouKindData) (n : Named) → HasNoStep text (result_of k n)
+result_no_step : (text : List ℕ) (k : PouTypeData) (n : Named) → HasNoStep text (result_of k n)
 result_no_step text (function t) n = let v : Variable = record { name = n; role = roles.Result; kind = Some t; initial = None } in λ i. no_step text v refl i || false
 result_no_step text function_block n = refl
 result_no_step text program n = refl

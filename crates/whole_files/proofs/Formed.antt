@@ -1,7 +1,7 @@
 -- Of a file that is levelled, each type and each variable is spelled as the grammar has it.
 use Rattle.std.proofs.Common.{◌≡◌, ℕ, zero, suc, List, [], ◌∷◌, ◌++◌, map, Bool, Option, Some, None, subst}
 use Rattle.std.specs.List.{slice_get}
-use Rattle.source_tree.specs.Syntax.{Named, TypeData, of_elementary, of_subrange, of_name, TypeDeclarationData, DeclarationData, VariablesData, PartData, step_part, transition_part, action_part, BodyData, statements, chart as chart_body, PouKindData, function, function_block, program, PouData, types, pou, FileData}
+use Rattle.source_tree.specs.Syntax.{Named, TypeData, of_elementary, of_subrange, of_name, TypeDeclarationData, DeclarationData, VariablesData, PartData, step_part, transition_part, action_part, BodyData, statements, chart as chart_body, PouTypeData, function, function_block, program, PouData, types, pou, FileData}
 use Rattle.source_tree.specs.Levels.{IsInitialFormed, IsTypeFormed, IsSpecificationFormed, AreDeclarationsFormed, AreTypesFormed, AreVariablesFormed, IsResultFormed, IsItemLevelled, IsFileLevelled}
 use Rattle.naming.specs.declared.role.Role.{Role}
 use Rattle.naming.specs.ChartWords.{is_stored}
@@ -59,7 +59,7 @@ in_sections : (vs : List VariablesData) → AreVariablesFormed vs → AreFormed 
 in_sections [] all = tt
 in_sections (v ∷ vs) all = append (declared_in (role_of v.section) v.declarations) (variables_of vs) (in_declarations (role_of v.section) v.declarations all.0) (in_sections vs all.1)
 
-of_result : (k : PouKindData) (n : Named) → IsResultFormed k → AreFormed (result_of k n)
+of_result : (k : PouTypeData) (n : Named) → IsResultFormed k → AreFormed (result_of k n)
 of_result (function (of_elementary kind at)) n h = (tt, tt, tt)
 of_result (function (of_subrange kind at b)) n h = absurd h
 of_result (function (of_name m)) n h = (tt, tt, tt)
@@ -85,4 +85,4 @@ of_body (chart_body qs) = of_parts (is_stored qs) qs
 
 pub variables_formed : (p : PouData) → IsItemLevelled (pou p) → AreFormed (variables_in_pou p)
 variables_formed p levels =
-    append (result_of p.kind p.name ++ variables_of p.variables) (names_in_body p.body) (append (result_of p.kind p.name) (variables_of p.variables) (of_result p.kind p.name levels.0) (in_sections p.variables levels.2)) (of_body p.body)
+    append (result_of p.pou_type p.name ++ variables_of p.variables) (names_in_body p.body) (append (result_of p.pou_type p.name) (variables_of p.variables) (of_result p.pou_type p.name levels.0) (in_sections p.variables levels.2)) (of_body p.body)

@@ -4,7 +4,7 @@ use Rattle.std.specs.List.{slice_get}
 use Rattle.std.specs.Option.{unwrap_or}
 use Rattle.std.proofs.lemmas.Bool.{and_from, and_parts}
 use Rattle.rules.specs.Judgements.{ok, suppressed}
-use Rattle.source_tree.specs.Syntax.{Named, PathData, PouKindData, function, function_block, program, PouData, FileData}
+use Rattle.source_tree.specs.Syntax.{Named, PathData, PouTypeData, function, function_block, program, PouData, FileData}
 use Rattle.naming.specs.declared.role.Role.TheVariants as roles
 use Rattle.naming.specs.FileScope.{pou_at, standing, is_value}
 use Rattle.naming.specs.Scopes.{Variable, PouScope, variables_of, result_of as own_result, names_in_body, variables_in_pou, is_local, is_input, is_seen, is_step, is_action, is_transition, is_of_name, variable_named, is_fault, is_whole_type, block_of_type, block_of, seen, seen_named}
@@ -75,7 +75,7 @@ module _ (f : FileData) (wholes : (i : ℕ) (d : PouData) → pou_at f i ≡ Som
         let two = holds_by s.whole (if is_seen w.role then ok else misused n) suppressed (never false refl) h in
         let outer = (holds_by (is_seen w.role) ok (misused n) (never false refl) two.1).0 in
         let vs = variables_in_pou x in
-        let r = member_found f sizes n.text (first_places f sizes x.kind vs) vs w e in
+        let r = member_found f sizes n.text (first_places f sizes x.pou_type vs) vs w e in
         let whole = named_whole f n.text vs w (wholes b x at) e in
         ap (λ (m : Option Member). is_whole_meaning (option_map (seen_from cell) m)) r.1 ∙ known_whole f w whole (no_block f w (seen_only w.role outer))
 
@@ -149,7 +149,7 @@ module _ (f : FileData) (wholes : (i : ℕ) (d : PouData) → pou_at f i ≡ Som
   -- ---- FUNCTIONs
 
   -- the first variable of a FUNCTION is what it answers
-  first_is : (k : PouKindData) (n : Named) → is_function k ≡ true → (v : Variable) × (own_result k n ≡ v ∷ []) × (is_local v.role ≡ false)
+  first_is : (k : PouTypeData) (n : Named) → is_function k ≡ true → (v : Variable) × (own_result k n ≡ v ∷ []) × (is_local v.role ≡ false)
   first_is (function t) n h = (record { name = n; role = roles.Result; kind = Some t; initial = None }, refl, refl)
   first_is function_block n h = absurd (true≢false (sym h))
   first_is program n h = absurd (true≢false (sym h))
@@ -160,11 +160,11 @@ module _ (f : FileData) (wholes : (i : ℕ) (d : PouData) → pou_at f i ≡ Som
       let same : x ≡ v = cc in
       port_whole f x all.0 (first_place next x) (subst (λ (y : Variable). is_local y.role ≡ false) (sym same) local)
 
-  answer_whole : (x : PouData) → AreWholeVariables f (variables_in_pou x) → is_function x.kind ≡ true → is_whole_port (result_of (members_in f sizes x)) ≡ true
+  answer_whole : (x : PouData) → AreWholeVariables f (variables_in_pou x) → is_function x.pou_type ≡ true → is_whole_port (result_of (members_in f sizes x)) ≡ true
   answer_whole x all is =
       let vs = variables_in_pou x in
-      let r = first_is x.kind x.name is in
-      answer_by (first_places f sizes x.kind vs) vs (variables_of x.variables ++ names_in_body x.body) r.0 (ap (λ (l : List Variable). l ++ variables_of x.variables ++ names_in_body x.body) r.1) all r.2
+      let r = first_is x.pou_type x.name is in
+      answer_by (first_places f sizes x.pou_type vs) vs (variables_of x.variables ++ names_in_body x.body) r.0 (ap (λ (l : List Variable). l ++ variables_of x.variables ++ names_in_body x.body) r.1) all r.2
 
   ports_whole : (next : Next) (vs : List Variable) → AreWholeVariables f vs → (place : ℕ) (p : Port) → slice_get (ports_of (members_of f sizes next vs)) place ≡ Some p → is_whole_port p ≡ true
   ports_whole next [] all place p h = absurd (let z : ⊥ = cc in z)
@@ -196,7 +196,7 @@ module _ (f : FileData) (wholes : (i : ℕ) (d : PouData) → pou_at f i ≡ Som
         answer = ap (λ (o : Option PouData). is_whole_port (result_of (members_if f sizes o))) r.there ∙ answered;
         inputs = λ place p there.
             let vs = variables_in_pou r.pou in
-            ports_whole (first_places f sizes r.pou.kind vs) vs all place p (ap (λ (o : Option PouData). slice_get (ports_of (members_if f sizes o)) place) (sym r.there) ∙ there);
+            ports_whole (first_places f sizes r.pou.pou_type vs) vs all place p (ap (λ (o : Option PouData). slice_get (ports_of (members_if f sizes o)) place) (sym r.there) ∙ there);
       }
 
   pub scope_whole : (k : ℕ) (d : PouData) → pou_at f k ≡ Some d → IsWholeScope (scope_of f sizes k) (bound_uses f (naming.scope_of d))

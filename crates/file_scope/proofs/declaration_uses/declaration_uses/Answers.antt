@@ -12,7 +12,7 @@ unfolding declaration_uses
 returns c =
     let f = file_view c.args.names.now.file.now in
     let of_type : TypeDeclarationData → List ℕ = λ d. used_by_specification f d.specification in
-    let of_pou : PouData → List ℕ = λ p. used_by_result f p.kind in
+    let of_pou : PouData → List ℕ = λ p. used_by_result f p.pou_type in
     let first : graph_of c.append_types.new.all.items ≡ map of_type (types_of f) =
     c.in_ok-append_types.ensures ∙ ap (λ (vs : List (Vec ℕ Global)). graph_of vs ++ map of_type (types_view c.args.types.now)) c.new-all.ensures.items ∙ ap (map of_type) c.requires.types in
     c.in_ok-append_pous.ensures ∙ ap (λ (g : Graph). g ++ map of_pou (pous_view c.args.pous.now)) first ∙ ap (λ (ps : List PouData). map of_type (types_of f) ++ map of_pou ps) c.requires.pous

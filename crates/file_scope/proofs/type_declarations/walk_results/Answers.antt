@@ -22,6 +22,6 @@ loop-place-preserved c =
     let left = view-drop (λ q. pou_view q.now) ps place x (omega arith) c.index-pous-place.is in
     let all = ap (λ qs. earlier c.loop-place.first (first_in (in_results f user qs))) (sym left) ∙ c.loop-place.invariant in
     let same : length c.as_slice-types.result.now ≡ length (types_of f) = ap length c.as_slice-types.ensures.value ∙ types.all in
-    let step = c.earlier.ensures ∙ ap (earlier c.loop-place.first) (outcome_first (in_result f user p.kind) c.result-judged.result (c.result-judged.ensures ∙ ap (λ n. outcome_of (in_result f (n + place) p.kind)) same)) in
+    let step = c.earlier.ensures ∙ ap (earlier c.loop-place.first) (outcome_first (in_result f user p.pou_type) c.result-judged.result (c.result-judged.ensures ∙ ap (λ n. outcome_of (in_result f (n + place) p.pou_type)) same)) in
     let moved : user + 1 ≡ length (types_of f) + (place + 1) = omega arith in
-    ap (λ k. earlier c.earlier.result (first_in (in_results f k rest))) (sym moved) ∙ first_before c.loop-place.first c.earlier.result _ (in_result f user p.kind).broken (in_results f (user + 1) rest) step all
+    ap (λ k. earlier c.earlier.result (first_in (in_results f k rest))) (sym moved) ∙ first_before c.loop-place.first c.earlier.result _ (in_result f user p.pou_type).broken (in_results f (user + 1) rest) step all

@@ -40,4 +40,4 @@ returns c =
     c.capped_cells.ensures ∙ ap (capped_cells c.args.sizes.now) c.told_at-variables.ensures ∙ ap (λ (t : List ℕ). capped_cells t (told_at f k)) c.requires.sizes ∙ capped_count f s k in
     let few : c.capped_cells.result ≤ 16777216 = omega (arith, c.if-capped_cells-gt-MOST_CELLS.false) in
     few_placed f k p c.in_ok-members.members.items c.pou-pou.ensures (few_cells count c.capped_cells.result counted few)
-    (c.in_ok-members.ensures ∙ ap (told_members c.args.sizes.now p.kind) c.told_at-variables.ensures ∙ ap (λ (t : List ℕ). told_members t p.kind (told_at f k)) c.requires.sizes)
+    (c.in_ok-members.ensures ∙ ap (told_members c.args.sizes.now p.pou_type) c.told_at-variables.ensures ∙ ap (λ (t : List ℕ). told_members t p.pou_type (told_at f k)) c.requires.sizes)

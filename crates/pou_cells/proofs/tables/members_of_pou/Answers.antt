@@ -27,7 +27,7 @@ returns-clause-members c =
     let p = pou_view c.pou-pou.result.now in
     let own = map told_view c.told_of_pou.result.now in
     let same = told_members_at-is f [] k p own (c.told_of_pou.ensures ∙ told_at-is f c.args.told.now k c.requires.told) c.pou-pou.ensures in
-    on_ok c.members_in.result (λ list. list.items ≡ told_members [] p.kind own) (λ list. list.items ≡ members_at f [] k) (λ list is. is ∙ same) c.members_in.ensures
+    on_ok c.members_in.result (λ list. list.items ≡ told_members [] p.pou_type own) (λ list. list.items ≡ members_at f [] k) (λ list is. is ∙ same) c.members_in.ensures
 
 pub returns-clause-few : goal.returns-clause-few
 returns-clause-few c =

@@ -13,5 +13,5 @@ pub returns : goal.returns
 returns c = λ before recalls.
     let line = c.args.line.now in
     let content = content_view line.content in
-    let own = c.unless.ensures ∙ ap (λ b. first_in (unless (not b) LineOrder line.at)) (c.is_out_of_order-late.ensures before recalls.kinds) in
+    let own = c.unless.ensures ∙ ap (λ b. first_in (unless (not b) LineOrder line.at)) (c.is_out_of_order-late.ensures before recalls.ranks) in
     own_behind c.or.result c.parts_refusal-parts.result c.unless.result (broken_parts (old_of c.args.pair.now) (new_of c.args.pair.now) before content) (unless (not (is_out_of_order content before)) LineOrder line.at) c.or.ensures (c.parts_refusal-parts.ensures before recalls) own

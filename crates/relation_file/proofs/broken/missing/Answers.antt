@@ -3,7 +3,7 @@ use Rattle.rules.specs.declared.rule.Rule.TheVariants.{LineOrder, InputCount}
 use Rattle.rules.specs.Rules.{first_in}
 use Rattle.scan_model.specs.declared.side.Side.TheVariants as sides
 use Rattle.indexmap.specs.IndexSet.{contains_text}
-use Rattle.relation_file.specs.Broken.{missing_kinds, missing_inputs}
+use Rattle.relation_file.specs.Broken.{missing_ranks, missing_inputs}
 use Rattle.candidates.specs.ByPath.{is_among}
 use Rattle.relation_file.specs.Inputs.{names_in, all_listed}
 use Rattle.candidates.specs.PairView.{old_of, new_of}
@@ -19,6 +19,6 @@ returns c = λ before recalls.
     let listed = c.has_inputs.ensures
     ∙ ap (λ (f : List ℕ → Bool). all_listed f old.cells && all_listed (contains_text c.args.seen.now.of_new) new.cells) recalls.of_old
     ∙ ap (λ (f : List ℕ → Bool). all_listed (is_among (names_in sides.Old before)) old.cells && all_listed f new.cells) recalls.of_new in
-    let kinds = c.unless-kinds.ensures ∙ ap (λ b. first_in (unless b LineOrder end)) (c.has_needed.ensures before recalls.kinds) in
+    let ranks = c.unless-ranks.ensures ∙ ap (λ b. first_in (unless b LineOrder end)) (c.has_needed.ensures before recalls.ranks) in
     let inputs = c.unless-inputs.ensures ∙ ap (λ b. first_in (unless b InputCount end)) listed in
-    both_first c.earlier.result c.unless-kinds.result c.unless-inputs.result (missing_kinds old new end before) (missing_inputs old new end before) c.earlier.ensures kinds inputs
+    both_first c.earlier.result c.unless-ranks.result c.unless-inputs.result (missing_ranks old new end before) (missing_inputs old new end before) c.earlier.ensures ranks inputs

@@ -50,27 +50,27 @@ loop-rest-preserved-in-Some-Gap c =
 pub returns-in-Err-clause-refused : goal.returns-in-Err-clause-refused
 returns-in-Err-clause-refused c =
     let size = rw c.in-Some-Token.field-0-is at c.in-Some-Token.ensures.size in
-    let f : IsFront c.loop-rest.rest.now (Token c.in-Some-Token.kind c.in-Some-Token.size) = record { front = (cc); some = size.0; within = size.1 } in
+    let f : IsFront c.loop-rest.rest.now (Token c.in-Some-Token.class c.in-Some-Token.size) = record { front = (cc); some = size.0; within = size.1 } in
     let slice = c.token_text-slice.ensures ∙ c.split_at-in-Some-Token.ensures.front in
-    let says = token_says c.in-Some-Token.kind c.in-Some-Token.size c.loop-rest.rest.now _ _ _ slice refl c.in-Err.ensures.broken in
+    let says = token_says c.in-Some-Token.class c.in-Some-Token.size c.loop-rest.rest.now _ _ _ slice refl c.in-Err.ensures.broken in
     let first = read_broken c.args.text.now c.loop-rest.at c.loop-rest.rest.now _ c.in-Err.rule f says c.loop-rest.invariant.read in
     right_fault c.args.text.now _ _ c.loop-rest.at _ c.refused-in-Err.ensures refl first
 
 pub loop-rest-preserved : goal.loop-rest-preserved
 loop-rest-preserved c =
     let size = rw c.in-Some-Token.field-0-is at c.in-Some-Token.ensures.size in
-    let f : IsFront c.loop-rest.rest.now (Token c.in-Some-Token.kind c.in-Some-Token.size) = record { front = (cc); some = size.0; within = size.1 } in
+    let f : IsFront c.loop-rest.rest.now (Token c.in-Some-Token.class c.in-Some-Token.size) = record { front = (cc); some = size.0; within = size.1 } in
     let slice = c.token_text-slice.ensures ∙ c.split_at-in-Some-Token.ensures.front in
     let items = ap lexemes_of c.in_ok-push-in-Some-Token.ensures.items ∙ map-append lexeme_of c.loop-rest.tokens.items _ in
     let none = c.in-Ok.ensures.kept in
-    let says = token_says c.in-Some-Token.kind c.in-Some-Token.size c.loop-rest.rest.now _ _ None slice refl none in
+    let says = token_says c.in-Some-Token.class c.in-Some-Token.size c.loop-rest.rest.now _ _ None slice refl none in
     record {
       place = omega arith;
-      read = read_front _ _ _ (Token c.in-Some-Token.kind c.in-Some-Token.size) _ f c.split_at-in-Some-Token.ensures.back says c.loop-rest.invariant.read;
+      read = read_front _ _ _ (Token c.in-Some-Token.class c.in-Some-Token.size) _ f c.split_at-in-Some-Token.ensures.back says c.loop-rest.invariant.read;
       kept = kept_push _ _ _ items none c.loop-rest.invariant.kept;
       classified = classified_push _ _ _ c.in_ok-push-in-Some-Token.ensures.items c.in-Ok.ensures.value c.loop-rest.invariant.classified;
       placed = placed_push _ _ _ _ c.in_ok-push-in-Some-Token.ensures.items (omega (arith, f.some)) c.loop-rest.invariant.placed;
-      lexed = lexed_token_at _ _ c.in-Some-Token.size c.in-Some-Token.kind _ _ _ _ _ f c.split_at-in-Some-Token.ensures.back slice items c.loop-rest.invariant.lexed;
+      lexed = lexed_token_at _ _ c.in-Some-Token.size c.in-Some-Token.class _ _ _ _ _ f c.split_at-in-Some-Token.ensures.back slice items c.loop-rest.invariant.lexed;
     }
 
 pub returns-clause-spelled : goal.returns-clause-spelled
@@ -91,5 +91,5 @@ returns-clause-placed c =
 pub token_text-slice-requires : goal.token_text-slice-requires
 token_text-slice-requires c =
     let size = rw c.in-Some-Token.field-0-is at c.in-Some-Token.ensures.size in
-    let f : IsFront c.loop-rest.rest.now (Token c.in-Some-Token.kind c.in-Some-Token.size) = record { front = (cc); some = size.0; within = size.1 } in
+    let f : IsFront c.loop-rest.rest.now (Token c.in-Some-Token.class c.in-Some-Token.size) = record { front = (cc); some = size.0; within = size.1 } in
     rw c.split_at-in-Some-Token.ensures.front (front_formed c.loop-rest.rest.now _ f)

@@ -38,15 +38,15 @@ pub begin_body-requires-clause-room : goal.begin_body-requires-clause-room
 begin_body-requires-clause-room c =
     let f = file_in c.args.placed.now.pous.domains in
     let k = c.args.number in
-    let kind = (pou_view c.args.pou.now).kind in
+    let pou_type = (pou_view c.args.pou.now).pou_type in
     let sizes = c.args.placed.now.sizes.items in
     let ts = told_at f k in
     let placed : is_placed f k ≡ true = sym c.is_placed.ensures ∙ c.if-not-is_placed.false in
     let same : told_count sizes ts ≡ told_count (map capped (sizes_of f)) ts = ap (λ (s : List ℕ). told_count s ts) c.args.placed.now.sized in
     let few = few_capped f k placed in
-    let first : told_first_places sizes kind ts ≡ c.first_places-first.result =
-    sym (c.first_places-first.ensures ∙ ap (told_first_places c.deref.result.now kind) c.told_at.ensures ∙ ap (λ (s : List ℕ). told_first_places s kind ts) c.deref.ensures.value) in
-    subst (λ (n : Next). HavePlaces sizes n ts) first (begins_with_room sizes kind ts (omega (arith, same, few)))
+    let first : told_first_places sizes pou_type ts ≡ c.first_places-first.result =
+    sym (c.first_places-first.ensures ∙ ap (told_first_places c.deref.result.now pou_type) c.told_at.ensures ∙ ap (λ (s : List ℕ). told_first_places s pou_type ts) c.deref.ensures.value) in
+    subst (λ (n : Next). HavePlaces sizes n ts) first (begins_with_room sizes pou_type ts (omega (arith, same, few)))
 
 pub begin_body-requires-clause-low : goal.begin_body-requires-clause-low
 begin_body-requires-clause-low c = λ n.
@@ -55,11 +55,11 @@ begin_body-requires-clause-low c = λ n.
     let few = placed_few f c.args.number (has_places f c.args.number (sym c.is_placed.ensures ∙ c.if-not-is_placed.false)) in
     omega (arith, low, few)
 
-begun_body : (f : FileData) (number : ℕ) (p : PouData) (vs : List Variable) (first : Next) → vs ≡ variables_in_pou p → first ≡ first_places f (sizes_of f) p.kind vs
+begun_body : (f : FileData) (number : ℕ) (p : PouData) (vs : List Variable) (first : Next) → vs ≡ variables_in_pou p → first ≡ first_places f (sizes_of f) p.pou_type vs
     → begun f first vs (typed_body (scope_of f (sizes_of f) number) p.body) ≡ pou_body f number p
 begun_body f number p vs first read from =
     let body = typed_body (scope_of f (sizes_of f) number) p.body in
-    ap (λ (n : Next). begun f n vs body) from ∙ ap (λ (xs : List Variable). begun f (first_places f (sizes_of f) p.kind xs) xs body) read
+    ap (λ (n : Next). begun f n vs body) from ∙ ap (λ (xs : List Variable). begun f (first_places f (sizes_of f) p.pou_type xs) xs body) read
 
 pub returns : goal.returns
 returns c =
@@ -69,7 +69,7 @@ returns c =
     let vs = variables_at f k in
     let sizes : c.deref.result.now ≡ map capped (sizes_of f) = c.deref.ensures.value ∙ c.args.placed.now.sized in
     let placed : is_placed f k ≡ true = sym c.is_placed.ensures ∙ c.if-not-is_placed.false in
-    let first : c.first_places-first.result ≡ first_places f (sizes_of f) p.kind vs =
-    c.first_places-first.ensures ∙ ap (told_first_places c.deref.result.now p.kind) c.told_at.ensures ∙ ap (λ (s : List ℕ). told_first_places s p.kind (told_at f k)) sizes
-    ∙ first_exact (sizes_of f) p.kind (told_at f k) (few_exact f k placed) ∙ told_first_places-is f (sizes_of f) p.kind vs in
+    let first : c.first_places-first.result ≡ first_places f (sizes_of f) p.pou_type vs =
+    c.first_places-first.ensures ∙ ap (told_first_places c.deref.result.now p.pou_type) c.told_at.ensures ∙ ap (λ (s : List ℕ). told_first_places s p.pou_type (told_at f k)) sizes
+    ∙ first_exact (sizes_of f) p.pou_type (told_at f k) (few_exact f k placed) ∙ told_first_places-is f (sizes_of f) p.pou_type vs in
     subst (λ (ss : Statements). IfOk c.begin_body.result (λ list. stmts_view list.items ≡ ss)) (begun_body f k p vs c.first_places-first.result (ap variables_in c.requires) first) c.begin_body.ensures

@@ -4,7 +4,7 @@ use Rattle.relation_file.proofs.seen.Seen.note.Goals as goal
 
 pub returns : goal.returns
 returns c = λ before recalls. record {
-  kinds = c.with-self.ensures before recalls.kinds;
+  ranks = c.with-self.ensures before recalls.ranks;
   of_old = c.in_ok-list_line.ensures (names_in sides.Old before) recalls.of_old;
   of_new = c.in_ok-list_line-2.ensures (names_in sides.New before) recalls.of_new;
 }

@@ -1,9 +1,9 @@
-// The kinds of lines, in the order in which they stand.
+// The ranks of lines: RELATION first, INVARIANT last.
 ghost use Rattle.std.specs.Prelude.{◌≡◌, ◌<◌, List, [], ◌∷◌};
 ghost use Rattle.relation_lines.specs.Lines.{LineData};
 ghost use Rattle.relation_lines.specs.View.{content_view, line_view};
 ghost use Rattle.relation_file.specs.Order.{rank_of, is_out_of_order, has_needed};
-ghost use Rattle.relation_file.specs.Seen.{HasKinds};
+ghost use Rattle.relation_file.specs.Seen.{HasRanks};
 
 use relation_lines::{Condition, Content, Line, Setting};
 
@@ -24,46 +24,46 @@ pub(crate) fn rank_of(content: &Content) -> usize
     }
 }
 
-/// The kinds of the lines so far: the rank of the last one, and which ranks there were.
+/// The ranks of the lines so far: that of the last one, and which there were.
 #[derive(Clone, Copy)]
-pub(crate) struct Kinds {
+pub(crate) struct Ranks {
     pub above: usize,
     pub had: [bool; 8],
 }
 
-impl Kinds {
+impl Ranks {
     /// Before the first line.
-    pub(crate) fn new() -> Kinds
-        ensures { HasKinds result [] }
+    pub(crate) fn new() -> Ranks
+        ensures { HasRanks result [] }
     {
-        Kinds {
+        Ranks {
             above: 0,
             had: [false; 8],
         }
     }
 
-    /// Whether a line comes before the kind of the last one, or repeats a kind that stands once.
+    /// Whether a line comes before one of the rank of the last one, or repeats a rank that stands once.
     pub(crate) fn is_out_of_order(&self, content: &Content) -> bool
-        ensures { (before : List LineData) → HasKinds self.now before → result ≡ is_out_of_order (content_view content.now) before }
+        ensures { (before : List LineData) → HasRanks self.now before → result ≡ is_out_of_order (content_view content.now) before }
     {
         let rank = rank_of(content);
         rank < self.above || rank < 4 && self.had[rank]
     }
 
-    /// Whether each kind is there that may not be missing.
+    /// Whether each rank is there that may not be missing.
     pub(crate) fn has_needed(&self) -> bool
-        ensures { (before : List LineData) → HasKinds self.now before → result ≡ has_needed before }
+        ensures { (before : List LineData) → HasRanks self.now before → result ≡ has_needed before }
     {
         self.had[0] && self.had[1] && self.had[2] && self.had[3] && self.had[6]
     }
 
-    /// The kinds with that of one more line.
-    pub(crate) fn with(&self, line: &Line) -> Kinds
-        ensures { (before : List LineData) → HasKinds self.now before → HasKinds result (line_view line.now ∷ before) }
+    /// The ranks with that of one more line.
+    pub(crate) fn with(&self, line: &Line) -> Ranks
+        ensures { (before : List LineData) → HasRanks self.now before → HasRanks result (line_view line.now ∷ before) }
     {
         let rank = rank_of(&line.content);
         let mut had = self.had;
         had[rank] = true;
-        Kinds { above: rank, had }
+        Ranks { above: rank, had }
     }
 }
