@@ -13,9 +13,9 @@ use Rattle.naming.specs.declared.standing.Standing.{Standing}
 use Rattle.naming.specs.declared.entry.Entry.{Entry}
 use Rattle.rules.specs.Judgements.{ok}
 use Rattle.naming.specs.Broken.{twice, names_twice, in_file}
-use Rattle.naming.specs.FileScope.{DeclaredName, names_of, is_declared_as, is_doubled_in_file, first_standing, standing}
+use Rattle.naming.specs.FileScope.{is_declared_twice, DeclaredName, names_of, is_declared_as, is_doubled_in_file, first_standing, standing}
 use Rattle.naming.specs.Library.{is_library}
-use Rattle.naming.specs.Table.{entry_of, entry_named, is_doubled_among, is_doubled_by, entered, standing_by, used, Holds}
+use Rattle.naming.specs.Table.{entry_of, entry_named, is_doubled_by, entered, standing_by, used, Holds}
 use Rattle.naming.proofs.CountLemmas.{count-push, any-count}
 use Rattle.rules.proofs.Outcomes.{earlier_on}
 
@@ -59,23 +59,23 @@ once_more n true h = grind (arith, nat_tests)
 once_more n false h = grind (arith, nat_tests)
 
 -- whether a name is declared twice once one of that name stands behind others, or another
-doubled-own : (q : List ℕ) (xs : List DeclaredName) (d : DeclaredName) → is_declared_as q d ≡ true → is_doubled_among (xs ++ d ∷ []) q ≡ nat_lt 1 (count_by (is_declared_as q) xs + 1 + (if is_library q then 1 else 0))
+doubled-own : (q : List ℕ) (xs : List DeclaredName) (d : DeclaredName) → is_declared_as q d ≡ true → is_declared_twice (xs ++ d ∷ []) q ≡ nat_lt 1 (count_by (is_declared_as q) xs + 1 + (if is_library q then 1 else 0))
 doubled-own q xs d h = ap (λ n. nat_lt 1 (n + (if is_library q then 1 else 0))) (count-push (is_declared_as q) xs d ∙ ap (λ b. count_by (is_declared_as q) xs + (if b then 1 else 0)) h)
 
-doubled-other : (q : List ℕ) (xs : List DeclaredName) (d : DeclaredName) → is_declared_as q d ≡ false → is_doubled_among (xs ++ d ∷ []) q ≡ is_doubled_among xs q
+doubled-other : (q : List ℕ) (xs : List DeclaredName) (d : DeclaredName) → is_declared_as q d ≡ false → is_declared_twice (xs ++ d ∷ []) q ≡ is_declared_twice xs q
 doubled-other q xs d h =
     ap (λ n. nat_lt 1 (n + (if is_library q then 1 else 0))) (count-push (is_declared_as q) xs d ∙ ap (λ b. count_by (is_declared_as q) xs + (if b then 1 else 0)) h ∙ add-zero (count_by (is_declared_as q) xs))
 
 entry-push : (q : List ℕ) (xs : List DeclaredName) (d : DeclaredName) (o : Option Standing) (b : Bool) → first_standing q xs ≡ o → is_declared_as q d ≡ b
-    → option_map (entry_of (is_doubled_among (xs ++ d ∷ []) q)) (pushed q d o)
-    ≡ (if b then Some (entered (is_library q) d.1 (option_map (entry_of (is_doubled_among xs q)) o)) else option_map (entry_of (is_doubled_among xs q)) o)
+    → option_map (entry_of (is_declared_twice (xs ++ d ∷ []) q)) (pushed q d o)
+    ≡ (if b then Some (entered (is_library q) d.1 (option_map (entry_of (is_declared_twice xs q)) o)) else option_map (entry_of (is_declared_twice xs q)) o)
 entry-push q xs d (Some s) true e h = ap (λ t. Some (entry_of t s)) (doubled-own q xs d h ∙ twice_more (count_by (is_declared_as q) xs) (if is_library q then 1 else 0) (some-count q xs s e))
 entry-push q xs d (Some s) false e h = ap (λ t. Some (entry_of t s)) (doubled-other q xs d h)
 entry-push q xs d None true e h = rw h (ap (λ t. Some (entry_of t d.1)) (doubled-own q xs d h ∙ once_more (count_by (is_declared_as q) xs) (is_library q) (none-count q xs e)))
 entry-push q xs d None false e h = rw h refl
 
 pub entry_named-push : (q : List ℕ) (xs : List DeclaredName) (d : DeclaredName) → entry_named (xs ++ d ∷ []) q ≡ (if is_declared_as q d then Some (entered (is_library q) d.1 (entry_named xs q)) else entry_named xs q)
-entry_named-push q xs d = ap (option_map (entry_of (is_doubled_among (xs ++ d ∷ []) q))) (first-push q xs d) ∙ entry-push q xs d (first_standing q xs) (is_declared_as q d) refl refl
+entry_named-push q xs d = ap (option_map (entry_of (is_declared_twice (xs ++ d ∷ []) q))) (first-push q xs d) ∙ entry-push q xs d (first_standing q xs) (is_declared_as q d) refl refl
 
 entered_at : (q : List ℕ) (xs : List DeclaredName) (d : DeclaredName) (b : Bool) (rest : Option Entry) → is_declared_as q d ≡ b
     → (if b then Some (entered (is_library d.0.text) d.1 (entry_named xs d.0.text)) else rest) ≡ (if b then Some (entered (is_library q) d.1 (entry_named xs q)) else rest)
@@ -96,7 +96,7 @@ is_some-map f None = refl
 is_some-map f (Some a) = refl
 
 pub entry-any : (q : List ℕ) (xs : List DeclaredName) → is_some (entry_named xs q) ≡ list_any (is_declared_as q) xs
-entry-any q xs = is_some-map (entry_of (is_doubled_among xs q)) (first_standing q xs) ∙ first-any q xs
+entry-any q xs = is_some-map (entry_of (is_declared_twice xs q)) (first_standing q xs) ∙ first-any q xs
 
 abbrev own : DeclaredName → Bool → List Refusal
 own d known = (if is_library d.0.text || known then twice d.0 else ok).broken
@@ -111,7 +111,7 @@ names_push a b r before rest d known know told new =
 -- ---- what the table says
 
 -- a name that is not declared is not declared twice
-none_doubled : (q : List ℕ) (xs : List DeclaredName) → first_standing q xs ≡ None → is_doubled_among xs q ≡ false
+none_doubled : (q : List ℕ) (xs : List DeclaredName) → first_standing q xs ≡ None → is_declared_twice xs q ≡ false
 none_doubled q xs h = by (is_library q)
   where
     none : count_by (is_declared_as q) xs ≡ 0
@@ -124,7 +124,7 @@ none_doubled q xs h = by (is_library q)
 pub twice-named : (f : FileData) (q : List ℕ) → is_doubled_by (entry_named (names_of f) q) ≡ is_doubled_in_file f q
 twice-named f q = by (first_standing q (names_of f)) refl
   where
-    by : (o : Option Standing) → first_standing q (names_of f) ≡ o → is_doubled_by (option_map (entry_of (is_doubled_among (names_of f) q)) o) ≡ is_doubled_among (names_of f) q
+    by : (o : Option Standing) → first_standing q (names_of f) ≡ o → is_doubled_by (option_map (entry_of (is_declared_twice (names_of f) q)) o) ≡ is_declared_twice (names_of f) q
     by None e = sym (none_doubled q (names_of f) e)
     by (Some s) e = refl
 
@@ -133,7 +133,7 @@ nothing = None
 
 pub standing-named : (f : FileData) (q : List ℕ) → standing_by (entry_named (names_of f) q) ≡ standing f q
 unfolding standing
-standing-named f q = by (first_standing q (names_of f)) (is_doubled_among (names_of f) q)
+standing-named f q = by (first_standing q (names_of f)) (is_declared_twice (names_of f) q)
   where
     same : (b : Bool) → nothing ≡ (if b then nothing else nothing)
     same true = refl
@@ -146,7 +146,7 @@ standing-named f q = by (first_standing q (names_of f)) (is_doubled_among (names
 pub first-named : (f : FileData) (q : List ℕ) → option_map (λ (e : Entry). e.standing) (entry_named (names_of f) q) ≡ first_standing q (names_of f)
 first-named f q = by (first_standing q (names_of f))
   where
-    by : (o : Option Standing) → option_map (λ (e : Entry). e.standing) (option_map (entry_of (is_doubled_among (names_of f) q)) o) ≡ o
+    by : (o : Option Standing) → option_map (λ (e : Entry). e.standing) (option_map (entry_of (is_declared_twice (names_of f) q)) o) ≡ o
     by None = refl
     by (Some s) = refl
 
@@ -163,7 +163,7 @@ used-named f n = by (first_standing n.text (names_of f)) refl (is_library n.text
     known true = refl
     known false = refl
 
-    by : (o : Option Standing) → first_standing q (names_of f) ≡ o → (l : Bool) → is_library q ≡ l → used l (option_map (entry_of (is_doubled_among (names_of f) q)) o) n ≡ in_file f n
+    by : (o : Option Standing) → first_standing q (names_of f) ≡ o → (l : Bool) → is_library q ≡ l → used l (option_map (entry_of (is_declared_twice (names_of f) q)) o) n ≡ in_file f n
     by None e true h = rw (none_doubled q (names_of f) e, h) refl
     by None e false h = rw (h, found None e) refl
     by (Some s) e l h = rw (h, found (Some s) e, known l) refl

@@ -53,9 +53,13 @@ is_declared_as text d = bytes_eq d.0.text text
 abbrev pub is_known : FileData → List ℕ → Bool
 is_known f text = is_library text || list_any (is_declared_as text) (names_of f)
 
+-- a name that is declared twice, where the library's names are declared from the start
+abbrev pub is_declared_twice : List DeclaredName → List ℕ → Bool
+is_declared_twice ds text = nat_lt 1 (count_by (is_declared_as text) ds + (if is_library text then 1 else 0))
+
 -- a name that the file's scope has twice
 abbrev pub is_doubled_in_file : FileData → List ℕ → Bool
-is_doubled_in_file f text = nat_lt 1 (count_by (is_declared_as text) (names_of f) + (if is_library text then 1 else 0))
+is_doubled_in_file f text = is_declared_twice (names_of f) text
 
 -- what the first of some names that is this one stands for
 abbrev pub first_standing : List ℕ → List DeclaredName → Option Standing

@@ -1,23 +1,18 @@
 -- What is known of a name of a file, in one place: what it stands for first, and whether it is declared twice.
-use Rattle.std.specs.Prelude.{◌≡◌, ℕ, ◌+◌, List, Bool, true, false, nat_lt, Option, Some, None, option_map, if◌then◌else◌, String, count_by}
+use Rattle.std.specs.Prelude.{◌≡◌, ℕ, List, Bool, true, false, Option, Some, None, option_map, if◌then◌else◌, String}
 use Rattle.std.specs.HashMap.{HashMap, get_by_text}
 use Rattle.source_tree.specs.Syntax.{Named}
 use Rattle.naming.specs.declared.standing.Standing.{Standing}
 use Rattle.naming.specs.declared.entry.Entry.{Entry}
 use Rattle.rules.specs.Judgements.{Judgement, suppressed}
 use Rattle.naming.specs.Broken.{unknown, misused}
-use Rattle.naming.specs.FileScope.{DeclaredName, is_declared_as, first_standing}
-use Rattle.naming.specs.Library.{is_library}
+use Rattle.naming.specs.FileScope.{DeclaredName, is_declared_twice, first_standing}
 
 abbrev pub entry_of : Bool → Standing → Entry
 entry_of doubled s = record { standing = s; is_doubled = doubled }
 
--- a name that is declared twice, where the library's names are declared from the start
-abbrev pub is_doubled_among : List DeclaredName → List ℕ → Bool
-is_doubled_among ds text = nat_lt 1 (count_by (is_declared_as text) ds + (if is_library text then 1 else 0))
-
 abbrev pub entry_named : List DeclaredName → List ℕ → Option Entry
-entry_named ds text = option_map (entry_of (is_doubled_among ds text)) (first_standing text ds)
+entry_named ds text = option_map (entry_of (is_declared_twice ds text)) (first_standing text ds)
 
 -- the entry of a name, which may be one of the library, once it is declared, again or for the first time
 abbrev pub entered : Bool → Standing → Option Entry → Entry

@@ -6,18 +6,12 @@ use Rattle.std.specs.Str.{bytes_eq}
 use Rattle.std.specs.Cmp.Lexicographic.{bytes_decides}
 use Rattle.std.specs.declared.alloc.Global.{Global}
 use Rattle.std.proofs.lemmas.List.{append-nil}
-use Rattle.std.proofs.lemmas.Option.{slice_get-map}
 use Rattle.std.proofs.lemmas.Map.Entries.{hash_map_get_place}
 use Rattle.std.proofs.lemmas.Map.Text.{hash_map_updates_text}
 use Rattle.indexmap.specs.IndexMap.{with_value_at}
 use Rattle.indexmap.proofs.CallerLemmas.{updates-with_value_at}
 use Rattle.program_tree.specs.declared.typed.Association.{Association}
 use Rattle.sfc_shape.specs.ShapeView.{listed}
-use Rattle.use_numbers.specs.Entries.{text_at}
-
--- the text of the entry of a number
-pub text_of : {X Y S : Type 0} (m : HashMap (String Y) X S) (i : ℕ) (key : String Y) (v : X) → slice_get m.entries i ≡ Some (key, v) → text_at m i ≡ Some (string_bytes key)
-text_of m i key v at = ap (option_map string_bytes) (slice_get-map (λ e. e.0) m.entries i ∙ ap (option_map (λ e. e.0)) at)
 
 module _ {S : Type 0} (m : HashMap (String Global) (Vec Association Global) S) (i : ℕ) (key : String Global) (old : Vec Association Global) (unique : IsUnique string_eq m)
     (at : slice_get m.entries i ≡ Some (key, old)) where

@@ -1,6 +1,5 @@
 // The associations of a chart's actions with its steps.
-ghost use Rattle.std.specs.Prelude.{◌≡◌, ℕ, ◌++◌, [], ◌∷◌, List, true, Some, option_map, IfSome, IfOk, OnOk, if◌then◌else◌};
-ghost use Rattle.std.specs.HashMap.{get_by_text};
+ghost use Rattle.std.specs.Prelude.{◌≡◌, ℕ, ◌++◌, [], ◌∷◌, List, Some, IfOk, OnOk, if◌then◌else◌};
 ghost use Rattle.std.specs.Str.{bytes_eq};
 ghost use Rattle.source_tree.specs.SyntaxView.{step_action_view, step_actions_view};
 ghost use Rattle.naming.specs.ChartWords.{qualifier_of};
@@ -13,7 +12,7 @@ use naming::qualifier;
 use program_tree::{Association, Qualifier};
 use source_tree::{ChartAction, ChartStep, StepAction};
 use std::alloc::{AllocError, Global};
-use use_numbers::UseNumbers;
+use use_numbers::{UseNumbers, entry_at, entry_by};
 
 /// The associations of actions, by the action's name.
 pub type Associations = IndexMap<String, Vec<Association>>;
@@ -49,16 +48,6 @@ fn entered(alloc: Global, actions: &[&ChartAction]) -> Result<Associations, Allo
         enter(alloc, &mut associations, action.name.text.as_str())?;
     }
     Ok(associations)
-}
-
-// Whether the entry of a number is that of an action of a name.
-fn is_entry(associations: &Associations, number: usize, name: &str) -> bool
-    ensures { result ≡ true → text_at associations.now number ≡ Some name.now }
-{
-    match associations.get_index(number) {
-        Some((own, _)) => own.as_str() == name,
-        None => false,
-    }
 }
 
 // Adds an association at the entry of a number.
@@ -103,7 +92,7 @@ fn keep(
     ensures { OnOk result ((text : List ℕ) → listed associations.new text ≡ listed associations.old text ++ (if bytes_eq name.now text then association ∷ [] else [])) }
 {
     match number {
-        Some(number) if is_entry(associations, number, name) => {
+        Some(number) if entry_at(associations, number, name).is_some() => {
             keep_at(associations, number, name, association)
         }
         _ => keep_by_name(alloc, associations, name, association),
@@ -162,36 +151,6 @@ pub fn associations(
     Ok(associations)
 }
 
-// The list at the entry of a number, where it is that of an action of a name.
-fn list_at<'m>(
-    associations: &'m Associations,
-    number: usize,
-    name: &str,
-) -> Option<&'m Vec<Association>>
-    ensures { IfSome result (λ list. Some list.now ≡ get_by_text associations.now name.now) }
-{
-    let (own, list) = associations.get_index(number)?;
-    if own.as_str() == name {
-        Some(list)
-    } else {
-        None
-    }
-}
-
-// The list of the action of a name, of whose entry this is the number; where it is another's, the name is looked up.
-fn list_by<'m>(
-    associations: &'m Associations,
-    number: usize,
-    name: &str,
-) -> Option<&'m Vec<Association>>
-    ensures { option_map (λ list. list.now) result ≡ get_by_text associations.now name.now }
-{
-    match list_at(associations, number, name) {
-        Some(list) => Some(list),
-        None => associations.get(name),
-    }
-}
-
 /// The associations of the action of a name, of whose entry this is the number.
 pub fn associations_by(
     alloc: Global,
@@ -202,7 +161,7 @@ pub fn associations_by(
     ensures { IfOk result (λ v. v.items ≡ listed associations.now name.now) }
 {
     let mut list = Vec::new(alloc);
-    if let Some(found) = list_by(associations, number, name) {
+    if let Some(found) = entry_by(associations, Some(number), name) {
         for association in found {
             list.push(*association)?;
         }

@@ -1,5 +1,5 @@
 // The entries of a table by names, and by the numbers that are kept of them.
-ghost use Rattle.std.specs.Prelude.{◌≡◌, Some, IfSome, option_map};
+ghost use Rattle.std.specs.Prelude.{◌≡◌, Some, IsSome, IfSome, option_map};
 ghost use Rattle.std.specs.HashMap.{get_by_text};
 ghost use Rattle.use_numbers.specs.Entries.{text_at};
 
@@ -14,23 +14,36 @@ pub fn numbered<V: Copy>(table: &IndexMap<String, V>, text: &str) -> Option<(usi
     Some((number, *value))
 }
 
-// What the entry of a number has, where it is that of a name.
-fn value_numbered<V: Copy>(
-    table: &IndexMap<String, V>,
-    number: Option<usize>,
-    text: &str,
-) -> Option<V>
-    ensures { IfSome result (λ value. Some value ≡ get_by_text table.now text.now) }
+/// What the entry of a number has, where it is that of a name.
+pub fn entry_at<'m, V>(table: &'m IndexMap<String, V>, number: usize, text: &str) -> Option<&'m V>
+    ensures entry { IfSome result (λ value. Some value.now ≡ get_by_text table.now text.now) }
+    ensures number { IsSome result → text_at table.now number ≡ Some text.now }
 {
-    let (own, value) = table.get_index(number?)?;
+    let (own, value) = table.get_index(number)?;
     if own.as_str() == text {
-        Some(*value)
+        Some(value)
     } else {
         None
     }
 }
 
 /// What a table has of a name, of whose entry this is the number; where there is none, or another's, the name is looked up.
+pub fn entry_by<'m, V>(
+    table: &'m IndexMap<String, V>,
+    number: Option<usize>,
+    text: &str,
+) -> Option<&'m V>
+    ensures { option_map (λ value. value.now) result ≡ get_by_text table.now text.now }
+{
+    if let Some(number) = number {
+        if let Some(value) = entry_at(table, number, text) {
+            return Some(value);
+        }
+    }
+    table.get(text)
+}
+
+/// The same, as a value of its own.
 pub fn value_by<V: Copy>(
     table: &IndexMap<String, V>,
     number: Option<usize>,
@@ -38,8 +51,5 @@ pub fn value_by<V: Copy>(
 ) -> Option<V>
     ensures { result ≡ get_by_text table.now text.now }
 {
-    match value_numbered(table, number, text) {
-        Some(value) => Some(value),
-        None => table.get(text).copied(),
-    }
+    entry_by(table, number, text).copied()
 }

@@ -6,5 +6,5 @@
 mod entries;
 mod numbers;
 
-pub use entries::{numbered, value_by};
+pub use entries::{entry_at, entry_by, numbered, value_by};
 pub use numbers::UseNumbers;

@@ -3,7 +3,8 @@ use Rattle.std.specs.String.{string_bytes}
 use Rattle.std.specs.Str.{bytes_eq}
 use Rattle.indexmap.specs.IndexMap.{with_value_at}
 use Rattle.sfc_shape.specs.ShapeView.{listed}
-use Rattle.sfc_shape.proofs.EntrySteps.{text_of, kept_at}
+use Rattle.use_numbers.proofs.EntryLemmas.{text_of}
+use Rattle.sfc_shape.proofs.EntrySteps.{kept_at}
 use Rattle.sfc_shape.proofs.associations.keep_at.Goals as goal
 
 pub returns : goal.returns
