@@ -47,7 +47,7 @@ use Rattle.accepted_cells.proofs.AssignedStatements.{in_body}
 use Rattle.accepted_cells.proofs.WrittenStatements.{body_writes}
 
 -- each name of a POU is declared once
-names_once : (f : FileData) (d : PouData) → (in_pou f d).whole ≡ true → (variables_twice (is_program d.kind) [] (variables_in_pou d)).whole ≡ true
+names_once : (f : FileData) (d : PouData) → (in_pou f d).whole ≡ true → (variables_twice (is_program d.pou_type) [] (variables_in_pou d)).whole ≡ true
 unfolding in_pou_scope
 names_once f d h =
     let p = names_of d in

@@ -1,3 +1,2 @@
-pub mod CellLemmas
 pub mod RowLemmas
 pub mod DuoLemmas

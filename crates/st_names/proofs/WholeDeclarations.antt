@@ -253,7 +253,7 @@ module _ (f : FileData) where
         of_pou : (p : ℕ) → user ≡ length (types_of f) + p → (d : PouData) → pou_at f p ≡ Some d → is_in_circle (declaration_uses f) user used ≡ true → Round user used
         of_pou p is d there round =
             let uses : uses_at (declaration_uses f) user ≡ used_by_result f d.pou_type = ap (uses_at (declaration_uses f)) is ∙ uses-pou p d there in
-            round_result user used d.kind (omega arith) (subst (λ (us : List ℕ). is_among used us ≡ true) uses m) round (subst (λ (n : ℕ). (in_result f n d.kind).broken ≡ []) (sym is) (clean_result p d there))
+            round_result user used d.pou_type (omega arith) (subst (λ (us : List ℕ). is_among used us ≡ true) uses m) round (subst (λ (n : ℕ). (in_result f n d.pou_type).broken ≡ []) (sym is) (clean_result p d there))
 
     -- what is used inside a circle is a type
     used_type : (user used : ℕ) → Round user used → used < length (types_of f)
@@ -417,7 +417,7 @@ module _ (f : FileData) where
     whole_result_at user (function (of_subrange kind at b)) known h = refl
     whole_result_at user (function (of_name n)) known h = let w = type_whole user n known h in whole_name n w.0 w.1 w.2
 
-    whole_pou_at : (p : ℕ) (o : Option PouData) → pou_at f p ≡ o → AllBefore IsWhole (uses_at (declaration_uses f) (length (types_of f) + p)) → not (unwrap_or (option_map (is_whole_result f) (option_map (λ d. d.kind) o)) true) ≡ false
+    whole_pou_at : (p : ℕ) (o : Option PouData) → pou_at f p ≡ o → AllBefore IsWhole (uses_at (declaration_uses f) (length (types_of f) + p)) → not (unwrap_or (option_map (is_whole_result f) (option_map (λ d. d.pou_type) o)) true) ≡ false
     whole_pou_at p None e known = refl
     whole_pou_at p (Some d) e known = ap not (whole_result_at (length (types_of f) + p) d.pou_type (λ u m. known u (subst (λ (us : List ℕ). is_among u us ≡ true) (sym (uses-pou p d e)) m)) (clean_result p d e))
 
@@ -478,7 +478,7 @@ module _ (f : FileData) where
     pub no_broken_function : (p : ℕ) → is_broken_function f p ≡ false
     no_broken_function p = by (pou_at f p) refl
       where
-        by : (o : Option PouData) → pou_at f p ≡ o → not (unwrap_or (option_map (is_whole_result f) (option_map (λ d. d.kind) o)) true) ≡ false
+        by : (o : Option PouData) → pou_at f p ≡ o → not (unwrap_or (option_map (is_whole_result f) (option_map (λ d. d.pou_type) o)) true) ≡ false
         by None e = refl
         by (Some d) e =
             let below = slice_get_within (pous_of f) p d e in

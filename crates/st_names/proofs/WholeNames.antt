@@ -115,7 +115,7 @@ names_of_chart d = by d.body refl
   where
     by : (b : BodyData) → d.body ≡ b → HasNames (scope_of d) b
     by (statements ss) e = tt
-    by (chart_body qs) e = parts_named (scope_of d) (is_stored qs) (result_of d.kind d.name ++ variables_of d.variables) qs (ap (λ (b : BodyData). result_of d.kind d.name ++ variables_of d.variables ++ names_in_body b) e)
+    by (chart_body qs) e = parts_named (scope_of d) (is_stored qs) (result_of d.pou_type d.name ++ variables_of d.variables) qs (ap (λ (b : BodyData). result_of d.pou_type d.name ++ variables_of d.variables ++ names_in_body b) e)
 
 -- ---- a POU that breaks nothing is whole
 

@@ -54,9 +54,9 @@ known_sound false j e a = absurd (true≢false (sym e))
 if_there : (f : FileData) (test : PouTypeData → Bool) (number k : ℕ) → number_if f test number ≡ Some k → (d : PouData) × (pou_at f k ≡ Some d)
 if_there f test number k h = by (pou_at f number) refl h
   where
-    by : (o : Option PouData) → pou_at f number ≡ o → (if unwrap_or (option_map test (option_map (λ d. d.kind) o)) false then Some number else None) ≡ Some k → (d : PouData) × (pou_at f k ≡ Some d)
+    by : (o : Option PouData) → pou_at f number ≡ o → (if unwrap_or (option_map test (option_map (λ d. d.pou_type) o)) false then Some number else None) ≡ Some k → (d : PouData) × (pou_at f k ≡ Some d)
     by None e i = absurd (let n : ⊥ = cc in n)
-    by (Some d) e i = on (test d.kind) i
+    by (Some d) e i = on (test d.pou_type) i
       where
         on : (b : Bool) → (if b then Some number else None) ≡ Some k → (x : PouData) × (pou_at f k ≡ Some x)
         on true j = let same : number ≡ k = cc in (d, ap (pou_at f) (sym same) ∙ e)

@@ -38,7 +38,7 @@ body_sound scope uses (chart_body ps) within levels whole named =
     record { within = within; levelled = parts_levelled ps levels; whole = whole; transitions = named.transitions; actions = named.actions }
 
 -- each name of a POU is declared once
-names_once : (f : FileData) (d : PouData) → (in_pou f d).whole ≡ true → (variables_twice (is_program d.kind) [] (variables_in_pou d)).whole ≡ true
+names_once : (f : FileData) (d : PouData) → (in_pou f d).whole ≡ true → (variables_twice (is_program d.pou_type) [] (variables_in_pou d)).whole ≡ true
 unfolding in_pou_scope
 names_once f d h =
     let p = names_of d in

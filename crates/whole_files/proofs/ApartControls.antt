@@ -38,7 +38,7 @@ instance_no_control f sizes c n (Some b) = seen_no_control c (member_at f sizes 
 
 module _ (f : FileData) (k : ℕ) (d : PouData) (at : pou_at f k ≡ Some d) where
   cell_at : List ℕ → List ℕ → ℕ
-  cell_at sizes text = cell_named f sizes text (first_places f sizes d.kind (variables_in_pou d)) (variables_in_pou d)
+  cell_at sizes text = cell_named f sizes text (first_places f sizes d.pou_type (variables_in_pou d)) (variables_in_pou d)
 
   -- a variable of the POU that may control a FOR, by its name alone
   record IsOwn (r : Reference) : Type 0 where
@@ -54,7 +54,7 @@ module _ (f : FileData) (k : ℕ) (d : PouData) (at : pou_at f k ≡ Some d) whe
   found_by sizes text members =
       let vs = variables_in_pou d in
       ap (λ (o : Option PouData). variable_or_value f sizes text members (option_and_then (member_in f sizes text) o)) at
-      ∙ ap (variable_or_value f sizes text members) (member_is f sizes text (first_places f sizes d.kind vs) vs)
+      ∙ ap (variable_or_value f sizes text members) (member_is f sizes text (first_places f sizes d.pou_type vs) vs)
 
   -- an instance alone is no value
   block_by : (v : Variable) (first : Named) (o : Option ℕ) → (in_parts f o (record { first = first; members = [] })).whole ≡ true → o ≡ None
@@ -108,10 +108,10 @@ module _ (f : FileData) (k : ℕ) (d : PouData) (at : pou_at f k ≡ Some d) whe
   unfolding cell_at
   same_position sizes r q x y =
       let vs = variables_in_pou d in
-      let next = first_places f sizes d.kind vs in
+      let next = first_places f sizes d.pou_type vs in
       (λ i. is_same_cell (x.means sizes i) (y.means sizes i))
       ∙ placed_by x.variable y.variable (cell_named f sizes x.text next vs) (cell_named f sizes y.text next vs) x.celled y.celled
-      ∙ cells_apart f sizes x.text y.text next vs x.variable y.variable (begins_ordered f sizes d.kind vs) x.named (x.taken sizes) y.named (y.taken sizes)
+      ∙ cells_apart f sizes x.text y.text next vs x.variable y.variable (begins_ordered f sizes d.pou_type vs) x.named (x.taken sizes) y.named (y.taken sizes)
 
   pub controls_apart : (a b : List ℕ) → AreApart (bound_uses f (names_of d)) (scope_of f a k) (scope_of f b k)
   controls_apart a b r q bound_r bound_q control_r control_q =

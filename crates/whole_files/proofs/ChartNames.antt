@@ -197,16 +197,16 @@ action_cell true = refl
 action_cell false = refl
 
 module _ (f : FileData) (k : ℕ) (d : PouData) (at : pou_at f k ≡ Some d) (ps : List PartData) (is : d.body ≡ chart_body ps) (sizes : List ℕ) where
-  all_are : variables_in_pou d ≡ result_of d.kind d.name ++ variables_of d.variables ++ declared_by_parts (is_stored ps) ps
-  all_are = ap (λ (b : BodyData). result_of d.kind d.name ++ variables_of d.variables ++ names_in_body b) is
+  all_are : variables_in_pou d ≡ result_of d.pou_type d.name ++ variables_of d.variables ++ declared_by_parts (is_stored ps) ps
+  all_are = ap (λ (b : BodyData). result_of d.pou_type d.name ++ variables_of d.variables ++ names_in_body b) is
 
   -- ---- transitions
 
   step_there : (text : List ℕ) (v : Variable) → variable_named text (variables_in_pou d) ≡ Some v → is_step v.role ≡ true → list_any (is_text text) (steps_of ps) ≡ true
   step_there text v named step =
-      let front = result_of d.kind d.name ++ variables_of d.variables in
+      let front = result_of d.pou_type d.name ++ variables_of d.variables in
       let own = declared_by_parts (is_stored ps) ps in
-      let none = none_either text (result_of d.kind d.name) (variables_of d.variables) (result_no_step text d.kind d.name) (variables_no_step text d.variables) in
+      let none = none_either text (result_of d.pou_type d.name) (variables_of d.variables) (result_no_step text d.pou_type d.name) (variables_no_step text d.variables) in
       sym (steps_named text (is_stored ps) ps)
       ∙ sym (or_none (list_any (is_step_named text) front) (list_any (is_step_named text) own) none)
       ∙ sym (list_any-append (is_step_named text) front own)
@@ -250,7 +250,7 @@ module _ (f : FileData) (k : ℕ) (d : PouData) (at : pou_at f k ≡ Some d) (ps
   latch_is : (n : Named) (v : Variable) → variable_named n.text (variables_in_pou d) ≡ Some v → (c : ℕ) × (latch_of ((scope_of f sizes k).means (by_path (alone n))) ≡ latch_place (place_at f c v))
   latch_is n v named =
       let vs = variables_in_pou d in
-      let r = member_found f sizes n.text (first_places f sizes d.kind vs) vs v named in
+      let r = member_found f sizes n.text (first_places f sizes d.pou_type vs) vs v named in
       (r.0, ap (λ (o : Option PouData). latch_of (variable_or_value f sizes n.text [] (option_and_then (member_in f sizes n.text) o))) at ∙ ap (λ (m : Option Member). latch_of (variable_or_value f sizes n.text [] m)) r.1)
 
   associated_by : (n : Named) (stored : Bool) → is_stored ps n.text ≡ stored → (c : ℕ) (initial : Place) → IsAssociated (latch_place (if stored then places.Cell c else places.Value (initial_of f (of_chart (action_role (is_stored ps n.text)) n)))) (associations_of ps n.text)
@@ -288,7 +288,7 @@ module _ (f : FileData) (k : ℕ) (d : PouData) (at : pou_at f k ≡ Some d) (ps
   chart_named h =
       let parts = in_chart_parts f (names_of d) ps in
       let whole = (fails_by (parts.whole && not (count_by is_initial_part ps == 1)) (breaks NotOneInitialStep (place_of_chart ps)) parts (never false refl) h).1 in
-      record { transitions = transitions_named ps whole; actions = actions_named (result_of d.kind d.name ++ variables_of d.variables) ps all_are whole }
+      record { transitions = transitions_named ps whole; actions = actions_named (result_of d.pou_type d.name ++ variables_of d.variables) ps all_are whole }
 
 pub body_named : (f : FileData) (sizes : List ℕ) (k : ℕ) (d : PouData) → pou_at f k ≡ Some d → (in_body f (names_of d) d.body).whole ≡ true → IsNamedBody (scope_of f sizes k) d.body
 body_named f sizes k d at h = by d.body refl h

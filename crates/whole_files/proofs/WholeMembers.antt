@@ -126,14 +126,14 @@ module _ (f : FileData) (wholes : (i : ℕ) (d : PouData) → pou_at f i ≡ Som
         let test = not (is_fault p.has_fault first.text) && is_value (standing f first.text) in
         let two = holds_by test (too_deep ns) (in_outer f p first) (outer_never f p first) h in
         let value = (and_parts (not (is_fault p.has_fault first.text)) (is_value (standing f first.text)) two.0).1 in
-        ap (λ (m : Option Member). is_whole_meaning (variable_or_value f sizes first.text ns m)) (member_none f sizes first.text (first_places f sizes d.kind vs) vs e) ∙ values first.text value
+        ap (λ (m : Option Member). is_whole_meaning (variable_or_value f sizes first.text ns m)) (member_none f sizes first.text (first_places f sizes d.pou_type vs) vs e) ∙ values first.text value
     path_by first ns (Some v) e h =
         let p = naming.scope_of d in
         let vs = variables_in_pou d in
         let s = seen f p v in
         let q : PathData = record { first = first; members = ns } in
         let two = holds_by s.whole (in_named f s q) suppressed (never false refl) h in
-        let r = member_found f sizes first.text (first_places f sizes d.kind vs) vs v e in
+        let r = member_found f sizes first.text (first_places f sizes d.pou_type vs) vs v e in
         let whole = named_whole f first.text vs v (wholes k d at) e in
         ap (λ (m : Option Member). is_whole_meaning (variable_or_value f sizes first.text ns m)) r.1 ∙ named_by p v whole r.0 first ns (is_step v.role) refl two.1
 
