@@ -9,11 +9,11 @@ folder=$(mktemp -d)
 trap 'rm -rf "$folder"' EXIT
 cd "$folder"
 
-# Writes a pair of that kind: make KIND [N [DEPTH [CONFLICTS]]]
+# Writes a pair of that name: make NAME [N [DEPTH [CONFLICTS]]]
 make() { python3 "$top/bench/pairs/make_pairs.py" . "$@"; }
 
 # Runs all programs so many times: measure RUNS WORD ..
 measure() { python3 "$top/bench/pairs/measure.py" "$1" "${programs[@]}" -- "${@:2}"; }
 
-# How many lines of each kind the finding of a program has.
+# How many lines of each form the finding of a program has.
 lines_of() { cut -d' ' -f1 "$1" | sort | uniq -c | awk '{printf "%s%s %s", (NR > 1 ? ", " : "    lines: "), $1, $2} END {print ""}'; }

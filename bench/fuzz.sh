@@ -1,6 +1,6 @@
 #!/usr/bin/env bash
 # Puts random texts, relation files, traces and findings to the program and to another implementation of the same commands, for a given
-# time, one run after the other, and prints each difference as a case, and at the end how many cases of each kind there were. The texts of
+# time, one run after the other, and prints each difference as a case, and at the end how many cases of each form there were. The texts of
 # the repository's cases are changed: bytes, bits, tokens, numbers and lines. Pairs are made by the grammar, and short texts whose counts
 # explode. What `regver-suggest` prints is verified. Needs python3.
 #

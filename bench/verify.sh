@@ -2,12 +2,12 @@
 # Verifies pairs by the proved program: 341 edge detectors, 120 counters, products of SINT and sums of DINT in another order, and the
 # examples. Where PLAIN names a program with the same commands it is run in turn, and where it has a command
 # `dimacs OLD NEW REL QUERY FILE` cadical decides the clauses of STEP and GOAL behind the drops. Prints the least processor times.
-# Needs python3. Use: [REGVER=PROGRAM] [PLAIN=PROGRAM] bench/verify.sh [RUNS [KIND ..]]
+# Needs python3. Use: [REGVER=PROGRAM] [PLAIN=PROGRAM] bench/verify.sh [RUNS [PAIR ..]]
 set -euo pipefail
 source "$(dirname -- "$(readlink -f -- "${BASH_SOURCE[0]}")")/beside.sh"
 runs=${1:-2}
-kinds=("${@:2}")
-[ ${#kinds[@]} -gt 0 ] || kinds=(detectors counters sint_product dint_sum examples)
+pairs=("${@:2}")
+[ ${#pairs[@]} -gt 0 ] || pairs=(detectors counters sint_product dint_sum examples)
 
 by_cadical() {
     [ -n "${PLAIN:-}" ] && command -v cadical >/dev/null || return 0
@@ -20,8 +20,8 @@ by_cadical() {
     done
 }
 
-for kind in "${kinds[@]}"; do
-    if [ "$kind" = examples ]; then
+for pair in "${pairs[@]}"; do
+    if [ "$pair" = examples ]; then
         for example in "$top"/examples/*/; do
             [ -f "$example/old.st" ] || continue
             echo "$(basename "$example")"
@@ -29,10 +29,10 @@ for kind in "${kinds[@]}"; do
         done
         continue
     fi
-    case $kind in detectors) n=341 ;; counters) n=${COUNTERS:-120} ;; *) n=3 ;; esac
-    make "$kind" $n
-    echo "$kind $n"
-    measure "$runs" verify "$kind.old" "$kind.new" "$kind.rel" FINDING
+    case $pair in detectors) n=341 ;; counters) n=${COUNTERS:-120} ;; *) n=3 ;; esac
+    make "$pair" $n
+    echo "$pair $n"
+    measure "$runs" verify "$pair.old" "$pair.new" "$pair.rel" FINDING
     for finding in *.finding; do echo "    ${finding%.finding}"; lines_of "$finding"; done
-    by_cadical "$kind"
+    by_cadical "$pair"
 done

@@ -43,7 +43,7 @@ class Evaluation:
     def __init__(self, tokens, cell):
         # Behind the clause stand words that end it, so that one that is cut is read to its end.
         self.words = [token.upper for token in tokens] + [""] * 4
-        self.kinds = [token.kind for token in tokens] + ["end"] * 4
+        self.forms = [token.form for token in tokens] + ["end"] * 4
         self.cell = cell
         self.next = 0
         self.fault = False
@@ -85,7 +85,7 @@ class Evaluation:
     def unary(self):
         if self.words[self.next] not in ("-", "NOT"):
             return self.primary()
-        sign, literal = self.take(), self.kinds[self.next] == "number"
+        sign, literal = self.take(), self.forms[self.next] == "number"
         number, base = self.primary()
         if number is None or sign == "NOT" and base not in VALUES:
             return Value(None, base)
@@ -94,8 +94,8 @@ class Evaluation:
         return Value(-number if literal else wrapped(-number, base), base)
 
     def primary(self):
-        kind, word = self.kinds[self.next], self.take()
-        if kind == "number":
+        form, word = self.forms[self.next], self.take()
+        if form == "number":
             return Value(value_of(word, 0), None)
         if word == "(":
             value = self.level()

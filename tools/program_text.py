@@ -20,8 +20,8 @@ TOKEN = re.compile(
       | (?P<sign> := | => | <> | <= | >= | \.\. | [(),;:.+*/&=<>#-] )""",
     re.VERBOSE | re.DOTALL)
 
-# A token's kind, its text in upper case, its text as it stands, the number of its line, and where it begins.
-Token = namedtuple("Token", "kind upper text line place")
+# A token's form, its text in upper case, its text as it stands, the number of its line, and where it begins.
+Token = namedtuple("Token", "form upper text line place")
 # What a variable is declared as. The base is the name of an elementary type or the tuple of an enumeration's values.
 Type = namedtuple("Type", "base bounds")
 Variable = namedtuple("Variable", "name type")
@@ -39,7 +39,7 @@ class Trouble(Exception):
 
 
 def tokens_of(text):
-    """The tokens of a text, and one of the kind `end` behind them."""
+    """The tokens of a text, and one of the form `end` behind them."""
     place, line, tokens = 0, 1, []
     while place < len(text):
         found = TOKEN.match(text, place)
@@ -69,7 +69,7 @@ class Program:
         self.types = {}
         self.sections = {"VAR_INPUT": [], "VAR_OUTPUT": []}
         programs = 0
-        while self.tokens[self.next].kind != "end":
+        while self.tokens[self.next].form != "end":
             if self.takes("TYPE"):
                 self.read_types()
             elif self.takes("PROGRAM"):
@@ -93,10 +93,10 @@ class Program:
         if not self.takes(upper):
             raise Unreadable(token.line, "{} is wanted before {}".format(upper, token.text))
 
-    def take(self, kind):
+    def take(self, form):
         token = self.tokens[self.next]
-        if token.kind != kind:
-            raise Unreadable(token.line, "a {} is wanted before {}".format(kind, token.text))
+        if token.form != form:
+            raise Unreadable(token.line, "a {} is wanted before {}".format(form, token.text))
         self.next += 1
         return token
 
@@ -109,7 +109,7 @@ class Program:
     def bound(self):
         """A bound of a subrange: a number with or without a sign, or one with its type before it."""
         negative = self.takes("-")
-        if self.tokens[self.next].kind == "word":
+        if self.tokens[self.next].form == "word":
             self.take("word")
             self.wants("#")
             negative ^= self.takes("-")

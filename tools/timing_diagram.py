@@ -31,14 +31,14 @@ def cut(text):
     return text if len(text) <= MOST_CHARACTERS else text[:MOST_CHARACTERS - 1] + "…"
 
 
-def text_at(x, y, kind, text):
-    return '<text x="{:.1f}" y="{:.1f}" class="{}">{}</text>'.format(x, y, kind, escape(text))
+def text_at(x, y, style, text):
+    return '<text x="{:.1f}" y="{:.1f}" class="{}">{}</text>'.format(x, y, style, escape(text))
 
 
-def box_at(x, y, width, height, kind, title=""):
+def box_at(x, y, width, height, style, title=""):
     inside = "<title>{}</title>".format(escape(title)) if title else ""
     return '<rect x="{:.1f}" y="{:.1f}" width="{:.1f}" height="{:.1f}" class="{}">{}</rect>'.format(
-        x, y, width, height, kind, inside)
+        x, y, width, height, style, inside)
 
 
 def is_bool(lane):
