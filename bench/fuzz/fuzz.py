@@ -93,10 +93,10 @@ class Changes:
         data = bytearray(text.encode("utf-8"))
         for _ in range(self.random.randint(1, 4)):
             at = self.random.randint(0, len(data))
-            kind = self.random.randrange(3)
-            if kind == 0:
+            change = self.random.randrange(3)
+            if change == 0:
                 data[at:at] = bytes([self.random.randrange(256)])
-            elif kind == 1 and at < len(data):
+            elif change == 1 and at < len(data):
                 del data[at : at + self.random.randint(1, 8)]
             elif at < len(data):
                 data[at] = self.random.randrange(256)
@@ -108,17 +108,17 @@ class Changes:
             if not parts:
                 break
             at = self.random.randrange(len(parts))
-            kind = self.random.randrange(6)
-            if kind == 0:
+            change = self.random.randrange(6)
+            if change == 0:
                 del parts[at]
-            elif kind == 1:
+            elif change == 1:
                 parts.insert(at, " " + self.random.choice(self.tokens) + " ")
-            elif kind == 2:
+            elif change == 2:
                 parts[at] = self.random.choice(self.tokens)
-            elif kind == 3:
+            elif change == 3:
                 other = self.random.randrange(len(parts))
                 parts[at], parts[other] = parts[other], parts[at]
-            elif kind == 4:
+            elif change == 4:
                 end = min(len(parts), at + self.random.randint(1, 12))
                 parts[at:at] = parts[at:end]
             else:
@@ -133,12 +133,12 @@ class Changes:
             if not lines:
                 break
             at = self.random.randrange(len(lines))
-            kind = self.random.randrange(5)
-            if kind == 0:
+            change = self.random.randrange(5)
+            if change == 0:
                 del lines[at]
-            elif kind == 1:
+            elif change == 1:
                 lines.insert(at, lines[at])
-            elif kind == 2:
+            elif change == 2:
                 other = self.random.randrange(len(lines))
                 lines[at], lines[other] = lines[other], lines[at]
             else:
@@ -239,29 +239,29 @@ def is_spent(run):
 
 
 class Round:
-    """One random case after the other, counted by its kind."""
+    """One random case after the other, counted by its form."""
 
     def __init__(self, programs, pairs, texts, traces, changes):
         self.programs, self.pairs, self.texts, self.traces, self.changes = programs, pairs, texts, traces, changes
         self.counts, self.slowest, self.differences = {}, {}, 0
 
-    def count(self, kind, run):
-        """Counts a case, and keeps the longest time that the program took for one of its kind."""
-        self.counts[kind] = self.counts.get(kind, 0) + 1
-        self.slowest[kind] = max(self.slowest.get(kind, 0.0), run[2])
+    def count(self, form, run):
+        """Counts a case, and keeps the longest time that the program took for one of its form."""
+        self.counts[form] = self.counts.get(form, 0) + 1
+        self.slowest[form] = max(self.slowest.get(form, 0.0), run[2])
 
-    def differ(self, kind, files, first, second):
+    def differ(self, form, files, first, second):
         self.differences += 1
-        report(f"A difference: {kind}", files, first, second)
+        report(f"A difference: {form}", files, first, second)
 
-    def compare(self, kind, files, *words):
+    def compare(self, form, files, *words):
         """Both programs run, and answer the same, unless the other one takes too long."""
         first, second = self.programs.run(0, *words), self.programs.run(1, *words)
-        self.count(kind, first)
+        self.count(form, first)
         if first[1] is not None and second[1] is None:
             self.count("answered by this program alone, while the other one was stopped", first)
         elif not is_same(first, second):
-            self.differ(kind, files, first, second)
+            self.differ(form, files, first, second)
 
     def files(self, pair, **changed):
         files = [(name, changed.get(name) or pair[name].encode("utf-8")) for name in ("old", "new", "relation")]
@@ -275,9 +275,9 @@ class Round:
             return "stored", self.changes.random.choice(self.pairs)
         return "made", made_pair(self.changes.random)
 
-    def replayed(self, kind, files, trace):
+    def replayed(self, form, files, trace):
         self.programs.put("trace", trace)
-        self.compare(kind, [*files, ("trace", trace)], "replay", "old", "new", "relation", "trace")
+        self.compare(form, [*files, ("trace", trace)], "replay", "old", "new", "relation", "trace")
 
     def program(self):
         """A program's text is changed, and replayed over a row without numbers."""
@@ -325,21 +325,21 @@ class Round:
             self.programs.put("finding", data)
             self.compare(f"findings with changed {what}, {command}", [*files, ("finding", data)], command, "old", "new", "relation", "finding")
 
-    def decided(self, kind, files):
+    def decided(self, form, files):
         """Both verify: the verdicts are the same, but where one is SPENT; the other judges the program's finding."""
         self.programs.no_finding()
         second = self.programs.run(1, "verify", "old", "new", "relation", "finding")
         self.programs.no_finding()
         first = self.programs.run(0, "verify", "old", "new", "relation", "finding")
-        self.count(kind, first)
+        self.count(form, first)
         if second[1] is None and first[1] is None:
             return
         if first[1] not in STATUSES or second[1] is not None and not is_spent(first) and not is_spent(second) and not is_same(first, second):
-            self.differ(kind, files, first, second)
+            self.differ(form, files, first, second)
         elif self.programs.finding() is not None:
             judged = self.programs.run(1, "check", "old", "new", "relation", "finding")
             if judged[1] is not None and judged[0] != b"VALID " + first[0]:
-                self.differ(f"{kind}, judged", files, first, judged)
+                self.differ(f"{form}, judged", files, first, judged)
 
     def verified(self):
         origin, pair = self.pair()
@@ -350,26 +350,26 @@ class Round:
         if len(self.programs.commands) < 3:
             return
         origin, pair = self.pair()
-        kind = f"suggestions on {origin} pairs"
+        form = f"suggestions on {origin} pairs"
         files = self.files(pair)
         told = self.programs.run(2, "old", "new", "relation")
         if told[1] in (0, 1):
-            self.decided(kind, self.files(pair, relation=told[0]))
+            self.decided(form, self.files(pair, relation=told[0]))
             return
-        self.count(kind, told)
+        self.count(form, told)
         self.programs.put("trace", b"[]")
         second = self.programs.run(1, "replay", "old", "new", "relation", "trace")
         if told[1] is not None and not is_same(told, second):
-            self.differ(kind, files, told, second)
+            self.differ(form, files, told, second)
 
 
-# How often each kind of round comes.
+# How often each form of round comes.
 ROUNDS = ("program",) * 6 + ("made",) * 3 + ("rows",) * 3 + ("judged",) * 2 + ("verified",) * 2 + ("blown_up", "suggested")
 
 
 def tell(fuzz, out):
-    for kind in sorted(fuzz.counts):
-        print(f"% {fuzz.counts[kind]:7,} {kind}, {fuzz.slowest[kind]:.1f} s at most", file=out)
+    for form in sorted(fuzz.counts):
+        print(f"% {fuzz.counts[form]:7,} {form}, {fuzz.slowest[form]:.1f} s at most", file=out)
     print(f"% {sum(fuzz.counts.values()):7,} cases, {fuzz.differences} differences", file=out, flush=True)
 
 

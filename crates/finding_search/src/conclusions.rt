@@ -1,6 +1,6 @@
 // Verdicts and queries with their numbers.
 ghost use Rattle.std.specs.Prelude.{◌≡◌, ◌≤◌, pos};
-ghost use Rattle.finding_lines.specs.declared.line.Asked.TheVariants as kinds;
+ghost use Rattle.finding_lines.specs.declared.line.Asked.TheVariants as questions;
 ghost use Rattle.finding_lines.specs.declared.line.Conclusion.TheVariants as conclusions;
 ghost use Rattle.finding_lines.specs.Form.{AskedFits, ConclusionFits};
 ghost use Rattle.queries.specs.Comparisons.{IsComparison};
@@ -70,7 +70,7 @@ pub fn spent_by(asked: Asked, limit: u32) -> Conclusion
 /// The query for a break of so many scans.
 pub fn deep_at(scans: u64) -> Asked
     requires { scans ≤ 64 }
-    ensures same { result ≡ kinds.Deep (pos scans) }
+    ensures same { result ≡ questions.Deep (pos scans) }
     ensures fits { AskedFits result }
 {
     Asked::Deep(scans as i64)

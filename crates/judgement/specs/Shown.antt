@@ -4,7 +4,7 @@ use Rattle.clause_core.specs.declared.log.Entry.{Entry}
 use Rattle.clause_core.specs.Formula.{Formula}
 use Rattle.clause_core.specs.Logs.{AcceptsLog, IsFreshLog}
 use Rattle.finding_lines.specs.declared.line.Asked.{Asked}
-use Rattle.finding_lines.specs.declared.line.Asked.TheVariants as kinds
+use Rattle.finding_lines.specs.declared.line.Asked.TheVariants as questions
 use Rattle.finding_lines.specs.declared.line.Conclusion.{Conclusion}
 use Rattle.finding_lines.specs.declared.line.Conclusion.TheVariants as conclusions
 use Rattle.scan_model.specs.declared.verdict.Verdict.{Verdict}
@@ -25,10 +25,10 @@ conclusion_of (verdicts.Open kept candidates depth) = conclusions.Open (pos kept
 
 -- a query as it is written
 abbrev pub asked_of : QueryData → Asked
-asked_of first = kinds.First
-asked_of (step set) = kinds.Step
-asked_of (goal set) = kinds.Goal
-asked_of (deep scans) = kinds.Deep (pos scans)
+asked_of first = questions.First
+asked_of (step set) = questions.Step
+asked_of (goal set) = questions.Goal
+asked_of (deep scans) = questions.Deep (pos scans)
 
 -- a log spends a formula: exactly so many steps, each accepted and fresh over what is held before it, none empty
 pub record Spends (f : Formula) (limit : ℕ) (log : List Entry) : Type 0 where
