@@ -1,18 +1,32 @@
 """Reads what a program text declares: its types, and the inputs and outputs of its PROGRAM.
 
-Only the declarations are read, and what they say is believed: `regver replay` says whether a program is accepted.
+Only the declarations are read, and what they say is believed: `regver replay` says whether a program is accepted. It judges its files in
+their order, so where there is no relation yet the program may stand for all four.
 """
 
 import re
+import shlex
 from collections import namedtuple
 
 # A file with more bytes is refused.
 MOST_BYTES = 1_048_576
-# The elementary types, each with the values that it has.
-SIGNED = {"SINT": 8, "INT": 16, "DINT": 32}
-UNSIGNED = {"BOOL": 1, "USINT": 8, "UINT": 16, "UDINT": 32, "BYTE": 8, "WORD": 16, "DWORD": 32}
-VALUES = {name: range(-2 ** (bits - 1), 2 ** (bits - 1)) for name, bits in SIGNED.items()}
-VALUES.update({name: range(2 ** bits) for name, bits in UNSIGNED.items()})
+# The elementary types: the name of each, the number of its bits, whether some values are below 0, and what it is.
+Elementary = namedtuple("Elementary", "name bits signed sort")
+ELEMENTARY = (
+    Elementary("BOOL", 1, False, "BOOL"),
+    Elementary("SINT", 8, True, "integer"),
+    Elementary("INT", 16, True, "integer"),
+    Elementary("DINT", 32, True, "integer"),
+    Elementary("USINT", 8, False, "integer"),
+    Elementary("UINT", 16, False, "integer"),
+    Elementary("UDINT", 32, False, "integer"),
+    Elementary("BYTE", 8, False, "bit string"),
+    Elementary("WORD", 16, False, "bit string"),
+    Elementary("DWORD", 32, False, "bit string"),
+)
+# The values of each.
+VALUES = {one.name: range(-2 ** (one.bits - 1), 2 ** (one.bits - 1)) if one.signed else range(2 ** one.bits)
+          for one in ELEMENTARY}
 TOKEN = re.compile(
     r"""(?P<gap> [\t\n\f\r ]+ | \(\*.*?\*\) | //[^\n]* )
       | (?P<word> [A-Za-z_][A-Za-z0-9_]* )
@@ -68,6 +82,7 @@ class Program:
         self.next = 0
         self.types = {}
         self.sections = {"VAR_INPUT": [], "VAR_OUTPUT": []}
+        self.initials = {}  # by the name of a variable: the tokens of its initial value
         programs = 0
         while self.tokens[self.next].form != "end":
             if self.takes("TYPE"):
@@ -110,8 +125,9 @@ class Program:
         """A bound of a subrange: a number with or without a sign, or one with its type before it."""
         negative = self.takes("-")
         if self.tokens[self.next].form == "word":
-            self.take("word")
-            self.wants("#")
+            word = self.take("word")
+            if not self.takes("#"):
+                raise Unreadable(word.line, "a bound of a subrange is a number, and this is a name: " + word.text)
             negative ^= self.takes("-")
         token = self.take("number")
         value = value_of(token.upper, token.line)
@@ -151,12 +167,30 @@ class Program:
                 self.wants(":")
                 kind = self.kind()
                 section.extend(Variable(name, kind) for name in names)
+                first = self.next
                 while self.tokens[self.next].upper not in (";", ""):  # an initial value
                     self.next += 1
+                self.initials.update((name.upper(), self.tokens[first + 1:self.next]) for name in names if self.next > first)
                 self.wants(";")
 
     def resolved(self, section):
         return [Variable(name, self.type_of(kind)) for name, kind in self.sections[section]]
+
+    def start_of(self, variable):
+        """The number that a variable has at the start: its initial value where that is written as a number or a value of an
+        enumeration, else 0 or the least bound above it."""
+        words = [token.upper for token in self.initials.get(variable.name.upper(), [])]
+        base, bounds = variable.type.base, variable.type.bounds
+        if words and isinstance(base, tuple):
+            return base.index(words[-1]) if words[-1] in base else 0
+        if words[-1:] in (["TRUE"], ["FALSE"]):
+            return int(words[-1] == "TRUE")
+        try:
+            number = value_of(words[-1], 0) if words else 0
+        except Unreadable:
+            number = 0
+        number = -number if "-" in words[:-1] else number
+        return number if words or not bounds or bounds[0] <= number <= bounds[1] else bounds[0]
 
     def type_of(self, kind):
         """The type that a name stands for, at the end of its way of other names."""
@@ -197,4 +231,5 @@ def read_program(path):
     try:
         return program_of(text)
     except Unreadable as error:
-        raise Trouble("{}:{}; ./regver replay says which rule the text breaks".format(path, error)) from error
+        words = " ".join([shlex.quote(path)] * 4)
+        raise Trouble("{}:{}; ./regver replay {} says which rule the text breaks".format(path, error, words)) from error

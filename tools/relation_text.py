@@ -1,4 +1,4 @@
-"""Reads what a relation file lists: its INPUT lines, its RELATE clauses, and whether FAULT has to agree.
+"""Reads what a relation file lists: its INPUT lines, its clauses, and whether FAULT has to agree.
 
 The lines are believed to keep the rules: `regver replay` says whether a relation file is accepted.
 """
@@ -11,7 +11,8 @@ from program_text import MOST_BYTES, Trouble, Unreadable, read_bytes, text_of, t
 Input = namedtuple("Input", "name old new")
 # A clause as it stands in the text, without comments, and its tokens.
 Clause = namedtuple("Clause", "text tokens")
-Relation = namedtuple("Relation", "inputs clauses faults_equal")
+# The clauses of the RELATE lines, of the ENV lines and of the INVARIANT lines, each in the order of the text.
+Relation = namedtuple("Relation", "inputs clauses faults_equal environments invariants")
 
 
 def lines_of(tokens):
@@ -52,9 +53,13 @@ def relation_of(text):
     if not lines or lines[0][0].upper != "RELATION":
         raise Unreadable(lines[0][0].line if lines else 1, "a relation file begins with RELATION 1;")
     behind = [(line[0].upper, line[1:]) for line in lines]
-    return Relation([input_of(line) for word, line in behind if word == "INPUT"],
-                    [Clause(printed(line), line) for word, line in behind if word == "RELATE"],
-                    any(word == "FAULTS" and line and line[0].upper == "EQUAL" for word, line in behind))
+    clauses = {word: [] for word in ("RELATE", "ENV", "INVARIANT")}
+    for word, line in behind:
+        if word in clauses:
+            clauses[word].append(Clause(printed(line), line))
+    return Relation([input_of(line) for word, line in behind if word == "INPUT"], clauses["RELATE"],
+                    any(word == "FAULTS" and line and line[0].upper == "EQUAL" for word, line in behind),
+                    clauses["ENV"], clauses["INVARIANT"])
 
 
 def read_relation(path):

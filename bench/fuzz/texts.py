@@ -1,24 +1,17 @@
 """Texts that the fuzzer makes: pairs of programs by the grammar, and short texts whose counts explode."""
 
 import math
+import os
 import re
+import sys
 
-RANGES = {
-    "BOOL": (0, 1),
-    "SINT": (-128, 127),
-    "INT": (-32768, 32767),
-    "DINT": (-(2**31), 2**31 - 1),
-    "USINT": (0, 255),
-    "UINT": (0, 65535),
-    "UDINT": (0, 2**32 - 1),
-    "BYTE": (0, 255),
-    "WORD": (0, 65535),
-    "DWORD": (0, 2**32 - 1),
-    "Level": (0, 9),
-    "Light": (0, 2),
-}
-INTEGERS = ("SINT", "INT", "DINT", "USINT", "UINT", "UDINT")
-BITS = ("BYTE", "WORD", "DWORD")
+sys.path.append(os.path.join(os.path.dirname(os.path.abspath(__file__)), "..", "..", "tools"))
+from program_text import ELEMENTARY, VALUES
+
+RANGES = {name: (values[0], values[-1]) for name, values in VALUES.items()}
+RANGES.update({"Level": (0, 9), "Light": (0, 2)})
+INTEGERS = tuple(one.name for one in ELEMENTARY if one.sort == "integer")
+BITS = tuple(one.name for one in ELEMENTARY if one.sort == "bit string")
 LIGHTS = ("Red", "Amber", "Green")
 TYPES = "TYPE Light : (Red, Amber, Green); Level : INT (0..9); END_TYPE"
 LIBRARY = (

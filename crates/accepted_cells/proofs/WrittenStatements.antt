@@ -1,29 +1,32 @@
 -- An assignment that stands in a body is made where the typed body runs.
-use Rattle.std.proofs.Common.{◌≡◌, ℕ, Bool, true, false, if◌then◌else◌, List, [], ◌∷◌, map, None, ap, ◌∙◌, inl, inr}
-use Rattle.plc_types.specs.declared.data_type.DataType.{DataType}
-use Rattle.source_tree.specs.Syntax.{PathData, Tree, empty, assign, invoke, branch, cases, iterate, Stmts, no_stmts, stmt, Arms, no_arms, arm, Entries, no_entries, entry, Otherwise, no_else, else_stmts, PartData, step_part, transition_part, action_part, BodyData, statements, chart as chart_body, PouData, FileData}
+use Rattle.std.proofs.Common.{◌≡◌, ℕ, Bool, true, false, if◌then◌else◌, List, [], ◌∷◌, map, ap, ◌∙◌, inl, inr}
+use Rattle.source_tree.specs.Syntax.{PathData, Tree, Stmts, PartData, step_part, transition_part, action_part, BodyData, statements, chart as chart_body, PouData, FileData}
+use Rattle.source_tree.specs.StatementItems.{some, folded_stmts, folded_parts}
+use Rattle.program_tree.specs.declared.typed.Turns.{Turns}
 use Rattle.program_tree.specs.Tree.{Expression, Statement, assign as typed_assign, number, Statements, statement}
+use Rattle.program_tree.specs.StatementItems.{assignment as written, some as written_some, folded_all, folded_actions}
 use Rattle.program_tree.specs.View.{actions_of as actions_from}
 use Rattle.naming.specs.Scopes.{Variable, variables_in_pou}
 use Rattle.sfc_shape.specs.Shapes.{actions_of}
 use Rattle.typing.specs.declared.next.Next.{Next}
-use Rattle.typing.specs.Typing.{Scope, by_path, kind_at, type_of}
+use Rattle.typing.specs.Typing.{Scope, by_path, kind_at}
 use Rattle.typing.specs.Typed.{typed}
-use Rattle.typing.specs.TypedStatements.{cell_of, typed_invoke, and_then, typed_stmts, typed_arms, typed_entries, typed_else}
+use Rattle.typing.specs.TypedStatements.{cell_of, typed_invoke, and_then, typed_stmts}
+use Rattle.typing.proofs.TypedItems.{turns_in, AreTypedAlike, typed_alike}
 use Rattle.typing.specs.TypedCharts.{typed_action}
 use Rattle.typing.specs.Variables.{initial_of}
 use Rattle.typing.specs.Places.{sizes_of, first_places, first_place, places_behind}
 use Rattle.typing.specs.Members.{scope_of}
 use Rattle.typing.specs.TypedPrograms.{is_temporary, begun, typed_body, pou_body}
-use Rattle.accepted_cells.specs.Assignments.{IsAssignedAmong, IsAssignedInArms, IsAssignedInEntries, IsAssignedInElse, IsAssignedInParts, IsAssigned}
-use Rattle.accepted_cells.specs.Written.{IsWrittenIn, IsWrittenAmong, IsWrittenInChoices, IsWrittenInEntries, IsWrittenInActions}
+use Rattle.accepted_cells.specs.Assignments.{IsAssignment, IsAssigned}
+use Rattle.accepted_cells.specs.Written.{IsWriting, IsWrittenAmong}
 
 -- ---- among statements before others
 
 module _ (c : ℕ) (v : Expression) where
-  behind : (ss : List Statement) (rest : Statements) → IsWrittenAmong c v rest → IsWrittenAmong c v (and_then ss rest)
-  behind [] rest is = is
-  behind (s ∷ ss) rest is = inr (behind ss rest is)
+  behind : (around : List Turns) (ss : List Statement) (rest : Statements) → folded_all (written_some (IsWriting c v)) around rest → folded_all (written_some (IsWriting c v)) around (and_then ss rest)
+  behind around [] rest is = is
+  behind around (s ∷ ss) rest is = inr (behind around ss rest is)
 
   behind_one : (b : Bool) (s : Statement) (ss : Statements) → IsWrittenAmong c v ss → IsWrittenAmong c v (if b then statement s ss else ss)
   behind_one true s ss is = inr is
@@ -45,54 +48,39 @@ module _ (scope : Scope) (q : PathData) (e : Tree) where
   abbrev value : Expression
   value = typed scope (kind_at (scope.means (by_path q))) e
 
-  itself : (p : PathData) (x : Tree) → p ≡ q → x ≡ e → IsWrittenIn cell value (typed_assign (cell_of (scope.means (by_path p))) (typed scope (kind_at (scope.means (by_path p))) x))
+  itself : (p : PathData) (x : Tree) → p ≡ q → x ≡ e → IsWriting cell value [] (written (cell_of (scope.means (by_path p))) (typed scope (kind_at (scope.means (by_path p))) x))
   itself p x path given = (
     ap (λ (r : PathData). cell_of (scope.means (by_path r))) path,
     ap (λ (r : PathData). typed scope (kind_at (scope.means (by_path r))) x) path ∙ ap (λ (y : Tree). typed scope (kind_at (scope.means (by_path q))) y) given,
   )
 
-  mutual
-    in_stmts : (ss : Stmts) → IsAssignedAmong q e ss → IsWrittenAmong cell value (typed_stmts scope ss)
-    in_stmts no_stmts is = absurd is
-    in_stmts (stmt empty ss) (inl is) = absurd is
-    in_stmts (stmt empty ss) (inr is) = in_stmts ss is
-    in_stmts (stmt (assign p x) ss) (inl is) = inl (itself p x is.0 is.1)
-    in_stmts (stmt (assign p x) ss) (inr is) = inr (in_stmts ss is)
-    in_stmts (stmt (invoke n at cs) ss) (inl is) = absurd is
-    in_stmts (stmt (invoke n at cs) ss) (inr is) = behind cell value (typed_invoke scope n cs) (typed_stmts scope ss) (in_stmts ss is)
-    in_stmts (stmt (branch arms other) ss) (inl (inl is)) = inl (inl (in_arms arms is))
-    in_stmts (stmt (branch arms other) ss) (inl (inr is)) = inl (inr (in_else other is))
-    in_stmts (stmt (branch arms other) ss) (inr is) = inr (in_stmts ss is)
-    in_stmts (stmt (cases x es other) ss) (inl (inl is)) = inl (inl (in_entries (type_of scope None x) es is))
-    in_stmts (stmt (cases x es other) ss) (inl (inr is)) = inl (inr (in_else other is))
-    in_stmts (stmt (cases x es other) ss) (inr is) = inr (in_stmts ss is)
-    in_stmts (stmt (iterate i body) ss) (inl is) = inl (in_stmts body is)
-    in_stmts (stmt (iterate i body) ss) (inr is) = inr (in_stmts ss is)
+  typed_alike_writes : AreTypedAlike scope (some (IsAssignment q e)) (written_some (IsWriting cell value)) (λ around A B. A → B)
+  typed_alike_writes = record {
+    none = λ around h. absurd h;
+    both = λ around A A' B B' f g h. elim h [ inl x ↦ inl (f x) | inr y ↦ inr (g y) ];
+    left_out = λ around A B f h. elim h [ inl x ↦ absurd x | inr y ↦ f y ];
+    assigned = λ around p x h. itself p x h.0 h.1;
+    invoked = λ around n at cs A rest f h. behind cell value (turns_in scope around) (typed_invoke scope n cs) rest (elim h [ inl x ↦ absurd x | inr y ↦ f y ]);
+    tested = λ around x h. absurd h;
+    selected = λ around x h. absurd h;
+    labelled = λ around x before ls h. absurd h;
+    inside = λ around i A B f h. elim h [ inl x ↦ absurd x | inr y ↦ inr (f y) ];
+  }
 
-    in_arms : (arms : Arms) → IsAssignedInArms q e arms → IsWrittenInChoices cell value (typed_arms scope arms)
-    in_arms no_arms is = absurd is
-    in_arms (arm x ss arms) (inl is) = inl (in_stmts ss is)
-    in_arms (arm x ss arms) (inr is) = inr (in_arms arms is)
+  in_stmts : (ss : Stmts) → folded_stmts (some (IsAssignment q e)) [] ss → IsWrittenAmong cell value (typed_stmts scope ss)
+  in_stmts ss is = typed_alike scope (some (IsAssignment q e)) (written_some (IsWriting cell value)) (λ around A B. A → B) typed_alike_writes [] ss is
 
-    in_entries : (t : DataType) (es : Entries) → IsAssignedInEntries q e es → IsWrittenInEntries cell value (typed_entries scope t es)
-    in_entries t no_entries is = absurd is
-    in_entries t (entry ls ss es) (inl is) = inl (in_stmts ss is)
-    in_entries t (entry ls ss es) (inr is) = inr (in_entries t es is)
-
-    in_else : (other : Otherwise) → IsAssignedInElse q e other → IsWrittenAmong cell value (typed_else scope other)
-    in_else no_else is = absurd is
-    in_else (else_stmts ss) is = in_stmts ss is
-
-  in_actions : (all ps : List PartData) → IsAssignedInParts q e ps → IsWrittenInActions cell value (actions_from (map (typed_action scope all) (actions_of ps)))
+  in_actions : (all ps : List PartData) → folded_parts (some (IsAssignment q e)) ps → folded_actions (written_some (IsWriting cell value)) [] (actions_from (map (typed_action scope all) (actions_of ps)))
   in_actions all [] is = absurd is
   in_actions all (step_part s ∷ ps) is = in_actions all ps is
-  in_actions all (transition_part t ∷ ps) is = in_actions all ps is
-  in_actions all (action_part a ∷ ps) (inl is) = inl (in_stmts a.body is)
-  in_actions all (action_part a ∷ ps) (inr is) = inr (in_actions all ps is)
+  in_actions all (transition_part t ∷ ps) (inl is) = absurd is
+  in_actions all (transition_part t ∷ ps) (inr is) = in_actions all ps is
+  in_actions all (action_part a ∷ ps) (inl is) = inr (inl (in_stmts a.body is))
+  in_actions all (action_part a ∷ ps) (inr is) = inr (inr (in_actions all ps is))
 
   in_body : (b : BodyData) → IsAssigned q e b → IsWrittenAmong cell value (typed_body scope b)
   in_body (statements ss) is = in_stmts ss is
-  in_body (chart_body ps) is = inl (in_actions ps ps is)
+  in_body (chart_body ps) is = inl (inr (inl (in_actions ps ps is)))
 
 pub body_writes : (f : FileData) (k : ℕ) (p : PouData) (q : PathData) (e : Tree) → IsAssigned q e p.body
     → IsWrittenAmong (cell_of ((scope_of f (sizes_of f) k).means (by_path q))) (typed (scope_of f (sizes_of f) k) (kind_at ((scope_of f (sizes_of f) k).means (by_path q))) e) (pou_body f k p)

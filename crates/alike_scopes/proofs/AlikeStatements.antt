@@ -8,15 +8,19 @@ use Rattle.plc_types.specs.DataTypes.{is_same_type, is_integer_type}
 use Rattle.rules.specs.declared.rule.Rule.{Rule}
 use Rattle.rules.specs.declared.rule.Rule.TheVariants.{OperandType, ValueType, ArgumentCount, NotAssignable}
 use Rattle.rules.specs.Judgements.{Judgement, and, breaks, require}
-use Rattle.source_tree.specs.Syntax.{Named, PathData, Tree, ConnectionData, input, output, Stmt, empty, assign, invoke, branch, cases, iterate, Stmts, no_stmts, stmt, Arms, no_arms, arm, Entries, no_entries, entry, Otherwise, no_else, else_stmts, IterationData, PartData, step_part, transition_part, action_part, BodyData, statements, chart as chart_body}
+use Rattle.source_tree.specs.Syntax.{Named, PathData, Tree, ConnectionData, input, output, LabelData, IterationData, BodyData}
+use Rattle.source_tree.specs.StatementItems.{StatementItem, assignment, invocation, condition, selector, labels, iteration, every}
+use Rattle.source_tree.proofs.StatementInduction.{related_body}
+use Rattle.source_tree.proofs.EveryItem.{carried as items_carried}
 use Rattle.naming.specs.Broken.{alone}
 use Rattle.typing.specs.Typing.{Reference, Scope, by_path, kind_at, or_dint, type_of}
 use Rattle.typing.specs.Judged.{judged, judged_meaning, judged_condition}
 use Rattle.typing.specs.Labels.{seen_behind}
-use Rattle.typing.specs.JudgedStatements.{is_assignable, judged_target, judged_assign, is_control, member, judged_input, judged_output, judged_connections, connects_twice, has_right_arrow, judged_invoke, may_control, judged_control, judged_bound, judged_step, is_typed, step_is_typed, judged_iteration, turns_rule, broken_by, with_control, judged_selector, judged_labels_if, judged_stmt, judged_stmts, judged_arms, judged_entries, judged_else}
-use Rattle.typing.specs.JudgedCharts.{judged_part, judged_parts}
+use Rattle.typing.specs.JudgedStatements.{is_assignable, judged_target, judged_assign, is_control, member, judged_input, judged_output, judged_connections, connects_twice, has_right_arrow, judged_invoke, may_control, judged_control, judged_bound, judged_step, is_typed, step_is_typed, judged_iteration, turns_rule, broken_by, judged_selector, judged_labels_if}
+use Rattle.typing.specs.JudgedItems.{controls_in, seen_in, judged_item, IsWholeItem}
+use Rattle.typing.proofs.JudgedItems.{IsWhole, whole_broken_by, whole_given, whole_shared, given_body, shared_body}
 use Rattle.typing.specs.Pous.{judged_body}
-use Rattle.bound_names.specs.typed_scopes.Uses.{Usable, AreConnectionsWithin, IsStmtWithin, AreStmtsWithin, AreArmsWithin, AreEntriesWithin, IsElseWithin, ArePartsWithin}
+use Rattle.bound_names.specs.typed_scopes.Uses.{Usable, AreConnectionsWithin, IsItemWithin}
 use Rattle.bound_names.proofs.typed_scopes.Wholes.{whole_require, whole_and}
 use Rattle.bound_names.specs.BoundNames.{IsBodyWithin}
 use Rattle.alike_scopes.specs.AlikeScopes.{AreAlike}
@@ -34,9 +38,8 @@ required j rule at whole false h a b = whole
 pub require_from : (j : Judgement) (h : Bool) (rule : Rule) (at : ℕ) → j.whole ≡ true → h ≡ true → (require j h rule at).whole ≡ true
 require_from j h rule at whole holds = required j rule at whole j.whole h whole holds
 
-whole_rule : (j : Judgement) (rule : Option Rule) (at : ℕ) → (broken_by j rule at).whole ≡ true → (j.whole ≡ true) × (rule ≡ None)
-whole_rule j None at whole = (whole, refl)
-whole_rule j (Some rule) at whole = absurd (false≢true (whole_require j false rule at whole).1)
+broken_by_whole : (j : Judgement) (rule : Option Rule) (at : ℕ) → rule ≡ None → j.whole ≡ true → (broken_by j rule at).whole ≡ true
+broken_by_whole j rule at none whole = ap (λ (x : Option Rule). (broken_by j x at).whole) none ∙ whole
 
 carried : (j k : Judgement) → j ≡ k → j.whole ≡ true → k.whole ≡ true
 carried j k same h = subst (λ (x : Judgement). x.whole ≡ true) same h
@@ -166,87 +169,47 @@ module _ (s t : Scope) (alike : AreAlike s t) (uses : Usable) (apart : AreApart 
         require_from (and (judged_control d m at) (bounds t)) (typed_bounds t) ValueType at
         (and_from (judged_control d m at).whole (bounds t).whole control_too (carried (bounds s) (bounds t) (bounds_alike s t alike i) parts.1)) (sym (typed_bounds_alike s t alike i) ∙ parts.2)
 
-  -- ---- statements
+  -- ---- items
 
-  mutual
-    stmt_too : (c d : List ℕ) → Controls c d → (x : Stmt) → IsStmtWithin uses x → (judged_stmt s c x).whole ≡ true → (judged_stmt t d x).whole ≡ true
-    stmt_too c d controls empty within h = refl
-    stmt_too c d controls (assign p e) within h = assign_too c d controls p e within.0 h
-    stmt_too c d controls (invoke n at cs) within h = invoke_too c d controls n cs within h
-    stmt_too c d controls (branch arms other) within h =
-        let two = whole_and (judged_arms s c arms) (judged_else s c other) h in
-        and_from (judged_arms t d arms).whole (judged_else t d other).whole (arms_too c d controls arms within.0 two.0) (else_too c d controls other within.1 two.1)
-    stmt_too c d controls (cases e es other) within h =
-        let k = type_of s None e in
-        let l = type_of t None e in
-        let one = judged_selector s e in
-        let two = judged_selector t e in
-        let same = selector_alike s t alike e in
-        let entries = judged_entries s c one.whole k [] es in
-        let parts = whole_and one (and entries (judged_else s c other)) h in
-        let more = whole_and entries (judged_else s c other) parts.1 in
-        let moved : (judged_entries t d one.whole k [] es).whole ≡ true = entries_too c d controls one.whole k [] es within.1 more.0 in
-        let typed : (judged_entries t d one.whole l [] es).whole ≡ true = subst (λ (x : DataType). (judged_entries t d one.whole x [] es).whole ≡ true) (type_alike s t alike None e) moved in
-        let done : (judged_entries t d two.whole l [] es).whole ≡ true = subst (λ (x : Judgement). (judged_entries t d x.whole l [] es).whole ≡ true) same typed in
-        and_from two.whole (and (judged_entries t d two.whole l [] es) (judged_else t d other)).whole (carried one two same parts.0)
-        (and_from (judged_entries t d two.whole l [] es).whole (judged_else t d other).whole done (else_too c d controls other within.2 more.1))
-    stmt_too c d controls (iterate i ss) within h =
-        let q = by_path (alone i.control) in
-        let inner = with_control c (s.means q) in
-        let other = with_control d (t.means q) in
-        let rule = whole_rule (and (judged_iteration s c i) (judged_stmts s inner ss)) (turns_rule s i) i.at h in
-        let two = whole_and (judged_iteration s c i) (judged_stmts s inner ss) rule.0 in
-        let control = is_control_variable c d controls i within.0.0 two.0 in
-        let body = stmts_too inner other (more_controls s t alike uses apart c d controls q within.0.0 control) ss within.1 two.1 in
-        let whole = and_from (judged_iteration t d i).whole (judged_stmts t other ss).whole (iteration_too c d controls i within.0.0 two.0) body in
-        let none : turns_rule t i ≡ None = sym (turns_alike s t alike i) ∙ rule.1 in
-        ap (λ (x : Option Rule). (broken_by (and (judged_iteration t d i) (judged_stmts t other ss)) x i.at).whole) none ∙ whole
+  seen_in_alike : (k : DataType) (before : List (List LabelData)) → seen_in s k before ≡ seen_in t k before
+  seen_in_alike k [] = refl
+  seen_in_alike k (ls ∷ before) = ap (λ (x : List Range). seen_behind s k x ls) (seen_in_alike k before) ∙ seen_alike s t alike k (seen_in t k before) ls
 
-    stmts_too : (c d : List ℕ) → Controls c d → (ss : Stmts) → AreStmtsWithin uses ss → (judged_stmts s c ss).whole ≡ true → (judged_stmts t d ss).whole ≡ true
-    stmts_too c d controls no_stmts within h = refl
-    stmts_too c d controls (stmt x ss) within h =
-        let two = whole_and (judged_stmt s c x) (judged_stmts s c ss) h in
-        and_from (judged_stmt t d x).whole (judged_stmts t d ss).whole (stmt_too c d controls x within.0 two.0) (stmts_too c d controls ss within.1 two.1)
+  labels_too : (e : Tree) (before : List (List LabelData)) (ls : List LabelData) → judged_item s [] [] (labels e before ls) ≡ judged_item t [] [] (labels e before ls)
+  labels_too e before ls =
+      let w = (judged_selector s e).whole in
+      let k = type_of s None e in
+      ap (λ (x : List Range). judged_labels_if s w k x ls) (seen_in_alike k before) ∙ labels_if_alike s t alike w k (seen_in t k before) ls
+      ∙ ap (λ (x : DataType). judged_labels_if t w x (seen_in t x before) ls) (type_alike s t alike None e)
+      ∙ ap (λ (j : Judgement). judged_labels_if t j.whole (type_of t None e) (seen_in t (type_of t None e) before) ls) (selector_alike s t alike e)
 
-    arms_too : (c d : List ℕ) → Controls c d → (arms : Arms) → AreArmsWithin uses arms → (judged_arms s c arms).whole ≡ true → (judged_arms t d arms).whole ≡ true
-    arms_too c d controls no_arms within h = refl
-    arms_too c d controls (arm e ss arms) within h =
-        let one = judged_condition s OperandType e in
-        let other = judged_condition t OperandType e in
-        let two = whole_and one (and (judged_stmts s c ss) (judged_arms s c arms)) h in
-        let more = whole_and (judged_stmts s c ss) (judged_arms s c arms) two.1 in
-        and_from other.whole (and (judged_stmts t d ss) (judged_arms t d arms)).whole (carried one other (condition_alike s t alike OperandType e) two.0)
-        (and_from (judged_stmts t d ss).whole (judged_arms t d arms).whole (stmts_too c d controls ss within.1 more.0) (arms_too c d controls arms within.2 more.1))
+  -- the control variables of the FORs around are apart alike
+  abbrev Around : List IterationData → Type 0
+  Around around = Controls (controls_in s [] around) (controls_in t [] around)
 
-    entries_too : (c d : List ℕ) → Controls c d → (w : Bool) (k : DataType) (seen : List Range) (es : Entries) → AreEntriesWithin uses es → (judged_entries s c w k seen es).whole ≡ true → (judged_entries t d w k seen es).whole ≡ true
-    entries_too c d controls w k seen no_entries within h = refl
-    entries_too c d controls w k seen (entry ls ss es) within h =
-        let behind = seen_behind s k seen ls in
-        let other = seen_behind t k seen ls in
-        let labels = judged_labels_if s w k seen ls in
-        let two = whole_and labels (and (judged_stmts s c ss) (judged_entries s c w k behind es)) h in
-        let more = whole_and (judged_stmts s c ss) (judged_entries s c w k behind es) two.1 in
-        let rest : (judged_entries t d w k other es).whole ≡ true =
-        subst (λ (x : List Range). (judged_entries t d w k x es).whole ≡ true) (seen_alike s t alike k seen ls) (entries_too c d controls w k behind es within.2 more.1) in
-        and_from (judged_labels_if t w k seen ls).whole (and (judged_stmts t d ss) (judged_entries t d w k other es)).whole (carried labels (judged_labels_if t w k seen ls) (labels_if_alike s t alike w k seen ls) two.0)
-        (and_from (judged_stmts t d ss).whole (judged_entries t d w k other es).whole (stmts_too c d controls ss within.1 more.0) rest)
+  around_more : (around : List IterationData) (i : IterationData) → Around around → IsItemWithin uses around (iteration i) → IsWholeItem s [] around (iteration i) → Around (i ∷ around)
+  around_more around i controls within h =
+      let c = controls_in s [] around in
+      let d = controls_in t [] around in
+      let own = whole_broken_by (judged_iteration s c i) (turns_rule s i) i.at h in
+      more_controls s t alike uses apart c d controls (by_path (alone i.control)) within.0 (is_control_variable c d controls i within.0 own.0)
 
-    else_too : (c d : List ℕ) → Controls c d → (other : Otherwise) → IsElseWithin uses other → (judged_else s c other).whole ≡ true → (judged_else t d other).whole ≡ true
-    else_too c d controls no_else within h = refl
-    else_too c d controls (else_stmts ss) within h = stmts_too c d controls ss within h
-
-  parts_too : (ps : List PartData) → ArePartsWithin uses ps → (judged_parts s ps).whole ≡ true → (judged_parts t ps).whole ≡ true
-  parts_too [] within h = refl
-  parts_too (step_part x ∷ ps) within h = parts_too ps within (whole_and (judged_part s (step_part x)) (judged_parts s ps) h).1
-  parts_too (transition_part x ∷ ps) within h =
-      let one = judged_condition s OperandType x.condition in
-      let other = judged_condition t OperandType x.condition in
-      let two = whole_and one (judged_parts s ps) h in
-      and_from other.whole (judged_parts t ps).whole (carried one other (condition_alike s t alike OperandType x.condition) two.0) (parts_too ps within.1 two.1)
-  parts_too (action_part a ∷ ps) within h =
-      let two = whole_and (judged_stmts s [] a.body) (judged_parts s ps) h in
-      and_from (judged_stmts t [] a.body).whole (judged_parts t ps).whole (stmts_too [] [] (no_controls s t alike uses apart) a.body within.0 two.0) (parts_too ps within.1 two.1)
+  item_too : (around : List IterationData) (i : StatementItem) → Around around → IsItemWithin uses around i → IsWholeItem s [] around i → IsWholeItem t [] around i
+  item_too around (assignment p e) controls within h = assign_too (controls_in s [] around) (controls_in t [] around) controls p e within.0 h
+  item_too around (invocation n at cs) controls within h = invoke_too (controls_in s [] around) (controls_in t [] around) controls n cs within h
+  item_too around (condition e) controls within h = carried (judged_condition s OperandType e) (judged_condition t OperandType e) (condition_alike s t alike OperandType e) h
+  item_too around (selector e) controls within h = carried (judged_selector s e) (judged_selector t e) (selector_alike s t alike e) h
+  item_too around (labels e before ls) controls within h = carried (judged_item s [] [] (labels e before ls)) (judged_item t [] [] (labels e before ls)) (labels_too e before ls) h
+  item_too around (iteration i) controls within h =
+      let c = controls_in s [] around in
+      let d = controls_in t [] around in
+      let own = whole_broken_by (judged_iteration s c i) (turns_rule s i) i.at h in
+      let none : turns_rule t i ≡ None = sym (turns_alike s t alike i) ∙ own.1 in
+      broken_by_whole (judged_iteration t d i) (turns_rule t i) i.at none (iteration_too c d controls i within.0 own.0)
 
   pub body_too : (b : BodyData) → IsBodyWithin uses b → (judged_body s b).whole ≡ true → (judged_body t b).whole ≡ true
-  body_too (statements ss) within h = stmts_too [] [] (no_controls s t alike uses apart) ss within h
-  body_too (chart_body ps) within h = parts_too ps within h
+  body_too b within h =
+      let every_too = items_carried Around (IsItemWithin uses) (IsWholeItem s []) (IsWholeItem t []) around_more item_too in
+      given_body t IsWhole whole_given b
+      (related_body (every (IsItemWithin uses)) (every (IsWholeItem s [])) (every (IsWholeItem t [])) (λ around A B C. Around around → A → B → C) every_too b (no_controls s t alike uses apart) within
+      (shared_body s IsWhole whole_shared b h))

@@ -1,38 +1,36 @@
--- A body whose names are whole uses nothing but what these let it use: by induction over it.
-use Rattle.std.proofs.Common.{◌≡◌, ℕ, List, [], ◌∷◌, ◌++◌, true, false, not, ◌&&◌, ◌==◌, Option, Some, None, refl, ap, ◌∙◌}
-use Rattle.std.specs.List.{count_by}
+-- A body whose names are whole uses nothing but what these let it use, item by item.
+use Rattle.std.proofs.Common.{◌≡◌, ℕ, List, [], ◌∷◌, ◌++◌, true, false, Option, Some, None, refl, ap, subst, ◌∙◌}
 use Rattle.plc_types.specs.declared.operator.UnaryOperator.TheVariants as signs
 use Rattle.call_order.specs.Uses.{is_among}
 use Rattle.call_order.proofs.Members.{is_among-left, is_among-right, is_among-head}
-use Rattle.rules.specs.declared.rule.Rule.TheVariants.{NotOneInitialStep}
-use Rattle.rules.specs.Judgements.{and, breaks}
-use Rattle.source_tree.specs.Syntax.{Named, Tree, literal, path, enumerator, paren, unary, chain, call, Links, no_links, link, Arguments, no_arguments, argument, ConnectionData, input, output, Stmt, empty, assign, invoke, branch, cases, iterate, Stmts, no_stmts, stmt, Arms, no_arms, arm, Entries, no_entries, entry, Otherwise, no_else, else_stmts, LabelData, IterationData, PartData, step_part, transition_part, action_part, BodyData, statements, chart as chart_body, FileData}
-use Rattle.source_tree.specs.Levels.{IsConstant, IsInitialFormed, AreLabelsFormed, AreLabels, IsStmtLevelled, AreStmtsLevelled, AreArmsLevelled, AreEntriesLevelled, IsElseLevelled, ArePartsLevelled, IsBodyLevelled}
+use Rattle.rules.specs.Judgements.{and}
+use Rattle.source_tree.specs.Syntax.{Named, Tree, literal, path, enumerator, paren, unary, chain, call, Links, no_links, link, Arguments, no_arguments, argument, ConnectionData, input, output, LabelData, IterationData, BodyData, FileData}
+use Rattle.source_tree.specs.StatementItems.{StatementItem, assignment, invocation, condition, selector, labels, iteration, every, listed}
+use Rattle.source_tree.specs.LevelledItems.{IsLevelledItem}
+use Rattle.source_tree.specs.Levels.{IsConstant, IsInitialFormed, AreLabelsFormed, AreLabels, IsBodyLevelled}
+use Rattle.source_tree.proofs.StatementInduction.{related_body}
+use Rattle.source_tree.proofs.EveryItem.{from_lists}
+use Rattle.source_tree.proofs.LevelledItems.{levelled_body}
 use Rattle.naming.specs.declared.callee.Callee.{Callee}
 use Rattle.naming.specs.declared.callee.Callee.TheVariants as callees
 use Rattle.naming.specs.Library.{standard_function}
 use Rattle.naming.specs.FileScope.{is_doubled_in_file}
 use Rattle.naming.specs.Scopes.{PouScope, seen_named}
-use Rattle.naming.specs.Broken.{in_called, in_argument_name, callee_of, in_tree, in_links, in_arguments, in_target, in_constant, in_constant_if, in_label, in_labels, alone, in_step, in_iteration, in_instance, instance_of, in_connected, in_connection, in_connections, in_stmt, in_stmts, in_arms, in_entries, in_else, in_own_name, in_own_name_if, in_steps, in_part, in_chart_parts, is_initial_part, place_of_chart, in_body}
-use Rattle.naming.specs.Circles.{called, calls_in, calls_in_links, calls_in_arguments, calls_in_step, calls_in_iteration, calls_in_connections, calls_in_stmt, calls_in_stmts, calls_in_arms, calls_in_entries, calls_in_else, calls_in_parts, calls_in_body}
+use Rattle.naming.specs.Broken.{in_called, in_argument_name, callee_of, in_tree, in_links, in_arguments, in_target, in_constant, in_constant_if, in_label, in_labels, alone, in_step, in_iteration, in_instance, instance_of, in_connected, in_connection, in_connections, in_body}
+use Rattle.naming.specs.Circles.{called, calls_in, calls_in_links, calls_in_arguments, calls_in_step, calls_in_iteration, calls_in_connections, calls_in_body}
+use Rattle.naming.specs.NamedItems.{calls_in_item}
+use Rattle.naming.proofs.NamedItems.{IsNamedItem, named_body, given_calls, calls_of_body}
 use Rattle.typing.specs.Typing.{Reference, by_path, by_value}
 use Rattle.typing.specs.JudgedStatements.{member}
-use Rattle.typed_scopes.specs.Uses.{Usable, IsWithin, AreLinksWithin, AreArgumentsWithin, IsOptionWithin, AreConnectionsWithin, AreLabelsWithin, IsIterationWithin, IsStmtWithin, AreStmtsWithin, AreArmsWithin, AreEntriesWithin, IsElseWithin, ArePartsWithin}
+use Rattle.typed_scopes.specs.Uses.{Usable, IsWithin, AreLinksWithin, AreArgumentsWithin, IsOptionWithin, AreConnectionsWithin, AreLabelsWithin, IsIterationWithin, IsItemWithin}
 use Rattle.typed_scopes.proofs.Wholes.{whole_and}
+use Rattle.typed_scopes.proofs.EveryItem.{both_body}
 use Rattle.bound_names.specs.BoundNames.{is_bound, IsBodyWithin}
-use Rattle.bound_names.proofs.NameParts.{never, fails_by, enumerator_value, target_bound, label_bound, IsInstance, instance_is, member_bound, called_is}
+use Rattle.bound_names.proofs.NameParts.{enumerator_value, target_bound, label_bound, IsInstance, instance_is, member_bound, called_is}
 
 -- all that are called of a list pass a test
 abbrev pub AreCalled : (ℕ → Type 0) → List ℕ → Type 0
 AreCalled Called calls = (u : ℕ) → is_among u calls ≡ true → Called u
-
-arms_levelled : (arms : Arms) (other : Otherwise) → IsStmtLevelled (branch arms other) → AreArmsLevelled arms × IsElseLevelled other
-arms_levelled no_arms other h = absurd h
-arms_levelled (arm e ss arms) other h = ((h.0, h.1, h.2), h.3)
-
-entries_levelled : (e : Tree) (es : Entries) (other : Otherwise) → IsStmtLevelled (cases e es other) → AreEntriesLevelled es × IsElseLevelled other
-entries_levelled e no_entries other h = absurd h
-entries_levelled e (entry ls ss es) other h = ((h.1, h.2, h.3), h.4)
 
 labels_formed : (ls : List LabelData) → AreLabels ls → AreLabelsFormed ls
 labels_formed [] h = absurd h
@@ -140,86 +138,25 @@ module _ (f : FileData) (once : (q : List ℕ) → is_doubled_in_file f q ≡ fa
         option_within i.step three.1 (behind (calls_in f i.first ++ calls_in f i.last) (calls_in_step f i.step) all),
       )
 
-  mutual
-    stmt_within : (s : Stmt) → IsStmtLevelled s → (in_stmt f p s).whole ≡ true → AreCalled Called (calls_in_stmt f s) → IsStmtWithin uses s
-    stmt_within empty levels h all = tt
-    stmt_within (assign q e) levels h all =
-        let two = whole_and (in_target f p (seen_named f p q.first.text) q) (in_tree f p e) h in
-        (names (by_path q) (target_bound f p q two.0), tree_within e two.1 all)
-    stmt_within (invoke n at cs) levels h all =
-        let s = seen_named f p n.text in
-        let two = whole_and (in_instance f p s n) (in_connections f p (instance_of s) cs) h in
-        connections_within n (instance_is f p n two.0) cs two.1 all
-    stmt_within (branch arms other) levels h all =
-        let two = whole_and (in_arms f p arms) (in_else f p other) h in
-        let l = arms_levelled arms other levels in
-        (arms_within arms l.0 two.0 (front (calls_in_arms f arms) (calls_in_else f other) all), else_within other l.1 two.1 (behind (calls_in_arms f arms) (calls_in_else f other) all))
-    stmt_within (cases e es other) levels h all =
-        let two = whole_and (and (in_tree f p e) (in_entries f p es)) (in_else f p other) h in
-        let one = whole_and (in_tree f p e) (in_entries f p es) two.0 in
-        let l = entries_levelled e es other levels in
-        let own = front (calls_in f e ++ calls_in_entries f es) (calls_in_else f other) all in (
-          tree_within e one.0 (front (calls_in f e) (calls_in_entries f es) own),
-          entries_within es l.0 one.1 (behind (calls_in f e) (calls_in_entries f es) own),
-          else_within other l.1 two.1 (behind (calls_in f e ++ calls_in_entries f es) (calls_in_else f other) all),
-        )
-    stmt_within (iterate i ss) levels h all =
-        let two = whole_and (in_iteration f p i) (in_stmts f p ss) h in
-        (iteration_within i two.0 (front (calls_in_iteration f i) (calls_in_stmts f ss) all), stmts_within ss levels.1 two.1 (behind (calls_in_iteration f i) (calls_in_stmts f ss) all))
+  -- an item whose names are whole and which is levelled
+  abbrev IsBoundItem : List IterationData → StatementItem → Type 0
+  IsBoundItem around i = IsNamedItem f p around i × IsLevelledItem around i
 
-    pub stmts_within : (ss : Stmts) → AreStmtsLevelled ss → (in_stmts f p ss).whole ≡ true → AreCalled Called (calls_in_stmts f ss) → AreStmtsWithin uses ss
-    stmts_within no_stmts levels h all = tt
-    stmts_within (stmt s ss) levels h all =
-        let two = whole_and (in_stmt f p s) (in_stmts f p ss) h in
-        (stmt_within s levels.0 two.0 (front (calls_in_stmt f s) (calls_in_stmts f ss) all), stmts_within ss levels.1 two.1 (behind (calls_in_stmt f s) (calls_in_stmts f ss) all))
-
-    arms_within : (arms : Arms) → AreArmsLevelled arms → (in_arms f p arms).whole ≡ true → AreCalled Called (calls_in_arms f arms) → AreArmsWithin uses arms
-    arms_within no_arms levels h all = tt
-    arms_within (arm e ss arms) levels h all =
-        let two = whole_and (and (in_tree f p e) (in_stmts f p ss)) (in_arms f p arms) h in
-        let one = whole_and (in_tree f p e) (in_stmts f p ss) two.0 in
-        let own = front (calls_in f e ++ calls_in_stmts f ss) (calls_in_arms f arms) all in (
-          tree_within e one.0 (front (calls_in f e) (calls_in_stmts f ss) own),
-          stmts_within ss levels.1 one.1 (behind (calls_in f e) (calls_in_stmts f ss) own),
-          arms_within arms levels.2 two.1 (behind (calls_in f e ++ calls_in_stmts f ss) (calls_in_arms f arms) all),
-        )
-
-    entries_within : (es : Entries) → AreEntriesLevelled es → (in_entries f p es).whole ≡ true → AreCalled Called (calls_in_entries f es) → AreEntriesWithin uses es
-    entries_within no_entries levels h all = tt
-    entries_within (entry ls ss es) levels h all =
-        let two = whole_and (and (in_labels f p ls) (in_stmts f p ss)) (in_entries f p es) h in
-        let one = whole_and (in_labels f p ls) (in_stmts f p ss) two.0 in (
-          labels_within ls (labels_formed ls levels.0) one.0,
-          stmts_within ss levels.1 one.1 (front (calls_in_stmts f ss) (calls_in_entries f es) all),
-          entries_within es levels.2 two.1 (behind (calls_in_stmts f ss) (calls_in_entries f es) all),
-        )
-
-    else_within : (other : Otherwise) → IsElseLevelled other → (in_else f p other).whole ≡ true → AreCalled Called (calls_in_else f other) → IsElseWithin uses other
-    else_within no_else levels h all = tt
-    else_within (else_stmts ss) levels h all = stmts_within ss levels h all
-
-  -- ---- charts
-
-  parts_within : (qs : List PartData) → ArePartsLevelled qs → (in_chart_parts f p qs).whole ≡ true → AreCalled Called (calls_in_parts f qs) → ArePartsWithin uses qs
-  parts_within [] levels h all = tt
-  parts_within (step_part s ∷ qs) levels h all = parts_within qs levels.1 (whole_and (in_part f p (step_part s)) (in_chart_parts f p qs) h).1 all
-  parts_within (transition_part t ∷ qs) levels h all =
-      let two = whole_and (in_part f p (transition_part t)) (in_chart_parts f p qs) h in
-      let own = whole_and (in_own_name_if p t.name) (and (in_steps f p t.from) (and (in_steps f p t.to) (in_tree f p t.condition))) two.0 in
-      let from = whole_and (in_steps f p t.from) (and (in_steps f p t.to) (in_tree f p t.condition)) own.1 in
-      let to = whole_and (in_steps f p t.to) (in_tree f p t.condition) from.1 in
-      (tree_within t.condition to.1 (front (calls_in f t.condition) (calls_in_parts f qs) all), parts_within qs levels.1 two.1 (behind (calls_in f t.condition) (calls_in_parts f qs) all))
-  parts_within (action_part a ∷ qs) levels h all =
-      let two = whole_and (in_part f p (action_part a)) (in_chart_parts f p qs) h in
-      let own = whole_and (in_own_name p a.name) (in_stmts f p a.body) two.0 in
-      (stmts_within a.body levels.0 own.1 (front (calls_in_stmts f a.body) (calls_in_parts f qs) all), parts_within qs levels.1 two.1 (behind (calls_in_stmts f a.body) (calls_in_parts f qs) all))
-
-  parts_levelled : (qs : List PartData) → IsBodyLevelled (chart_body qs) → ArePartsLevelled qs
-  parts_levelled [] levels = absurd levels
-  parts_levelled (q ∷ qs) levels = levels
+  item_within : (around : List IterationData) (i : StatementItem) → IsBoundItem around i → AreCalled Called (calls_in_item f i) → IsItemWithin uses around i
+  item_within around (assignment q e) h all =
+      let two = whole_and (in_target f p (seen_named f p q.first.text) q) (in_tree f p e) h.0 in
+      (names (by_path q) (target_bound f p q two.0), tree_within e two.1 all)
+  item_within around (invocation n at cs) h all =
+      let s = seen_named f p n.text in
+      let two = whole_and (in_instance f p s n) (in_connections f p (instance_of s) cs) h.0 in
+      connections_within n (instance_is f p n two.0) cs two.1 all
+  item_within around (condition e) h all = tree_within e h.0 all
+  item_within around (selector e) h all = tree_within e h.0 all
+  item_within around (labels e before ls) h all = labels_within ls (labels_formed ls h.1) h.0
+  item_within around (iteration i) h all = iteration_within i h.0 all
 
   pub body_within : (b : BodyData) → IsBodyLevelled b → (in_body f p b).whole ≡ true → AreCalled Called (calls_in_body f b) → IsBodyWithin uses b
-  body_within (statements ss) levels h all = stmts_within ss levels h all
-  body_within (chart_body qs) levels h all =
-      let parts = in_chart_parts f p qs in
-      parts_within qs (parts_levelled qs levels) (fails_by (parts.whole && not (count_by is_initial_part qs == 1)) (breaks NotOneInitialStep (place_of_chart qs)) parts (never false refl) h).1 all
+  body_within b levels h all =
+      related_body (every IsBoundItem) (listed (given_calls f)) (every (IsItemWithin uses)) (λ around A xs C. A → AreCalled Called xs → C)
+      (from_lists (AreCalled Called) (λ xs ys calls. (front xs ys calls, behind xs ys calls)) IsBoundItem (IsItemWithin uses) (given_calls f) item_within) b
+      (both_body (IsNamedItem f p) IsLevelledItem b (named_body f p b h) (levelled_body b levels)) (subst (AreCalled Called) (calls_of_body f b) all)

@@ -1,13 +1,14 @@
 -- What the body of a POU may use where its names break no rule: the names and the FUNCTIONs that the rules on names let pass.
 use Rattle.std.specs.Prelude.{Bool, true, false}
-use Rattle.source_tree.specs.Syntax.{BodyData, statements, chart as chart_body, FileData}
+use Rattle.source_tree.specs.Syntax.{BodyData, FileData}
+use Rattle.source_tree.specs.StatementItems.{every, folded_body}
 use Rattle.naming.specs.declared.callee.Callee.{Callee}
 use Rattle.naming.specs.declared.callee.Callee.TheVariants as callees
 use Rattle.naming.specs.FileScope.{standing, is_value}
 use Rattle.naming.specs.Scopes.{PouScope, seen_named}
 use Rattle.naming.specs.Broken.{in_path, callee_of}
 use Rattle.typing.specs.Typing.{Reference, by_path, by_value}
-use Rattle.typed_scopes.specs.Uses.{Usable, AreStmtsWithin, ArePartsWithin}
+use Rattle.typed_scopes.specs.Uses.{Usable, IsItemWithin}
 
 abbrev pub is_bound : FileData → PouScope → Reference → Bool
 is_bound f p (by_path q) = (in_path f p (seen_named f p q.first.text) q).whole
@@ -31,5 +32,4 @@ value_uses f = record { names = is_value_named f; functions = λ text. false }
 
 -- a body uses nothing but what may be used
 abbrev pub IsBodyWithin : Usable → BodyData → Type 0
-IsBodyWithin uses (statements ss) = AreStmtsWithin uses ss
-IsBodyWithin uses (chart_body ps) = ArePartsWithin uses ps
+IsBodyWithin uses b = folded_body (every (IsItemWithin uses)) b

@@ -8,7 +8,7 @@ ghost use Rattle.scan_model.specs.Candidates.{is_equal, initial_values};
 ghost use Rattle.candidates.specs.PairView.{old_of, new_of};
 
 use crate::pair::Pair;
-use plc_types::{DataType, Operator};
+use plc_types::{DataType, Operator, Value};
 use program_tree::{Cell, Operand, TypedExpr};
 use scan_model::Candidate;
 use std::alloc::{AllocError, Global};
@@ -18,7 +18,7 @@ fn is_equal_number(
     alloc: Global,
     place: usize,
     kind: DataType,
-    value: i64,
+    value: Value,
 ) -> Result<TypedExpr, AllocError>
     ensures { IfOk result (λ e. expr_view e ≡ is_equal place kind (number value)) }
 {
@@ -32,14 +32,19 @@ fn is_equal_number(
 }
 
 // `P = v`.
-fn has_value(alloc: Global, path: &str, value: i64) -> Result<String, AllocError>
+fn has_value(alloc: Global, path: &str, value: Value) -> Result<String, AllocError>
     ensures { IfOk result (λ text. string_bytes text ≡ path.now ++ codes " = " ++ signed_decimal value) }
 {
     format!(in alloc; "{path} = {value}")
 }
 
 // `OLD P = v` or `NEW P = v`.
-fn initial_name(alloc: Global, program: &str, path: &str, value: i64) -> Result<String, AllocError>
+fn initial_name(
+    alloc: Global,
+    program: &str,
+    path: &str,
+    value: Value,
+) -> Result<String, AllocError>
     ensures { IfOk result (λ name. string_bytes name ≡ program.now ++ codes " " ++ path.now ++ codes " = " ++ signed_decimal value) }
 {
     let mut name = String::from_str(alloc, program)?;

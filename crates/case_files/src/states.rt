@@ -3,13 +3,14 @@ use crate::case_file::{Case, Section};
 use crate::report::{CaseFault, Mismatch, compare, malformed};
 use crate::section::Word;
 use crate::texts::{expected_text_of, numbers_of};
+use plc_types::Value;
 use std::alloc::{AllocError, Global};
 
 /// A state before a scan, and the one that must be behind it.
 #[derive(Drop)]
 pub struct StatePair {
-    pub before: Vec<i64>,
-    pub after: Vec<i64>,
+    pub before: Vec<Value>,
+    pub after: Vec<Value>,
 }
 
 /// The pairs of states of a case, in which each state before a scan stands in front of the one behind it.
@@ -43,7 +44,7 @@ pub fn state_pairs(alloc: Global, case: &Case) -> Result<Vec<StatePair>, CaseFau
 }
 
 // The state of a section.
-fn state_of(alloc: Global, section: &Section) -> Result<Vec<i64>, CaseFault> {
+fn state_of(alloc: Global, section: &Section) -> Result<Vec<Value>, CaseFault> {
     let text = expected_text_of(alloc, section)?;
     numbers_of(alloc, text.as_str())
 }
@@ -52,8 +53,8 @@ fn state_of(alloc: Global, section: &Section) -> Result<Vec<i64>, CaseFault> {
 pub fn compare_states(
     alloc: Global,
     what: &str,
-    expected: &[i64],
-    got: &[i64],
+    expected: &[Value],
+    got: &[Value],
     found: &mut Vec<Mismatch>,
 ) -> Result<(), AllocError> {
     let expected = state_text(alloc, expected)?;
@@ -61,7 +62,7 @@ pub fn compare_states(
     compare(alloc, what, expected.as_str(), got.as_str(), found)
 }
 
-fn state_text(alloc: Global, state: &[i64]) -> Result<String, AllocError> {
+fn state_text(alloc: Global, state: &[Value]) -> Result<String, AllocError> {
     let mut text = String::new(alloc);
     for (place, value) in state.iter().enumerate() {
         if place > 0 {

@@ -3,6 +3,7 @@ use crate::case_file::{Case, Section};
 use crate::marks::Marked;
 use crate::report::{CaseFault, malformed};
 use crate::section::Word;
+use plc_types::Value;
 use std::alloc::Global;
 
 /// The section of a case, or of its file's head where the case has none.
@@ -99,10 +100,10 @@ pub fn expected_text_of(alloc: Global, section: &Section) -> Result<String, Case
 }
 
 /// The numbers of a text, with blanks between.
-pub fn numbers_of(alloc: Global, text: &str) -> Result<Vec<i64>, CaseFault> {
+pub fn numbers_of(alloc: Global, text: &str) -> Result<Vec<Value>, CaseFault> {
     let mut numbers = Vec::new(alloc);
     for word in text.split_whitespace() {
-        match word.parse::<i64>() {
+        match word.parse::<Value>() {
             Ok(number) => numbers.push(number)?,
             Err(_) => return Err(malformed(alloc, "this is no number: ", word)),
         }

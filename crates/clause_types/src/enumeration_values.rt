@@ -8,6 +8,7 @@ ghost use Rattle.clause_types.specs.Sides.{whole_value, kept_or, FindsValues};
 
 use expr_types::valued;
 use indexmap::IndexMap;
+use plc_types::Value;
 use std::alloc::{AllocError, Global};
 use typing::Meaning;
 
@@ -15,7 +16,7 @@ use typing::Meaning;
 #[derive(Clone, Copy)]
 pub struct EnumerationValue {
     pub kind: usize,
-    pub value: i64,
+    pub value: Value,
 }
 
 // What names stand for as values.
@@ -57,7 +58,7 @@ fn with_values<'p>(
     for index in (0..names.len()).rev() {
         let value = EnumerationValue {
             kind,
-            value: index as i64,
+            value: index as Value,
         };
         more.insert(names[index].as_str(), value)?;
     }

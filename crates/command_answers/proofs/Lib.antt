@@ -1,3 +1,4 @@
 pub mod PutLemmas
 pub mod AnswerLemmas
 pub mod AlikeLemmas
+pub mod EndLemmas

@@ -3,3 +3,4 @@ pub mod Reports
 pub mod Alike
 pub mod Puts
 pub mod Answers
+pub mod Ends

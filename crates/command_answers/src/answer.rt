@@ -14,11 +14,11 @@ use std::alloc::{AllocError, Global};
 
 /// Puts the last text of a run, and says with which status the run ends.
 pub fn put_last<K: Sink>(out: &mut K, text: &str, status: Status) -> Status
-    requires unfailed { K.put_failed out.old ≡ false }
-    ensures put { HasPut text.now status result (K.taken out.old) (K.taken out.new) }
+    requires unfailed { (K.state out.old).put_failed ≡ false }
+    ensures put { HasPut text.now status result (K.state out.old).taken (K.state out.new).taken }
     ensures ends { result ≢ Status.WriteFault → result ≢ Status.Memory → result ≡ status }
-    ensures cause { result ≡ Status.WriteFault → status ≢ Status.WriteFault → Rose (K.faults out.old) (K.faults out.new) }
-    ensures later { K.faults out.old ≤ K.faults out.new }
+    ensures cause { result ≡ Status.WriteFault → status ≢ Status.WriteFault → Rose (K.state out.old).faults (K.state out.new).faults }
+    ensures later { (K.state out.old).faults ≤ (K.state out.new).faults }
 {
     match put_text(out, text) {
         Ok(()) => status,
@@ -56,11 +56,11 @@ fn refusal_line(alloc: Global, source: Source, refusal: Refusal) -> Result<Strin
 /// Puts a whole report, or says that there was no memory for its text.
 pub fn put_report<K: Sink>(out: &mut K, text: Result<String, AllocError>, status: Status) -> Status
     requires extent { extent_of status ≡ all_put }
-    requires unfailed { K.put_failed out.old ≡ false }
-    ensures answer { (r : Report) → r.status ≡ status → IfOk text (λ made. string_bytes made ≡ r.text) → Answers (λ x. x ≡ r) ⊥ result (K.taken out.old) (K.taken out.new) }
+    requires unfailed { (K.state out.old).put_failed ≡ false }
+    ensures answer { (r : Report) → r.status ≡ status → IfOk text (λ made. string_bytes made ≡ r.text) → Answers (λ x. x ≡ r) ⊥ result (K.state out.old).taken (K.state out.new).taken }
     ensures ends { result ≢ Status.WriteFault → result ≢ Status.Memory → result ≡ status }
-    ensures cause { result ≡ Status.WriteFault → Rose (K.faults out.old) (K.faults out.new) }
-    ensures later { K.faults out.old ≤ K.faults out.new }
+    ensures cause { result ≡ Status.WriteFault → Rose (K.state out.old).faults (K.state out.new).faults }
+    ensures later { (K.state out.old).faults ≤ (K.state out.new).faults }
 {
     match text {
         Ok(text) => put_last(out, text.as_str(), status),
@@ -70,24 +70,24 @@ pub fn put_report<K: Sink>(out: &mut K, text: Result<String, AllocError>, status
 
 /// Puts the line on a refusal.
 pub fn put_refusal<K: Sink>(alloc: Global, source: Source, refusal: Refusal, out: &mut K) -> Status
-    requires unfailed { K.put_failed out.old ≡ false }
-    ensures answer { Answers (λ r. r ≡ refusal_report source refusal) ⊥ result (K.taken out.old) (K.taken out.new) }
+    requires unfailed { (K.state out.old).put_failed ≡ false }
+    ensures answer { Answers (λ r. r ≡ refusal_report source refusal) ⊥ result (K.state out.old).taken (K.state out.new).taken }
     ensures no_usage { result ≢ Status.Usage }
     ensures no_read_fault { result ≢ Status.ReadFault }
-    ensures cause { result ≡ Status.WriteFault → Rose (K.faults out.old) (K.faults out.new) }
-    ensures later { K.faults out.old ≤ K.faults out.new }
+    ensures cause { result ≡ Status.WriteFault → Rose (K.state out.old).faults (K.state out.new).faults }
+    ensures later { (K.state out.old).faults ≤ (K.state out.new).faults }
 {
     put_report(out, refusal_line(alloc, source, refusal), Status::Refused)
 }
 
 /// Puts the line on a file that passes a limit: its place is 0.
 pub fn put_limit<K: Sink>(alloc: Global, source: Source, limit: Rule, out: &mut K) -> Status
-    requires unfailed { K.put_failed out.old ≡ false }
-    ensures answer { Answers (λ r. r ≡ limit_report source limit) ⊥ result (K.taken out.old) (K.taken out.new) }
+    requires unfailed { (K.state out.old).put_failed ≡ false }
+    ensures answer { Answers (λ r. r ≡ limit_report source limit) ⊥ result (K.state out.old).taken (K.state out.new).taken }
     ensures no_usage { result ≢ Status.Usage }
     ensures no_read_fault { result ≢ Status.ReadFault }
-    ensures cause { result ≡ Status.WriteFault → Rose (K.faults out.old) (K.faults out.new) }
-    ensures later { K.faults out.old ≤ K.faults out.new }
+    ensures cause { result ≡ Status.WriteFault → Rose (K.state out.old).faults (K.state out.new).faults }
+    ensures later { (K.state out.old).faults ≤ (K.state out.new).faults }
 {
     put_refusal(alloc, source, Refusal { rule: limit, at: 0 }, out)
 }

@@ -8,11 +8,11 @@ use outside::{OutErr, Sink};
 
 /// Puts a text, all of it or a front of it.
 pub fn put_text<K: Sink>(out: &mut K, text: &str) -> Result<(), OutErr>
-    requires unfailed { K.put_failed out.old ≡ false }
-    ensures whole { OnOk result (K.taken out.new ≡ extended (K.taken out.old) text.now) }
-    ensures part { OnErr result (PutsPart (K.taken out.old) (K.taken out.new) text.now) }
-    ensures cause { HasCause (K.faults out.old) (K.faults out.new) result }
-    ensures unfailed { OnOk result (K.put_failed out.new ≡ false) }
+    requires unfailed { (K.state out.old).put_failed ≡ false }
+    ensures whole { OnOk result ((K.state out.new).taken ≡ extended (K.state out.old).taken text.now) }
+    ensures part { OnErr result (PutsPart (K.state out.old).taken (K.state out.new).taken text.now) }
+    ensures cause { HasCause (K.state out.old).faults (K.state out.new).faults result }
+    ensures unfailed { OnOk result ((K.state out.new).put_failed ≡ false) }
 {
     out.put(text.as_bytes())
 }

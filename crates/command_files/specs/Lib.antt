@@ -1,5 +1,6 @@
 pub mod Kept
 pub mod Texts
+pub mod Reading
 pub mod KeptTexts
 pub mod Stating
 pub mod Refused

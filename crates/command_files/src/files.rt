@@ -17,13 +17,13 @@ pub fn read_text<S: Shelf>(
     shelf: &mut S,
     name: &str,
 ) -> Result<Option<Vec<u8>>, OutErr>
-    requires unfailed { S.read_failed shelf.old ≡ false }
-    ensures text { IfSome (S.file shelf.old name.now) (λ bytes. IfOk result (λ o. IsKept o bytes)) }
-    ensures kept { S.file shelf.new ≡ S.file shelf.old }
-    ensures cause { HasFileCause (S.read_faults shelf.old) (S.read_faults shelf.new) name.now result }
-    ensures writes { NoneFell (S.write_faults shelf.old) (S.write_faults shelf.new) }
-    ensures unfailed { OnOk result (S.read_failed shelf.new ≡ false) }
-    ensures reach { ReachesAtMost 1048577 (S.reach shelf.old) (S.reach shelf.new) }
+    requires unfailed { (S.state shelf.old).read_failed ≡ false }
+    ensures text { IfSome ((S.state shelf.old).file name.now) (λ bytes. IfOk result (λ o. IsKept o bytes)) }
+    ensures kept { (S.state shelf.new).file ≡ (S.state shelf.old).file }
+    ensures cause { HasFileCause (S.state shelf.old).read_faults (S.state shelf.new).read_faults name.now result }
+    ensures writes { NoneFell (S.state shelf.old).write_faults (S.state shelf.new).write_faults }
+    ensures unfailed { OnOk result ((S.state shelf.new).read_failed ≡ false) }
+    ensures reach { ReachesAtMost 1048577 (S.state shelf.old).reach (S.state shelf.new).reach }
 {
     let mut text = Vec::new(alloc);
     let mut buffer = [0u8; 65536];

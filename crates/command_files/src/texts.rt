@@ -25,14 +25,14 @@ pub fn read_texts<S: Shelf>(
     relation: &str,
     shelf: &mut S,
 ) -> Result<KeptTexts, OutErr>
-    requires unfailed { S.read_failed shelf.old ≡ false }
-    ensures texts { (t : Texts) → AreThreeTold (S.file shelf.old) old.now new.now relation.now t → IfOk result (λ kept. AreKept kept t) }
-    ensures kept { S.file shelf.new ≡ S.file shelf.old }
-    ensures fault { IsErrOf result OutErr.Fault → OneOfThreeRose (S.read_faults shelf.old) (S.read_faults shelf.new) old.now new.now relation.now }
-    ensures reads { NoneFell (S.read_faults shelf.old) (S.read_faults shelf.new) }
-    ensures writes { NoneFell (S.write_faults shelf.old) (S.write_faults shelf.new) }
-    ensures unfailed { OnOk result (S.read_failed shelf.new ≡ false) }
-    ensures reach { ReachesAtMost 1048577 (S.reach shelf.old) (S.reach shelf.new) }
+    requires unfailed { (S.state shelf.old).read_failed ≡ false }
+    ensures texts { (t : Texts) → AreThreeTold (S.state shelf.old).file old.now new.now relation.now t → IfOk result (λ kept. AreKept kept t) }
+    ensures kept { (S.state shelf.new).file ≡ (S.state shelf.old).file }
+    ensures fault { IsErrOf result OutErr.Fault → OneOfThreeRose (S.state shelf.old).read_faults (S.state shelf.new).read_faults old.now new.now relation.now }
+    ensures reads { NoneFell (S.state shelf.old).read_faults (S.state shelf.new).read_faults }
+    ensures writes { NoneFell (S.state shelf.old).write_faults (S.state shelf.new).write_faults }
+    ensures unfailed { OnOk result ((S.state shelf.new).read_failed ≡ false) }
+    ensures reach { ReachesAtMost 1048577 (S.state shelf.old).reach (S.state shelf.new).reach }
 {
     let old = read_text(alloc, shelf, old)?;
     let new = read_text(alloc, shelf, new)?;

@@ -6,5 +6,6 @@ pub mod Refusals
 pub mod Scans
 pub use Rattle.command_files.specs.Kept
 pub use Rattle.command_files.specs.KeptTexts
+pub use Rattle.command_files.specs.Reading
 pub use Rattle.command_files.specs.Texts
 pub use Rattle.product_build.specs.MadeCircuits

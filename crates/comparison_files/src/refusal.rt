@@ -14,12 +14,12 @@ use std::alloc::Global;
 
 /// Puts why texts are not compared.
 pub fn put_fault<K: Sink>(alloc: Global, fault: CompareFault, out: &mut K) -> Status
-    requires unfailed { K.put_failed out.old ≡ false }
-    ensures answer { (t : Texts) → IfFault (IsRefused t) (IsTooLarge t) fault → Answers (ReportsRefusal t) ⊥ result (K.taken out.old) (K.taken out.new) }
+    requires unfailed { (K.state out.old).put_failed ≡ false }
+    ensures answer { (t : Texts) → IfFault (IsRefused t) (IsTooLarge t) fault → Answers (ReportsRefusal t) ⊥ result (K.state out.old).taken (K.state out.new).taken }
     ensures usage { result ≢ Status.Usage }
     ensures read_fault { result ≢ Status.ReadFault }
-    ensures write_fault { result ≡ Status.WriteFault → Rose (K.faults out.old) (K.faults out.new) }
-    ensures faults { K.faults out.old ≤ K.faults out.new }
+    ensures write_fault { result ≡ Status.WriteFault → Rose (K.state out.old).faults (K.state out.new).faults }
+    ensures faults { (K.state out.old).faults ≤ (K.state out.new).faults }
 {
     match fault {
         CompareFault::Refused(source, refusal) => put_refusal(alloc, source, refusal, out),

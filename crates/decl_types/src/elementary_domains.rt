@@ -4,7 +4,7 @@ ghost use Rattle.source_tree.specs.SyntaxView.{names_view};
 ghost use Rattle.typing.specs.Domains.{has_few, no_domain, elementary_domain, enumeration_domain};
 
 use expr_types::range;
-use plc_types::{DataType, Elementary, Range};
+use plc_types::{DataType, Elementary, Range, Value};
 use source_tree::Name;
 use typing::Domain;
 
@@ -53,7 +53,7 @@ pub fn enumeration_domain(number: usize, others: &[Name]) -> Domain
         kind: DataType::Enumeration(number),
         range: Range {
             low: first,
-            high: others.len() as i64,
+            high: others.len() as Value,
         },
         is_subrange: false,
         start: first,

@@ -10,6 +10,7 @@ use crate::elementary_domains::has_few;
 use expr_types::valued;
 use file_bindings::Resolved;
 use naming::Standing;
+use plc_types::Value;
 use source_tree::{Name, Path, Specification, TypeDeclaration};
 use typing::{Instance, Meaning, Port, Scope, Signature};
 
@@ -29,7 +30,7 @@ fn value_of_type(kind: usize, number: usize, specification: &Specification) -> M
     match specification {
         Specification::Enumeration(_, _, others) => {
             let whole = has_few(others);
-            valued(kind, number as i64, whole)
+            valued(kind, number as Value, whole)
         }
         Specification::Type(_) => valued(kind, 0, false),
     }

@@ -11,14 +11,14 @@ ghost use Rattle.typing.specs.Variables.{judged_initial, judged_value, given_val
 
 use crate::file_types::FileTypes;
 use expr_types::{constant_of, judge_and_synthesize, place_of};
-use plc_types::Range;
+use plc_types::{Range, Value};
 use rules::{Outcome, Rule};
 use source_tree::Expr;
 use std::alloc::{AllocError, Global};
 use typing::Domain;
 
 // Whether a value is in a range.
-fn is_in(value: i64, range: Range) -> bool
+fn is_in(value: Value, range: Range) -> bool
     ensures { result ≡ in_range value range }
 {
     range.low <= value && value <= range.high
@@ -32,7 +32,7 @@ fn judge_given(
     domain: Domain,
     at: usize,
     value: &Expr,
-    given: i64,
+    given: Value,
 ) -> Result<Outcome, AllocError>
     requires { given ≡ constant_of (values_scope (file_of file.now)) domain.kind (tree_view value.now) }
     ensures { IfOk result (λ o. o ≡ outcome_of (judged_initial (file_of file.now) domain at (Some (tree_view value.now)))) }
@@ -52,7 +52,7 @@ fn judge_initial(
     domain: Domain,
     at: usize,
     initial: Option<&Expr>,
-) -> Result<(Outcome, i64), AllocError>
+) -> Result<(Outcome, Value), AllocError>
     ensures judged { IfOk result (λ r. r.0 ≡ outcome_of (judged_initial (file_of file.now) domain at (option_map (λ e. tree_view e.now) initial.entry))) }
     ensures value { IfOk result (λ r. r.1 ≡ given_value (file_of file.now) domain (option_map (λ e. tree_view e.now) initial.entry)) }
 {
@@ -67,7 +67,7 @@ fn judge_initial(
 }
 
 // The value that is written, where it breaks no rule, or that of the type.
-fn start_with(whole: bool, given: i64, domain: Domain) -> i64
+fn start_with(whole: bool, given: Value, domain: Domain) -> Value
     ensures { result ≡ (if whole then given else domain.start) }
 {
     if whole { given } else { domain.start }
@@ -82,7 +82,7 @@ pub(crate) fn judged_initial_value(
     domain: Domain,
     at: usize,
     initial: Option<&Expr>,
-) -> Result<(Outcome, i64), AllocError>
+) -> Result<(Outcome, Value), AllocError>
     requires { domain.whole ≡ false → domain.kind ≡ Unknown }
     ensures judged { IfOk result (λ r. r.0 ≡ outcome_of (judged_value (file_of file.now) domain at (option_map (λ e. tree_view e.now) initial.entry))) }
     ensures start { IfOk result (λ r. r.1 ≡ start_of (file_of file.now) domain at (option_map (λ e. tree_view e.now) initial.entry)) }

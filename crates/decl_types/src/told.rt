@@ -16,7 +16,7 @@ use crate::initial_values::judged_initial_value;
 use crate::judged_types::judged_type;
 use expr_types::judge_expr;
 use naming::{Declared, Role};
-use plc_types::Elementary;
+use plc_types::{Elementary, Value};
 use rules::{Outcome, Rule};
 use source_tree::{Expr, Name, TypeName};
 use std::alloc::{AllocError, Global};
@@ -29,7 +29,7 @@ pub struct Told<'f> {
     pub name: &'f Name,
     pub role: Role,
     pub domain: Domain,
-    pub initial: i64,
+    pub initial: Value,
     pub judged: Outcome,
     pub block: Option<usize>,
 }

@@ -4,8 +4,8 @@ use crate::lanes::{all_lanes, lanes_if, no_lane};
 use crate::random::Random;
 use clause_core::Lit;
 use lane_sim::choose_word;
-use pair_circuits::CellShape;
-use plc_types::Range;
+use plc_types::{Range, Value};
+use query_formulas::CellShape;
 use std::simd::u64x4;
 
 // Draws any bits for a word.
@@ -31,7 +31,7 @@ fn draw_up_to(free: &mut [u64x4], random: &mut Random, word: &[Lit], greatest: u
 }
 
 // Adds a number to a word in all lanes.
-fn add(free: &mut [u64x4], word: &[Lit], number: i64) {
+fn add(free: &mut [u64x4], word: &[Lit], number: Value) {
     let mut rest = number.cast_unsigned();
     let mut carry = no_lane();
     for bit in word {

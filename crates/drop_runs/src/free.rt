@@ -3,7 +3,8 @@ use crate::lanes::{all_lanes, lanes_if, no_lane};
 use crate::scans::{Scanned, lanes_of};
 use clause_core::Lit;
 use lane_sim::choose_word;
-use pair_circuits::CellShape;
+use plc_types::Value;
+use query_formulas::CellShape;
 use std::simd::u64x4;
 
 /// The values of a free bit.
@@ -25,7 +26,7 @@ pub(crate) fn put_bit(free: &mut [u64x4], bit: Lit, value: u64x4, lanes: u64x4) 
 }
 
 // Gives a word of free bits a number in some lanes.
-fn put_number(free: &mut [u64x4], word: &[Lit], number: i64, lanes: u64x4) {
+fn put_number(free: &mut [u64x4], word: &[Lit], number: Value, lanes: u64x4) {
     let mut bits = number.cast_unsigned();
     for bit in word {
         put_bit(free, *bit, lanes_if(bits % 2 == 1), lanes);
@@ -34,7 +35,7 @@ fn put_number(free: &mut [u64x4], word: &[Lit], number: i64, lanes: u64x4) {
 }
 
 /// Gives words of free bits their numbers in some lanes.
-pub(crate) fn put_numbers(free: &mut [u64x4], words: &[Vec<Lit>], numbers: &[i64], lanes: u64x4) {
+pub(crate) fn put_numbers(free: &mut [u64x4], words: &[Vec<Lit>], numbers: &[Value], lanes: u64x4) {
     let count = words.len().min(numbers.len());
     for i in 0..count {
         put_number(free, words[i].as_slice(), numbers[i], lanes);

@@ -5,14 +5,15 @@ use crate::free::bit_of;
 use clause_core::Lit;
 use lane_sim::is_set;
 use operations::wrap_short;
-use pair_circuits::{CellShape, PairParts, Product};
-use plc_types::Elementary;
+use pair_circuits::{PairParts, Product};
+use plc_types::{Elementary, Value};
 use queries::{Decoded, Row};
+use query_formulas::CellShape;
 use std::alloc::{AllocError, Global};
 use std::simd::u64x4;
 
 // The number of a type that a word spells, of which at most 32 bits are read.
-fn number(free: &[u64x4], kind: Elementary, word: &[Lit], lane: usize) -> i64
+fn number(free: &[u64x4], kind: Elementary, word: &[Lit], lane: usize) -> Value
     requires { lane < 256 }
 {
     let mut bits = 0u32;
@@ -22,7 +23,7 @@ fn number(free: &[u64x4], kind: Elementary, word: &[Lit], lane: usize) -> i64
             bits |= 1 << i;
         }
     }
-    wrap_short(kind, i64::from(bits))
+    wrap_short(kind, Value::from(bits))
 }
 
 // The numbers that the words of cells spell.
@@ -32,7 +33,7 @@ fn numbers(
     cells: &[CellShape],
     words: &[Vec<Lit>],
     lane: usize,
-) -> Result<Vec<i64>, AllocError>
+) -> Result<Vec<Value>, AllocError>
     requires { lane < 256 }
 {
     let mut numbers = Vec::new(alloc);

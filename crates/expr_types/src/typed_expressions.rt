@@ -10,7 +10,7 @@ ghost use Rattle.typing.specs.TypedStatements.{place_cell, cell_of};
 
 use crate::expressions::negative_literal;
 use crate::typed_calls::type_call;
-use plc_types::{DataType, UnaryOperator};
+use plc_types::{DataType, UnaryOperator, Value};
 use program_tree::{Operand, TypedExpr};
 use source_tree::{Expr, Link, Literal};
 use std::alloc::{AllocError, Global};
@@ -66,7 +66,7 @@ pub fn cell_of(meaning: Option<Meaning>) -> usize
 }
 
 /// The number that a typed expression is, or 0 where it is none.
-pub fn value_of_number(number: &TypedExpr) -> i64
+pub fn value_of_number(number: &TypedExpr) -> Value
     ensures { result ≡ value_of_number (expr_view number.now) }
 {
     match number {
@@ -156,7 +156,7 @@ pub fn constant_of<S: Scope>(
     scope: &S,
     kind: DataType,
     constant: &Expr,
-) -> Result<i64, AllocError>
+) -> Result<Value, AllocError>
     ensures { IfOk result (λ value. value ≡ constant_of (S.means scope.now) kind (tree_view constant.now)) }
 {
     let number = type_expr(alloc, scope, Some(kind), constant)?;

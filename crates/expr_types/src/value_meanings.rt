@@ -2,11 +2,11 @@
 ghost use Rattle.std.specs.Prelude.{◌≡◌};
 ghost use Rattle.expr_types.specs.ValueMeanings.{valued};
 
-use plc_types::{DataType, Range};
+use plc_types::{DataType, Range, Value};
 use typing::{Meaning, Place};
 
 /// What a value of the type of a number stands for.
-pub fn valued(kind: usize, value: i64, whole: bool) -> Meaning
+pub fn valued(kind: usize, value: Value, whole: bool) -> Meaning
     ensures { result ≡ valued kind value whole }
 {
     Meaning {

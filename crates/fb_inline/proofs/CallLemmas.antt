@@ -4,13 +4,15 @@ use Rattle.plc_types.specs.declared.elementary.Elementary.{Elementary}
 use Rattle.plc_types.specs.declared.operator.Operator.{Operator}
 use Rattle.program_tree.specs.Tree.{Expression, number, cell, call_function, Operands, operand, Expressions, expression}
 use Rattle.program_tree.specs.View.{OperandData}
-use Rattle.flat_core.specs.declared.flat_tree.Scratch.{Scratch}
+use Rattle.program_tree.specs.declared.scratch.Scratch.{Scratch}
+use Rattle.program_tree.specs.OperandTypes.{arity}
+use Rattle.meaning.specs.Frames.{FrameData, scratch_at, initial_at, counted_from}
 use Rattle.flat_core.specs.FlatTree.{FlatStatement, set}
-use Rattle.flat_form.specs.Frames.{FrameData, scratch_at, initial_at, input_start, others_behind, other_scratch, other_starts, counted_from, places_of}
+use Rattle.flat_form.specs.Frames.{input_start, others_behind, other_scratch, other_starts, places_of}
 use Rattle.flat_form.specs.Owners.{OwnerData}
 use Rattle.flat_form.specs.Bodies.{Bodies}
 use Rattle.flat_form.proofs.OperandLemmas.{with_expressions, with_expressions-push, with_operands, with_operands-push}
-use Rattle.flat_form.specs.Calls.{arity, rest_scratch, rest_list, scratch_in, operand_scratch, all_scratch, input_scratch, input_places, moved, moved_operands, all_moved, before, operands_before, all_before, inputs_before}
+use Rattle.flat_form.specs.Calls.{rest_scratch, rest_list, scratch_in, operand_scratch, all_scratch, input_scratch, input_places, moved, moved_operands, all_moved, before, operands_before, all_before, inputs_before}
 
 -- ---- one more of them
 

@@ -4,13 +4,13 @@ use Rattle.plc_types.specs.declared.elementary.Elementary.{Elementary}
 use Rattle.program_tree.specs.declared.typed.TypedArm.{TypedArm}
 use Rattle.program_tree.specs.Tree.{Expression, cases, Statements, Choices, choose, Entries}
 use Rattle.program_tree.specs.View.{ChoiceData, arm_view, choices_view}
-use Rattle.flat_core.specs.declared.flat_tree.Scratch.{Scratch}
+use Rattle.program_tree.specs.declared.scratch.Scratch.{Scratch}
+use Rattle.program_tree.specs.Places.{whole_cell}
 use Rattle.flat_core.specs.FlatTree.{FlatStatement, set}
 use Rattle.flat_core.specs.FlatView.{FlatArmData, nested}
 use Rattle.flat_form.specs.Owners.{OwnerData}
 use Rattle.flat_form.specs.Bodies.{Bodies}
 use Rattle.flat_form.specs.Calls.{scratch_in, before, moved}
-use Rattle.flat_form.specs.Frames.{whole_cell}
 use Rattle.flat_form.specs.FlatLists.{scratch_of, scratch_of_all, scratch_of_choices, scratch_of_entries, scratch_of_choice, flat_of, flat_of_all, flat_choices, flat_choice, flat_entries}
 
 pub left-choices : (arms : List TypedArm) (i : ℕ) (d a : TypedArm) → i < length arms → get_or arms i d ≡ a → choices_view (drop i arms) ≡ choose (arm_view a).0 (arm_view a).1 (choices_view (drop (i + 1) arms))

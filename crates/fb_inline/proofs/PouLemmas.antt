@@ -6,12 +6,12 @@ use Rattle.std.proofs.lemmas.Bool.Decides.{nat_tests}
 use Rattle.program_tree.specs.declared.typed.Called.{Called}
 use Rattle.program_tree.specs.Tree.{Statements, no_statements, CalledData}
 use Rattle.program_tree.specs.View.{called_view, all_called_view}
+use Rattle.program_tree.specs.declared.scratch.Scratch.{Scratch}
 use Rattle.meaning.specs.Calls.{nothing}
 use Rattle.meaning.proofs.Sizes.{weight}
-use Rattle.flat_core.specs.declared.flat_tree.Scratch.{Scratch}
+use Rattle.meaning.specs.Frames.{FrameData, frame_of, function_body}
 use Rattle.flat_core.specs.FlatTree.{FlatStatement}
 use Rattle.flat_charts.specs.declared.scope.FlatScope.{FlatScope}
-use Rattle.flat_form.specs.Frames.{FrameData, frame_of, function_body}
 use Rattle.flat_form.specs.Owners.{OwnerData, call_owner}
 use Rattle.flat_form.specs.FlatLists.{scratch_of_all, flat_of_all}
 use Rattle.flat_form.specs.Pous.{block_body, bodies_of}

@@ -2,18 +2,16 @@
 use Rattle.std.proofs.Common.{◌≡◌, ℕ, suc, ◌+◌, ◌-◌, ◌^◌, ◌<◌, true, false, List, [], ◌∷◌, ◌++◌, ℤ, pos, neg_ℤ, ◌+ℤ◌, ◌*ℤ◌, ◌≤ℤ◌, refl, sym, subst, append_assoc, arith}
 use Rattle.std.proofs.lemmas.Bool.{and_parts}
 use Rattle.std.proofs.lemmas.Int.{ints}
-use Rattle.plc_types.specs.declared.elementary.Elementary.{Elementary}
-use Rattle.plc_types.specs.declared.elementary.Elementary.TheVariants as types
 use Rattle.plc_types.specs.declared.range.Range.{Range}
-use Rattle.plc_types.specs.Types.{least_of, greatest_of, range_of, in_range}
+use Rattle.plc_types.specs.Types.{range_of, in_range}
+use Rattle.plc_types.proofs.Widths.{least_bound, greatest_bound}
+use Rattle.plc_types.proofs.InRange.{bounds, between_in}
 use Rattle.program_tree.specs.Tree.{number}
-use Rattle.scan_model.proofs.Keeping.{within}
-use Rattle.flat_core.specs.declared.flat_tree.Scratch.{Scratch}
+use Rattle.program_tree.specs.declared.scratch.Scratch.{Scratch}
+use Rattle.program_tree.specs.Places.{IsTypedPlace}
 use Rattle.flat_core.specs.FlatTree.{FlatStatement, set}
 use Rattle.flat_form.specs.FlatLists.{repeated, unrolled}
 use Rattle.flat_laws.proofs.TurnValues.{stay_from, later-fit}
-use Rattle.node_core.specs.TypedFlats.{IsTypedPlace}
-use Rattle.typed_flat_laws.proofs.FramePlaces.{between_in}
 
 pub unrolled-turn : (count counter control : ℕ) (v more step : ℤ) (m : ℕ) (body : ℕ → List FlatStatement) (k later : ℕ) (out begun ended : List FlatStatement) → counter < count → more ≡ v +ℤ step → later ≡ k + m
     → begun ≡ out ++ set control (number v) ∷ [] → ended ≡ begun ++ body k
@@ -38,25 +36,11 @@ stays-turn count counter v more step r below is_more h =
     subst (λ (w : ℤ). stay_from (count - (counter + 1)) w step r ≡ true) (sym is_more)
     (later-fit false (count - (counter + 1)) v step r (subst (λ (n : ℕ). stay_from n v step r ≡ true) left h))
 
--- numbers of a type are of 64 bits
-type-bounds : (t : Elementary) → (neg_ℤ (pos (2 ^ 32)) ≤ℤ least_of t) × (greatest_of t ≤ℤ pos (2 ^ 32))
-type-bounds types.Bool = (omega (arith, ints), omega (arith, ints))
-type-bounds types.Sint = (omega (arith, ints), omega (arith, ints))
-type-bounds types.Int = (omega (arith, ints), omega (arith, ints))
-type-bounds types.Dint = (omega (arith, ints), omega (arith, ints))
-type-bounds types.Usint = (omega (arith, ints), omega (arith, ints))
-type-bounds types.Uint = (omega (arith, ints), omega (arith, ints))
-type-bounds types.Udint = (omega (arith, ints), omega (arith, ints))
-type-bounds types.Byte = (omega (arith, ints), omega (arith, ints))
-type-bounds types.Word = (omega (arith, ints), omega (arith, ints))
-type-bounds types.Dword = (omega (arith, ints), omega (arith, ints))
-
--- so the next value is
+-- so the next value is of 64 bits
 pub next-bounds : (p : Scratch) (count counter : ℕ) (v step : ℤ) → IsTypedPlace p → counter < count → stay_from (count - counter) v step p.range ≡ true
     → (neg_ℤ (pos (2 ^ 32)) ≤ℤ (v +ℤ step)) × ((v +ℤ step) ≤ℤ pos (2 ^ 32))
 next-bounds p count counter v step typed below h =
     let later = stays-turn count counter v (v +ℤ step) step p.range below refl h in
     let next = (and_parts (in_range (v +ℤ step) p.range) (in_range (v +ℤ step +ℤ pos (count - (counter + 1)) *ℤ step) p.range) later).0 in
-    let known = within (v +ℤ step) (range_of p.kind) (between_in (range_of p.kind) p.range (v +ℤ step) typed.0 typed.1 next) in
-    let wide = type-bounds p.kind in
-    (omega (arith, ints, known.0, wide.0), omega (arith, ints, known.1, wide.1))
+    let known = bounds (v +ℤ step) (range_of p.kind) (between_in (range_of p.kind) p.range (v +ℤ step) typed.0 typed.1 next) in
+    (omega (arith, ints, known.0, least_bound p.kind), omega (arith, ints, known.1, greatest_bound p.kind))

@@ -21,15 +21,15 @@ use Rattle.program_tree.specs.declared.typed.CellType.{CellType}
 use Rattle.program_tree.specs.declared.typed.Turns.{Turns}
 use Rattle.program_tree.specs.Tree.{Expression, cell, unary, chain, call_standard, call_function, Operands, Expressions, TransitionData, Statement, assign, call_block, choice, cases, repeat, chart, Statements, no_statements, statement, Actions, action, CalledData, block, function, ProgramData}
 use Rattle.program_tree.specs.View.{expr_view, operand_view, operands_view, arguments_view, stmt_view, stmts_view, arm_view, choices_view, entry_view, entries_view, action_view, actions_view, transition_view, transitions_view, all_called_view}
+use Rattle.program_tree.specs.ChartPlaces.{chart_places, latch_places, AreSteps}
+use Rattle.program_tree.specs.Places.{of_cell, place_at, IsTypedPlace}
 use Rattle.meaning.specs.Calls.{nothing}
+use Rattle.meaning.specs.Frames.{FrameData, frame_of, frames_of}
+use Rattle.meaning.specs.StaysIn.{turns_stay}
 use Rattle.flat_charts.specs.declared.scope.FlatScope.{FlatScope}
 use Rattle.flat_charts.specs.Views.{HasPlace, StepsHavePlaces, FlagsHavePlaces}
 use Rattle.flat_form.specs.FlatCharts.{entered_flag}
-use Rattle.flat_form.specs.Frames.{FrameData, frame_of, frames_of}
-use Rattle.flat_form.specs.WellTyped.{turns_stay, chart_places, latch_places, AreSteps}
 use Rattle.flat_laws.proofs.TurnValues.{stay_from}
-use Rattle.node_core.specs.Stores.{of_cell, place_at}
-use Rattle.node_core.specs.TypedFlats.{IsTypedPlace}
 use Rattle.typed_programs.specs.Scopes.{Pous, BodyScope}
 use Rattle.typed_programs.specs.Expressions.{Join, AreOf, AreInputs}
 use Rattle.typed_programs.specs.Statements.{IsFlagOf, IsTyped, AreTyped, AreTypedChoices, AreTypedEntries, AreTypedActions, AreTypedTransitions, IsTypedChart, IsTypedPart, AreTypedParts}

@@ -3,10 +3,10 @@ use Rattle.std.specs.Prelude.{◌≡◌, ◌≤◌, ◌<◌, ◌+◌, ◌^◌, �
 use Rattle.plc_types.specs.declared.elementary.Elementary.{Elementary}
 use Rattle.program_tree.specs.Tree.{Expression, Operands, Expressions}
 use Rattle.program_tree.specs.View.{all_called_view}
+use Rattle.program_tree.specs.Places.{IsTypedPlace}
 use Rattle.meaning.specs.Calls.{nothing}
+use Rattle.meaning.specs.Frames.{frames_of}
 use Rattle.flat_charts.specs.declared.scope.FlatScope.{FlatScope}
-use Rattle.flat_form.specs.Frames.{frames_of}
-use Rattle.node_core.specs.TypedFlats.{IsTypedPlace}
 use Rattle.typed_programs.specs.Scopes.{Pous, BodyScope}
 use Rattle.typed_programs.specs.Expressions.{IsOf, Join, AreOf}
 use Rattle.typed_programs.specs.Programs.{IsTypedPou}

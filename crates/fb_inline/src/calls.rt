@@ -13,8 +13,8 @@ ghost use Rattle.fb_inline.specs.TypedScopes.{IsTypedOver, HasType, AreOperands,
 use crate::frames::{put_input, put_others, put_start};
 use crate::statements::flatten_all;
 use flat_charts::{FlatScope, Owner, cell_at, place_at};
-use flat_core::{FlatStmt, Scratch};
-use program_tree::{Called, Frame, Operand, TypedExpr};
+use flat_core::FlatStmt;
+use program_tree::{Called, Frame, Operand, Scratch, TypedExpr};
 use std::alloc::{AllocError, Global};
 
 /// Appends the statements that the calls of an expression become; the expression that is left.

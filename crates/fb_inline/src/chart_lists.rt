@@ -2,19 +2,19 @@
 ghost use Rattle.std.specs.Prelude.{◌≡◌, ◌<◌, ◌^◌, ◌+◌, ◌*◌, ◌++◌, ◌∷◌, [], length, map, pos, All, IfOk, IfSome, OnOk};
 ghost use Rattle.program_tree.specs.Tree.{number};
 ghost use Rattle.program_tree.specs.View.{action_view, actions_view};
+ghost use Rattle.program_tree.specs.ChartPlaces.{latch_places};
 ghost use Rattle.flat_core.specs.FlatTree.{set};
 ghost use Rattle.flat_core.specs.FlatView.{flats_view};
 ghost use Rattle.flat_charts.specs.Views.{owner_view, HasPlace, StepsHavePlaces, FlagsHavePlaces};
-ghost use Rattle.flat_form.specs.WellTyped.{latch_places};
 ghost use Rattle.flat_form.specs.FlatCharts.{latch_set, latch_list, flag_cell, flags_of, clear_flags, exited_flag, exited_set, entered_set, fired_list, mark_before, mark_active, mark_list};
 
 use crate::puts::{new_scratch, put_number, put_set, whole_cell};
 use flat_charts::{
     FlatScope, cell_at, exited_flag, joined, latch_test, own_cell, place_at, without,
 };
-use flat_core::{FlatStmt, Scratch};
+use flat_core::FlatStmt;
 use plc_types::{Elementary, Operator};
-use program_tree::{StepCells, TypedAction};
+use program_tree::{Scratch, StepCells, TypedAction};
 use std::alloc::{AllocError, Global};
 
 /// Sets the latches of actions.

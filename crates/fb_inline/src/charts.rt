@@ -2,13 +2,13 @@
 ghost use Rattle.std.specs.Prelude.{◌≡◌, ◌<◌, ◌^◌, ◌+◌, ◌*◌, ◌++◌, ◌∷◌, [], length, All, IfSome, OnOk};
 ghost use Rattle.program_tree.specs.Tree.{chart};
 ghost use Rattle.program_tree.specs.View.{action_view, actions_view, transition_view, transitions_view};
+ghost use Rattle.program_tree.specs.ChartPlaces.{latch_places};
 ghost use Rattle.flat_core.specs.FlatView.{flats_view};
 ghost use Rattle.flat_charts.specs.Views.{owner_view};
 ghost use Rattle.flat_form.specs.Calls.{scratch_in};
 ghost use Rattle.flat_form.specs.FlatCharts.{scratch_of_transitions, flat_transition, flat_transitions};
 ghost use Rattle.flat_form.specs.FlatLists.{scratch_of, scratch_of_actions, scratch_of_action, flat_of, flat_actions, flat_action};
 ghost use Rattle.flat_charts.specs.Views.{bodies_here, IsKnown, HasPlace, StepsHavePlaces, FlagsHavePlaces};
-ghost use Rattle.flat_form.specs.WellTyped.{latch_places};
 ghost use Rattle.typed_programs.specs.Statements.{AreTyped, AreTypedActions, AreTypedTransitions, IsTypedChart};
 ghost use Rattle.fb_inline.specs.TypedScopes.{IsTypedOver, HasType};
 
@@ -17,8 +17,8 @@ use crate::chart_lists::{put_fired, put_flags, put_latches, put_marks};
 use crate::puts::put_branch;
 use crate::statements::flatten_all;
 use flat_charts::{FlatScope, ready_test, runs_test};
-use flat_core::{FlatStmt, Scratch};
-use program_tree::{StepCells, TypedAction, TypedTransition};
+use flat_core::FlatStmt;
+use program_tree::{Scratch, StepCells, TypedAction, TypedTransition};
 use std::alloc::{AllocError, Global};
 
 /// Appends the flat list of a chart, and its scratch cells.

@@ -2,18 +2,20 @@
 ghost use Rattle.std.specs.Prelude.{◌≡◌, ◌<◌, ◌^◌, ◌+◌, ◌++◌, ◌∷◌, [], length, IfOk, OnOk};
 ghost use Rattle.program_tree.specs.Tree.{number};
 ghost use Rattle.program_tree.specs.View.{expr_view};
+ghost use Rattle.meaning.specs.Frames.{scratch_at, initial_at};
 ghost use Rattle.flat_core.specs.FlatTree.{set};
 ghost use Rattle.flat_core.specs.FlatView.{flats_view};
-ghost use Rattle.flat_form.specs.Frames.{scratch_at, initial_at, input_start, others_behind, other_scratch, other_starts, places_of};
+ghost use Rattle.flat_form.specs.Frames.{input_start, others_behind, other_scratch, other_starts, places_of};
 ghost use Rattle.flat_charts.specs.Views.{frame_view};
 
 use crate::puts::{new_scratch, put_number, put_set};
-use flat_core::{FlatStmt, Scratch};
+use flat_core::FlatStmt;
 use flat_form::{range_at, type_at};
-use program_tree::{Frame, TypedExpr};
+use plc_types::Value;
+use program_tree::{Frame, Scratch, TypedExpr};
 use std::alloc::AllocError;
 
-fn initial_at(frame: &Frame, place: usize) -> i64
+fn initial_at(frame: &Frame, place: usize) -> Value
     ensures { result ≡ initial_at (frame_view frame.now) place }
 {
     frame.start.get(place).copied().unwrap_or(0)

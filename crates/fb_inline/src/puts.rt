@@ -2,14 +2,14 @@
 ghost use Rattle.std.specs.Prelude.{◌<◌, ◌^◌, ◌≡◌, ◌+◌, ◌++◌, ◌∷◌, [], length, IfOk, OnOk};
 ghost use Rattle.program_tree.specs.Tree.{number};
 ghost use Rattle.program_tree.specs.View.{expr_view};
+ghost use Rattle.program_tree.specs.Places.{whole_cell};
 ghost use Rattle.flat_core.specs.FlatTree.{set, branch, no_flats};
 ghost use Rattle.flat_core.specs.FlatView.{nested, flat_view, flats_of, flats_view, flat_arms_view};
-ghost use Rattle.flat_form.specs.Frames.{whole_cell};
 
-use flat_core::{FlatArm, FlatStmt, Scratch};
+use flat_core::{FlatArm, FlatStmt};
 use flat_form::range_of;
-use plc_types::Elementary;
-use program_tree::TypedExpr;
+use plc_types::{Elementary, Value};
+use program_tree::{Scratch, TypedExpr};
 use std::alloc::{AllocError, Global};
 
 fn put(out: &mut Vec<FlatStmt>, flat: FlatStmt) -> Result<(), AllocError>
@@ -27,7 +27,7 @@ pub fn put_set(out: &mut Vec<FlatStmt>, place: usize, expr: TypedExpr) -> Result
 }
 
 /// One more assignment of a number.
-pub fn put_number(out: &mut Vec<FlatStmt>, place: usize, value: i64) -> Result<(), AllocError>
+pub fn put_number(out: &mut Vec<FlatStmt>, place: usize, value: Value) -> Result<(), AllocError>
     ensures { OnOk result (flats_view out.new.items ≡ flats_view out.old.items ++ set place (number value) ∷ []) }
 {
     put_set(out, place, TypedExpr::Number(value))

@@ -14,10 +14,10 @@ use crate::charts::flatten_chart;
 use crate::labels::labels_test;
 use crate::puts::{put_arm, put_if, put_number, put_selector, put_set};
 use flat_charts::{FlatScope, place_at};
-use flat_core::{FlatArm, FlatStmt, Scratch};
+use flat_core::{FlatArm, FlatStmt};
 use flat_form::is_idle_block;
 use plc_types::Elementary;
-use program_tree::{Called, Turns, TypedArm, TypedEntry, TypedExpr, TypedStmt};
+use program_tree::{Called, Scratch, Turns, TypedArm, TypedEntry, TypedExpr, TypedStmt};
 use std::alloc::{AllocError, Global};
 
 /// Appends the flat list of statements over cells, and their scratch cells.

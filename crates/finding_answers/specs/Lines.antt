@@ -1,16 +1,15 @@
 -- What is said of a finding, as a line.
 use Rattle.std.specs.Prelude.{ℕ, List, ◌++◌, codes, decimal}
-use Rattle.finding_lines.specs.declared.line.Conclusion.{Conclusion}
-use Rattle.finding_lines.specs.Spelling.{concluded}
 use Rattle.judgement.specs.declared.answers.Reason.{Reason}
 use Rattle.judgement.specs.declared.answers.Reason.TheVariants.{B1, B2, B3, B4, B5, B6, B7, B8, B9, B10, B11, B12, B13}
 use Rattle.judgement.specs.declared.answers.Judged.{Judged}
 use Rattle.judgement.specs.declared.answers.Judged.TheVariants as judgements
 use Rattle.command_answers.specs.declared.status.Status.{Status}
-use Rattle.command_answers.specs.declared.status.Status.TheVariants.{Valid, Invalid}
+use Rattle.command_answers.specs.declared.status.Status.TheVariants.{Valid, Invalid, WriteFault}
 use Rattle.command_answers.specs.declared.source.Source.TheVariants as sources
 use Rattle.rules.specs.declared.rule.Rule.TheVariants.{FindingTooLong}
 use Rattle.command_answers.specs.Reports.{Report, limit_report}
+use Rattle.finding_answers.specs.Verdicts.{valid_line}
 
 abbrev pub reason_name : Reason → List ℕ
 reason_name B1 = codes "B1"
@@ -26,9 +25,6 @@ reason_name B10 = codes "B10"
 reason_name B11 = codes "B11"
 reason_name B12 = codes "B12"
 reason_name B13 = codes "B13"
-
-abbrev pub valid_line : Conclusion → List ℕ
-valid_line verdict = codes "VALID" ++ concluded verdict ++ codes "\n"
 
 abbrev pub invalid_line : ℕ → Reason → List ℕ
 invalid_line line reason = codes "INVALID line " ++ decimal line ++ codes " " ++ reason_name reason ++ codes "\n"
@@ -51,3 +47,7 @@ most_bytes = 1073741824
 -- the report where it has more
 abbrev pub too_long_report : Report
 too_long_report = limit_report sources.Finding FindingTooLong
+
+-- the report where a write of it has failed
+abbrev pub write_fault_report : Report
+write_fault_report = record { text = codes "WRITE FAULT\n"; status = WriteFault }

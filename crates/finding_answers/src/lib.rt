@@ -1,9 +1,11 @@
-// What the commands on findings say of one, and how long it may be.
+// What the commands say of a verdict and of a finding, and how long a finding may be.
 #![tactic(auto)]
 
 mod limits;
 mod put;
 mod show;
+mod verdict;
 
 pub use limits::{MOST_BYTES, PIECE};
 pub use put::{put_judged, put_unjudged};
+pub use verdict::put_verdict;

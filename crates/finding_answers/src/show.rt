@@ -1,9 +1,9 @@
 // What is said of a finding, as text.
 ghost use Rattle.std.specs.Prelude.{◌≡◌, IfOk, string_bytes};
-ghost use Rattle.finding_answers.specs.Lines.{reason_name, valid_line, invalid_line, judged_line, judged_status};
+ghost use Rattle.finding_answers.specs.Lines.{reason_name, invalid_line, judged_line, judged_status};
 
+use crate::verdict::valid_line;
 use command_answers::Status;
-use finding_lines::{Conclusion, show_conclusion};
 use itoa::Buffer;
 use judgement::{Judged, Reason};
 use std::alloc::{AllocError, Global};
@@ -26,15 +26,6 @@ fn reason_name(reason: Reason) -> &'static str
         Reason::B12 => "B12",
         Reason::B13 => "B13",
     }
-}
-
-fn valid_line(alloc: Global, verdict: Conclusion) -> Result<String, AllocError>
-    ensures { IfOk result (λ line. string_bytes line ≡ valid_line verdict) }
-{
-    let mut line = String::from_str(alloc, "VALID")?;
-    show_conclusion(&mut line, verdict)?;
-    line.push_str("\n")?;
-    Ok(line)
 }
 
 fn invalid_line(alloc: Global, number: u64, reason: Reason) -> Result<String, AllocError>

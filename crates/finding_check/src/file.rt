@@ -40,13 +40,13 @@ pub fn judge_file<Q: Queries, S: Shelf>(
     requires comparison { IsComparison (comparison_between old.now new.now relation.now) }
     requires limit { finding.now.limit ≤ 2 ^ 30 }
     requires piece { 0 < finding.now.piece }
-    requires unfailed { S.read_failed shelf.old ≡ false }
-    ensures exact { IfSome (S.file shelf.old finding.now.name.now) (λ file. IsJudged (setting_of (comparison_between old.now new.now relation.now)) (Q.formula queries.now) finding.now.limit file result) }
+    requires unfailed { (S.state shelf.old).read_failed ≡ false }
+    ensures exact { IfSome ((S.state shelf.old).file finding.now.name.now) (λ file. IsJudged (setting_of (comparison_between old.now new.now relation.now)) (Q.formula queries.now) finding.now.limit file result) }
     ensures sound { ShowsVerdict (comparison_between old.now new.now relation.now) (Q.formula queries.now) result }
-    ensures kept { S.file shelf.new ≡ S.file shelf.old }
-    ensures cause { IsCausedBy JudgeErr.Fault (S.read_faults shelf.old) (S.read_faults shelf.new) finding.now.name.now result }
-    ensures writes { NoneFell (S.write_faults shelf.old) (S.write_faults shelf.new) }
-    ensures unfailed { OnOk result (S.read_failed shelf.new ≡ false) }
+    ensures kept { (S.state shelf.new).file ≡ (S.state shelf.old).file }
+    ensures cause { IsCausedBy JudgeErr.Fault (S.state shelf.old).read_faults (S.state shelf.new).read_faults finding.now.name.now result }
+    ensures writes { NoneFell (S.state shelf.old).write_faults (S.state shelf.new).write_faults }
+    ensures unfailed { OnOk result ((S.state shelf.new).read_failed ≡ false) }
 {
     let mut trial = Trial::new(alloc, old, new, relation)?;
     let mut reader = FindingReader::new(alloc, finding.name, finding.limit, finding.piece)?;

@@ -79,14 +79,14 @@ pub fn judge<Q: Queries, S: Shelf>(
     requires limit { reader.old.limit ≤ 2 ^ 30 }
     requires first_byte { reader.old.at ≡ 0 }
     requires first_line { reader.old.number ≡ 1 }
-    requires agrees { IfSome (S.file shelf.old reader.old.name) (Agrees reader.old) }
-    requires unfailed { S.read_failed shelf.old ≡ false }
-    ensures exact { IfSome (S.file shelf.old reader.old.name) (λ file. IsJudged (setting_in trial.old) (Q.formula queries.now) reader.old.limit file result) }
+    requires agrees { IfSome ((S.state shelf.old).file reader.old.name) (Agrees reader.old) }
+    requires unfailed { (S.state shelf.old).read_failed ≡ false }
+    ensures exact { IfSome ((S.state shelf.old).file reader.old.name) (λ file. IsJudged (setting_in trial.old) (Q.formula queries.now) reader.old.limit file result) }
     ensures sound { ShowsVerdict (comparison_of trial.old) (Q.formula queries.now) result }
-    ensures kept { S.file shelf.new ≡ S.file shelf.old }
-    ensures cause { IsCausedBy JudgeErr.Fault (S.read_faults shelf.old) (S.read_faults shelf.new) reader.old.name result }
-    ensures writes { NoneFell (S.write_faults shelf.old) (S.write_faults shelf.new) }
-    ensures unfailed { OnOk result (S.read_failed shelf.new ≡ false) }
+    ensures kept { (S.state shelf.new).file ≡ (S.state shelf.old).file }
+    ensures cause { IsCausedBy JudgeErr.Fault (S.state shelf.old).read_faults (S.state shelf.new).read_faults reader.old.name result }
+    ensures writes { NoneFell (S.state shelf.old).write_faults (S.state shelf.new).write_faults }
+    ensures unfailed { OnOk result ((S.state shelf.new).read_failed ≡ false) }
 {
     queries.laws();
     let mut stage = Stage::Top;

@@ -19,6 +19,7 @@ use clause_core::Step;
 use derivation_check::{Checker, StepFault};
 use finding_lines::Asked;
 use judgement::Reason;
+use plc_types::Value;
 use queries::{Queries, Query};
 use std::alloc::{AllocError, Global};
 
@@ -78,8 +79,8 @@ pub fn log_step(
     alloc: Global,
     checker: Checker,
     behind: Behind,
-    literals: &[i64],
-    hints: &[i64],
+    literals: &[Value],
+    hints: &[Value],
 ) -> Result<Moved, AllocError>
     requires { length (held_of checker) < 2 ^ 32 }
     ensures { IfOk result (λ moved. (pair : Pair) → moved_of moved pair ≡ in_log_next checker (place_behind behind) (lines.Derived literals.now hints.now)) }
@@ -118,8 +119,8 @@ pub fn query_step(
     asked: Asked,
     checker: Checker,
     left: u64,
-    literals: &[i64],
-    hints: &[i64],
+    literals: &[Value],
+    hints: &[Value],
 ) -> Result<Moved, AllocError>
     requires { length (held_of checker) < 2 ^ 32 }
     ensures { IfOk result (λ moved. (told : Bool) × ((s : Setting) → IsTold s (in_query asked checker left) (lines.Derived literals.now hints.now) told)

@@ -6,10 +6,11 @@ ghost use Rattle.judgement.specs.Steps.{literal_of, clause_of};
 ghost use Rattle.finding_check.specs.Numbers.{short_hint, short_hints};
 
 use clause_core::{Clause, Hints, Lit, Step, is_rising};
+use plc_types::Value;
 use std::alloc::{AllocError, Global};
 
 // The literal of the number at a place, if its variable is at most that.
-fn literal_at(variables: u32, numbers: &[i64], place: usize) -> Option<Lit>
+fn literal_at(variables: u32, numbers: &[Value], place: usize) -> Option<Lit>
     requires { place < length numbers.now }
     ensures { MatchOption result (variables < unsigned_abs (slice_index_or numbers.now place (pos 0))) (λ l. l ≡ literal_of (slice_index_or numbers.now place (pos 0))) }
 {
@@ -25,7 +26,11 @@ fn literal_at(variables: u32, numbers: &[i64], place: usize) -> Option<Lit>
 }
 
 // The literals of numbers, if their variables are at most that.
-fn literals_of(alloc: Global, variables: u32, numbers: &[i64]) -> Result<Option<Clause>, AllocError>
+fn literals_of(
+    alloc: Global,
+    variables: u32,
+    numbers: &[Value],
+) -> Result<Option<Clause>, AllocError>
     ensures { IfOk result (λ o. MatchOption o (rises variables (clause_of numbers.now) ≡ false) (λ clause. clause ≡ clause_of numbers.now)) }
 {
     let mut clause = Clause::new(alloc);
@@ -42,7 +47,7 @@ fn literals_of(alloc: Global, variables: u32, numbers: &[i64]) -> Result<Option<
 pub fn clause_of(
     alloc: Global,
     variables: u32,
-    numbers: &[i64],
+    numbers: &[Value],
 ) -> Result<Option<Clause>, AllocError>
     ensures { IfOk result (λ o. MatchOption o (rises variables (clause_of numbers.now) ≡ false)
         (λ clause. (rises variables (clause_of numbers.now) ≡ true) × (clause ≡ clause_of numbers.now))) }
@@ -57,7 +62,7 @@ pub fn clause_of(
     }
 }
 
-fn short_hint(number: i64) -> u32
+fn short_hint(number: Value) -> u32
     ensures { result ≡ short_hint number }
 {
     if 0 <= number && number < 0x1_0000_0000 {
@@ -68,7 +73,7 @@ fn short_hint(number: i64) -> u32
 }
 
 /// The hints of some numbers.
-pub fn hints_of(alloc: Global, numbers: &[i64]) -> Result<Hints, AllocError>
+pub fn hints_of(alloc: Global, numbers: &[Value]) -> Result<Hints, AllocError>
     ensures { IfOk result (λ hints. hints ≡ short_hints numbers.now) }
 {
     let mut hints = Hints::new(alloc);
@@ -82,8 +87,8 @@ pub fn hints_of(alloc: Global, numbers: &[i64]) -> Result<Hints, AllocError>
 pub fn step_of(
     alloc: Global,
     variables: u32,
-    literals: &[i64],
-    hints: &[i64],
+    literals: &[Value],
+    hints: &[Value],
 ) -> Result<Option<Step>, AllocError>
     ensures { IfOk result (λ o. MatchOption o (rises variables (clause_of literals.now) ≡ false)
         (λ step. (rises variables (clause_of literals.now) ≡ true) × (step.clause ≡ clause_of literals.now) × (step.hints ≡ short_hints hints.now))) }

@@ -21,11 +21,12 @@ use derivation_check::Checker;
 use finding_lines::{Asked, Conclusion, Line};
 use judgement::Reason;
 use pair_trial::{Trial, first_set};
+use plc_types::Value;
 use queries::{CandidateSet, Queries, Query};
 use std::alloc::{AllocError, Global};
 
 /// The first numbers, at most so many, and those behind them.
-pub fn split_at_most(numbers: &[i64], count: usize) -> (&[i64], &[i64])
+pub fn split_at_most(numbers: &[Value], count: usize) -> (&[Value], &[Value])
     ensures first { result.0.now ≡ take count numbers.now }
     ensures rest { result.1.now ≡ drop count numbers.now }
 {
@@ -46,7 +47,7 @@ fn at_top(line: &Line) -> Moved
 }
 
 // A first row.
-fn first_row(alloc: Global, trial: &mut Trial, row: &[i64]) -> Result<Moved, AllocError>
+fn first_row(alloc: Global, trial: &mut Trial, row: &[Value]) -> Result<Moved, AllocError>
     ensures moved { IfOk result (λ step. moved_of step trial.new.pair ≡ first_row (setting_in trial.old) row.now) }
     ensures kept { trial.new ≡ with_pair trial.new.pair trial.old }
 {
@@ -86,7 +87,7 @@ fn at_header<Q: Queries>(
 }
 
 // The numbers of a row that drops candidates.
-fn drop_numbers(trial: &mut Trial, set: CandidateSet, numbers: &[i64]) -> Moved
+fn drop_numbers(trial: &mut Trial, set: CandidateSet, numbers: &[Value]) -> Moved
     ensures moved { moved_of result trial.new.pair ≡ drop_row (setting_in trial.old) (members set) (pair_in (setting_in trial.old) numbers.now) (row_in (setting_in trial.old) numbers.now) }
     ensures kept { trial.new ≡ with_pair trial.new.pair trial.old }
 {
@@ -120,7 +121,7 @@ fn at_drops<Q: Queries>(
 }
 
 // The numbers of a row that leads out of the relation.
-fn pair_numbers(trial: &mut Trial, set: CandidateSet, numbers: &[i64]) -> Moved
+fn pair_numbers(trial: &mut Trial, set: CandidateSet, numbers: &[Value]) -> Moved
     ensures moved { moved_of result trial.new.pair ≡ pair_row (setting_in trial.old) (members set) (pair_in (setting_in trial.old) numbers.now) (row_in (setting_in trial.old) numbers.now) }
     ensures kept { trial.new ≡ with_pair trial.new.pair trial.old }
 {

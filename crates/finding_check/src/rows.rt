@@ -11,15 +11,16 @@ use crate::stage::{Moved, Stage};
 use finding_lines::Conclusion;
 use judgement::Reason;
 use pair_trial::{Trial, keep, meets};
+use plc_types::Value;
 use queries::CandidateSet;
 
 /// A row that drops candidates.
 pub fn drop_row(
     trial: &mut Trial,
     mut set: CandidateSet,
-    old: &[i64],
-    new: &[i64],
-    row: &[i64],
+    old: &[Value],
+    new: &[Value],
+    row: &[Value],
 ) -> Moved
     ensures moved { moved_of result trial.new.pair ≡ drop_row (setting_in trial.old) (members set) (record { old = old.now; new = new.now }) row.now }
     ensures kept { trial.new ≡ with_pair trial.new.pair trial.old }
@@ -46,9 +47,9 @@ pub fn drop_row(
 pub fn pair_row(
     trial: &mut Trial,
     kept: CandidateSet,
-    old: &[i64],
-    new: &[i64],
-    row: &[i64],
+    old: &[Value],
+    new: &[Value],
+    row: &[Value],
 ) -> Moved
     ensures moved { moved_of result trial.new.pair ≡ pair_row (setting_in trial.old) (members kept) (record { old = old.now; new = new.now }) row.now }
     ensures same { trial.new ≡ with_pair trial.new.pair trial.old }
@@ -71,7 +72,7 @@ pub fn pair_row(
 }
 
 /// A row of a break of so many scans, of which so many are to come behind it. The pair so far is that on trial.
-pub fn scan_row(trial: &mut Trial, scans: u64, more: u64, row: &[i64]) -> Moved
+pub fn scan_row(trial: &mut Trial, scans: u64, more: u64, row: &[Value]) -> Moved
     requires small { IsSmall (setting_in trial.old) }
     requires deep { scans ≤ (setting_in trial.old).depth }
     ensures moved { moved_of result trial.new.pair ≡ scan_row (setting_in trial.old) scans more trial.old.pair row.now }

@@ -12,10 +12,13 @@ use Rattle.judgement.specs.declared.answers.Judged.{Judged}
 use Rattle.judgement.specs.declared.answers.Judged.TheVariants.{Valid}
 use Rattle.judgement.specs.declared.answers.JudgeErr.TheVariants.{M8}
 use Rattle.command_answers.specs.Reports.{Report}
+use Rattle.command_answers.specs.Ends.{Asking}
+use Rattle.comparison_files.specs.Reading.{asking_to_read}
 use Rattle.comparison_files.specs.Texts.{Texts}
 use Rattle.comparison_files.specs.Accepting.{AreAccepted}
 use Rattle.comparison_files.specs.Comparing.{formulas_of}
-use Rattle.finding_answers.specs.Lines.{most_bytes, valid_line, judged_report, too_long_report}
+use Rattle.finding_answers.specs.Verdicts.{valid_line}
+use Rattle.finding_answers.specs.Lines.{most_bytes, judged_report, too_long_report}
 use Rattle.finding_commands.specs.Reports.{ReportsOn}
 
 -- The report on a finding, by a comparison and the formula of each query: what is said of it, which is shown; or that it is too long.
@@ -27,6 +30,10 @@ pub data ReportsFinding (c : Comparison) (formula : QueryData → Formula) (find
 -- the report on four texts
 abbrev pub CheckReports : Texts → Report → Type 0
 CheckReports t r = ReportsOn ReportsFinding t r
+
+-- what is asked for, by the names of the files
+abbrev pub asking_to_check : (old new rel finding : List ℕ) → Asking Texts
+asking_to_check old new rel finding = asking_to_read CheckReports old new rel finding (λ t. t.finding)
 
 -- VALID and a verdict were put: the finding is judged so by what the texts state, and the verdict is the model's, or SPENT with its log
 pub record ShowsValid (t : Texts) (old new : Option (List ℕ)) : Type 0 where

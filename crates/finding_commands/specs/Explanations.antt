@@ -14,6 +14,8 @@ use Rattle.judgement.specs.declared.answers.Reason.{Reason}
 use Rattle.judgement.specs.declared.answers.Judged.TheVariants.{Bad}
 use Rattle.judgement.specs.declared.answers.JudgeErr.TheVariants.{M8}
 use Rattle.command_answers.specs.Reports.{Report}
+use Rattle.command_answers.specs.Ends.{Asking}
+use Rattle.comparison_files.specs.Reading.{asking_to_read}
 use Rattle.comparison_files.specs.Texts.{Texts}
 use Rattle.comparison_files.specs.Accepting.{AreAccepted}
 use Rattle.comparison_files.specs.Comparing.{formulas_of}
@@ -32,6 +34,10 @@ pub data ReportsExplained (c : Comparison) (formula : QueryData → Formula) (fi
 -- the report on four texts
 abbrev pub ExplainReports : Texts → Report → Type 0
 ExplainReports t r = ReportsOn ReportsExplained t r
+
+-- what is asked for, by the names of the files
+abbrev pub asking_to_explain : (old new rel finding : List ℕ) → Asking Texts
+asking_to_explain old new rel finding = asking_to_read ExplainReports old new rel finding (λ t. t.finding)
 
 -- A report was put: the finding is these lines, which are valid by what the texts state; the verdict is the model's, or SPENT with its
 -- log; and what was put is the report on them.

@@ -28,17 +28,17 @@ fn answer_compared<C: FindingCommand, S: Shelf, K: Sink>(
     out: &mut K,
 ) -> Status
     requires scans { AreScansOf (comparison_in compared.now) scans }
-    requires reads { S.read_failed shelf.old ≡ false }
-    requires puts { K.put_failed out.old ≡ false }
-    ensures kept { S.file shelf.new ≡ S.file shelf.old }
-    ensures answer { (t : Texts) → AreStated t (comparison_in compared.now) → S.file shelf.old finding.now ≡ Some t.finding
-        → Answers (ReportsOn C.reports t) (Rose (S.read_faults shelf.old finding.now) (S.read_faults shelf.new finding.now)) result (K.taken out.old) (K.taken out.new) }
+    requires reads { (S.state shelf.old).read_failed ≡ false }
+    requires puts { (K.state out.old).put_failed ≡ false }
+    ensures kept { (S.state shelf.new).file ≡ (S.state shelf.old).file }
+    ensures answer { (t : Texts) → AreStated t (comparison_in compared.now) → (S.state shelf.old).file finding.now ≡ Some t.finding
+        → Answers (ReportsOn C.reports t) (Rose ((S.state shelf.old).read_faults finding.now) ((S.state shelf.new).read_faults finding.now)) result (K.state out.old).taken (K.state out.new).taken }
     ensures usage { result ≢ Status.Usage }
-    ensures read_fault { result ≡ Status.ReadFault → Rose (S.read_faults shelf.old finding.now) (S.read_faults shelf.new finding.now) }
-    ensures write_fault { result ≡ Status.WriteFault → Rose (K.faults out.old) (K.faults out.new) }
-    ensures reads { NoneFell (S.read_faults shelf.old) (S.read_faults shelf.new) }
-    ensures writes { NoneFell (S.write_faults shelf.old) (S.write_faults shelf.new) }
-    ensures faults { K.faults out.old ≤ K.faults out.new }
+    ensures read_fault { result ≡ Status.ReadFault → Rose ((S.state shelf.old).read_faults finding.now) ((S.state shelf.new).read_faults finding.now) }
+    ensures write_fault { result ≡ Status.WriteFault → Rose (K.state out.old).faults (K.state out.new).faults }
+    ensures reads { NoneFell (S.state shelf.old).read_faults (S.state shelf.new).read_faults }
+    ensures writes { NoneFell (S.state shelf.old).write_faults (S.state shelf.new).write_faults }
+    ensures faults { (K.state out.old).faults ≤ (K.state out.new).faults }
 {
     match circuits_of(alloc, compared, scans) {
         Ok(circuits) => command.answer(alloc, compared, &circuits, finding, shelf, out),
@@ -55,17 +55,17 @@ fn answer_texts<C: FindingCommand, S: Shelf, K: Sink>(
     shelf: &mut S,
     out: &mut K,
 ) -> Status
-    requires reads { S.read_failed shelf.old ≡ false }
-    requires puts { K.put_failed out.old ≡ false }
-    ensures kept { S.file shelf.new ≡ S.file shelf.old }
-    ensures answer { (t : Texts) → AreKept texts.now t → S.file shelf.old finding.now ≡ Some t.finding
-        → Answers (ReportsOn C.reports t) (Rose (S.read_faults shelf.old finding.now) (S.read_faults shelf.new finding.now)) result (K.taken out.old) (K.taken out.new) }
+    requires reads { (S.state shelf.old).read_failed ≡ false }
+    requires puts { (K.state out.old).put_failed ≡ false }
+    ensures kept { (S.state shelf.new).file ≡ (S.state shelf.old).file }
+    ensures answer { (t : Texts) → AreKept texts.now t → (S.state shelf.old).file finding.now ≡ Some t.finding
+        → Answers (ReportsOn C.reports t) (Rose ((S.state shelf.old).read_faults finding.now) ((S.state shelf.new).read_faults finding.now)) result (K.state out.old).taken (K.state out.new).taken }
     ensures usage { result ≢ Status.Usage }
-    ensures read_fault { result ≡ Status.ReadFault → Rose (S.read_faults shelf.old finding.now) (S.read_faults shelf.new finding.now) }
-    ensures write_fault { result ≡ Status.WriteFault → Rose (K.faults out.old) (K.faults out.new) }
-    ensures reads { NoneFell (S.read_faults shelf.old) (S.read_faults shelf.new) }
-    ensures writes { NoneFell (S.write_faults shelf.old) (S.write_faults shelf.new) }
-    ensures faults { K.faults out.old ≤ K.faults out.new }
+    ensures read_fault { result ≡ Status.ReadFault → Rose ((S.state shelf.old).read_faults finding.now) ((S.state shelf.new).read_faults finding.now) }
+    ensures write_fault { result ≡ Status.WriteFault → Rose (K.state out.old).faults (K.state out.new).faults }
+    ensures reads { NoneFell (S.state shelf.old).read_faults (S.state shelf.new).read_faults }
+    ensures writes { NoneFell (S.state shelf.old).write_faults (S.state shelf.new).write_faults }
+    ensures faults { (K.state out.old).faults ≤ (K.state out.new).faults }
 {
     match accept_texts(alloc, texts) {
         Ok(stated) => {
@@ -88,23 +88,23 @@ pub fn answer_on_finding<C: FindingCommand, S: Shelf, K: Sink>(
     out: &mut K,
 ) -> Status
     // No read and no put has failed before, and none follows one that failed.
-    requires reads { S.read_failed shelf.old ≡ false }
-    requires puts { K.put_failed out.old ≡ false }
+    requires reads { (S.state shelf.old).read_failed ≡ false }
+    requires puts { (K.state out.old).put_failed ≡ false }
 
     // No file changes.
-    ensures kept { S.file shelf.new ≡ S.file shelf.old }
+    ensures kept { (S.state shelf.new).file ≡ (S.state shelf.old).file }
 
     // The bytes on the sink and the status are those of the report on the four texts, where these are told.
-    ensures answer { (t : Texts) → AreFourTold (S.file shelf.old) old.now new.now relation.now finding.now t t.finding
-        → Answers (ReportsOn C.reports t) (OneOfFourRose (S.read_faults shelf.old) (S.read_faults shelf.new) old.now new.now relation.now finding.now) result (K.taken out.old) (K.taken out.new) }
+    ensures answer { (t : Texts) → AreFourTold (S.state shelf.old).file old.now new.now relation.now finding.now t t.finding
+        → Answers (ReportsOn C.reports t) (OneOfFourRose (S.state shelf.old).read_faults (S.state shelf.new).read_faults old.now new.now relation.now finding.now) result (K.state out.old).taken (K.state out.new).taken }
     ensures usage { result ≢ Status.Usage }
 
     // A fault comes only where a count rose, and no count falls.
-    ensures read_fault { result ≡ Status.ReadFault → OneOfFourRose (S.read_faults shelf.old) (S.read_faults shelf.new) old.now new.now relation.now finding.now }
-    ensures write_fault { result ≡ Status.WriteFault → Rose (K.faults out.old) (K.faults out.new) }
-    ensures reads { NoneFell (S.read_faults shelf.old) (S.read_faults shelf.new) }
-    ensures writes { NoneFell (S.write_faults shelf.old) (S.write_faults shelf.new) }
-    ensures faults { K.faults out.old ≤ K.faults out.new }
+    ensures read_fault { result ≡ Status.ReadFault → OneOfFourRose (S.state shelf.old).read_faults (S.state shelf.new).read_faults old.now new.now relation.now finding.now }
+    ensures write_fault { result ≡ Status.WriteFault → Rose (K.state out.old).faults (K.state out.new).faults }
+    ensures reads { NoneFell (S.state shelf.old).read_faults (S.state shelf.new).read_faults }
+    ensures writes { NoneFell (S.state shelf.old).write_faults (S.state shelf.new).write_faults }
+    ensures faults { (K.state out.old).faults ≤ (K.state out.new).faults }
 {
     match read_texts(alloc, old, new, relation, shelf) {
         Ok(texts) => answer_texts(alloc, command, &texts, finding, shelf, out),

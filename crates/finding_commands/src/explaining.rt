@@ -26,11 +26,11 @@ fn explain_file<Q: Queries, S: Shelf>(
     shelf: &mut S,
 ) -> Result<Explained, JudgeErr>
     requires compared { Q.compared queries.now ≡ comparison_in compared.now }
-    requires unfailed { S.read_failed shelf.old ≡ false }
-    ensures exact { IfSome (S.file shelf.old finding.now) (λ file. IsExplained (comparison_in compared.now) (Q.formula queries.now) most_bytes file result) }
-    ensures kept { S.file shelf.new ≡ S.file shelf.old }
-    ensures cause { IsCausedBy JudgeErr.Fault (S.read_faults shelf.old) (S.read_faults shelf.new) finding.now result }
-    ensures writes { NoneFell (S.write_faults shelf.old) (S.write_faults shelf.new) }
+    requires unfailed { (S.state shelf.old).read_failed ≡ false }
+    ensures exact { IfSome ((S.state shelf.old).file finding.now) (λ file. IsExplained (comparison_in compared.now) (Q.formula queries.now) most_bytes file result) }
+    ensures kept { (S.state shelf.new).file ≡ (S.state shelf.old).file }
+    ensures cause { IsCausedBy JudgeErr.Fault (S.state shelf.old).read_faults (S.state shelf.new).read_faults finding.now result }
+    ensures writes { NoneFell (S.state shelf.old).write_faults (S.state shelf.new).write_faults }
 {
     compared.laws();
     let programs = finding_report::Compared {

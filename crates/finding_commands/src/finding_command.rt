@@ -30,15 +30,15 @@ pub trait FindingCommand {
         out: &mut K,
     ) -> Status
         requires compared { Q.compared queries.now ≡ comparison_in compared.now }
-        requires reads { S.read_failed shelf.old ≡ false }
-        requires puts { K.put_failed out.old ≡ false }
-        ensures kept { S.file shelf.new ≡ S.file shelf.old }
-        ensures answer { (file : List ℕ) → S.file shelf.old finding.now ≡ Some file
-            → Answers (reports (comparison_in compared.now) (Q.formula queries.now) file) (Rose (S.read_faults shelf.old finding.now) (S.read_faults shelf.new finding.now)) result (K.taken out.old) (K.taken out.new) }
+        requires reads { (S.state shelf.old).read_failed ≡ false }
+        requires puts { (K.state out.old).put_failed ≡ false }
+        ensures kept { (S.state shelf.new).file ≡ (S.state shelf.old).file }
+        ensures answer { (file : List ℕ) → (S.state shelf.old).file finding.now ≡ Some file
+            → Answers (reports (comparison_in compared.now) (Q.formula queries.now) file) (Rose ((S.state shelf.old).read_faults finding.now) ((S.state shelf.new).read_faults finding.now)) result (K.state out.old).taken (K.state out.new).taken }
         ensures usage { result ≢ Status.Usage }
-        ensures read_fault { result ≡ Status.ReadFault → Rose (S.read_faults shelf.old finding.now) (S.read_faults shelf.new finding.now) }
-        ensures write_fault { result ≡ Status.WriteFault → Rose (K.faults out.old) (K.faults out.new) }
-        ensures reads { NoneFell (S.read_faults shelf.old) (S.read_faults shelf.new) }
-        ensures writes { NoneFell (S.write_faults shelf.old) (S.write_faults shelf.new) }
-        ensures faults { K.faults out.old ≤ K.faults out.new };
+        ensures read_fault { result ≡ Status.ReadFault → Rose ((S.state shelf.old).read_faults finding.now) ((S.state shelf.new).read_faults finding.now) }
+        ensures write_fault { result ≡ Status.WriteFault → Rose (K.state out.old).faults (K.state out.new).faults }
+        ensures reads { NoneFell (S.state shelf.old).read_faults (S.state shelf.new).read_faults }
+        ensures writes { NoneFell (S.state shelf.old).write_faults (S.state shelf.new).write_faults }
+        ensures faults { (K.state out.old).faults ≤ (K.state out.new).faults };
 }

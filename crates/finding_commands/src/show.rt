@@ -22,12 +22,12 @@ fn line_of(text: String) -> Result<String, AllocError>
 
 /// Puts the report on a valid finding, or what the judge says.
 pub(crate) fn put_explained<K: Sink>(alloc: Global, explained: Explained, out: &mut K) -> Status
-    requires unfailed { K.put_failed out.old ≡ false }
-    ensures answer { Answers (λ r. r ≡ explained_report explained) ⊥ result (K.taken out.old) (K.taken out.new) }
+    requires unfailed { (K.state out.old).put_failed ≡ false }
+    ensures answer { Answers (λ r. r ≡ explained_report explained) ⊥ result (K.state out.old).taken (K.state out.new).taken }
     ensures usage { result ≢ Status.Usage }
     ensures read_fault { result ≢ Status.ReadFault }
-    ensures write_fault { result ≡ Status.WriteFault → Rose (K.faults out.old) (K.faults out.new) }
-    ensures faults { K.faults out.old ≤ K.faults out.new }
+    ensures write_fault { result ≡ Status.WriteFault → Rose (K.state out.old).faults (K.state out.new).faults }
+    ensures faults { (K.state out.old).faults ≤ (K.state out.new).faults }
 {
     match explained {
         Explained::Valid(text) => put_report(out, line_of(text), Status::Valid),

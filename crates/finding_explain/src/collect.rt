@@ -42,12 +42,12 @@ pub(crate) fn collect<S: Shelf>(
 ) -> Result<Notes, ReadErr>
     requires limit { reader.old.limit ≤ 2 ^ 30 }
     requires first_byte { reader.old.at ≡ 0 }
-    requires agrees { IfSome (S.file shelf.old reader.old.name) (Agrees reader.old) }
-    requires unfailed { S.read_failed shelf.old ≡ false }
-    ensures noted { IfSome (S.file shelf.old reader.old.name) (λ file. (ls : List Line) → IsFileOf (setting_in trial.old) reader.old.limit file ls → IsCollected (setting_in trial.old) ls result) }
-    ensures kept { S.file shelf.new ≡ S.file shelf.old }
-    ensures cause { IsCausedBy ReadErr.Fault (S.read_faults shelf.old) (S.read_faults shelf.new) reader.old.name result }
-    ensures writes { NoneFell (S.write_faults shelf.old) (S.write_faults shelf.new) }
+    requires agrees { IfSome ((S.state shelf.old).file reader.old.name) (Agrees reader.old) }
+    requires unfailed { (S.state shelf.old).read_failed ≡ false }
+    ensures noted { IfSome ((S.state shelf.old).file reader.old.name) (λ file. (ls : List Line) → IsFileOf (setting_in trial.old) reader.old.limit file ls → IsCollected (setting_in trial.old) ls result) }
+    ensures kept { (S.state shelf.new).file ≡ (S.state shelf.old).file }
+    ensures cause { IsCausedBy ReadErr.Fault (S.state shelf.old).read_faults (S.state shelf.new).read_faults reader.old.name result }
+    ensures writes { NoneFell (S.state shelf.old).write_faults (S.state shelf.new).write_faults }
 {
     let mut notes = first_notes(alloc, trial)?;
     'lines: for before in 0..MOST_LINES + 1 {

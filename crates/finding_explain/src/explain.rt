@@ -31,11 +31,11 @@ fn collect_file<S: Shelf>(
     requires comparison { IsComparison (comparison_in compared.now) }
     requires limit { finding.now.limit ≤ 2 ^ 30 }
     requires piece { 0 < finding.now.piece }
-    requires unfailed { S.read_failed shelf.old ≡ false }
-    ensures noted { IfSome (S.file shelf.old finding.now.name.now) (λ file. (ls : List Line) → IsFileOf (setting_of (comparison_in compared.now)) finding.now.limit file ls → IsCollected (setting_of (comparison_in compared.now)) ls result) }
-    ensures kept { S.file shelf.new ≡ S.file shelf.old }
-    ensures cause { IsCausedBy ReadErr.Fault (S.read_faults shelf.old) (S.read_faults shelf.new) finding.now.name.now result }
-    ensures writes { NoneFell (S.write_faults shelf.old) (S.write_faults shelf.new) }
+    requires unfailed { (S.state shelf.old).read_failed ≡ false }
+    ensures noted { IfSome ((S.state shelf.old).file finding.now.name.now) (λ file. (ls : List Line) → IsFileOf (setting_of (comparison_in compared.now)) finding.now.limit file ls → IsCollected (setting_of (comparison_in compared.now)) ls result) }
+    ensures kept { (S.state shelf.new).file ≡ (S.state shelf.old).file }
+    ensures cause { IsCausedBy ReadErr.Fault (S.state shelf.old).read_faults (S.state shelf.new).read_faults finding.now.name.now result }
+    ensures writes { NoneFell (S.state shelf.old).write_faults (S.state shelf.new).write_faults }
 {
     let mut trial = Trial::new(alloc, compared.old, compared.new, compared.relation)?;
     let mut reader = FindingReader::new(alloc, finding.name, finding.limit, finding.piece)?;
@@ -72,12 +72,12 @@ fn report_file<S: Shelf>(
     requires comparison { IsComparison (comparison_in compared.now) }
     requires limit { finding.now.limit ≤ 2 ^ 30 }
     requires piece { 0 < finding.now.piece }
-    requires unfailed { S.read_failed shelf.old ≡ false }
-    ensures exact { IfSome (S.file shelf.old finding.now.name.now) (λ file. (ls : List Line) → IsFileOf (setting_of (comparison_in compared.now)) finding.now.limit file ls → IsReported (comparison_in compared.now) ls verdict result) }
+    requires unfailed { (S.state shelf.old).read_failed ≡ false }
+    ensures exact { IfSome ((S.state shelf.old).file finding.now.name.now) (λ file. (ls : List Line) → IsFileOf (setting_of (comparison_in compared.now)) finding.now.limit file ls → IsReported (comparison_in compared.now) ls verdict result) }
     ensures report { HasVerdict (comparison_in compared.now) verdict result }
-    ensures kept { S.file shelf.new ≡ S.file shelf.old }
-    ensures cause { IsCausedBy JudgeErr.Fault (S.read_faults shelf.old) (S.read_faults shelf.new) finding.now.name.now result }
-    ensures writes { NoneFell (S.write_faults shelf.old) (S.write_faults shelf.new) }
+    ensures kept { (S.state shelf.new).file ≡ (S.state shelf.old).file }
+    ensures cause { IsCausedBy JudgeErr.Fault (S.state shelf.old).read_faults (S.state shelf.new).read_faults finding.now.name.now result }
+    ensures writes { NoneFell (S.state shelf.old).write_faults (S.state shelf.new).write_faults }
 {
     match collect_file(alloc, compared, finding, shelf) {
         Err(error) => unread(error),
@@ -98,12 +98,12 @@ pub fn explain_finding<Q: Queries, S: Shelf>(
     requires comparison { IsComparison (comparison_in compared.now) }
     requires limit { finding.now.limit ≤ 2 ^ 30 }
     requires piece { 0 < finding.now.piece }
-    requires unfailed { S.read_failed shelf.old ≡ false }
-    ensures exact { IfSome (S.file shelf.old finding.now.name.now) (λ file. IsExplained (comparison_in compared.now) (Q.formula queries.now) finding.now.limit file result) }
+    requires unfailed { (S.state shelf.old).read_failed ≡ false }
+    ensures exact { IfSome ((S.state shelf.old).file finding.now.name.now) (λ file. IsExplained (comparison_in compared.now) (Q.formula queries.now) finding.now.limit file result) }
     ensures sound { ShowsReport (comparison_in compared.now) (Q.formula queries.now) result }
-    ensures kept { S.file shelf.new ≡ S.file shelf.old }
-    ensures cause { IsCausedBy JudgeErr.Fault (S.read_faults shelf.old) (S.read_faults shelf.new) finding.now.name.now result }
-    ensures writes { NoneFell (S.write_faults shelf.old) (S.write_faults shelf.new) }
+    ensures kept { (S.state shelf.new).file ≡ (S.state shelf.old).file }
+    ensures cause { IsCausedBy JudgeErr.Fault (S.state shelf.old).read_faults (S.state shelf.new).read_faults finding.now.name.now result }
+    ensures writes { NoneFell (S.state shelf.old).write_faults (S.state shelf.new).write_faults }
 {
     match judge_file(
         alloc,

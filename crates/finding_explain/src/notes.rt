@@ -13,11 +13,18 @@ use finding_check::split_at_most;
 use finding_lines::Line;
 use finding_report::Notes;
 use pair_trial::{Trial, keep};
+use plc_types::Value;
 use queries::CandidateSet;
 use std::alloc::AllocError;
 
 // Takes those out of a set that fail after a scan, if it can be run.
-fn drop_failing(trial: &mut Trial, set: &mut CandidateSet, old: &[i64], new: &[i64], row: &[i64])
+fn drop_failing(
+    trial: &mut Trial,
+    set: &mut CandidateSet,
+    old: &[Value],
+    new: &[Value],
+    row: &[Value],
+)
     ensures left { (setting_in trial.old).in_range (record { old = old.now; new = new.now }) ≡ true → (setting_in trial.old).allowed row.now (record { old = old.now; new = new.now }) ≡ true
         → members set.new ≡ left_of (setting_in trial.old) (members set.old) ((setting_in trial.old).after row.now (record { old = old.now; new = new.now })) }
     ensures kept { trial.new ≡ with_pair trial.new.pair trial.old }
@@ -34,7 +41,7 @@ fn drop_failing(trial: &mut Trial, set: &mut CandidateSet, old: &[i64], new: &[i
 }
 
 // Takes those out of a set that a DROP line drops.
-fn drop_by(trial: &mut Trial, set: &mut CandidateSet, numbers: &[i64])
+fn drop_by(trial: &mut Trial, set: &mut CandidateSet, numbers: &[Value])
     ensures left { CanRun (setting_in trial.old) numbers.now → members set.new ≡ left_by (setting_in trial.old) (members set.old) numbers.now }
     ensures kept { trial.new ≡ with_pair trial.new.pair trial.old }
 {

@@ -105,17 +105,17 @@ impl FindingReader {
 
     // Reads one more piece.
     fn read_piece<S: Shelf>(&mut self, shelf: &mut S) -> Result<Piece, OutErr>
-        requires agrees { IfSome (S.file shelf.old self.old.name) (Agrees self.old) }
-        requires unfailed { S.read_failed shelf.old ≡ false }
+        requires agrees { IfSome ((S.state shelf.old).file self.old.name) (Agrees self.old) }
+        requires unfailed { (S.state shelf.old).read_failed ≡ false }
         ensures place { IsSamePlace self.old self.new }
-        ensures agrees { IfSome (S.file shelf.old self.old.name) (Agrees self.new) }
+        ensures agrees { IfSome ((S.state shelf.old).file self.old.name) (Agrees self.new) }
         ensures within { self.new.at + length self.new.held ≤ self.new.limit }
         ensures piece { IfOk result (IsPiece self.old self.new) }
-        ensures met { IfSome (S.file shelf.old self.old.name) (λ bytes. IfOk result (MeetsPiece self.new bytes)) }
-        ensures kept { S.file shelf.new ≡ S.file shelf.old }
-        ensures cause { HasFileCause (S.read_faults shelf.old) (S.read_faults shelf.new) self.old.name result }
-        ensures writes { NoneFell (S.write_faults shelf.old) (S.write_faults shelf.new) }
-        ensures unfailed { OnOk result (S.read_failed shelf.new ≡ false) }
+        ensures met { IfSome ((S.state shelf.old).file self.old.name) (λ bytes. IfOk result (MeetsPiece self.new bytes)) }
+        ensures kept { (S.state shelf.new).file ≡ (S.state shelf.old).file }
+        ensures cause { HasFileCause (S.state shelf.old).read_faults (S.state shelf.new).read_faults self.old.name result }
+        ensures writes { NoneFell (S.state shelf.old).write_faults (S.state shelf.new).write_faults }
+        ensures unfailed { OnOk result ((S.state shelf.new).read_failed ≡ false) }
     {
         let from = self.at + self.window.bytes().len() as u64;
         let room = self.limit - from;
@@ -134,17 +134,17 @@ impl FindingReader {
 
     // Reads on to the next line feed.
     fn find_line<S: Shelf>(&mut self, shelf: &mut S) -> Result<Found, OutErr>
-        requires agrees { IfSome (S.file shelf.old self.old.name) (Agrees self.old) }
-        requires unfailed { S.read_failed shelf.old ≡ false }
+        requires agrees { IfSome ((S.state shelf.old).file self.old.name) (Agrees self.old) }
+        requires unfailed { (S.state shelf.old).read_failed ≡ false }
         ensures place { IsSamePlace self.old self.new }
-        ensures agrees { IfSome (S.file shelf.old self.old.name) (Agrees self.new) }
+        ensures agrees { IfSome ((S.state shelf.old).file self.old.name) (Agrees self.new) }
         ensures within { self.new.at + length self.new.held ≤ self.new.limit }
         ensures found { IfOk result (IsFound self.new) }
-        ensures met { IfSome (S.file shelf.old self.old.name) (λ bytes. IfOk result (MeetsFound self.new bytes)) }
-        ensures kept { S.file shelf.new ≡ S.file shelf.old }
-        ensures cause { HasFileCause (S.read_faults shelf.old) (S.read_faults shelf.new) self.old.name result }
-        ensures writes { NoneFell (S.write_faults shelf.old) (S.write_faults shelf.new) }
-        ensures unfailed { OnOk result (S.read_failed shelf.new ≡ false) }
+        ensures met { IfSome ((S.state shelf.old).file self.old.name) (λ bytes. IfOk result (MeetsFound self.new bytes)) }
+        ensures kept { (S.state shelf.new).file ≡ (S.state shelf.old).file }
+        ensures cause { HasFileCause (S.state shelf.old).read_faults (S.state shelf.new).read_faults self.old.name result }
+        ensures writes { NoneFell (S.state shelf.old).write_faults (S.state shelf.new).write_faults }
+        ensures unfailed { OnOk result ((S.state shelf.new).read_failed ≡ false) }
     {
         'pieces: loop {
             if let Some(end) = self.find_feed() {
@@ -176,16 +176,16 @@ impl FindingReader {
 
     /// The next line, or none at the file's end. After an error the reader stands before the same line.
     pub fn next<S: Shelf>(&mut self, shelf: &mut S) -> Result<Option<Line>, ReadErr>
-        requires agrees { IfSome (S.file shelf.old self.old.name) (Agrees self.old) }
-        requires unfailed { S.read_failed shelf.old ≡ false }
-        ensures answer { IfSome (S.file shelf.old self.old.name) (λ bytes. IsAnswer self.old (ahead (rest_of self.old bytes)) result) }
-        ensures rest { IfSome (S.file shelf.old self.old.name) (λ bytes. IfOk result (λ answer. IfSome answer (λ line. rest_of self.old bytes ≡ written line ++ rest_of self.new bytes))) }
+        requires agrees { IfSome ((S.state shelf.old).file self.old.name) (Agrees self.old) }
+        requires unfailed { (S.state shelf.old).read_failed ≡ false }
+        ensures answer { IfSome ((S.state shelf.old).file self.old.name) (λ bytes. IsAnswer self.old (ahead (rest_of self.old bytes)) result) }
+        ensures rest { IfSome ((S.state shelf.old).file self.old.name) (λ bytes. IfOk result (λ answer. IfSome answer (λ line. rest_of self.old bytes ≡ written line ++ rest_of self.new bytes))) }
         ensures place { MatchResult result (λ answer. MatchOption answer (IsSamePlace self.old self.new) (λ line. IsPast self.old self.new line)) (λ _. IsSamePlace self.old self.new) }
-        ensures agrees { IfSome (S.file shelf.old self.old.name) (Agrees self.new) }
-        ensures kept { S.file shelf.new ≡ S.file shelf.old }
-        ensures cause { IsCausedBy ReadErr.Fault (S.read_faults shelf.old) (S.read_faults shelf.new) self.old.name result }
-        ensures writes { NoneFell (S.write_faults shelf.old) (S.write_faults shelf.new) }
-        ensures unfailed { result ≢ Err ReadErr.Fault → result ≢ Err ReadErr.Memory → S.read_failed shelf.new ≡ false }
+        ensures agrees { IfSome ((S.state shelf.old).file self.old.name) (Agrees self.new) }
+        ensures kept { (S.state shelf.new).file ≡ (S.state shelf.old).file }
+        ensures cause { IsCausedBy ReadErr.Fault (S.state shelf.old).read_faults (S.state shelf.new).read_faults self.old.name result }
+        ensures writes { NoneFell (S.state shelf.old).write_faults (S.state shelf.new).write_faults }
+        ensures unfailed { result ≢ Err ReadErr.Fault → result ≢ Err ReadErr.Memory → (S.state shelf.new).read_failed ≡ false }
     {
         match self.find_line(shelf)? {
             Found::Past => Err(ReadErr::M8),

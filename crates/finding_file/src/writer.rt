@@ -47,16 +47,16 @@ impl FindingWriter {
 
     /// Adds a line to the file, unless the file would pass the limit.
     pub fn line<S: Shelf>(&mut self, shelf: &mut S, line: &Line) -> Result<(), WriteErr>
-        ensures all { OnOk result (S.file shelf.new self.old.name ≡ extended (S.file shelf.old self.old.name) (written line.now)) }
-        ensures part { OnErr result ((count : ℕ) × (S.file shelf.new self.old.name ≡ extended (S.file shelf.old self.old.name) (take count (written line.now)))) }
-        ensures others { OthersStay (S.file shelf.old) (S.file shelf.new) self.old.name }
+        ensures all { OnOk result ((S.state shelf.new).file self.old.name ≡ extended ((S.state shelf.old).file self.old.name) (written line.now)) }
+        ensures part { OnErr result ((count : ℕ) × ((S.state shelf.new).file self.old.name ≡ extended ((S.state shelf.old).file self.old.name) (take count (written line.now)))) }
+        ensures others { OthersStay (S.state shelf.old).file (S.state shelf.new).file self.old.name }
         ensures counted { OnOk result (self.new ≡ record self.old { size = self.old.size + length (written line.now) }) }
         ensures stays { OnErr result (self.new ≡ self.old) }
         ensures within { OnOk result (self.old.size + length (written line.now) ≤ self.old.limit) }
         ensures past { result ≡ Err WriteErr.M8 → self.old.limit < self.old.size + length (written line.now) }
         ensures untouched { result ≡ Err WriteErr.M8 → shelf.new ≡ shelf.old }
-        ensures cause { IsCausedBy WriteErr.Fault (S.write_faults shelf.old) (S.write_faults shelf.new) self.old.name result }
-        ensures reads { NoneFell (S.read_faults shelf.old) (S.read_faults shelf.new) }
+        ensures cause { IsCausedBy WriteErr.Fault (S.state shelf.old).write_faults (S.state shelf.new).write_faults self.old.name result }
+        ensures reads { NoneFell (S.state shelf.old).read_faults (S.state shelf.new).read_faults }
     {
         self.text.clear();
         show_line(&mut self.text, line)?;

@@ -5,6 +5,8 @@ ghost use Rattle.std.specs.Fmt.{decimal, signed_decimal};
 ghost use Rattle.finding_lines.specs.Form.{IsNumber, IsMagnitude};
 ghost use Rattle.finding_lines.specs.Reading.{IsTaken, NoneTaken};
 
+use plc_types::Value;
+
 /// The magnitude of the least number of 64 bits with a sign.
 const MOST: u64 = 0x8000_0000_0000_0000;
 
@@ -66,31 +68,31 @@ fn take_magnitude(bytes: &[u8]) -> Option<(u64, &[u8])>
 
 /// The number of that magnitude below 0, unless the magnitude is 0.
 #[inline(always)]
-fn negative(magnitude: u64) -> Option<i64>
+fn negative(magnitude: u64) -> Option<Value>
     requires { IsMagnitude magnitude }
     ensures { MatchOption result (magnitude ≡ 0) (λ n. IsNumber n × (signed_decimal n ≡ 45 ∷ decimal magnitude)) }
 {
     if magnitude == 0 {
         None
     } else {
-        Some(-1 - (magnitude - 1) as i64)
+        Some(-1 - (magnitude - 1) as Value)
     }
 }
 
 /// The number of that magnitude from 0 on, if it has 64 bits.
 #[inline(always)]
-fn positive(magnitude: u64) -> Option<i64>
+fn positive(magnitude: u64) -> Option<Value>
     ensures { MatchOption result (2 ^ 63 ≤ magnitude) (λ n. IsNumber n × (n ≡ pos magnitude)) }
 {
     if magnitude < MOST {
-        Some(magnitude as i64)
+        Some(magnitude as Value)
     } else {
         None
     }
 }
 
 /// The number in front, with no sign but a minus.
-pub fn take_signed(bytes: &[u8]) -> Option<(i64, &[u8])>
+pub fn take_signed(bytes: &[u8]) -> Option<(Value, &[u8])>
     ensures { MatchOption result (NoneTaken IsNumber signed_decimal bytes.now) (λ p. IsTaken IsNumber signed_decimal bytes.now p.0 p.1.now) }
 {
     if let Some(digits) = after_byte(bytes, b'-') {

@@ -8,10 +8,11 @@ ghost use Rattle.finding_lines.specs.declared.line.Asked.{Asked};
 use crate::digits::{after_byte, take_signed};
 use crate::line::{Asked, Conclusion};
 use crate::words::{after, take_label};
+use plc_types::Value;
 
 /// The number in front, behind a space.
 #[inline]
-pub fn take_number(bytes: &[u8]) -> Option<(i64, &[u8])>
+pub fn take_number(bytes: &[u8]) -> Option<(Value, &[u8])>
     ensures { MatchOption result (NoneTaken IsNumber spaced bytes.now) (λ p. IsTaken IsNumber spaced bytes.now p.0 p.1.now) }
 {
     let rest = after_byte(bytes, b' ')?;

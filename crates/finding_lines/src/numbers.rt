@@ -1,12 +1,13 @@
 ghost use Rattle.std.specs.Prelude.{◌≡◌, ◌++◌, ◌∷◌, [], IfOk, OnErr, OnOk};
 
+use plc_types::Value;
 use std::alloc::{AllocError, Global};
 use std::marker::Model;
 
 /// Whole numbers in their order: contracts see the list of them.
 #[derive(Drop)]
 pub struct Numbers {
-    numbers: Vec<i64>,
+    numbers: Vec<Value>,
 }
 
 impl Model for Numbers {
@@ -37,7 +38,7 @@ impl Numbers {
 
     /// The numbers in their order.
     #[inline]
-    pub fn as_slice(&self) -> &[i64]
+    pub fn as_slice(&self) -> &[Value]
         ensures { result.now ≡ self.now }
     {
         self.numbers.as_slice()
@@ -45,7 +46,7 @@ impl Numbers {
 
     /// Adds a number behind the others.
     #[inline(always)]
-    pub fn push(&mut self, number: i64) -> Result<(), AllocError>
+    pub fn push(&mut self, number: Value) -> Result<(), AllocError>
         ensures ok { OnOk result (self.new ≡ self.old ++ number ∷ []) }
         ensures err { OnErr result (self.new ≡ self.old) }
     {

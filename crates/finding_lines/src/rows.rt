@@ -7,6 +7,7 @@ ghost use Rattle.finding_lines.specs.Reading.{Reads, AreNonzero, IsTaken, NoneTa
 use crate::fields::take_number;
 use crate::numbers::Numbers;
 use crate::words::after;
+use plc_types::Value;
 use std::alloc::{AllocError, Global};
 
 /// As many numbers as there mostly are in so many bytes, at most 256.
@@ -58,7 +59,7 @@ fn take_list(alloc: Global, bytes: &[u8]) -> Result<Option<(Numbers, &[u8])>, Al
 }
 
 /// Whether the variables of literals are above 0 and rise.
-fn rises(literals: &[i64]) -> bool
+fn rises(literals: &[Value]) -> bool
     ensures { result ≡ rises_from 0 literals.now }
 {
     let mut last = 0;
@@ -73,7 +74,7 @@ fn rises(literals: &[i64]) -> bool
 }
 
 /// Whether each number is above 0.
-fn are_positive(numbers: &[i64]) -> bool
+fn are_positive(numbers: &[Value]) -> bool
     ensures { result ≡ all_positive numbers.now }
 {
     for number in numbers {

@@ -4,9 +4,10 @@ ghost use Rattle.finding_lines.specs.Spelling.{spaced, spaced_all, asked, conclu
 
 use crate::line::{Asked, Conclusion, Line};
 use itoa::Buffer;
+use plc_types::Value;
 use std::alloc::AllocError;
 
-fn show_number(text: &mut String, number: i64) -> Result<(), AllocError>
+fn show_number(text: &mut String, number: Value) -> Result<(), AllocError>
     ensures { OnOk result (string_bytes text.new ≡ string_bytes text.old ++ spaced number) }
 {
     let mut digits = Buffer::new();
@@ -15,7 +16,7 @@ fn show_number(text: &mut String, number: i64) -> Result<(), AllocError>
     Ok(())
 }
 
-fn show_numbers(text: &mut String, numbers: &[i64]) -> Result<(), AllocError>
+fn show_numbers(text: &mut String, numbers: &[Value]) -> Result<(), AllocError>
     ensures { OnOk result (string_bytes text.new ≡ string_bytes text.old ++ spaced_all numbers.now) }
 {
     for number in numbers {
@@ -24,7 +25,7 @@ fn show_numbers(text: &mut String, numbers: &[i64]) -> Result<(), AllocError>
     Ok(())
 }
 
-fn show_row(text: &mut String, keyword: &str, numbers: &[i64]) -> Result<(), AllocError>
+fn show_row(text: &mut String, keyword: &str, numbers: &[Value]) -> Result<(), AllocError>
     ensures { OnOk result (string_bytes text.new ≡ string_bytes text.old ++ (keyword.now ++ spaced_all numbers.now)) }
 {
     text.push_str(keyword)?;
@@ -110,7 +111,7 @@ pub fn show_conclusion(text: &mut String, conclusion: Conclusion) -> Result<(), 
     }
 }
 
-fn show_derived(text: &mut String, literals: &[i64], hints: &[i64]) -> Result<(), AllocError>
+fn show_derived(text: &mut String, literals: &[Value], hints: &[Value]) -> Result<(), AllocError>
     ensures { OnOk result (string_bytes text.new ≡ string_bytes text.old ++ derived literals.now hints.now) }
 {
     show_numbers(text, literals)?;

@@ -21,7 +21,7 @@ fn add_number(
     alloc: Global,
     members: &mut Map<String, Value>,
     name: &str,
-    value: i64,
+    value: plc_types::Value,
 ) -> Result<(), AllocError>
     ensures { OnOk result (members_view members.new.entries ≡ put name.now (number (of_integer value)) (members_view members.old.entries)) }
 {
@@ -32,7 +32,7 @@ fn add_number(
 pub(crate) fn cells_value(
     alloc: Global,
     cells: &[Cell],
-    values: &[i64],
+    values: &[plc_types::Value],
 ) -> Result<Value, AllocError>
     ensures { IfOk result (λ v. view v ≡ numbers_at (paths_of (cells_view cells.now)) values.now) }
 {
@@ -54,7 +54,7 @@ fn row_value(
     old: &[Cell],
     new: &[Cell],
     inputs: &[InputLine],
-    row: &[i64],
+    row: &[plc_types::Value],
 ) -> Result<Value, AllocError>
     ensures { IfOk result (λ v. view v ≡ numbers_at (map (input_name (cells_view old.now) (cells_view new.now)) inputs.now) row.now) }
 {
@@ -70,7 +70,7 @@ fn row_value(
 pub(crate) fn inputs_value(
     alloc: Global,
     compared: &Compared<'_>,
-    row: &[i64],
+    row: &[plc_types::Value],
 ) -> Result<Value, AllocError>
     ensures { IfOk result (λ v. view v ≡ inputs_of (comparison_in compared.now) row.now) }
 {

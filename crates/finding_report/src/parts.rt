@@ -16,7 +16,7 @@ use serde_json::{Value, json};
 use std::alloc::{AllocError, Global};
 
 // The first numbers, at most so many, and those behind them.
-fn split(numbers: &[i64], count: usize) -> (&[i64], &[i64])
+fn split(numbers: &[plc_types::Value], count: usize) -> (&[plc_types::Value], &[plc_types::Value])
     ensures first { result.0.now ≡ take count numbers.now }
     ensures rest { result.1.now ≡ drop count numbers.now }
 {
@@ -35,7 +35,11 @@ fn break_object(alloc: Global, inputs: Value, new: Value, old: Value) -> Result<
 }
 
 // The row that leads out of the relation, and the states that it starts from.
-fn pair_value(alloc: Global, compared: &Compared<'_>, numbers: &[i64]) -> Result<Value, AllocError>
+fn pair_value(
+    alloc: Global,
+    compared: &Compared<'_>,
+    numbers: &[plc_types::Value],
+) -> Result<Value, AllocError>
     ensures { IfOk result (λ v. view v ≡ break_of (comparison_in compared.now) (Some numbers.now)) }
 {
     let (old, rest) = split(numbers, compared.old_cells());

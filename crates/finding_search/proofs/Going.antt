@@ -44,10 +44,10 @@ told-extended P Q (Some bytes) new more e h p = subst (λ o. IfSome o Q) (sym e)
 module _ (s : Setting) (formula : QueryData → Formula) where
   module _ (old new : Desk) (from to : Place) (line : Line) (form : IsLine line) (passes : Passes s formula from line to) (named : new.writer.name ≡ old.writer.name)
       (limited : new.writer.limit ≡ old.writer.limit) where
-    same_finding : finding new ≡ new.files old.writer.name
-    same_finding = ap (λ name. new.files name) named
+    same_finding : finding new ≡ new.shelf.file old.writer.name
+    same_finding = ap (λ name. new.shelf.file name) named
 
-    line_ok : new.files old.writer.name ≡ extended (finding old) (written line) → new.writer.size ≡ old.writer.size + length (written line)
+    line_ok : new.shelf.file old.writer.name ≡ extended (finding old) (written line) → new.writer.size ≡ old.writer.size + length (written line)
         → old.writer.size + length (written line) ≤ old.writer.limit → StandsAt s formula old from → StandsAt s formula new to
     line_ok all sized within st = record {
       all = st.all ++ line ∷ [];
@@ -58,8 +58,8 @@ module _ (s : Setting) (formula : QueryData → Formula) where
       within = omega (arith, within, st.counted, length-all_written st.all line, limited);
     }
 
-    line_err : (error : WriteErr) → (count : ℕ) → new.files old.writer.name ≡ extended (finding old) (take count (written line))
-        → (error ≡ M8 → (old.writer.limit < old.writer.size + length (written line)) × (new.files ≡ old.files)) → StandsAt s formula old from → StopsAt s formula new error
+    line_err : (error : WriteErr) → (count : ℕ) → new.shelf.file old.writer.name ≡ extended (finding old) (take count (written line))
+        → (error ≡ M8 → (old.writer.limit < old.writer.size + length (written line)) × (new.shelf.file ≡ old.shelf.file)) → StandsAt s formula old from → StopsAt s formula new error
     line_err error count part past st = record {
       part = told-extended (λ bytes. bytes ≡ all_written st.all) (IsPartOfFinding s formula) (finding old) (finding new) (take count (written line)) (same_finding ∙ part)
           (λ bytes e. inr (st.all, from, st.leads, line, to, form, passes.moves, count, ap (λ b. b ++ take count (written line)) e)) st.told;
@@ -78,12 +78,12 @@ module _ (s : Setting) (formula : QueryData → Formula) where
 
   -- one line
   pub Writes-line : {T : Type 0} (old new : Desk) (from to : Place) (line : Line) (result : Result T WriteErr) → Fits line → Passes s formula from line to
-      → OnOk result (new.files old.writer.name ≡ extended (finding old) (written line))
-      → OnErr result ((count : ℕ) × (new.files old.writer.name ≡ extended (finding old) (take count (written line))))
-      → OthersStay old.files new.files old.writer.name
+      → OnOk result (new.shelf.file old.writer.name ≡ extended (finding old) (written line))
+      → OnErr result ((count : ℕ) × (new.shelf.file old.writer.name ≡ extended (finding old) (take count (written line))))
+      → OthersStay old.shelf.file new.shelf.file old.writer.name
       → OnOk result (new.writer ≡ record old.writer { size = old.writer.size + length (written line) }) → OnErr result (new.writer ≡ old.writer)
       → OnOk result (old.writer.size + length (written line) ≤ old.writer.limit) → (result ≡ Err M8 → old.writer.limit < old.writer.size + length (written line))
-      → (result ≡ Err M8 → new.files ≡ old.files) → IsCausedBy Fault old.write_faults new.write_faults old.writer.name result → NoneFell old.read_faults new.read_faults
+      → (result ≡ Err M8 → new.shelf.file ≡ old.shelf.file) → IsCausedBy Fault old.shelf.write_faults new.shelf.write_faults old.writer.name result → NoneFell old.shelf.read_faults new.shelf.read_faults
       → Writes s formula old from new (λ (_ : T). to) result
   Writes-line old new from to line (Ok x) fits passes all part others counted stays within past untouched cause reads =
       let named : new.writer.name ≡ old.writer.name = ap (λ (w : Writing). w.name) counted in
@@ -118,7 +118,7 @@ module _ (s : Setting) (formula : QueryData → Formula) where
     others = λ other ne. second.others other (λ e. ne (e ∙ first.name)) ∙ first.others other ne;
     cause = record {
       later = λ name. let one = first.cause.later name in let two = second.cause.later name in omega (arith, one, two);
-      failed = λ e. Rose-before _ _ _ (first.cause.later old.writer.name) (subst (λ name. Rose (mid.write_faults name) (new.write_faults name)) first.name (second.cause.failed e));
+      failed = λ e. Rose-before _ _ _ (first.cause.later old.writer.name) (subst (λ name. Rose (mid.shelf.write_faults name) (new.shelf.write_faults name)) first.name (second.cause.failed e));
     };
     reads = λ name. let one = first.reads name in let two = second.reads name in omega (arith, one, two);
   }

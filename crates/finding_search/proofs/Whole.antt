@@ -31,11 +31,11 @@ module _ (s : Setting) (formula : QueryData → Formula) (old new : Desk) (empty
   starts : StandsAt s formula old at_top
   starts = record { all = []; leads = nowhere; told = empty; counted = unwritten; within = omega arith }
 
-  same_file : {T : Type 0} (to : T → Place) (result : Result T WriteErr) → Writes s formula old at_top new to result → finding new ≡ new.files old.writer.name
-  same_file to result w = ap (λ name. new.files name) w.name
+  same_file : {T : Type 0} (to : T → Place) (result : Result T WriteErr) → Writes s formula old at_top new to result → finding new ≡ new.shelf.file old.writer.name
+  same_file to result w = ap (λ name. new.shelf.file name) w.name
 
   pub is_valid : (result : Result Conclusion WriteErr) → Writes s formula old at_top new finished result
-      → IfOk result (λ verdict. IfSome (new.files old.writer.name) (λ file. IsJudged s formula old.writer.limit file (Ok (Valid verdict))))
+      → IfOk result (λ verdict. IfSome (new.shelf.file old.writer.name) (λ file. IsJudged s formula old.writer.limit file (Ok (Valid verdict))))
   is_valid (Ok verdict) w =
       let st : StandsAt s formula new (finished verdict) = w.stands starts in
       let within : length (all_written st.all) ≤ old.writer.limit = let more = st.within in let same = w.limit in omega (arith, more, same) in
@@ -43,11 +43,11 @@ module _ (s : Setting) (formula : QueryData → Formula) (old new : Desk) (empty
       (IfSome-map (finding new) (λ file e. (st.all, record { leads = st.leads; whole = e ∙ sym (append-nil (all_written st.all)); within = within })) st.told)
   is_valid (Err e) w = tt
 
-  pub is_part : (result : Result Conclusion WriteErr) → Writes s formula old at_top new finished result → OnErr result (IfSome (new.files old.writer.name) (IsPartOfFinding s formula))
+  pub is_part : (result : Result Conclusion WriteErr) → Writes s formula old at_top new finished result → OnErr result (IfSome (new.shelf.file old.writer.name) (IsPartOfFinding s formula))
   is_part (Ok verdict) w = tt
   is_part (Err e) w = subst (λ o. IfSome o (IsPartOfFinding s formula)) (same_file finished (Err e) w) ((w.stands starts).part)
 
-  pub is_full : (result : Result Conclusion WriteErr) → Writes s formula old at_top new finished result → result ≡ Err M8 → IsFull s formula (new.files old.writer.name) old.writer.limit
+  pub is_full : (result : Result Conclusion WriteErr) → Writes s formula old at_top new finished result → result ≡ Err M8 → IsFull s formula (new.shelf.file old.writer.name) old.writer.limit
   is_full (Ok verdict) w e = absurd cc
   is_full (Err error) w e =
       let same : error ≡ M8 = cc in

@@ -34,6 +34,6 @@ module _ (s : Setting) (formula : QueryData → Formula) where
     pub stands : StandsAt old from → MatchResult result (λ x. StandsAt new (to x)) (λ e. StopsAt new e)
     pub name : new.writer.name ≡ old.writer.name
     pub limit : new.writer.limit ≡ old.writer.limit
-    pub others : OthersStay old.files new.files old.writer.name
-    pub cause : IsCausedBy Fault old.write_faults new.write_faults old.writer.name result
-    pub reads : NoneFell old.read_faults new.read_faults
+    pub others : OthersStay old.shelf.file new.shelf.file old.writer.name
+    pub cause : IsCausedBy Fault old.shelf.write_faults new.shelf.write_faults old.writer.name result
+    pub reads : NoneFell old.shelf.read_faults new.shelf.read_faults

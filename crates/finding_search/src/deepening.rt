@@ -32,8 +32,8 @@ pub fn search<D: Decider, Q: Queries, S: Shelf>(
 ) -> Result<Conclusion, WriteErr>
     requires compared { Q.compared queries.now ≡ comparison_of trial.now }
     requires comparison { IsComparison (comparison_of trial.now) }
-    ensures { Writes (setting_in trial.now) (Q.formula queries.now) (desk (S.file shelf.old) (S.write_faults shelf.old) (S.read_faults shelf.old) writer.old) (at_deep (members set.now) 0)
-        (desk (S.file shelf.new) (S.write_faults shelf.new) (S.read_faults shelf.new) writer.new) finished result }
+    ensures { Writes (setting_in trial.now) (Q.formula queries.now) (desk (S.state shelf.old) writer.old) (at_deep (members set.now) 0)
+        (desk (S.state shelf.new) writer.new) finished result }
 {
     let limit = limit_of(trial);
     'depths: for none in 0..trial.depth() {

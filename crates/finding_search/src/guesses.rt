@@ -10,10 +10,17 @@ ghost use Rattle.invariant_prune.specs.Answers.{pair_of};
 ghost use Rattle.finding_search.specs.Guesses.{leads_out};
 
 use pair_trial::{Trial, meets};
+use plc_types::Value;
 use queries::{CandidateSet, Decoded};
 
 // Whether a row leads from a pair out of a set.
-fn leads_out(trial: &mut Trial, set: &CandidateSet, old: &[i64], new: &[i64], row: &[i64]) -> bool
+fn leads_out(
+    trial: &mut Trial,
+    set: &CandidateSet,
+    old: &[Value],
+    new: &[Value],
+    row: &[Value],
+) -> bool
     ensures tested { result ≡ leads_out (setting_in trial.old) (members set.now) (record { old = old.now; new = new.now }) row.now }
     ensures trial { trial.new ≡ with_pair trial.new.pair trial.old }
 {

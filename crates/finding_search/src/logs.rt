@@ -31,8 +31,8 @@ fn write_steps<S: Shelf>(
     entries: &[Entry],
 ) -> Result<(), WriteErr>
     ensures { (s : Setting) (formula : QueryData → Formula) (from to : Place) → Runs s formula from (lines_of entries.now) to
-        → Writes s formula (desk (S.file shelf.old) (S.write_faults shelf.old) (S.read_faults shelf.old) writer.old) from
-        (desk (S.file shelf.new) (S.write_faults shelf.new) (S.read_faults shelf.new) writer.new) (λ _. to) result }
+        → Writes s formula (desk (S.state shelf.old) writer.old) from
+        (desk (S.state shelf.new) writer.new) (λ _. to) result }
 {
     for entry in entries {
         let line = entry_line(alloc, entry)?;
@@ -52,8 +52,8 @@ pub fn write_refutation<S: Shelf>(
     requires { AskedFits asked }
     ensures { (s : Setting) (formula : QueryData → Formula) (f : Formula) (limit : ℕ) (from behind : Place)
         → Passes s formula from (lines.Log asked) (in_log (opened f) behind) → IsRefutation f limit log.now
-        → Writes s formula (desk (S.file shelf.old) (S.write_faults shelf.old) (S.read_faults shelf.old) writer.old) from
-        (desk (S.file shelf.new) (S.write_faults shelf.new) (S.read_faults shelf.new) writer.new) (λ _. behind) result }
+        → Writes s formula (desk (S.state shelf.old) writer.old) from
+        (desk (S.state shelf.new) writer.new) (λ _. behind) result }
 {
     write_line(writer, shelf, &Line::Log(asked))?;
     write_steps(alloc, writer, shelf, log.entries())
@@ -70,8 +70,8 @@ fn write_spent_log<S: Shelf>(
     requires { AskedFits asked }
     ensures { (s : Setting) (formula : QueryData → Formula) (f : Formula) (from : Place)
         → Passes s formula from (lines.Query asked) (in_query asked (opened f) s.conflicts) → IsSpent f s.conflicts log.now
-        → Writes s formula (desk (S.file shelf.old) (S.write_faults shelf.old) (S.read_faults shelf.old) writer.old) from
-        (desk (S.file shelf.new) (S.write_faults shelf.new) (S.read_faults shelf.new) writer.new) (λ _. in_query asked (after_all (opened f) log.now) 0) result }
+        → Writes s formula (desk (S.state shelf.old) writer.old) from
+        (desk (S.state shelf.new) writer.new) (λ _. in_query asked (after_all (opened f) log.now) 0) result }
 {
     write_line(writer, shelf, &Line::Query(asked))?;
     write_steps(alloc, writer, shelf, log.entries())
@@ -89,8 +89,8 @@ pub fn write_spent<S: Shelf>(
     requires { AskedFits asked }
     ensures { (s : Setting) (formula : QueryData → Formula) (f : Formula) (from : Place) → s.conflicts ≡ limit
         → Passes s formula from (lines.Query asked) (in_query asked (opened f) s.conflicts) → IsSpent f s.conflicts log.now
-        → Writes s formula (desk (S.file shelf.old) (S.write_faults shelf.old) (S.read_faults shelf.old) writer.old) from
-        (desk (S.file shelf.new) (S.write_faults shelf.new) (S.read_faults shelf.new) writer.new) finished result }
+        → Writes s formula (desk (S.state shelf.old) writer.old) from
+        (desk (S.state shelf.new) writer.new) finished result }
 {
     write_spent_log(alloc, writer, shelf, asked, log)?;
     write_end(writer, shelf, spent_by(asked, limit))

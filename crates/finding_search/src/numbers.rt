@@ -7,11 +7,12 @@ ghost use Rattle.finding_search.specs.Shown.{number_of, numbers_of, line_of};
 
 use clause_core::{Entry, Lit, Step};
 use finding_lines::{Line, Numbers};
+use plc_types::Value;
 use queries::{Decoded, Row};
 use std::alloc::{AllocError, Global};
 
 // Adds a number behind the others.
-fn push(numbers: &mut Numbers, number: i64) -> Result<(), AllocError>
+fn push(numbers: &mut Numbers, number: Value) -> Result<(), AllocError>
     ensures added { OnOk result (numbers.new ≡ numbers.old ++ number ∷ []) }
     ensures fits { IsNumber number }
 {
@@ -19,7 +20,7 @@ fn push(numbers: &mut Numbers, number: i64) -> Result<(), AllocError>
 }
 
 // Adds the number at a place.
-fn push_at(numbers: &mut Numbers, more: &[i64], place: usize) -> Result<(), AllocError>
+fn push_at(numbers: &mut Numbers, more: &[Value], place: usize) -> Result<(), AllocError>
     requires { place < length more.now }
     ensures added { OnOk result (numbers.new ≡ numbers.old ++ slice_index_or more.now place (pos 0) ∷ []) }
     ensures fits { IsNumber (slice_index_or more.now place (pos 0)) }
@@ -28,7 +29,7 @@ fn push_at(numbers: &mut Numbers, more: &[i64], place: usize) -> Result<(), Allo
 }
 
 // Adds numbers behind the others.
-fn add_all(numbers: &mut Numbers, more: &[i64]) -> Result<(), AllocError>
+fn add_all(numbers: &mut Numbers, more: &[Value]) -> Result<(), AllocError>
     requires { AreNumbers numbers.old }
     ensures added { OnOk result (numbers.new ≡ numbers.old ++ more.now) }
     ensures fit { OnOk result (AreNumbers numbers.new) }
@@ -61,10 +62,10 @@ pub fn pair_numbers(alloc: Global, found: &Decoded, row: &Row) -> Result<Numbers
     Ok(numbers)
 }
 
-fn literal_number(literal: Lit) -> i64
+fn literal_number(literal: Lit) -> Value
     ensures { result ≡ number_of literal }
 {
-    let number = literal.variable as i64;
+    let number = literal.variable as Value;
     if literal.negative { -number } else { number }
 }
 
@@ -85,7 +86,7 @@ fn hint_numbers(alloc: Global, hints: &[u32]) -> Result<Numbers, AllocError>
 {
     let mut numbers = Numbers::new(alloc);
     for hint in hints {
-        push(&mut numbers, *hint as i64)?;
+        push(&mut numbers, *hint as Value)?;
     }
     Ok(numbers)
 }

@@ -47,8 +47,8 @@ fn write_pair<S: Shelf>(
     requires { length found.now.rows.items ≡ 1 }
     ensures { (s : Setting) (formula : QueryData → Formula) (from to : Place)
         → ((row : Row) → found.now.rows.items ≡ row ∷ [] → Passes s formula from (lines.Pair (numbers_of (pair_of found.now) row)) to)
-        → Writes s formula (desk (S.file shelf.old) (S.write_faults shelf.old) (S.read_faults shelf.old) writer.old) from
-        (desk (S.file shelf.new) (S.write_faults shelf.new) (S.read_faults shelf.new) writer.new) (λ _. to) result }
+        → Writes s formula (desk (S.state shelf.old) writer.old) from
+        (desk (S.state shelf.new) writer.new) (λ _. to) result }
 {
     let numbers = pair_numbers(alloc, found, &found.rows[0])?;
     write_line(writer, shelf, &Line::Pair(numbers))
@@ -68,8 +68,8 @@ fn save_from_kept<D: Decider, Q: Queries, S: Shelf>(
     requires compared { Q.compared queries.now ≡ comparison_of trial.now }
     requires comparison { IsComparison (comparison_of trial.now) }
     requires kept { IsKept (Q.front queries.now) kept.old }
-    ensures { Writes (setting_in trial.now) (Q.formula queries.now) (desk (S.file shelf.old) (S.write_faults shelf.old) (S.read_faults shelf.old) writer.old) (at_kept (members set.now))
-        (desk (S.file shelf.new) (S.write_faults shelf.new) (S.read_faults shelf.new) writer.new) finished result }
+    ensures { Writes (setting_in trial.now) (Q.formula queries.now) (desk (S.state shelf.old) writer.old) (at_kept (members set.now))
+        (desk (S.state shelf.new) writer.new) finished result }
 {
     let limit = limit_of(trial);
     match goal(alloc, decider, queries, kept, set, limit)? {
@@ -99,8 +99,8 @@ fn save_from_start<D: Decider, Q: Queries, G: Guesses, S: Shelf>(
 ) -> Result<Conclusion, WriteErr>
     requires compared { Q.compared queries.now ≡ comparison_of trial.old }
     requires comparison { IsComparison (comparison_of trial.old) }
-    ensures { Writes (setting_in trial.old) (Q.formula queries.now) (desk (S.file shelf.old) (S.write_faults shelf.old) (S.read_faults shelf.old) writer.old) (at_drops (first_set (setting_in trial.old)))
-        (desk (S.file shelf.new) (S.write_faults shelf.new) (S.read_faults shelf.new) writer.new) finished result }
+    ensures { Writes (setting_in trial.old) (Q.formula queries.now) (desk (S.state shelf.old) writer.old) (at_drops (first_set (setting_in trial.old)))
+        (desk (S.state shelf.new) writer.new) finished result }
 {
     let set = first_set(alloc, trial)?;
     let mut kept = None;
@@ -124,8 +124,8 @@ fn write_seen<S: Shelf>(
     requires { length found.now.rows.items ≡ 1 }
     ensures { (s : Setting) (formula : QueryData → Formula) (from to : Place)
         → ((row : Row) → found.now.rows.items ≡ row ∷ [] → Passes s formula from (lines.Seen row) to)
-        → Writes s formula (desk (S.file shelf.old) (S.write_faults shelf.old) (S.read_faults shelf.old) writer.old) from
-        (desk (S.file shelf.new) (S.write_faults shelf.new) (S.read_faults shelf.new) writer.new) (λ _. to) result }
+        → Writes s formula (desk (S.state shelf.old) writer.old) from
+        (desk (S.state shelf.new) writer.new) (λ _. to) result }
 {
     let numbers = row_numbers(alloc, &found.rows[0])?;
     write_line(writer, shelf, &Line::Seen(numbers))
@@ -143,8 +143,8 @@ fn save_from_header<D: Decider, Q: Queries, G: Guesses, S: Shelf>(
 ) -> Result<Conclusion, WriteErr>
     requires compared { Q.compared queries.now ≡ comparison_of trial.old }
     requires comparison { IsComparison (comparison_of trial.old) }
-    ensures { Writes (setting_in trial.old) (Q.formula queries.now) (desk (S.file shelf.old) (S.write_faults shelf.old) (S.read_faults shelf.old) writer.old) at_header
-        (desk (S.file shelf.new) (S.write_faults shelf.new) (S.read_faults shelf.new) writer.new) finished result }
+    ensures { Writes (setting_in trial.old) (Q.formula queries.now) (desk (S.state shelf.old) writer.old) at_header
+        (desk (S.state shelf.new) writer.new) finished result }
 {
     let limit = limit_of(trial);
     match first(alloc, decider, queries, limit)? {
@@ -172,8 +172,8 @@ fn save_from_top<D: Decider, Q: Queries, G: Guesses, S: Shelf>(
 ) -> Result<Conclusion, WriteErr>
     requires compared { Q.compared queries.now ≡ comparison_of trial.old }
     requires comparison { IsComparison (comparison_of trial.old) }
-    ensures { Writes (setting_in trial.old) (Q.formula queries.now) (desk (S.file shelf.old) (S.write_faults shelf.old) (S.read_faults shelf.old) writer.old) at_top
-        (desk (S.file shelf.new) (S.write_faults shelf.new) (S.read_faults shelf.new) writer.new) finished result }
+    ensures { Writes (setting_in trial.old) (Q.formula queries.now) (desk (S.state shelf.old) writer.old) at_top
+        (desk (S.state shelf.new) writer.new) finished result }
 {
     write_line(writer, shelf, &Line::Header)?;
     save_from_header(alloc, decider, trial, queries, guesses, writer, shelf)
@@ -193,16 +193,16 @@ pub fn save_finding<D: Decider, Q: Queries, G: Guesses, S: Shelf>(
 ) -> Result<Conclusion, WriteErr>
     requires compared { Q.compared queries.now ≡ comparison_of trial.old }
     requires comparison { IsComparison (comparison_of trial.old) }
-    requires empty { IfSome (S.file shelf.old writer.old.name) (λ file. file ≡ []) }
+    requires empty { IfSome ((S.state shelf.old).file writer.old.name) (λ file. file ≡ []) }
     requires unwritten { writer.old.size ≡ 0 }
-    ensures valid { IfOk result (λ verdict. IfSome (S.file shelf.new writer.old.name)
+    ensures valid { IfOk result (λ verdict. IfSome ((S.state shelf.new).file writer.old.name)
         (λ file. IsJudged (setting_in trial.old) (Q.formula queries.now) writer.old.limit file (Ok (Valid verdict)))) }
     ensures shown { IfOk result (IsShown (comparison_of trial.old) (Q.formula queries.now)) }
-    ensures part { OnErr result (IfSome (S.file shelf.new writer.old.name) (IsPartOfFinding (setting_in trial.old) (Q.formula queries.now))) }
-    ensures past { result ≡ Err WriteErr.M8 → IsFull (setting_in trial.old) (Q.formula queries.now) (S.file shelf.new writer.old.name) writer.old.limit }
-    ensures others { OthersStay (S.file shelf.old) (S.file shelf.new) writer.old.name }
-    ensures cause { IsCausedBy WriteErr.Fault (S.write_faults shelf.old) (S.write_faults shelf.new) writer.old.name result }
-    ensures reads { NoneFell (S.read_faults shelf.old) (S.read_faults shelf.new) }
+    ensures part { OnErr result (IfSome ((S.state shelf.new).file writer.old.name) (IsPartOfFinding (setting_in trial.old) (Q.formula queries.now))) }
+    ensures past { result ≡ Err WriteErr.M8 → IsFull (setting_in trial.old) (Q.formula queries.now) ((S.state shelf.new).file writer.old.name) writer.old.limit }
+    ensures others { OthersStay (S.state shelf.old).file (S.state shelf.new).file writer.old.name }
+    ensures cause { IsCausedBy WriteErr.Fault (S.state shelf.old).write_faults (S.state shelf.new).write_faults writer.old.name result }
+    ensures reads { NoneFell (S.state shelf.old).read_faults (S.state shelf.new).read_faults }
 {
     queries.laws();
     save_from_top(alloc, decider, trial, queries, guesses, writer, shelf)

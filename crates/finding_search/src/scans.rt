@@ -27,8 +27,8 @@ fn write_scans<S: Shelf>(
     rows: &[Row],
 ) -> Result<(), WriteErr>
     ensures { (s : Setting) (formula : QueryData → Formula) (from to : Place) → Runs s formula from (scans_of rows.now) to
-        → Writes s formula (desk (S.file shelf.old) (S.write_faults shelf.old) (S.read_faults shelf.old) writer.old) from
-        (desk (S.file shelf.new) (S.write_faults shelf.new) (S.read_faults shelf.new) writer.new) (λ _. to) result }
+        → Writes s formula (desk (S.state shelf.old) writer.old) from
+        (desk (S.state shelf.new) writer.new) (λ _. to) result }
 {
     for row in rows {
         let numbers = row_numbers(alloc, row)?;
@@ -47,8 +47,8 @@ pub fn write_break<S: Shelf>(
 ) -> Result<Conclusion, WriteErr>
     requires { scans ≤ 64 }
     ensures { (s : Setting) (formula : QueryData → Formula) (from : Place) → Runs s formula from (scans_of rows.now) (at_end (conclusions.Different (pos scans)))
-        → Writes s formula (desk (S.file shelf.old) (S.write_faults shelf.old) (S.read_faults shelf.old) writer.old) from
-        (desk (S.file shelf.new) (S.write_faults shelf.new) (S.read_faults shelf.new) writer.new) finished result }
+        → Writes s formula (desk (S.state shelf.old) writer.old) from
+        (desk (S.state shelf.new) writer.new) finished result }
 {
     write_scans(alloc, writer, shelf, rows)?;
     write_end(writer, shelf, different_at(scans))

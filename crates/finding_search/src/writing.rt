@@ -21,8 +21,8 @@ pub fn write_line<S: Shelf>(
 ) -> Result<(), WriteErr>
     requires { Fits line.now }
     ensures { (s : Setting) (formula : QueryData → Formula) (from to : Place) → Passes s formula from line.now to
-        → Writes s formula (desk (S.file shelf.old) (S.write_faults shelf.old) (S.read_faults shelf.old) writer.old) from
-        (desk (S.file shelf.new) (S.write_faults shelf.new) (S.read_faults shelf.new) writer.new) (λ _. to) result }
+        → Writes s formula (desk (S.state shelf.old) writer.old) from
+        (desk (S.state shelf.new) writer.new) (λ _. to) result }
 {
     writer.line(shelf, line)
 }
@@ -35,8 +35,8 @@ pub fn write_end<S: Shelf>(
 ) -> Result<Conclusion, WriteErr>
     requires { ConclusionFits verdict }
     ensures { (s : Setting) (formula : QueryData → Formula) (from : Place) → Passes s formula from (lines.End verdict) (finished verdict)
-        → Writes s formula (desk (S.file shelf.old) (S.write_faults shelf.old) (S.read_faults shelf.old) writer.old) from
-        (desk (S.file shelf.new) (S.write_faults shelf.new) (S.read_faults shelf.new) writer.new) finished result }
+        → Writes s formula (desk (S.state shelf.old) writer.old) from
+        (desk (S.state shelf.new) writer.new) finished result }
 {
     write_line(writer, shelf, &Line::End(verdict))?;
     Ok(verdict)

@@ -3,7 +3,7 @@ use Rattle.std.specs.Prelude.{◌≤◌, ◌<◌, ◌^◌, ◌+◌, ℕ, List, l
 use Rattle.program_tree.specs.View.{all_called_view}
 use Rattle.program_tree.specs.declared.typed.Frame.{Frame}
 use Rattle.program_tree.specs.declared.typed.StepCells.{StepCells}
-use Rattle.flat_form.specs.Frames.{FrameData}
+use Rattle.meaning.specs.Frames.{FrameData}
 use Rattle.flat_form.specs.Owners.{OwnerData, program_owner, call_owner}
 use Rattle.flat_form.specs.Bodies.{Bodies}
 use Rattle.flat_form.specs.Pous.{bodies_of}

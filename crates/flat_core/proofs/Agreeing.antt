@@ -5,10 +5,10 @@ use Rattle.std.proofs.lemmas.List.{length-set, length-map}
 use Rattle.plc_types.specs.declared.range.Range.{Range}
 use Rattle.plc_types.specs.Types.{in_range}
 use Rattle.program_tree.specs.Tree.{Expression, number, cell, unary, chain, call_standard, call_function, Operands, no_operands, operand, Expressions, no_expressions, expression, CellData}
+use Rattle.program_tree.specs.declared.scratch.Scratch.{Scratch}
 use Rattle.scan_model.specs.meaning.Values.{State, no_callees, value_of, value_on, values_of, faults, any_faults, one_faults, applied, is_truth}
 use Rattle.scan_model.specs.meaning.Effects.{range_at, with_fault}
 use Rattle.scan_model.specs.Scans.{ranges_of}
-use Rattle.flat_core.specs.declared.flat_tree.Scratch.{Scratch}
 use Rattle.flat_core.specs.FlatTree.{FlatStatement, set, branch, FlatStatements, no_flats, flat}
 use Rattle.flat_core.specs.FlatScans.{takes, placed, run_of, run_of_all}
 use Rattle.flat_core.specs.FlatRules.{Reads, AllRead, EachReads, IsReadable, has_subrange, IsTakenNumber, MaySet, set_behind, IsFlatOver, AreFlatOver}

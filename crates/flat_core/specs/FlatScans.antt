@@ -3,10 +3,10 @@
 use Rattle.std.specs.Prelude.{ℕ, suc, zero, ◌-◌, List, [], ◌∷◌, ◌++◌, map, length, take, Bool, true, not, ◌||◌, nat_lt, slice_set, ℤ, pos, if◌then◌else◌}
 use Rattle.plc_types.specs.declared.range.Range.{Range}
 use Rattle.plc_types.specs.Types.{in_range}
+use Rattle.program_tree.specs.declared.scratch.Scratch.{Scratch}
 use Rattle.scan_model.specs.meaning.Values.{State, no_callees, value_of, faults, is_truth}
 use Rattle.scan_model.specs.meaning.Effects.{with_fault, stored}
 use Rattle.scan_model.specs.Scans.{ranges_of}
-use Rattle.flat_core.specs.declared.flat_tree.Scratch.{Scratch}
 use Rattle.flat_core.specs.FlatTree.{FlatStatement, set, branch, FlatStatements, no_flats, flat, FlatData}
 
 -- a scratch cell of a subrange takes the values of its range, and any other takes each

@@ -1,7 +1,7 @@
 -- Flat programs as plain data. A place counts the cells and behind them the scratch cells.
 use Rattle.std.specs.Prelude.{ℕ, ◌+◌, List}
 use Rattle.program_tree.specs.Tree.{Expression, CellData}
-use Rattle.flat_core.specs.declared.flat_tree.Scratch.{Scratch}
+use Rattle.program_tree.specs.declared.scratch.Scratch.{Scratch}
 
 -- an assignment to a place; and a condition, what runs where it is TRUE, and what else runs
 mutual

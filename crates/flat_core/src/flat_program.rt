@@ -4,8 +4,8 @@ ghost use Rattle.program_tree.specs.View.{cells_view};
 ghost use Rattle.flat_core.specs.FlatRules.{AreFlatOver};
 ghost use Rattle.flat_core.specs.StatementView.{flats_of, flats_view};
 
-use crate::flat_tree::{FlatStmt, Scratch};
-use program_tree::Cell;
+use crate::flat_tree::FlatStmt;
+use program_tree::{Cell, Scratch};
 
 /// A program in flat form: its cells, FAULT first, its scratch cells, and the statements of a scan. It keeps the rules of flat programs.
 #[derive(Drop)]

@@ -1,15 +1,5 @@
-// Flat statements and scratch cells.
-use plc_types::{Elementary, Range};
+// Flat statements.
 use program_tree::TypedExpr;
-
-/// A cell that a scan sets before it reads it, so that no state has it: the elementary type whose numbers its values
-/// are, their range, and whether they are those of a subrange, which takes no others.
-#[derive(Clone, Copy)]
-pub struct Scratch {
-    pub kind: Elementary,
-    pub range: Range,
-    pub is_subrange: bool,
-}
 
 /// A flat statement. A place counts the cells and behind them the scratch cells. An `If` is a chain of nested ones: what an
 /// arm leaves to do where its condition is not TRUE is the arms behind it, with what runs before their conditions. Thousands of

@@ -6,5 +6,5 @@ mod flat_tree;
 mod laws;
 
 pub use flat_program::Flat;
-pub use flat_tree::{FlatArm, FlatStmt, Scratch};
+pub use flat_tree::{FlatArm, FlatStmt};
 pub use laws::scratch_does_not_count;

@@ -9,13 +9,15 @@ use Rattle.program_tree.specs.Tree.{Expression, number, cell, unary, chain, call
 use Rattle.std.proofs.lemmas.List.{length-map}
 use Rattle.program_tree.specs.declared.typed.Called.{Called}
 use Rattle.program_tree.specs.View.{called_view, all_called_view}
+use Rattle.program_tree.specs.OperandTypes.{arity}
 use Rattle.meaning.specs.Calls.{nothing}
+use Rattle.meaning.specs.Frames.{FrameData, frames_of, function_body, type_at, initial_at}
 use Rattle.flat_core.specs.FlatTree.{FlatStatement, set, branch, no_flats, size_of_all}
 use Rattle.flat_core.specs.FlatView.{flats_of, nested}
-use Rattle.flat_form.specs.Frames.{FrameData, frames_of, function_body, type_at, initial_at, input_start, others_behind, other_starts, places_of}
+use Rattle.flat_form.specs.Frames.{input_start, others_behind, other_starts, places_of}
 use Rattle.flat_form.specs.Owners.{OwnerData, program_owner, call_owner}
 use Rattle.flat_form.specs.Bodies.{Bodies}
-use Rattle.flat_form.specs.Calls.{arity, rest_list, scratch_in, input_scratch, input_places, moved, before, operands_before, all_before, inputs_before}
+use Rattle.flat_form.specs.Calls.{rest_list, scratch_in, input_scratch, input_places, moved, before, operands_before, all_before, inputs_before}
 use Rattle.flat_form.specs.FlatCharts.{latch_set, latch_list, runs_test, of_associated, flags_of, clear_flags, exited_set, entered_set, fired_list, ready_test, condition_list, flat_transition, flat_transitions, mark_list, flat_moves}
 use Rattle.flat_form.specs.FlatLists.{scratch_of, scratch_of_all, scratch_of_choices, scratch_of_entries, scratch_of_actions, unrolled, flat_of, flat_of_all, flat_choices, flat_entries, flat_actions}
 use Rattle.flat_count.specs.Counts.{Counting, count_of_start, count_in, count_in_operands, count_in_all, count_in_inputs, count_of_latch, count_of_latches, count_of_transition, count_of_transitions, count_of_associated, count_of, count_of_all, count_of_choices, count_of_entries, count_of_actions, counting_of, counting, counted, capped, AreCounts}

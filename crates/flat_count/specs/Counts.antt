@@ -4,9 +4,10 @@ use Rattle.program_tree.specs.declared.typed.Association.{Association}
 use Rattle.program_tree.specs.Tree.{Expression, number, cell, unary, chain, call_standard, call_function, Operands, no_operands, operand, Expressions, no_expressions, expression, Statement, assign, call_block, choice, cases, repeat, chart, Statements, no_statements, statement, Choices, no_choices, choose, Entries, no_entries, entry, TransitionData, Actions, no_actions, action, CalledData}
 use Rattle.meaning.specs.Calls.{nothing}
 use Rattle.program_tree.specs.View.{all_called_view}
+use Rattle.program_tree.specs.OperandTypes.{arity}
+use Rattle.meaning.specs.Frames.{FrameData, frames_of, function_body, type_at}
 use Rattle.flat_count.specs.declared.counts.Counts.{Counts}
-use Rattle.flat_form.specs.Frames.{FrameData, frames_of, function_body, type_at, others_behind}
-use Rattle.flat_form.specs.Calls.{arity}
+use Rattle.flat_form.specs.Frames.{others_behind}
 use Rattle.flat_form.specs.Pous.{block_body}
 
 -- by the number of a POU: its frame, and how many statements the run of a FUNCTION_BLOCK becomes, and the body of a FUNCTION

@@ -1,7 +1,7 @@
 // How many flat statements statements become.
 ghost use Rattle.std.specs.Prelude.{◌≡◌, ◌+◌, ◌*◌, ◌≤◌, IfOk};
 ghost use Rattle.program_tree.specs.View.{stmt_view, stmts_view, choices_view, entries_view, action_view, actions_view, called_view, all_called_view};
-ghost use Rattle.flat_form.specs.Frames.{function_body};
+ghost use Rattle.meaning.specs.Frames.{function_body};
 ghost use Rattle.flat_form.specs.Pous.{block_body};
 ghost use Rattle.flat_count.specs.Counts.{count_of, count_of_all, count_of_choices, count_of_entries, count_of_associated, count_of_actions, counting_here, capped, AreCounts};
 

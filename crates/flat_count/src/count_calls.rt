@@ -2,7 +2,8 @@
 ghost use Rattle.std.specs.Prelude.{◌≡◌, ◌+◌, ◌*◌, ◌≤◌};
 ghost use Rattle.program_tree.specs.Tree.{call_function};
 ghost use Rattle.program_tree.specs.View.{expr_view, operands_view, arguments_view, called_view, all_called_view};
-ghost use Rattle.flat_form.specs.Frames.{frame_of, frames_of, others_behind};
+ghost use Rattle.meaning.specs.Frames.{frame_of, frames_of};
+ghost use Rattle.flat_form.specs.Frames.{others_behind};
 ghost use Rattle.flat_count.specs.Counts.{count_in, count_in_operands, count_in_all, count_in_inputs, count_of_start, counting_here, capped};
 
 use crate::counts::Counts;

@@ -61,7 +61,11 @@ fn program_by_outline(alloc: Global, checked: Checked<'_>) -> Result<Program, Fa
             at: 0,
         }));
     }
-    Ok(program_of(alloc, checked)?)
+    match program_of(alloc, checked) {
+        Ok(program) => Ok(program),
+        Err(Fault::Refused(refusal)) => Err(Fault::Refused(refusal)),
+        Err(Fault::Memory) => Err(Fault::Memory),
+    }
 }
 
 // The program of a text's file whose names are bound, unless its outline is too long.

@@ -3,8 +3,8 @@ use Rattle.std.proofs.Common.{◌≡◌, ℕ, zero, suc, List, [], ◌∷◌, le
 use Rattle.program_tree.specs.declared.typed.TypedExpr.{TypedExpr}
 use Rattle.program_tree.specs.Tree.{CalledData}
 use Rattle.program_tree.specs.View.{arguments_view}
-use Rattle.flat_form.specs.Frames.{frames_of}
-use Rattle.flat_form.specs.Calls.{arity}
+use Rattle.program_tree.specs.OperandTypes.{arity}
+use Rattle.meaning.specs.Frames.{frames_of}
 use Rattle.flat_form.specs.Pous.{bodies_of}
 
 pub frames-here : (ps : List CalledData) (n : ℕ) → (bodies_of ps n).frame ≡ frames_of ps

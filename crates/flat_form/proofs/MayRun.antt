@@ -4,7 +4,7 @@ use Rattle.std.specs.Prelude.{◌==◌, slice_index_or, if◌then◌else◌}
 use Rattle.plc_types.specs.declared.range.Range.{Range}
 use Rattle.program_tree.specs.Tree.{CalledData}
 use Rattle.meaning.specs.Calls.{nothing}
-use Rattle.flat_form.specs.Frames.{frames_of, function_body}
+use Rattle.meaning.specs.Frames.{frames_of, function_body}
 use Rattle.flat_form.specs.Pous.{block_body}
 use Rattle.flat_form.specs.Idle.{is_idle_all, idle_of}
 use Rattle.flat_form.specs.WellTyped.{AreTyped, extents_of, Choice, tested_in, FrameFits, MayRunOf, MayCallOf}

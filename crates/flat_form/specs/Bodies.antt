@@ -1,8 +1,8 @@
 -- What the bodies of POUs become.
 use Rattle.std.specs.Prelude.{ℕ, List}
-use Rattle.flat_core.specs.declared.flat_tree.Scratch.{Scratch}
+use Rattle.program_tree.specs.declared.scratch.Scratch.{Scratch}
+use Rattle.meaning.specs.Frames.{FrameData}
 use Rattle.flat_core.specs.FlatTree.{FlatStatement}
-use Rattle.flat_form.specs.Frames.{FrameData}
 use Rattle.flat_form.specs.Owners.{OwnerData}
 
 -- By the POU's number: the frame of a FUNCTION; the scratch cells of a run of a FUNCTION_BLOCK, and its flat list, by the owner of the

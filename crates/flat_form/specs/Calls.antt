@@ -3,15 +3,13 @@
 -- made from left to right, and those in a call's inputs before it.
 use Rattle.std.specs.Prelude.{ℕ, ◌+◌, List, [], ◌∷◌, ◌++◌, length}
 use Rattle.program_tree.specs.Tree.{Expression, number, cell, unary, chain, call_standard, call_function, Operands, no_operands, operand, Expressions, no_expressions, expression}
-use Rattle.flat_core.specs.declared.flat_tree.Scratch.{Scratch}
+use Rattle.program_tree.specs.declared.scratch.Scratch.{Scratch}
+use Rattle.program_tree.specs.OperandTypes.{arity}
+use Rattle.meaning.specs.Frames.{FrameData, scratch_at, initial_at}
 use Rattle.flat_core.specs.FlatTree.{FlatStatement, set}
-use Rattle.flat_form.specs.Frames.{FrameData, scratch_at, initial_at, input_start, others_behind, other_scratch, other_starts, places_of}
+use Rattle.flat_form.specs.Frames.{input_start, others_behind, other_scratch, other_starts, places_of}
 use Rattle.flat_form.specs.Owners.{OwnerData}
 use Rattle.flat_form.specs.Bodies.{Bodies}
-
-abbrev pub arity : Expressions → ℕ
-arity no_expressions = 0
-arity (expression e es) = arity es + 1
 
 -- Behind so many inputs a call has a scratch cell for each other variable and for its answer, and those of its body. It starts them, and
 -- runs its body.

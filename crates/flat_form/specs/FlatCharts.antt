@@ -12,11 +12,11 @@ use Rattle.program_tree.specs.declared.typed.Qualifier.{Qualifier}
 use Rattle.program_tree.specs.declared.typed.Qualifier.TheVariants.{NonStored, Set, Reset, Pulse, FallingPulse}
 use Rattle.program_tree.specs.Tree.{Expression, number, cell, unary, chain, Operands, no_operands, operand, TransitionData, Actions, no_actions, action}
 use Rattle.program_tree.specs.View.{OperandData}
+use Rattle.program_tree.specs.declared.scratch.Scratch.{Scratch}
+use Rattle.program_tree.specs.Places.{whole_cell}
 use Rattle.meaning.specs.Charts.{is_set, is_reset}
-use Rattle.flat_core.specs.declared.flat_tree.Scratch.{Scratch}
 use Rattle.flat_core.specs.FlatTree.{FlatStatement, set, branch, no_flats}
 use Rattle.flat_core.specs.FlatView.{flats_of}
-use Rattle.flat_form.specs.Frames.{whole_cell}
 use Rattle.flat_form.specs.Owners.{OwnerData}
 use Rattle.flat_form.specs.Bodies.{Bodies}
 use Rattle.flat_form.specs.Calls.{scratch_in, before, moved}

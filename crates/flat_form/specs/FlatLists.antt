@@ -8,10 +8,10 @@ use Rattle.program_tree.specs.declared.typed.TypedLabel.TheVariants.{Single, Spa
 use Rattle.program_tree.specs.declared.typed.StepCells.{StepCells}
 use Rattle.program_tree.specs.Tree.{Expression, number, cell, chain, no_operands, operand, Statement, assign, call_block, choice, cases, repeat, chart, Statements, no_statements, statement, Choices, no_choices, choose, Entries, no_entries, entry, Actions, no_actions, action}
 use Rattle.program_tree.specs.View.{OperandData, operands_of, ChoiceData, ActionData}
-use Rattle.flat_core.specs.declared.flat_tree.Scratch.{Scratch}
+use Rattle.program_tree.specs.declared.scratch.Scratch.{Scratch}
+use Rattle.program_tree.specs.Places.{whole_cell}
 use Rattle.flat_core.specs.FlatTree.{FlatStatement, set, branch, no_flats}
 use Rattle.flat_core.specs.FlatView.{FlatArmData, nested, flats_of}
-use Rattle.flat_form.specs.Frames.{whole_cell}
 use Rattle.flat_form.specs.Owners.{OwnerData}
 use Rattle.flat_form.specs.Bodies.{Bodies}
 use Rattle.flat_form.specs.Calls.{scratch_in, before, moved}

@@ -2,7 +2,7 @@
 use Rattle.std.specs.Prelude.{ℕ, zero, suc, ◌==◌, List, [], slice_index_or, if◌then◌else◌}
 use Rattle.program_tree.specs.Tree.{Statements, no_statements, CalledData, block, function}
 use Rattle.meaning.specs.Calls.{nothing}
-use Rattle.flat_form.specs.Frames.{frames_of, function_body}
+use Rattle.meaning.specs.Frames.{frames_of, function_body}
 use Rattle.flat_form.specs.Owners.{call_owner}
 use Rattle.flat_form.specs.Bodies.{Bodies}
 use Rattle.flat_form.specs.FlatLists.{scratch_of_all, flat_of_all}

@@ -1,40 +1,24 @@
 -- Well-typed programs, as far as their flat form asks for it: statements name the cells of their owner alone, and FAULT by no name;
 -- the FUNCTIONs that are called have so many inputs; what is assigned to a variable of a FUNCTION that is no subrange lies in its
 -- range; and the actions of a chart leave the chart's own cells.
-use Rattle.std.specs.Prelude.{◌≡◌, ◌<◌, ◌≤◌, ◌+◌, ◌==◌, ◌&&◌, ◌||◌, ℕ, zero, suc, max, Bool, true, false, List, [], ◌∷◌, length, pos, ◌+ℤ◌, ◌*ℤ◌, int_le, slice_index_or, Option, None, Some, if◌then◌else◌}
-use Rattle.plc_types.specs.declared.function.Function.{Function}
-use Rattle.plc_types.specs.declared.function.Function.TheVariants as functions
+use Rattle.std.specs.Prelude.{◌≡◌, ◌<◌, ◌≤◌, ◌+◌, ◌==◌, ◌&&◌, ◌||◌, ℕ, zero, suc, max, Bool, true, false, List, [], ◌∷◌, length, pos, slice_index_or, Option, None, Some, if◌then◌else◌}
 use Rattle.plc_types.specs.declared.range.Range.{Range}
-use Rattle.program_tree.specs.declared.typed.Turns.{Turns}
 use Rattle.program_tree.specs.declared.typed.StepCells.{StepCells}
 use Rattle.program_tree.specs.declared.typed.Association.{Association}
 use Rattle.plc_types.specs.Types.{range_of, in_range}
 use Rattle.program_tree.specs.Tree.{Expression, number, cell, unary, chain, call_standard, call_function, Operands, no_operands, operand, Expressions, no_expressions, expression, TransitionData, Statement, assign, call_block, choice, cases, repeat, chart, Statements, no_statements, statement, Choices, no_choices, choose, Entries, no_entries, entry, Actions, no_actions, action, CalledData, ProgramData}
-use Rattle.meaning.specs.Values.{result_type}
+use Rattle.program_tree.specs.OperandTypes.{arity}
+use Rattle.program_tree.specs.ChartPlaces.{chart_places, AreRisingFrom, AreSteps, NameSteps, IsAssociated}
 use Rattle.meaning.specs.Effects.{range_at}
 use Rattle.meaning.specs.Calls.{nothing}
+use Rattle.meaning.specs.Frames.{FrameData, frames_of, function_body, type_at}
+use Rattle.meaning.specs.StaysIn.{covers, last_stays, chosen_stay, turns_stay}
 use Rattle.scan_model.specs.Scans.{ranges_of}
 use Rattle.scan_model.specs.InRange.{IsInRange}
-use Rattle.flat_form.specs.Frames.{FrameData, frames_of, function_body, type_at}
-use Rattle.flat_form.specs.Calls.{arity}
 use Rattle.flat_form.specs.Pous.{block_body}
 use Rattle.flat_form.specs.Idle.{is_idle_all, idle_of}
 
 -- ---- values that stay in a range
-
--- all values of the second range lie in the first
-abbrev pub covers : Range → Range → Bool
-covers r s = int_le r.low s.low && int_le s.high r.high
-
--- the result of the last operator lies in a range; without operators it is told
-abbrev pub last_stays : Bool → Operands → Range → Bool
-last_stays first no_operands r = first
-last_stays first (operand o t e os) r = last_stays (covers r (range_of (result_type o t))) os r
-
--- SEL answers one of its last two operands
-abbrev pub chosen_stay : Function → List Bool → Bool
-chosen_stay functions.Select (g ∷ v ∷ w ∷ []) = v && w
-chosen_stay _ _ = false
 
 -- whether the types of an expression say that its values lie in a range, where the cells have these ranges
 abbrev mutual
@@ -49,10 +33,6 @@ abbrev mutual
   pub each_stays : (ℕ → FrameData) → List Range → ℕ → Expressions → Range → List Bool
   each_stays frames rs base no_expressions r = []
   each_stays frames rs base (expression e es) r = stays_in frames rs base e r ∷ each_stays frames rs base es r
-
--- all values that the control variable of a FOR gets, the one that ends it among them, lie in a range
-abbrev pub turns_stay : Turns → Range → Bool
-turns_stay turns r = in_range turns.first r && in_range (turns.first +ℤ pos turns.count *ℤ turns.step) r
 
 -- ---- expressions
 
@@ -130,40 +110,10 @@ extents_of ps (suc n) b = if b == n then extent_of_all (extents_of ps n) (block_
 
 -- ---- charts
 
--- the cells of a chart: s.X and s.L of each step, and the latches of its actions
-abbrev pub latch_places : Actions → List ℕ
-latch_places no_actions = []
-latch_places (action None associations ss rest) = latch_places rest
-latch_places (action (Some place) associations ss rest) = place ∷ latch_places rest
-
-abbrev pub chart_places : List StepCells → Actions → List ℕ
-chart_places [] actions = latch_places actions
-chart_places (p ∷ ps) actions = p.active ∷ p.before ∷ chart_places ps actions
-
--- each number is at least a bound, and above the one before
-abbrev pub AreRisingFrom : ℕ → List ℕ → Type 0
-AreRisingFrom low [] = Unit {0}
-AreRisingFrom low (p ∷ ps) = (low ≤ p) × AreRisingFrom (p + 1) ps
-
 -- each is the place of an owner's cell of type BOOL
 abbrev pub AreFlags : List Range → ℕ → List ℕ → Type 0
 AreFlags rs base [] = Unit {0}
 AreFlags rs base (p ∷ ps) = IsOwnPlace rs (base + p) × ((range_at rs (base + p)).low ≡ pos 0) × ((range_at rs (base + p)).high ≡ pos 1) × AreFlags rs base ps
-
--- numbers of steps
-abbrev pub AreSteps : ℕ → List ℕ → Type 0
-AreSteps n [] = Unit {0}
-AreSteps n (i ∷ is) = (i < n) × AreSteps n is
-
-abbrev pub NameSteps : ℕ → List Association → Type 0
-NameSteps n [] = Unit {0}
-NameSteps n (a ∷ rest) = (a.step < n) × NameSteps n rest
-
--- an action with a latch has an association
-abbrev pub IsAssociated : Option ℕ → List Association → Type 0
-IsAssociated None associations = Unit {0}
-IsAssociated (Some place) [] = ⊥
-IsAssociated (Some place) (a ∷ rest) = Unit {0}
 
 -- the extent of the bodies of actions
 abbrev pub extent_of_bodies : (ℕ → ℕ) → Actions → ℕ

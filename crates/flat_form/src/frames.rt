@@ -2,10 +2,10 @@
 ghost use Rattle.std.specs.Prelude.{◌≡◌};
 ghost use Rattle.plc_types.specs.Types.{range_of};
 ghost use Rattle.meaning.specs.Effects.{range_at};
-ghost use Rattle.flat_form.specs.Frames.{type_at};
+ghost use Rattle.meaning.specs.Frames.{type_at};
 
 use num_core::IntType;
-use plc_types::{DataType, Elementary, Range};
+use plc_types::{DataType, Elementary, Range, Value};
 use program_tree::CellType;
 
 const NO_TYPE: CellType = CellType {
@@ -35,7 +35,7 @@ pub fn range_of(kind: Elementary) -> Range
 {
     let numbers = IntType::whole(kind.width(), kind.is_signed());
     Range {
-        low: numbers.lo as i64,
-        high: numbers.hi as i64,
+        low: numbers.lo as Value,
+        high: numbers.hi as Value,
     }
 }

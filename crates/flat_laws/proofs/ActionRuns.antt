@@ -2,10 +2,10 @@
 use Rattle.std.proofs.Common.{ℕ, ◌+◌, ◌<◌, ◌≤◌, Bool, List, length, ℤ}
 use Rattle.plc_types.specs.declared.range.Range.{Range}
 use Rattle.program_tree.specs.Tree.{Actions, no_actions, action}
+use Rattle.program_tree.specs.declared.scratch.Scratch.{Scratch}
 use Rattle.meaning.specs.Values.{State, Callees}
 use Rattle.meaning.specs.Effects.{effect_of_all}
 use Rattle.scan_model.specs.InRange.{IsInRange}
-use Rattle.flat_core.specs.declared.flat_tree.Scratch.{Scratch}
 use Rattle.flat_core.specs.FlatView.{flats_of}
 use Rattle.flat_core.specs.FlatScans.{run_of_all}
 use Rattle.flat_form.specs.Owners.{OwnerData}

@@ -6,16 +6,18 @@ use Rattle.std.proofs.lemmas.Int.{ints}
 use Rattle.std.proofs.lemmas.List.{length-set, get_or-set_same, get_or-set_other}
 use Rattle.plc_types.specs.declared.range.Range.{Range}
 use Rattle.plc_types.specs.Types.{in_range}
+use Rattle.plc_types.proofs.InRange.{in_range_from}
 use Rattle.program_tree.specs.Tree.{Expression, number}
+use Rattle.program_tree.specs.declared.scratch.Scratch.{Scratch}
 use Rattle.meaning.specs.Values.{State, no_callees, fault_in, value_of, faults}
 use Rattle.meaning.specs.Effects.{range_at, with_fault, stored}
 use Rattle.meaning.specs.Calls.{given}
+use Rattle.meaning.specs.Frames.{FrameData, type_at, scratch_at, initial_at, counted_from}
 use Rattle.scan_model.specs.InRange.{IsInRange}
-use Rattle.flat_core.specs.declared.flat_tree.Scratch.{Scratch}
 use Rattle.flat_core.specs.FlatTree.{set}
 use Rattle.flat_core.specs.FlatView.{flats_of}
 use Rattle.flat_core.specs.FlatScans.{takes, placed, run_of, run_of_all}
-use Rattle.flat_form.specs.Frames.{FrameData, type_at, scratch_at, initial_at, input_start, others_behind, other_scratch, other_starts, counted_from, places_of}
+use Rattle.flat_form.specs.Frames.{input_start, others_behind, other_scratch, other_starts, places_of}
 use Rattle.flat_form.specs.Owners.{call_owner}
 use Rattle.flat_form.specs.WellTyped.{FrameFits, tested_in}
 use Rattle.flat_laws.proofs.Shown.{held, Owns, Shows, SameUpTo, Stands}
@@ -73,7 +75,7 @@ module _ (rs : List Range) (cs : List Scratch) where
 pub in_range-at : (rs : List Range) (s : State) (p : ℕ) → IsInRange rs s → p < length rs → in_range (held s p) (range_at rs p) ≡ true
 in_range-at [] s p f h = absurd (omega (arith, h))
 in_range-at (r ∷ rs) [] p f h = absurd f
-in_range-at (r ∷ rs) (v ∷ s) zero f h = let low = f.0 in let high = f.1 in search (rules, tests, ints)
+in_range-at (r ∷ rs) (v ∷ s) zero f h = in_range_from v r f.0 f.1
 in_range-at (r ∷ rs) (v ∷ s) (suc p) f h = in_range-at rs s p f.2 (omega (arith, h))
 
 pub length-stored : (rs : List Range) (c : ℕ) (v : ℤ) (u : State) → length (stored rs c v u) ≡ length u

@@ -8,22 +8,23 @@ use Rattle.plc_types.specs.declared.range.Range.{Range}
 use Rattle.program_tree.specs.declared.typed.StepCells.{StepCells}
 use Rattle.plc_types.specs.Types.{in_range}
 use Rattle.program_tree.specs.Tree.{Expression, number, cell, unary, chain, call_standard, call_function, Operands, no_operands, operand, Expressions, no_expressions, expression, TransitionData, Actions}
+use Rattle.program_tree.specs.declared.scratch.Scratch.{Scratch}
+use Rattle.program_tree.specs.ChartPlaces.{AreSteps, AreRisingFrom, chart_places}
 use Rattle.meaning.specs.Values.{State, Callees, no_callees, is_truth, number_of, value_of, value_on, values_of, faults, any_faults, one_faults, applied}
 use Rattle.meaning.specs.Charts.{Marking, is_on, marking_now, marking_before, evaluated as tried, fired, holds_in, faults_in, is_next}
 use Rattle.meaning.specs.Flags.{no_steps, with_steps, may_leave, exited_with, entered_with, exited_after, entered_after, fault_after, is_next_from}
 use Rattle.meaning.specs.Effects.{range_at, with_fault, stored, marked, effect_of_transitions}
 use Rattle.meaning.proofs.Firing.{on-none, length-none, exited-same, entered-same, fault-same}
+use Rattle.meaning.specs.Frames.{FrameData}
 use Rattle.scan_model.specs.InRange.{IsInRange}
-use Rattle.flat_core.specs.declared.flat_tree.Scratch.{Scratch}
 use Rattle.flat_core.specs.FlatTree.{set, branch, FlatStatements, no_flats}
 use Rattle.flat_core.specs.FlatView.{flats_of}
 use Rattle.flat_core.specs.FlatScans.{takes, placed, run_of, run_of_all}
-use Rattle.flat_form.specs.Frames.{FrameData}
 use Rattle.flat_form.specs.Owners.{OwnerData}
 use Rattle.flat_form.specs.Bodies.{Bodies}
 use Rattle.flat_form.specs.Calls.{scratch_in, before, moved}
 use Rattle.flat_form.specs.FlatCharts.{no_step, flags_of, exited_flag, entered_flag, clear_flags, ready_test, exited_set, entered_set, fired_list, scratch_of_transitions, condition_list, flat_transition, flat_transitions, mark_before, mark_active, mark_list, scratch_of_moves, flat_moves}
-use Rattle.flat_form.specs.WellTyped.{IsTypedValue, AreTypedOperands, AreTypedValues, AreTypedInputs, AreSteps, AreFlags, AreRisingFrom, chart_places, AreTypedTransitions}
+use Rattle.flat_form.specs.WellTyped.{IsTypedValue, AreTypedOperands, AreTypedValues, AreTypedInputs, AreFlags, AreTypedTransitions}
 use Rattle.flat_laws.proofs.Shown.{held, Owns, Owns-later, Shows, Shows-scratch, Shows-kept, Ran-scratch, Ran-both, Ran-kept, Done, Done-stored, SameUpTo, Evaluated, Stands}
 use Rattle.scan_model.proofs.Keeping.{HoldsFault, fault_added}
 use Rattle.flat_laws.proofs.ChartStores.{Done-both, with_fault-both, held-with_fault, stored-other, Done-evaluated, fits_bit, held_bit}

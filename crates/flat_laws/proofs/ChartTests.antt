@@ -11,11 +11,11 @@ use Rattle.program_tree.specs.declared.typed.Association.{Association}
 use Rattle.program_tree.specs.declared.typed.Qualifier.{Qualifier}
 use Rattle.program_tree.specs.declared.typed.Qualifier.TheVariants.{NonStored, Set, Reset, Pulse, FallingPulse}
 use Rattle.program_tree.specs.Tree.{Expression, cell, chain, no_operands, operand}
+use Rattle.program_tree.specs.ChartPlaces.{AreSteps, NameSteps}
 use Rattle.meaning.specs.Values.{State, no_callees, number_of, value_of, value_on, faults, any_faults, unary_applied, applied}
 use Rattle.meaning.specs.Charts.{Marking, is_on, is_set, is_reset, sets, resets, is_asked_for, asks, latch_is_on, next_latch, runs}
 use Rattle.meaning.specs.Flags.{may_leave}
 use Rattle.flat_form.specs.Owners.{OwnerData}
-use Rattle.flat_form.specs.WellTyped.{AreSteps, NameSteps}
 use Rattle.flat_form.specs.FlatCharts.{negated, both, operands_by, joined_by, active_at, before_at, steps_that, unless_reset, latch_test, asking, terms, latch_start, runs_test, exited_flag, ready_term, ready_test}
 use Rattle.flat_laws.proofs.Shown.{held}
 use Rattle.flat_laws.proofs.LabelLemmas.{and_bits, or_bits}

@@ -12,64 +12,30 @@ use Rattle.plc_types.specs.declared.function.Function.TheVariants as functions
 use Rattle.plc_types.specs.declared.range.Range.{Range}
 use Rattle.plc_types.specs.declared.operator.Operator.{Operator}
 use Rattle.plc_types.specs.Types.{width_of, is_signed, range_of, in_range, wrap_to}
+use Rattle.plc_types.proofs.InRange.{in_range_from, covers_in}
+use Rattle.plc_types.proofs.TypeRanges.{wrapped_in, wrapped_same}
 use Rattle.program_tree.specs.Tree.{Expression, number, cell, unary, chain, call_standard, call_function, Operands, no_operands, operand, Expressions, no_expressions, expression}
+use Rattle.program_tree.specs.declared.scratch.Scratch.{Scratch}
+use Rattle.program_tree.specs.OperandTypes.{arity}
 use Rattle.meaning.specs.Values.{State, Callees, no_callees, fault_in, answer_in, is_truth, value_of, value_on, values_of, faults, any_faults, one_faults, divides_by_zero, applied, unary_applied, result_type, called, function_result, selected}
 use Rattle.meaning.specs.Effects.{range_at, stored}
 use Rattle.meaning.specs.Calls.{given}
+use Rattle.meaning.specs.Frames.{FrameData, type_at, scratch_at, initial_at}
+use Rattle.meaning.specs.StaysIn.{covers, last_stays, chosen_stay}
 use Rattle.scan_model.specs.InRange.{IsInRange}
-use Rattle.flat_core.specs.declared.flat_tree.Scratch.{Scratch}
 use Rattle.flat_core.specs.FlatTree.{set}
 use Rattle.flat_core.specs.FlatView.{flats_of}
 use Rattle.flat_core.specs.FlatScans.{takes, placed, run_of, run_of_all}
-use Rattle.flat_form.specs.Frames.{FrameData, type_at, scratch_at, initial_at, input_start, others_behind, other_scratch, other_starts, places_of}
+use Rattle.flat_form.specs.Frames.{input_start, others_behind, other_scratch, other_starts, places_of}
 use Rattle.flat_form.specs.Owners.{OwnerData, call_owner}
 use Rattle.flat_form.specs.Bodies.{Bodies}
-use Rattle.flat_form.specs.Calls.{arity, rest_scratch, rest_list, scratch_in, operand_scratch, all_scratch, input_scratch, input_places, moved, moved_operands, all_moved, before, operands_before, all_before, inputs_before}
-use Rattle.flat_form.specs.WellTyped.{FrameFits, covers, last_stays, chosen_stay, stays_in, each_stays, IsTypedValue, AreTypedOperands, AreTypedValues, AreTypedInputs}
+use Rattle.flat_form.specs.Calls.{rest_scratch, rest_list, scratch_in, operand_scratch, all_scratch, input_scratch, input_places, moved, moved_operands, all_moved, before, operands_before, all_before, inputs_before}
+use Rattle.flat_form.specs.WellTyped.{FrameFits, stays_in, each_stays, IsTypedValue, AreTypedOperands, AreTypedValues, AreTypedInputs}
 use Rattle.scan_model.proofs.Keeping.{IsInRange-length, IsInRange-set, either}
 use Rattle.flat_laws.proofs.Shown.{held, Owns, Shows, Done, SameUpTo, Evaluated, Stands, CallRuns, Owns-later}
 use Rattle.flat_laws.proofs.Calling.{either_fault, Reached, Reached-none, Reached-both, Reached-same, in_range-at, unfit, given-long, given-before, given-behind, given-fault, Seated, Seated-order, Filled, input_set, CallBegun, begins, call_begun, length-stored, stored-same, stored-other, length-other}
 use Rattle.flat_laws.proofs.Sequences.{run-append, Stands-front, Stands-back}
 use Rattle.flat_laws.proofs.TurnValues.{tested_fits}
-
--- ---- ranges of types
-
-some_bits : (t : Elementary) → 0 < width_of t
-some_bits types.Bool = omega arith
-some_bits types.Sint = omega arith
-some_bits types.Int = omega arith
-some_bits types.Dint = omega arith
-some_bits types.Usint = omega arith
-some_bits types.Uint = omega arith
-some_bits types.Udint = omega arith
-some_bits types.Byte = omega arith
-some_bits types.Word = omega arith
-some_bits types.Dword = omega arith
-
-within : (v low high : ℤ) → low ≤ℤ v → v ≤ℤ high → in_range v (record { low = low; high = high }) ≡ true
-within v low high p q = search (rules, tests, ints)
-
-bounds : (v : ℤ) (r : Range) → in_range v r ≡ true → (r.low ≤ℤ v) × (v ≤ℤ r.high)
-bounds v r h = search (rules, tests, ints)
-
-pub covers-in : (r t : Range) (v : ℤ) → covers r t ≡ true → in_range v t ≡ true → in_range v r ≡ true
-covers-in r t v h is =
-    let b = bounds v t is in
-    let c : (r.low ≤ℤ t.low) × (t.high ≤ℤ r.high) = search (rules, tests, ints) in
-    within v r.low r.high (omega (arith, ints)) (omega (arith, ints))
-
-pub wrapped-in : (t : Elementary) (v : ℤ) → in_range (wrap_to t v) (range_of t) ≡ true
-wrapped-in t v =
-    let w = wraps_defined (width_of t) (is_signed t) v (some_bits t) in
-    within (wrap_to t v) _ _ w.in_range.0 w.in_range.1
-
-pub wrapped-same : (t : Elementary) (v : ℤ) → in_range v (range_of t) ≡ true → wrap_to t v ≡ v
-wrapped-same t v h =
-    let b = bounds v (range_of t) h in
-    sym (wrap_is (width_of t) (is_signed t) v v (some_bits t) (record { in_range = (b.0, b.1); by_multiple = (pos 0, none v (pos (2 ^ width_of t))) }))
-  where
-    none : (v m : ℤ) → v ≡ v +ℤ (pos 0 *ℤ m)
-    none v m = omega (arith, ints)
 
 -- ---- what the types say of values
 
@@ -117,21 +83,21 @@ module _ (frames : ℕ → FrameData) (callees : Callees) (MayCall : ℕ → ℕ
   last-in : (first : Bool) (v : ℤ) (os : Operands) (r : Range) → (first ≡ true → in_range v r ≡ true) → last_stays first os r ≡ true → in_range (value_on callees base v os s) r ≡ true
   last-in first v no_operands r is h = is h
   last-in first v (operand o t e os) r is h =
-      last-in (covers r (range_of (result_type o t))) (applied o t v (value_of callees base e s)) os r (λ c. covers-in r (range_of (result_type o t)) (applied o t v (value_of callees base e s)) c (wrapped-in (result_type o t) _)) h
+      last-in (covers r (range_of (result_type o t))) (applied o t v (value_of callees base e s)) os r (λ c. covers_in r (range_of (result_type o t)) (applied o t v (value_of callees base e s)) c (wrapped_in (result_type o t) _)) h
 
   mutual
     pub stays : (e : Expression) (r : Range) → stays_in frames own base e r ≡ true → IsTypedValue frames MayCall own base e → in_range (value_of callees base e s) r ≡ true
     stays (number v) r h b = h
-    stays (cell place) r h b = covers-in r (range_at own (base + place)) _ h (in_range-at own s (base + place) range b.1)
-    stays (unary o t e) r h b = covers-in r (range_of t) (unary_applied o t (value_of callees base e s)) h (wrapped-in t _)
+    stays (cell place) r h b = covers_in r (range_at own (base + place)) _ h (in_range-at own s (base + place) range b.1)
+    stays (unary o t e) r h b = covers_in r (range_of t) (unary_applied o t (value_of callees base e s)) h (wrapped_in t _)
     stays (chain e os) r h b = last-in (stays_in frames own base e r) (value_of callees base e s) os r (λ c. stays e r c b.0) h
     stays (call_standard f t es) r h b =
         let vs = values_of callees base es s in
         let all = stays_each es r b in
         by_either (covers r (range_of t)) (covers (range_of t) r) (chosen_stay f (each_stays frames own base es r)) h
-        (λ c. covers-in r (range_of t) (called f t vs) c (wrapped-in t _))
-        (λ c d. let is = chosen-in r f t (each_stays frames own base es r) vs all d in subst (λ v. in_range v r ≡ true) (sym (wrapped-same t (function_result f t vs) (covers-in (range_of t) r (function_result f t vs) c is))) is)
-    stays (call_function f es) r h b = covers-in r (range_at (frames f).ranges 1) _ h (answers f (arity es) (values_of callees base es s) b.0)
+        (λ c. covers_in r (range_of t) (called f t vs) c (wrapped_in t _))
+        (λ c d. let is = chosen-in r f t (each_stays frames own base es r) vs all d in subst (λ v. in_range v r ≡ true) (sym (wrapped_same t (function_result f t vs) (covers_in (range_of t) r (function_result f t vs) c is))) is)
+    stays (call_function f es) r h b = covers_in r (range_at (frames f).ranges 1) _ h (answers f (arity es) (values_of callees base es s) b.0)
 
     stays_each : (es : Expressions) (r : Range) → AreTypedValues frames MayCall own base es → AllIn r (each_stays frames own base es r) (values_of callees base es s)
     stays_each no_expressions r b = tt
@@ -276,7 +242,7 @@ given-in_range : (frame : FrameData) (inputs : ℕ) (vs : List ℤ) → FrameFit
 given-in_range frame inputs vs fits =
     let low = fits.fault_low in
     let high = fits.fault_high in
-    given-kept frame.ranges (within (pos 1) (range_at frame.ranges 0).low (range_at frame.ranges 0).high (omega (arith, ints)) (omega (arith, ints))) 2 vs frame.start fits.start_in_range
+    given-kept frame.ranges (in_range_from (pos 1) (range_at frame.ranges 0) (omega (arith, ints)) (omega (arith, ints))) 2 vs frame.start fits.start_in_range
 
 length-places : (bodies : Bodies) (es : Expressions) (k : ℕ) → length (input_places bodies es k) ≡ arity es
 length-places bodies no_expressions k = refl

@@ -2,10 +2,10 @@
 use Rattle.std.proofs.Common.{◌≡◌, ◌<◌, List, length}
 use Rattle.plc_types.specs.declared.range.Range.{Range}
 use Rattle.program_tree.specs.Tree.{ProgramData}
+use Rattle.program_tree.specs.declared.scratch.Scratch.{Scratch}
 use Rattle.meaning.specs.Values.{State}
 use Rattle.scan_model.specs.Scans.{ranges_of, scanned}
 use Rattle.scan_model.specs.InRange.{IsInRange, IsFitToRun}
-use Rattle.flat_core.specs.declared.flat_tree.Scratch.{Scratch}
 use Rattle.flat_core.specs.FlatScans.{flat_scanned}
 use Rattle.flat_form.specs.FlatPrograms.{flat_program}
 use Rattle.flat_form.specs.WellTyped.{IsWellTyped}

@@ -9,16 +9,16 @@ use Rattle.program_tree.specs.declared.typed.Part.TheVariants as parts
 use Rattle.plc_types.specs.declared.range.Range.{Range}
 use Rattle.plc_types.specs.Types.{range_of, in_range}
 use Rattle.program_tree.specs.Tree.{Statements, CellData, CalledData, block, function, ProgramData}
+use Rattle.program_tree.specs.declared.scratch.Scratch.{Scratch}
 use Rattle.meaning.specs.Values.{State, Callees, is_truth}
 use Rattle.meaning.specs.Effects.{range_at, stored, effect_of_all}
 use Rattle.meaning.specs.Calls.{given, nothing, run_of as effect_of_run, ends_of, callees_of}
+use Rattle.meaning.specs.Frames.{FrameData, frame_of, frames_of, function_body}
 use Rattle.scan_model.specs.Scans.{ranges_of, callees_in, scanned}
 use Rattle.scan_model.specs.InRange.{IsInRange, BeginsWithFault, IsFitToRun}
-use Rattle.flat_core.specs.declared.flat_tree.Scratch.{Scratch}
 use Rattle.flat_core.specs.FlatTree.{FlatStatement}
 use Rattle.flat_core.specs.FlatView.{flats_of}
 use Rattle.flat_core.specs.FlatScans.{takes, placed, run_of_all, cleared, flat_scanned}
-use Rattle.flat_form.specs.Frames.{FrameData, frame_of, frames_of, function_body}
 use Rattle.flat_form.specs.Owners.{OwnerData, program_owner, call_owner}
 use Rattle.flat_form.specs.Bodies.{Bodies}
 use Rattle.flat_form.specs.FlatLists.{scratch_of_all, flat_of_all}

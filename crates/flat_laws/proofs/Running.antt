@@ -9,14 +9,14 @@ use Rattle.meaning.specs.Effects.{range_at, with_fault, stored, is_labelled, eff
 use Rattle.scan_model.specs.InRange.{IsInRange}
 use Rattle.plc_types.specs.declared.elementary.Elementary.{Elementary}
 use Rattle.program_tree.specs.Tree.{Expression, Statement, assign, call_block, choice, cases, repeat, chart, Statements, no_statements, statement, Choices, no_choices, choose, Entries, no_entries, entry, Actions, no_actions, action}
-use Rattle.flat_core.specs.declared.flat_tree.Scratch.{Scratch}
+use Rattle.program_tree.specs.declared.scratch.Scratch.{Scratch}
+use Rattle.program_tree.specs.Places.{whole_cell}
 use Rattle.flat_core.specs.FlatTree.{FlatStatement, set}
 use Rattle.flat_core.specs.FlatView.{flats_of, nested}
 use Rattle.flat_core.specs.FlatScans.{takes, placed, run_of_all}
 use Rattle.flat_form.specs.Owners.{OwnerData}
 use Rattle.flat_form.specs.Bodies.{Bodies}
 use Rattle.flat_form.specs.Calls.{scratch_in, before, moved}
-use Rattle.flat_form.specs.Frames.{whole_cell}
 use Rattle.flat_form.specs.FlatLists.{repeated, scratch_of, scratch_of_all, scratch_of_choices, scratch_of_entries, unrolled, flat_of, flat_of_all, flat_choices, flat_entries}
 use Rattle.flat_form.specs.WellTyped.{IsOwnPlace, IsTyped, AreTyped, AreTypedChoices, AreTypedEntries, AreTypedActions}
 use Rattle.flat_laws.proofs.Shown.{held, Owns, Shows, Ran, Done, SameUpTo, Evaluated, Stands, BlockRuns, Owns-later, Ran-none, Ran-both, Ran-with_fault, Ran-scratch, Ran-kept, Shows-with_fault, Shows-scratch, Shows-kept, Done-stored}

@@ -6,20 +6,21 @@ use Rattle.plc_types.specs.declared.range.Range.{Range}
 use Rattle.program_tree.specs.declared.typed.StepCells.{StepCells}
 use Rattle.program_tree.specs.declared.typed.Association.{Association}
 use Rattle.program_tree.specs.Tree.{TransitionData, chart, Statements, Actions, no_actions, action}
+use Rattle.program_tree.specs.declared.scratch.Scratch.{Scratch}
+use Rattle.program_tree.specs.ChartPlaces.{latch_places, chart_places, AreRisingFrom, NameSteps}
 use Rattle.meaning.specs.Values.{State, Callees, number_of}
 use Rattle.meaning.specs.Charts.{Marking, is_on, marking_now, marking_before, latch_is_on, next_latch, runs}
 use Rattle.meaning.specs.Effects.{range_at, stored, all_latched, effect_of_transitions, effect_of, effect_of_all, effect_of_actions}
+use Rattle.meaning.specs.Frames.{FrameData}
 use Rattle.scan_model.specs.InRange.{IsInRange}
-use Rattle.flat_core.specs.declared.flat_tree.Scratch.{Scratch}
 use Rattle.flat_core.specs.FlatTree.{branch, no_flats}
 use Rattle.flat_core.specs.FlatView.{flats_of}
 use Rattle.flat_core.specs.FlatScans.{placed, run_of, run_of_all}
-use Rattle.flat_form.specs.Frames.{FrameData}
 use Rattle.flat_form.specs.Owners.{OwnerData}
 use Rattle.flat_form.specs.Bodies.{Bodies}
 use Rattle.flat_form.specs.FlatCharts.{no_step, active_at, before_at, latch_test, latch_list, latch_start, runs_test, scratch_of_moves, flat_moves}
 use Rattle.flat_form.specs.FlatLists.{scratch_of, scratch_of_all, scratch_of_actions, flat_of, flat_of_all, flat_actions}
-use Rattle.flat_form.specs.WellTyped.{extent_of_all, extent_of_bodies, latch_places, chart_places, AreRisingFrom, AreFlags, NameSteps, AreTypedActions, IsTyped}
+use Rattle.flat_form.specs.WellTyped.{extent_of_all, extent_of_bodies, AreFlags, AreTypedActions, IsTyped}
 use Rattle.flat_laws.proofs.Shown.{held, Owns, Owns-later, Shows, Done, Done-stored, Stands}
 use Rattle.scan_model.proofs.Keeping.{HoldsFault, kept_by_store, kept_by_latches, kept_by_all}
 use Rattle.flat_laws.proofs.ActionRuns.{EachActionRuns}

@@ -6,9 +6,9 @@ use Rattle.std.proofs.lemmas.List.{length-set, get_or-set_same, get_or-set_other
 use Rattle.plc_types.specs.declared.range.Range.{Range}
 use Rattle.plc_types.specs.Types.{in_range}
 use Rattle.program_tree.specs.Tree.{Expression}
+use Rattle.program_tree.specs.declared.scratch.Scratch.{Scratch}
 use Rattle.meaning.specs.Values.{State, Callees, no_callees, fault_in, value_of, faults}
 use Rattle.meaning.specs.Effects.{range_at, with_fault, stored}
-use Rattle.flat_core.specs.declared.flat_tree.Scratch.{Scratch}
 use Rattle.meaning.specs.Calls.{given}
 use Rattle.scan_model.specs.InRange.{IsInRange}
 use Rattle.flat_core.specs.FlatView.{flats_of}

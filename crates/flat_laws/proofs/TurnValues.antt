@@ -5,7 +5,7 @@ use Rattle.std.proofs.Math.IntN.{suc_ℤ-*ℤ}
 use Rattle.std.proofs.lemmas.Int.{ints, by_lt_z}
 use Rattle.plc_types.specs.declared.range.Range.{Range}
 use Rattle.plc_types.specs.Types.{in_range}
-use Rattle.scan_model.proofs.Keeping.{within}
+use Rattle.plc_types.proofs.InRange.{bounds, in_range_from}
 
 -- the value with which so many turns end, and a turn more
 one_more : (n : ℕ) (step : ℤ) → pos (suc n) *ℤ step ≡ pos n *ℤ step +ℤ step
@@ -22,18 +22,15 @@ falling (suc n) step h = let more = one_more n step in let sofar = falling n ste
 abbrev pub stay_from : ℕ → ℤ → ℤ → Range → Bool
 stay_from n v step r = in_range v r && in_range (v +ℤ pos n *ℤ step) r
 
-holds : (v : ℤ) (r : Range) → r.low ≤ℤ v → v ≤ℤ r.high → in_range v r ≡ true
-holds v r a b = search (rules, tests, ints)
-
 stay-later : (n : ℕ) (v step : ℤ) (r : Range) → stay_from (suc n) v step r ≡ true → stay_from n (v +ℤ step) step r ≡ true
 stay-later n v step r h =
     let parts = and_parts _ _ h in
-    let start = within v r parts.0 in
-    let end = within (v +ℤ pos (suc n) *ℤ step) r parts.1 in
+    let start = bounds v r parts.0 in
+    let end = bounds (v +ℤ pos (suc n) *ℤ step) r parts.1 in
     let more = one_more n step in
     by_lt_z step (pos 0)
-    (λ down. let sofar = falling n step (omega (arith, ints)) in and_from _ _ (holds (v +ℤ step) r (omega (arith, ints)) (omega (arith, ints))) (holds (v +ℤ step +ℤ pos n *ℤ step) r (omega (arith, ints)) (omega (arith, ints))))
-    (λ up. let sofar = rising n step up in and_from _ _ (holds (v +ℤ step) r (omega (arith, ints)) (omega (arith, ints))) (holds (v +ℤ step +ℤ pos n *ℤ step) r (omega (arith, ints)) (omega (arith, ints))))
+    (λ down. let sofar = falling n step (omega (arith, ints)) in and_from _ _ (in_range_from (v +ℤ step) r (omega (arith, ints)) (omega (arith, ints))) (in_range_from (v +ℤ step +ℤ pos n *ℤ step) r (omega (arith, ints)) (omega (arith, ints))))
+    (λ up. let sofar = rising n step up in and_from _ _ (in_range_from (v +ℤ step) r (omega (arith, ints)) (omega (arith, ints))) (in_range_from (v +ℤ step +ℤ pos n *ℤ step) r (omega (arith, ints)) (omega (arith, ints))))
 
 -- where they need lie there only unless a test says so
 pub tested_fits : (t a b : Bool) → (t || a) ≡ true → (a ≡ true → b ≡ true) → (t || b) ≡ true

@@ -11,15 +11,17 @@ use Rattle.program_tree.specs.declared.typed.Association.{Association}
 use Rattle.plc_types.specs.Types.{in_range}
 use Rattle.program_tree.specs.Tree.{Statement, assign, call_block, choice, cases, repeat, chart, Statements, no_statements, statement, Choices, no_choices, choose, Entries, no_entries, entry, Actions, no_actions, action, CellData, CalledData, ProgramData}
 use Rattle.program_tree.specs.View.{operands_of}
+use Rattle.program_tree.specs.declared.scratch.Scratch.{Scratch}
+use Rattle.program_tree.specs.Places.{whole_cell}
+use Rattle.program_tree.specs.ChartPlaces.{chart_places, latch_places}
 use Rattle.meaning.specs.Calls.{nothing}
+use Rattle.meaning.specs.Frames.{FrameData, frames_of, function_body}
 use Rattle.scan_model.specs.Scans.{ranges_of}
 use Rattle.scan_model.specs.InRange.{BeginsWithFault, IsFitToRun}
-use Rattle.flat_core.specs.declared.flat_tree.Scratch.{Scratch}
 use Rattle.flat_core.specs.FlatTree.{FlatStatement}
 use Rattle.flat_core.specs.FlatView.{nested}
 use Rattle.flat_core.specs.FlatScans.{takes}
 use Rattle.flat_core.specs.FlatRules.{has_subrange, Reads, AllRead, IsReadable, IsFlat}
-use Rattle.flat_form.specs.Frames.{FrameData, frames_of, function_body, whole_cell}
 use Rattle.flat_form.specs.Owners.{OwnerData, program_owner, call_owner}
 use Rattle.flat_form.specs.Bodies.{Bodies}
 use Rattle.flat_form.specs.Calls.{scratch_in, before}
@@ -28,7 +30,7 @@ use Rattle.flat_form.specs.FlatLists.{repeated, scratch_of, scratch_of_all, scra
 use Rattle.flat_form.specs.Pous.{block_body, bodies_of}
 use Rattle.flat_form.specs.FlatPrograms.{bodies_in, flat_program}
 use Rattle.flat_form.specs.Idle.{is_idle_all, idle_of}
-use Rattle.flat_form.specs.WellTyped.{chart_places, latch_places, AreFlags, IsTyped, AreTyped, AreTypedChoices, AreTypedEntries, AreTypedActions, FrameFits, Choice, tested_in, each_tested, MayRunOf, MayCallOf, extents_of, IsWellTyped}
+use Rattle.flat_form.specs.WellTyped.{AreFlags, IsTyped, AreTyped, AreTypedChoices, AreTypedEntries, AreTypedActions, FrameFits, Choice, tested_in, each_tested, MayRunOf, MayCallOf, extents_of, IsWellTyped}
 use Rattle.flat_form.proofs.IdleLemmas.{idle_body-list}
 use Rattle.flat_form.proofs.Owed.{with_turns}
 use Rattle.flat_rule_laws.proofs.RulesOfCalls.{Keeps, behind, Within, behind-within, Keeps-both, Usable, AllUsable, usable_at, Owned, Owned-later, StandAt, stand_front, stand_back, CallKeeps, moved_reads, before_keeps}

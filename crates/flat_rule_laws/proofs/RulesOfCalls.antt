@@ -7,18 +7,20 @@ use Rattle.std.proofs.lemmas.Int.{ints}
 use Rattle.plc_types.specs.declared.range.Range.{Range}
 use Rattle.plc_types.specs.Types.{in_range}
 use Rattle.program_tree.specs.Tree.{Expression, number, cell, unary, chain, call_standard, call_function, Operands, no_operands, operand, Expressions, no_expressions, expression}
+use Rattle.program_tree.specs.declared.scratch.Scratch.{Scratch}
+use Rattle.program_tree.specs.OperandTypes.{arity}
 use Rattle.meaning.specs.Values.{State}
 use Rattle.meaning.specs.Effects.{range_at}
+use Rattle.meaning.specs.Frames.{FrameData, type_at, scratch_at, initial_at, counted_from}
 use Rattle.scan_model.specs.InRange.{IsInRange}
-use Rattle.flat_core.specs.declared.flat_tree.Scratch.{Scratch}
 use Rattle.flat_core.specs.FlatTree.{FlatStatement, set, branch}
 use Rattle.flat_core.specs.FlatView.{flats_of}
 use Rattle.flat_core.specs.FlatScans.{takes}
 use Rattle.flat_core.specs.FlatRules.{has_subrange, Reads, AllRead, EachReads, IsOneOf, IsReadable, set_behind, AreFlatOver}
-use Rattle.flat_form.specs.Frames.{FrameData, type_at, scratch_at, initial_at, input_start, others_behind, other_scratch, other_starts, counted_from, places_of}
+use Rattle.flat_form.specs.Frames.{input_start, others_behind, other_scratch, other_starts, places_of}
 use Rattle.flat_form.specs.Owners.{OwnerData}
 use Rattle.flat_form.specs.Bodies.{Bodies}
-use Rattle.flat_form.specs.Calls.{arity, rest_scratch, rest_list, scratch_in, operand_scratch, all_scratch, input_scratch, input_places, moved, moved_operands, all_moved, before, operands_before, all_before, inputs_before}
+use Rattle.flat_form.specs.Calls.{rest_scratch, rest_list, scratch_in, operand_scratch, all_scratch, input_scratch, input_places, moved, moved_operands, all_moved, before, operands_before, all_before, inputs_before}
 use Rattle.flat_form.specs.WellTyped.{IsTypedValue, AreTypedOperands, AreTypedValues, AreTypedInputs, FrameFits}
 
 -- ---- a scratch cell at a place, and values that begin in their ranges

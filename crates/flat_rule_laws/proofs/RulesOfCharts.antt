@@ -8,13 +8,14 @@ use Rattle.program_tree.specs.declared.typed.Association.{Association}
 use Rattle.program_tree.specs.declared.typed.Qualifier.{Qualifier}
 use Rattle.program_tree.specs.declared.typed.Qualifier.TheVariants.{NonStored, Set, Reset, Pulse, FallingPulse}
 use Rattle.program_tree.specs.Tree.{Expression, Operands, no_operands, operand, TransitionData, Actions, no_actions, action}
-use Rattle.flat_core.specs.declared.flat_tree.Scratch.{Scratch}
+use Rattle.program_tree.specs.declared.scratch.Scratch.{Scratch}
+use Rattle.program_tree.specs.ChartPlaces.{latch_places, chart_places, AreSteps, NameSteps}
 use Rattle.flat_core.specs.FlatRules.{Reads, AllRead, IsOneOf, IsReadable}
 use Rattle.flat_form.specs.Owners.{OwnerData}
 use Rattle.flat_form.specs.Bodies.{Bodies}
 use Rattle.flat_form.specs.Calls.{scratch_in, before}
 use Rattle.flat_form.specs.FlatCharts.{operands_by, joined_to, joined_by, no_step, active_at, before_at, steps_that, unless_reset, latch_test, latch_list, asking, terms, latch_start, runs_test, flags_of, exited_flag, entered_flag, clear_flags, ready_term, ready_test, entered_set, fired_list, scratch_of_transitions, flat_transitions, mark_list, scratch_of_moves, flat_moves}
-use Rattle.flat_form.specs.WellTyped.{latch_places, chart_places, AreFlags, AreSteps, NameSteps, AreTypedTransitions, FrameFits}
+use Rattle.flat_form.specs.WellTyped.{AreFlags, AreTypedTransitions, FrameFits}
 use Rattle.flat_rule_laws.proofs.RulesOfCalls.{Keeps, behind, Within, behind-within, Keeps-both, Usable, readable_later, Owned, Owned-later, StandAt, stand_front, stand_back, CallKeeps, moved_reads, before_keeps}
 
 -- ---- what tests read

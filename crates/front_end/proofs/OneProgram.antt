@@ -11,7 +11,8 @@ use Rattle.naming.specs.FileScope.{pou_at}
 use Rattle.naming.specs.Circles.{IsBroken}
 use Rattle.typing.specs.Pous.{broken_types, has_room}
 use Rattle.running_pous.specs.Stated.{stated_program}
-use Rattle.front_end.specs.Texts.{HasFile, HasNoFile, by_text, by_prelude, AreNamesSound, HasProgram, StatesProgram, StatesNoProgram, by_file, by_names, by_types, by_room}
+use Rattle.st_types.specs.LargePous.{runs_large}
+use Rattle.front_end.specs.Texts.{HasFile, HasNoFile, by_text, by_prelude, AreNamesSound, HasProgram, StatesProgram, StatesNoProgram, by_file, by_names, by_types, by_room, by_large}
 use Rattle.front_end.proofs.OneReading.{one_tree, no_tree_too, one_no_tree}
 
 abbrev FirstIn : List Refusal → Refusal → Type 0
@@ -63,6 +64,11 @@ room_of text f g m n h k one other =
     let file = one_file text f g h k in
     ap (λ (x : FileData). has_room x m) file ∙ ap (has_room g) (one_number f g m n file one other)
 
+large_of : (text : List ℕ) (f g : FileData) (m n : ℕ) (p q : PouData) → HasFile text f → HasFile text g → HasProgram f m p → HasProgram g n q → runs_large f m p ≡ runs_large g n q
+large_of text f g m n p q h k one other =
+    let file = one_file text f g h k in
+    ap (λ (x : FileData). runs_large x m p) file ∙ ap (λ (i : ℕ). runs_large g i p) (one_number f g m n file one.is other.is) ∙ ap (runs_large g n) (one_pou f g m n p q file one other)
+
 -- the file of a text is there where its own tree and the prelude's are
 no_file_too : (text : List ℕ) (f : FileData) (r : Refusal) → HasFile text f → HasNoFile text r → ⊥
 no_file_too text f r h (by_text none) = no_tree_too text h.own r h.tree none
@@ -80,6 +86,8 @@ no_program_too text p r h (by_names f k first) = names_sound text f h.file r k h
 no_program_too text p r h (by_types f k names first) = types_sound text f h.file r k h.states h.typing first
 no_program_too text p r h (by_room f n k names one typing room e) =
     both_ways (has_room f n) room (room_of text f h.file n h.number k h.states one h.one.is ∙ h.room)
+no_program_too text p r h (by_large f n q k names one typing room large e) =
+    both_ways (runs_large f n q) (large_of text f h.file n h.number q h.pou k h.states one h.one ∙ h.few) large
 
 first_names : (text : List ℕ) (f g : FileData) (r s : Refusal) → HasFile text f → HasFile text g → IsFirst (IsBroken f) r → IsFirst (IsBroken g) s → IsSame r s
 first_names text f g r s h k first other =
@@ -94,15 +102,24 @@ one_refusal text r s (by_file h) (by_file k) = one_no_file text r s h k
 one_refusal text r s (by_file h) (by_names g k other) = absurd (no_file_too text g r k h)
 one_refusal text r s (by_file h) (by_types g k names other) = absurd (no_file_too text g r k h)
 one_refusal text r s (by_file h) (by_room g n k names one typing room e) = absurd (no_file_too text g r k h)
+one_refusal text r s (by_file h) (by_large g n q k names one typing room large e) = absurd (no_file_too text g r k h)
 one_refusal text r s (by_names f h first) (by_file k) = absurd (no_file_too text f s h k)
 one_refusal text r s (by_names f h first) (by_names g k other) = first_names text f g r s h k first other
 one_refusal text r s (by_names f h first) (by_types g k names other) = absurd (names_sound text f g r h k names first)
 one_refusal text r s (by_names f h first) (by_room g n k names one typing room e) = absurd (names_sound text f g r h k names first)
+one_refusal text r s (by_names f h first) (by_large g n q k names one typing room large e) = absurd (names_sound text f g r h k names first)
 one_refusal text r s (by_types f h names first) (by_file k) = absurd (no_file_too text f s h k)
 one_refusal text r s (by_types f h names first) (by_names g k other) = absurd (names_sound text g f s k h names other)
 one_refusal text r s (by_types f h names first) (by_types g k also other) = first_types text f g r s h k first other
 one_refusal text r s (by_types f h names first) (by_room g n k also one typing room e) = absurd (types_sound text f g r h k typing first)
+one_refusal text r s (by_types f h names first) (by_large g n q k also one typing room large e) = absurd (types_sound text f g r h k typing first)
 one_refusal text r s (by_room f m h names one typing room e) (by_file k) = absurd (no_file_too text f s h k)
 one_refusal text r s (by_room f m h names one typing room e) (by_names g k other) = absurd (names_sound text g f s k h names other)
 one_refusal text r s (by_room f m h names one typing room e) (by_types g k also other) = absurd (types_sound text g f s k h typing other)
 one_refusal text r s (by_room f m h names one typing room e) (by_room g n k also others full more o) = inl (e ∙ sym o)
+one_refusal text r s (by_room f m h names one typing room e) (by_large g n q k also other more full large o) = absurd (both_ways (has_room f m) room (room_of text f g m n h k one other.is ∙ full))
+one_refusal text r s (by_large f m p h names one typing room large e) (by_file k) = absurd (no_file_too text f s h k)
+one_refusal text r s (by_large f m p h names one typing room large e) (by_names g k other) = absurd (names_sound text g f s k h names other)
+one_refusal text r s (by_large f m p h names one typing room large e) (by_types g k also other) = absurd (types_sound text g f s k h typing other)
+one_refusal text r s (by_large f m p h names one typing room large e) (by_room g n k also other more full o) = absurd (both_ways (has_room g n) full (room_of text g f n m k h other one.is ∙ room))
+one_refusal text r s (by_large f m p h names one typing room large e) (by_large g n q k also other more full long o) = inl (e ∙ sym o)

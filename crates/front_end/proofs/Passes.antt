@@ -1,5 +1,5 @@
 -- What each pass says of a text.
-use Rattle.std.proofs.Common.{◌≡◌, [], ◌++◌, List, ℕ, true, Some, Result, Ok, Err, sym, subst, inl, inr}
+use Rattle.std.proofs.Common.{◌≡◌, [], ◌++◌, List, ℕ, true, false, Some, Result, Ok, Err, sym, subst, inl, inr}
 use Rattle.std.specs.Prelude.{IfOk, IfErr, OnOk}
 use Rattle.source_tree.specs.declared.token.Tok.{Tok}
 use Rattle.rules.specs.declared.fault.Fault.{Fault}
@@ -19,8 +19,9 @@ use Rattle.st_names.specs.Bound as naming
 use Rattle.typing.specs.Pous.{broken_types, has_room}
 use Rattle.typing.specs.Faults as typing
 use Rattle.running_pous.specs.Stated.{stated_program}
+use Rattle.st_types.specs.LargePous.{runs_large, IsRefusedIf}
 use Rattle.rules.specs.declared.fault.Fault.TheVariants as faults
-use Rattle.front_end.specs.Texts.{HasTokens, HasTree, HasNoTree, by_nesting, by_grammar, HasFile, HasNoFile, by_text, by_prelude, AreNamesSound, HasProgram, StatesProgram, StatesNoProgram, by_file, by_names, by_types, by_room}
+use Rattle.front_end.specs.Texts.{HasTokens, HasTree, HasNoTree, by_nesting, by_grammar, HasFile, HasNoFile, by_text, by_prelude, AreNamesSound, HasProgram, StatesProgram, StatesNoProgram, by_file, by_names, by_types, by_room, by_large}
 use Rattle.front_end.proofs.OnePou.{one_pou}
 use Rattle.front_end.specs.StandardBlocks.{prelude_text}
 use Rattle.rules.specs.Faults.{IfRefused}
@@ -71,9 +72,19 @@ types_refused text f number faults.Memory h n one k = tt
 -- what a program's typing says, where the file's PROGRAM is known
 pub program_of : (text : List ℕ) (f : FileData) (number : ℕ) (pou : PouData) (p : ProgramData) → HasFile text f → AreNamesSound f → HasProgram f number pou
     → broken_types f ≡ [] → ((n : ℕ) → program_number f ≡ Some n → has_room f n ≡ true)
+    → ((n : ℕ) (q : PouData) → program_number f ≡ Some n → pou_at f n ≡ Some q → runs_large f n q ≡ false)
     → ((n : ℕ) (q : PouData) → program_number f ≡ Some n → pou_at f n ≡ Some q → p ≡ stated_program f n q) → StatesProgram text p
-program_of text f number pou p h n one types room typed =
-    record { file = f; number = number; pou = pou; states = h; names = n; one = one; typing = types; room = room number one.is; program = typed number pou one.is one.there }
+program_of text f number pou p h n one types room few typed =
+    record { file = f; number = number; pou = pou; states = h; names = n; one = one; typing = types; room = room number one.is; few = few number pou one.is one.there; program = typed number pou one.is one.there }
+
+-- a program that is refused since a POU that may run is large
+pub large_refused : (text : List ℕ) (f : FileData) (e : Fault) → HasFile text f → AreNamesSound f → broken_types f ≡ [] → ((n : ℕ) → program_number f ≡ Some n → has_room f n ≡ true)
+    → ((n : ℕ) (q : PouData) → program_number f ≡ Some n → pou_at f n ≡ Some q → IfRefused (IsRefusedIf (runs_large f n q)) e) → IfRefused (StatesNoProgram text) e
+large_refused text f (faults.Refused r) h n types room large =
+    let one = one_pou f (none_broken f n) in
+    let refused = large one.number one.pou one.one.is one.one.there in
+    by_large f one.number one.pou h n one.one types (room one.number one.one.is) refused.0 refused.1
+large_refused text f faults.Memory h n types room large = tt
 
 -- facts of what is given, and of faults
 pub ok_more : {A E : Type 0} → (r : Result A E) (P Q : A → Type 0) → ((a : A) → P a → Q a) → IfOk r P → IfOk r Q
@@ -85,10 +96,11 @@ err_more (Ok a) P Q each h = h
 err_more (Err e) P Q each h = each e h
 
 -- what the typing of a file says of each text of that file
-pub program_read : {E : Type 0} (f : FileData) (r : Result Program E) → AreNamesSound f → OnOk r (broken_types f ≡ []) → OnOk r ((n : ℕ) → program_number f ≡ Some n → has_room f n ≡ true)
+pub program_read : {E : Type 0} (f : FileData) (r : Result Program E) → AreNamesSound f → broken_types f ≡ [] → ((n : ℕ) → program_number f ≡ Some n → has_room f n ≡ true)
+    → OnOk r ((n : ℕ) (q : PouData) → program_number f ≡ Some n → pou_at f n ≡ Some q → runs_large f n q ≡ false)
     → IfOk r (λ p. (n : ℕ) (q : PouData) → program_number f ≡ Some n → pou_at f n ≡ Some q → program_view p ≡ stated_program f n q) → IfOk r (λ p. (text : List ℕ) → HasFile text f → StatesProgram text (program_view p))
-program_read f (Ok p) names types room typed = λ text h. let one = one_pou f (none_broken f names) in program_of text f one.number one.pou (program_view p) h names one.one types room typed
-program_read f (Err e) names types room typed = typed
+program_read f (Ok p) names types room few typed = λ text h. let one = one_pou f (none_broken f names) in program_of text f one.number one.pou (program_view p) h names one.one types room few typed
+program_read f (Err e) names types room few typed = typed
 
 -- a file whose names are bound, where it is the file that was given
 pub sound_in : {A E : Type 0} (f : FileData) (r : Result A E) (file : A → FileData) → IfOk r (λ n. file n ≡ f) → OnOk r (broken_names f ≡ []) → OnOk r ((k : ℕ) → ¬ (Reaches (uses_of f) k k))

@@ -1,8 +1,8 @@
 -- The texts of programs: which program a text states, once the blocks of the prelude stand before it, and which rule each other text breaks first. The passes
--- come one after the other: size, tokens, left-out words and nesting, grammar, names, types, and the count of cells.
+-- come one after the other: size, tokens, left-out words and nesting, grammar, names, types, the count of cells, and that of the cells of each POU that may run.
 use Rattle.std.specs.Prelude.{◌≡◌, ◌<◌, ◌≤◌, ℕ, List, [], ◌++◌, length, All, true, false, Some}
 use Rattle.source_tree.specs.declared.token.Tok.{Tok}
-use Rattle.rules.specs.declared.rule.Rule.TheVariants.{TooLong, NoTree, TooManyCells}
+use Rattle.rules.specs.declared.rule.Rule.TheVariants.{TooLong, NoTree, TooManyCells, TooManyStatements}
 use Rattle.rules.specs.declared.rule.Refusal.{Refusal}
 use Rattle.rules.specs.Rules.{IsAmong, IsFirst}
 use Rattle.source_tree.specs.Tokens.{Spells}
@@ -20,6 +20,7 @@ use Rattle.st_names.specs.Bound.{program_number}
 use Rattle.naming.specs.FileScope.{pou_at}
 use Rattle.typing.specs.Pous.{broken_types, has_room}
 use Rattle.running_pous.specs.Stated.{stated_program}
+use Rattle.st_types.specs.LargePous.{runs_large}
 use Rattle.front_end.specs.StandardBlocks.{prelude_text}
 
 -- how many bytes a text may have
@@ -78,8 +79,8 @@ pub record HasProgram (f : FileData) (number : ℕ) (p : PouData) : Type 0 where
   pub is : program_number f ≡ Some number
   pub there : pou_at f number ≡ Some p
 
--- A text states a program: its file breaks no rule on names, has one PROGRAM, breaks no rule on types, and has room for its cells. The program is the
--- typed program of the file, in which a POU that never runs has no statements, and a FUNCTION that never runs keeps only the cells that its callers name.
+-- A text states a program: its file breaks no rule on names, has one PROGRAM, breaks no rule on types, and has room for its cells, and no POU that may run is
+-- large: none has more than 2^24 cells. The program is the typed program of the file, in which a POU that never runs has no statements, and a FUNCTION that never runs keeps only the cells that its callers name.
 pub record StatesProgram (text : List ℕ) (p : ProgramData) : Type 0 where
   pub file : FileData
   pub number : ℕ
@@ -89,6 +90,7 @@ pub record StatesProgram (text : List ℕ) (p : ProgramData) : Type 0 where
   pub one : HasProgram file number pou
   pub typing : broken_types file ≡ []
   pub room : has_room file number ≡ true
+  pub few : runs_large file number pou ≡ false
   pub program : p ≡ stated_program file number pou
 
 -- a text states no program, and this is the first rule that it breaks
@@ -98,3 +100,5 @@ pub data StatesNoProgram (text : List ℕ) (r : Refusal) : Type 0 where
   by_types : (f : FileData) → HasFile text f → AreNamesSound f → IsFirst (λ x. IsAmong x (broken_types f)) r → StatesNoProgram text r
   by_room : (f : FileData) → (number : ℕ) → HasFile text f → AreNamesSound f → program_number f ≡ Some number → broken_types f ≡ [] → has_room f number ≡ false
       → r ≡ record { rule = TooManyCells; at = 0 } → StatesNoProgram text r
+  by_large : (f : FileData) → (number : ℕ) → (p : PouData) → HasFile text f → AreNamesSound f → HasProgram f number p → broken_types f ≡ [] → has_room f number ≡ true → runs_large f number p ≡ true
+      → r ≡ record { rule = TooManyStatements; at = 0 } → StatesNoProgram text r

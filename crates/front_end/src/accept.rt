@@ -17,7 +17,7 @@ use st_lexer::lex;
 use st_names::{Resolved, resolve};
 use st_parser::parse_file;
 use st_types::{Checked, check};
-use std::alloc::{AllocError, Global};
+use std::alloc::Global;
 
 // How many bytes a text may have.
 const LIMIT: usize = 1_048_576;
@@ -83,17 +83,19 @@ pub fn checked_of<'p>(alloc: Global, names: &'p Resolved<'p>) -> Result<Checked<
     check(alloc, names)
 }
 
-/// The program of a text's file that breaks no rule. Fails where memory runs out.
-pub fn program_of(alloc: Global, checked: Checked<'_>) -> Result<Program, AllocError>
+/// The program of a text's file that breaks no rule up to M2; or M5 where a POU that may run has more than 2^24 cells. Fails too where memory
+/// runs out.
+pub fn program_of(alloc: Global, checked: Checked<'_>) -> Result<Program, Fault>
     requires { AreNamesSound (file_checked checked) }
     ensures program { IfOk result (λ p. (text : List ℕ) → HasFile text (file_checked checked.entry) → StatesProgram text (program_view p)) }
     ensures fit { IfOk result (λ p. IsFitToRun (program_view p)) }
     ensures typed { IfOk result (λ p. (text : List ℕ) → HasFile text (file_checked checked.entry) → IsTypedProgram (program_view p)) }
+    ensures refused { IfErr result (λ e. (text : List ℕ) → HasFile text (file_checked checked.entry) → IfRefused (StatesNoProgram text) e) }
 {
     checked.program(alloc)
 }
 
-// The program of a text's file whose names are bound, or the first rule on types that the file breaks, or M2.
+// The program of a text's file whose names are bound, or the first rule on types that the file breaks, or M2 or M5.
 fn accept_names(alloc: Global, names: &Resolved<'_>) -> Result<Program, Fault>
     requires { AreNamesSound (file_view names.now.file.now) }
     ensures program { IfOk result (λ p. (text : List ℕ) → HasFile text (file_view names.now.file.now) → StatesProgram text (program_view p)) }
@@ -102,10 +104,10 @@ fn accept_names(alloc: Global, names: &Resolved<'_>) -> Result<Program, Fault>
     ensures refused { IfErr result (λ e. (text : List ℕ) → HasFile text (file_view names.now.file.now) → IfRefused (StatesNoProgram text) e) }
 {
     let checked = checked_of(alloc, names)?;
-    Ok(program_of(alloc, checked)?)
+    program_of(alloc, checked)
 }
 
-// The program of a text's file, or the first rule on names or types that the file breaks, or M2.
+// The program of a text's file, or the first rule on names or types that the file breaks, or M2 or M5.
 fn accept_file(alloc: Global, file: &SourceFile) -> Result<Program, Fault>
     ensures program { IfOk result (λ p. (text : List ℕ) → HasFile text (file_view file.now) → StatesProgram text (program_view p)) }
     ensures fit { IfOk result (λ p. IsFitToRun (program_view p)) }
@@ -117,7 +119,8 @@ fn accept_file(alloc: Global, file: &SourceFile) -> Result<Program, Fault>
 }
 
 /// The program that a text states, or the first rule that it breaks of those on size, tokens, words that are left
-/// out, nesting, grammar, names, types and the count of cells, in this order of passes. The program is typed: no pass that follows has to ask.
+/// out, nesting, grammar, names, types, the count of cells, and that of the cells of each POU that may run, in this order of passes. The program is
+/// typed: no pass that follows has to ask.
 pub fn accept_text(alloc: Global, text: &[u8]) -> Result<Program, Fault>
     ensures program { IfOk result (λ p. StatesProgram text.now (program_view p)) }
     ensures fit { IfOk result (λ p. IsFitToRun (program_view p)) }

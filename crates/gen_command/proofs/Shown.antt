@@ -1,7 +1,7 @@
 -- Where the status is that of a verdict.
-use Rattle.std.proofs.Common.{◌≡◌, ◌⊎◌, inl, inr, ◌∙◌, ℕ, List, Option, ap, subst}
-use Rattle.outside.specs.Causes.{Rose}
+use Rattle.std.proofs.Common.{◌≡◌, ◌∙◌, ℕ, List, Option, ap, subst}
 use Rattle.outside.specs.Contents.{extended}
+use Rattle.outside.specs.States.{Change}
 use Rattle.queries.specs.Comparisons.{Comparison}
 use Rattle.command_answers.specs.declared.status.Status.{Status}
 use Rattle.command_answers.specs.Reports.{Report}
@@ -9,21 +9,22 @@ use Rattle.command_answers.specs.Answers.{Answers, AnswersSoFar, all_put}
 use Rattle.verify_command.specs.comparison_files.Accepting.{AreAccepted}
 use Rattle.verify_command.specs.comparison_files.Comparing.{formulas_of}
 use Rattle.verify_command.proofs.comparison_files.RefusalLemmas.{refusal_status}
+use Rattle.generated_texts.specs.Names.{finding_name}
 use Rattle.generated_texts.specs.Files.{HoldTexts}
-use Rattle.verify_command.specs.Lines.{IsOfVerdict}
-use Rattle.verify_command.specs.Reports.{Saving, ReportsVerdict, decided, too_long, not_written}
-use Rattle.verify_command.proofs.Lines.{whole_of}
+use Rattle.finding_answers.specs.Verdicts.{IsOfVerdict}
+use Rattle.verify_command.specs.Reports.{ReportsVerdict, decided, too_long, not_written}
+use Rattle.finding_answers.proofs.VerdictLemmas.{whole_of}
 use Rattle.gen_command.specs.Made.{texts_of}
 use Rattle.gen_command.specs.Lines.{made_line, behind}
-use Rattle.gen_command.specs.Reports.{GenReports, not_compared, on_pair, ReportsAccepted, not_saved, saved, ReportsBehind, verified, no_memory, ShowsMade, OneFailed}
+use Rattle.gen_command.specs.Reports.{GenReports, not_compared, on_pair, ReportsAccepted, not_saved, saved, ReportsBehind, verified, no_memory, ShowsMade}
 
-module _ (count : ℕ) (s : Saving) (status : Status) (old new : Option (List ℕ)) (v : IsOfVerdict status) where
+module _ (count : ℕ) (k : Change) (status : Status) (old new : Option (List ℕ)) (v : IsOfVerdict status) where
   -- a report is no other one, of a status that is no verdict's
   no_verdict : (r x : Report) → status ≡ r.status → r ≡ x → (IsOfVerdict x.status → ⊥) → ⊥
   no_verdict r x is e h = h (subst IsOfVerdict (is ∙ ap (λ y. y.status) e) v)
 
-  last_shown : (c : Comparison) (r last : Report) → AreAccepted (texts_of count) c → HoldTexts count s.after → ReportsVerdict c (formulas_of c) s last → r ≡ behind (made_line count c) last
-      → status ≡ r.status → new ≡ extended old r.text → ShowsMade count s status old new
+  last_shown : (c : Comparison) (r last : Report) → AreAccepted (texts_of count) c → HoldTexts count k.after.file → ReportsVerdict c (formulas_of c) k (finding_name count) last → r ≡ behind (made_line count c) last
+      → status ≡ r.status → new ≡ extended old r.text → ShowsMade count k status old new
   last_shown c r last accepted hold (decided verdict saves shown d) e is put = record {
     compared = c;
     verdict = verdict;
@@ -37,27 +38,21 @@ module _ (count : ℕ) (s : Saving) (status : Status) (old new : Option (List �
   last_shown c r last accepted hold (too_long full d) e is put = absurd (no_verdict r _ is (e ∙ ap (behind (made_line count c)) d) (λ x. x))
   last_shown c r last accepted hold (not_written failed d) e is put = absurd (no_verdict r _ is (e ∙ ap (behind (made_line count c)) d) (λ x. x))
 
-  behind_shown : (c : Comparison) (r : Report) → AreAccepted (texts_of count) c → HoldTexts count s.after → ReportsBehind count c (formulas_of c) s r
-      → status ≡ r.status → new ≡ extended old r.text → ShowsMade count s status old new
+  behind_shown : (c : Comparison) (r : Report) → AreAccepted (texts_of count) c → HoldTexts count k.after.file → ReportsBehind count c (formulas_of c) k (finding_name count) r
+      → status ≡ r.status → new ≡ extended old r.text → ShowsMade count k status old new
   behind_shown c r accepted hold (verified last h e) is put = last_shown c r last accepted hold h e is put
   behind_shown c r accepted hold (no_memory e) is put = absurd (no_verdict r _ is e (λ x. x))
 
-  accepted_shown : (c : Comparison) (r : Report) → AreAccepted (texts_of count) c → ReportsAccepted count c (formulas_of c) s r
-      → status ≡ r.status → new ≡ extended old r.text → ShowsMade count s status old new
+  accepted_shown : (c : Comparison) (r : Report) → AreAccepted (texts_of count) c → ReportsAccepted count c (formulas_of c) k r
+      → status ≡ r.status → new ≡ extended old r.text → ShowsMade count k status old new
   accepted_shown c r accepted (not_saved failed e) is put = absurd (no_verdict r _ is e (λ x. x))
   accepted_shown c r accepted (saved hold h) is put = behind_shown c r accepted hold h is put
 
-  report_shown : (r : Report) → GenReports count s r → status ≡ r.status → new ≡ extended old r.text → ShowsMade count s status old new
+  report_shown : (r : Report) → GenReports count k r → status ≡ r.status → new ≡ extended old r.text → ShowsMade count k status old new
   report_shown r (not_compared h same) is put = absurd (subst IsOfVerdict (is ∙ refusal_status (texts_of count) r h) v)
   report_shown r (on_pair c h a) is put = accepted_shown c r h a is put
 
-  pub saved_of : (faulted : Type 0) → Answers (GenReports count s) faulted status old new → ShowsMade count s status old new
+  pub saved_of : (faulted : Type 0) → Answers (GenReports count k) faulted status old new → ShowsMade count k status old new
   saved_of faulted a =
-      let exact : AnswersSoFar all_put (GenReports count s) faulted status old new = subst (λ x. AnswersSoFar x (GenReports count s) faulted status old new) (whole_of status v) a in
+      let exact : AnswersSoFar all_put (GenReports count k) faulted status old new = subst (λ x. AnswersSoFar x (GenReports count k) faulted status old new) (whole_of status v) a in
       report_shown exact.0 exact.1 exact.2 exact.3
-
--- ---- a fault of a write
-
-pub no_fault : (A B : Type 0) → (A → ⊥) → (B → ⊥) → A ⊎ B → ⊥
-no_fault A B a b (inl h) = a h
-no_fault A B a b (inr h) = b h

@@ -1,15 +1,15 @@
 // The command `gen`.
 ghost use Rattle.std.specs.Prelude.{false, ◌≡◌, ◌≢◌, ◌≤◌, ◌⊎◌};
 ghost use Rattle.outside.specs.Causes.{Rose, NoneFell};
-ghost use Rattle.command_answers.specs.Answers.{Answers, IsExact};
+ghost use Rattle.outside.specs.States.{change};
+ghost use Rattle.command_answers.specs.Answers.{Answers};
+ghost use Rattle.command_answers.specs.Ends.{Ends, IsComplete};
 ghost use Rattle.verify_command.specs.comparison_files.Accepting.{AreStated};
 ghost use Rattle.verify_command.specs.comparison_files.Held.{comparison_in};
 ghost use Rattle.verify_command.specs.comparison_files.Scans.{AreScansOf};
-ghost use Rattle.generated_texts.specs.Names.{finding_name};
-ghost use Rattle.verify_command.specs.Lines.{IsOfVerdict};
-ghost use Rattle.verify_command.specs.Reports.{saving};
+ghost use Rattle.finding_answers.specs.Verdicts.{IsOfVerdict};
 ghost use Rattle.gen_command.specs.Made.{texts_of, IsMade};
-ghost use Rattle.gen_command.specs.Reports.{GenReports, OneFailed, KeepsOthers, LeavesFiles, ShowsMade};
+ghost use Rattle.gen_command.specs.Reports.{asking_to_generate, GenReports, OneFailed, KeepsOthers, LeavesFiles, ShowsMade};
 
 use crate::made::{Made, make};
 use crate::saved::answer_accepted;
@@ -34,16 +34,16 @@ fn answer_compared<D: Decider, S: Shelf, K: Sink>(
     requires made { IsMade count made.now }
     requires stated { AreStated (texts_of count) (comparison_in compared.now) }
     requires scans { AreScansOf (comparison_in compared.now) scans }
-    requires unfailed { K.put_failed out.old ≡ false }
-    ensures others { KeepsOthers count (S.file shelf.old) (S.file shelf.new) }
-    ensures left { LeavesFiles count (saving (S.file shelf.old) (S.file shelf.new) (S.write_faults shelf.old) (S.write_faults shelf.new) (finding_name count)) }
-    ensures answer { Answers (GenReports count (saving (S.file shelf.old) (S.file shelf.new) (S.write_faults shelf.old) (S.write_faults shelf.new) (finding_name count))) ⊥ result (K.taken out.old) (K.taken out.new) }
+    requires unfailed { (K.state out.old).put_failed ≡ false }
+    ensures others { KeepsOthers count (S.state shelf.old).file (S.state shelf.new).file }
+    ensures left { LeavesFiles count (change (S.state shelf.old) (S.state shelf.new)) }
+    ensures answer { Answers (GenReports count (change (S.state shelf.old) (S.state shelf.new))) ⊥ result (K.state out.old).taken (K.state out.new).taken }
     ensures usage { result ≢ Status.Usage }
     ensures read_fault { result ≢ Status.ReadFault }
-    ensures write_fault { result ≡ Status.WriteFault → OneFailed count (saving (S.file shelf.old) (S.file shelf.new) (S.write_faults shelf.old) (S.write_faults shelf.new) (finding_name count)) ⊎ Rose (K.faults out.old) (K.faults out.new) }
-    ensures reads { NoneFell (S.read_faults shelf.old) (S.read_faults shelf.new) }
-    ensures writes { NoneFell (S.write_faults shelf.old) (S.write_faults shelf.new) }
-    ensures faults { K.faults out.old ≤ K.faults out.new }
+    ensures write_fault { result ≡ Status.WriteFault → OneFailed count (change (S.state shelf.old) (S.state shelf.new)) ⊎ Rose (K.state out.old).faults (K.state out.new).faults }
+    ensures reads { NoneFell (S.state shelf.old).read_faults (S.state shelf.new).read_faults }
+    ensures writes { NoneFell (S.state shelf.old).write_faults (S.state shelf.new).write_faults }
+    ensures faults { (K.state out.old).faults ≤ (K.state out.new).faults }
 {
     match circuits_of(alloc, compared, scans) {
         Ok(circuits) => {
@@ -66,16 +66,16 @@ fn answer_made<D: Decider, S: Shelf, K: Sink>(
     out: &mut K,
 ) -> Status
     requires made { IsMade count made.now }
-    requires unfailed { K.put_failed out.old ≡ false }
-    ensures others { KeepsOthers count (S.file shelf.old) (S.file shelf.new) }
-    ensures left { LeavesFiles count (saving (S.file shelf.old) (S.file shelf.new) (S.write_faults shelf.old) (S.write_faults shelf.new) (finding_name count)) }
-    ensures answer { Answers (GenReports count (saving (S.file shelf.old) (S.file shelf.new) (S.write_faults shelf.old) (S.write_faults shelf.new) (finding_name count))) ⊥ result (K.taken out.old) (K.taken out.new) }
+    requires unfailed { (K.state out.old).put_failed ≡ false }
+    ensures others { KeepsOthers count (S.state shelf.old).file (S.state shelf.new).file }
+    ensures left { LeavesFiles count (change (S.state shelf.old) (S.state shelf.new)) }
+    ensures answer { Answers (GenReports count (change (S.state shelf.old) (S.state shelf.new))) ⊥ result (K.state out.old).taken (K.state out.new).taken }
     ensures usage { result ≢ Status.Usage }
     ensures read_fault { result ≢ Status.ReadFault }
-    ensures write_fault { result ≡ Status.WriteFault → OneFailed count (saving (S.file shelf.old) (S.file shelf.new) (S.write_faults shelf.old) (S.write_faults shelf.new) (finding_name count)) ⊎ Rose (K.faults out.old) (K.faults out.new) }
-    ensures reads { NoneFell (S.read_faults shelf.old) (S.read_faults shelf.new) }
-    ensures writes { NoneFell (S.write_faults shelf.old) (S.write_faults shelf.new) }
-    ensures faults { K.faults out.old ≤ K.faults out.new }
+    ensures write_fault { result ≡ Status.WriteFault → OneFailed count (change (S.state shelf.old) (S.state shelf.new)) ⊎ Rose (K.state out.old).faults (K.state out.new).faults }
+    ensures reads { NoneFell (S.state shelf.old).read_faults (S.state shelf.new).read_faults }
+    ensures writes { NoneFell (S.state shelf.old).write_faults (S.state shelf.new).write_faults }
+    ensures faults { (K.state out.old).faults ≤ (K.state out.new).faults }
 {
     match accept_texts(alloc, &made.kept) {
         Ok(stated) => {
@@ -94,16 +94,16 @@ fn answer_count<D: Decider, S: Shelf, K: Sink>(
     shelf: &mut S,
     out: &mut K,
 ) -> Status
-    requires unfailed { K.put_failed out.old ≡ false }
-    ensures others { KeepsOthers count (S.file shelf.old) (S.file shelf.new) }
-    ensures left { LeavesFiles count (saving (S.file shelf.old) (S.file shelf.new) (S.write_faults shelf.old) (S.write_faults shelf.new) (finding_name count)) }
-    ensures answer { Answers (GenReports count (saving (S.file shelf.old) (S.file shelf.new) (S.write_faults shelf.old) (S.write_faults shelf.new) (finding_name count))) ⊥ result (K.taken out.old) (K.taken out.new) }
+    requires unfailed { (K.state out.old).put_failed ≡ false }
+    ensures others { KeepsOthers count (S.state shelf.old).file (S.state shelf.new).file }
+    ensures left { LeavesFiles count (change (S.state shelf.old) (S.state shelf.new)) }
+    ensures answer { Answers (GenReports count (change (S.state shelf.old) (S.state shelf.new))) ⊥ result (K.state out.old).taken (K.state out.new).taken }
     ensures usage { result ≢ Status.Usage }
     ensures read_fault { result ≢ Status.ReadFault }
-    ensures write_fault { result ≡ Status.WriteFault → OneFailed count (saving (S.file shelf.old) (S.file shelf.new) (S.write_faults shelf.old) (S.write_faults shelf.new) (finding_name count)) ⊎ Rose (K.faults out.old) (K.faults out.new) }
-    ensures reads { NoneFell (S.read_faults shelf.old) (S.read_faults shelf.new) }
-    ensures writes { NoneFell (S.write_faults shelf.old) (S.write_faults shelf.new) }
-    ensures faults { K.faults out.old ≤ K.faults out.new }
+    ensures write_fault { result ≡ Status.WriteFault → OneFailed count (change (S.state shelf.old) (S.state shelf.new)) ⊎ Rose (K.state out.old).faults (K.state out.new).faults }
+    ensures reads { NoneFell (S.state shelf.old).read_faults (S.state shelf.new).read_faults }
+    ensures writes { NoneFell (S.state shelf.old).write_faults (S.state shelf.new).write_faults }
+    ensures faults { (K.state out.old).faults ≤ (K.state out.new).faults }
 {
     match make(alloc, count) {
         Ok(made) => answer_made(alloc, decider, count, &made, shelf, out),
@@ -121,33 +121,21 @@ pub fn answer_gen<D: Decider, S: Shelf, K: Sink>(
     out: &mut K,
 ) -> Status
     // No put has failed before, and none follows one that failed.
-    requires unfailed { K.put_failed out.old ≡ false }
+    requires unfailed { (K.state out.old).put_failed ≡ false }
 
-    // No file changes but the three of the texts and the finding.
-    ensures others { KeepsOthers count (S.file shelf.old) (S.file shelf.new) }
-
-    // Whatever the answer, each text's file is as at entry or has a front of its text, and the finding is as at entry or a part of a
-    // finding on what the texts state.
-    ensures left { LeavesFiles count (saving (S.file shelf.old) (S.file shelf.new) (S.write_faults shelf.old) (S.write_faults shelf.new) (finding_name count)) }
-
-    // The bytes on the sink and the status are those of a report on the texts.
-    ensures answer { Answers (GenReports count (saving (S.file shelf.old) (S.file shelf.new) (S.write_faults shelf.old) (S.write_faults shelf.new) (finding_name count))) ⊥ result (K.taken out.old) (K.taken out.new) }
-
-    // Where the status is that of a verdict, the files have the texts, the finding was saved and is judged valid with it, and it is the
-    // verdict of the model on what the texts state, or SPENT with its log.
-    ensures saved { IsOfVerdict result → ShowsMade count (saving (S.file shelf.old) (S.file shelf.new) (S.write_faults shelf.old) (S.write_faults shelf.new) (finding_name count)) result (K.taken out.old) (K.taken out.new) }
+    // No file changes but the three of the texts and the finding. Whatever the answer, each text's file is as at entry or has a front of its text,
+    // and the finding is as at entry or a part of a finding on what the texts state. The bytes on the sink and the status are those of a report on
+    // the texts. A fault comes only where a count of one of the four files or of the sink rose, and no count falls.
+    ensures ends { Ends (asking_to_generate count) result (change (S.state shelf.old) (S.state shelf.new)) (K.state out.old) (K.state out.new) }
     ensures usage { result ≢ Status.Usage }
     ensures read_fault { result ≢ Status.ReadFault }
 
-    // A fault comes only where a count of one of the four files or of the sink rose, and no count falls.
-    ensures write_fault { result ≡ Status.WriteFault → OneFailed count (saving (S.file shelf.old) (S.file shelf.new) (S.write_faults shelf.old) (S.write_faults shelf.new) (finding_name count)) ⊎ Rose (K.faults out.old) (K.faults out.new) }
-    ensures reads { NoneFell (S.read_faults shelf.old) (S.read_faults shelf.new) }
-    ensures writes { NoneFell (S.write_faults shelf.old) (S.write_faults shelf.new) }
-    ensures faults { K.faults out.old ≤ K.faults out.new }
+    // Where the status is that of a verdict, the files have the texts, the finding was saved and is judged valid with it, and it is the
+    // verdict of the model on what the texts state, or SPENT with its log.
+    ensures saved { IsOfVerdict result → ShowsMade count (change (S.state shelf.old) (S.state shelf.new)) result (K.state out.old).taken (K.state out.new).taken }
 
     // Where no count rose, the answer is a whole report, or memory was wanting.
-    ensures complete { ¬ OneFailed count (saving (S.file shelf.old) (S.file shelf.new) (S.write_faults shelf.old) (S.write_faults shelf.new) (finding_name count)) → ¬ Rose (K.faults out.old) (K.faults out.new)
-        → result ≢ Status.Memory → IsExact (GenReports count (saving (S.file shelf.old) (S.file shelf.new) (S.write_faults shelf.old) (S.write_faults shelf.new) (finding_name count))) result (K.taken out.old) (K.taken out.new) }
+    ensures complete { IsComplete (asking_to_generate count) result (change (S.state shelf.old) (S.state shelf.new)) (K.state out.old) (K.state out.new) }
 {
     answer_count(alloc, decider, count, shelf, out)
 }

@@ -1,12 +1,13 @@
 // Texts that are accepted: saved, told of, and verified.
 ghost use Rattle.std.specs.Prelude.{false, ◌≡◌, ◌≢◌, ◌≤◌, ◌⊎◌};
 ghost use Rattle.outside.specs.Causes.{Rose, NoneFell};
+ghost use Rattle.outside.specs.States.{change};
 ghost use Rattle.outside.specs.Contents.{OthersStay};
 ghost use Rattle.verify_command.specs.comparison_files.Held.{comparison_in};
 ghost use Rattle.command_answers.specs.Answers.{Answers};
 ghost use Rattle.generated_texts.specs.Names.{finding_name};
 ghost use Rattle.generated_texts.specs.Files.{LeaveTexts};
-ghost use Rattle.verify_command.specs.Reports.{saving, HasFailed, LeavesPart};
+ghost use Rattle.verify_command.specs.Reports.{HasFailed, LeavesPart};
 ghost use Rattle.gen_command.specs.Lines.{made_line};
 ghost use Rattle.gen_command.specs.Made.{IsMade};
 ghost use Rattle.gen_command.specs.Reports.{ReportsBehind, ReportsAccepted, OneFailed, KeepsOthers};
@@ -37,16 +38,16 @@ fn answer_behind<D: Decider, Q: Queries, G: Guesses, S: Shelf, K: Sink>(
 ) -> Status
     requires compared { Q.compared queries.now ≡ comparison_in compared.now }
     requires line { line.now ≡ made_line count (comparison_in compared.now) }
-    requires unfailed { K.put_failed out.old ≡ false }
-    ensures others { OthersStay (S.file shelf.old) (S.file shelf.new) finding.now }
-    ensures left { LeavesPart (comparison_in compared.now) (Q.formula queries.now) (saving (S.file shelf.old) (S.file shelf.new) (S.write_faults shelf.old) (S.write_faults shelf.new) finding.now) }
-    ensures answer { Answers (ReportsBehind count (comparison_in compared.now) (Q.formula queries.now) (saving (S.file shelf.old) (S.file shelf.new) (S.write_faults shelf.old) (S.write_faults shelf.new) finding.now)) ⊥ result (K.taken out.old) (K.taken out.new) }
+    requires unfailed { (K.state out.old).put_failed ≡ false }
+    ensures others { OthersStay (S.state shelf.old).file (S.state shelf.new).file finding.now }
+    ensures left { LeavesPart (comparison_in compared.now) (Q.formula queries.now) (change (S.state shelf.old) (S.state shelf.new)) finding.now }
+    ensures answer { Answers (ReportsBehind count (comparison_in compared.now) (Q.formula queries.now) (change (S.state shelf.old) (S.state shelf.new)) finding.now) ⊥ result (K.state out.old).taken (K.state out.new).taken }
     ensures usage { result ≢ Status.Usage }
     ensures read_fault { result ≢ Status.ReadFault }
-    ensures write_fault { result ≡ Status.WriteFault → HasFailed (saving (S.file shelf.old) (S.file shelf.new) (S.write_faults shelf.old) (S.write_faults shelf.new) finding.now) ⊎ Rose (K.faults out.old) (K.faults out.new) }
-    ensures reads { NoneFell (S.read_faults shelf.old) (S.read_faults shelf.new) }
-    ensures writes { NoneFell (S.write_faults shelf.old) (S.write_faults shelf.new) }
-    ensures faults { K.faults out.old ≤ K.faults out.new }
+    ensures write_fault { result ≡ Status.WriteFault → HasFailed (change (S.state shelf.old) (S.state shelf.new)) finding.now ⊎ Rose (K.state out.old).faults (K.state out.new).faults }
+    ensures reads { NoneFell (S.state shelf.old).read_faults (S.state shelf.new).read_faults }
+    ensures writes { NoneFell (S.state shelf.old).write_faults (S.state shelf.new).write_faults }
+    ensures faults { (K.state out.old).faults ≤ (K.state out.new).faults }
 {
     match put_text(out, line) {
         Ok(()) => answer_finding(
@@ -70,16 +71,16 @@ fn answer_saved<D: Decider, Q: Queries, G: Guesses, S: Shelf, K: Sink>(
     out: &mut K,
 ) -> Status
     requires compared { Q.compared queries.now ≡ comparison_in compared.now }
-    requires unfailed { K.put_failed out.old ≡ false }
-    ensures others { OthersStay (S.file shelf.old) (S.file shelf.new) finding.now }
-    ensures left { LeavesPart (comparison_in compared.now) (Q.formula queries.now) (saving (S.file shelf.old) (S.file shelf.new) (S.write_faults shelf.old) (S.write_faults shelf.new) finding.now) }
-    ensures answer { Answers (ReportsBehind count (comparison_in compared.now) (Q.formula queries.now) (saving (S.file shelf.old) (S.file shelf.new) (S.write_faults shelf.old) (S.write_faults shelf.new) finding.now)) ⊥ result (K.taken out.old) (K.taken out.new) }
+    requires unfailed { (K.state out.old).put_failed ≡ false }
+    ensures others { OthersStay (S.state shelf.old).file (S.state shelf.new).file finding.now }
+    ensures left { LeavesPart (comparison_in compared.now) (Q.formula queries.now) (change (S.state shelf.old) (S.state shelf.new)) finding.now }
+    ensures answer { Answers (ReportsBehind count (comparison_in compared.now) (Q.formula queries.now) (change (S.state shelf.old) (S.state shelf.new)) finding.now) ⊥ result (K.state out.old).taken (K.state out.new).taken }
     ensures usage { result ≢ Status.Usage }
     ensures read_fault { result ≢ Status.ReadFault }
-    ensures write_fault { result ≡ Status.WriteFault → HasFailed (saving (S.file shelf.old) (S.file shelf.new) (S.write_faults shelf.old) (S.write_faults shelf.new) finding.now) ⊎ Rose (K.faults out.old) (K.faults out.new) }
-    ensures reads { NoneFell (S.read_faults shelf.old) (S.read_faults shelf.new) }
-    ensures writes { NoneFell (S.write_faults shelf.old) (S.write_faults shelf.new) }
-    ensures faults { K.faults out.old ≤ K.faults out.new }
+    ensures write_fault { result ≡ Status.WriteFault → HasFailed (change (S.state shelf.old) (S.state shelf.new)) finding.now ⊎ Rose (K.state out.old).faults (K.state out.new).faults }
+    ensures reads { NoneFell (S.state shelf.old).read_faults (S.state shelf.new).read_faults }
+    ensures writes { NoneFell (S.state shelf.old).write_faults (S.state shelf.new).write_faults }
+    ensures faults { (K.state out.old).faults ≤ (K.state out.new).faults }
 {
     match made_line(alloc, count, compared) {
         Ok(line) => answer_behind(
@@ -112,17 +113,17 @@ pub(crate) fn answer_accepted<D: Decider, Q: Queries, G: Guesses, S: Shelf, K: S
 ) -> Status
     requires made { IsMade count made.now }
     requires compared { Q.compared queries.now ≡ comparison_in compared.now }
-    requires unfailed { K.put_failed out.old ≡ false }
-    ensures others { KeepsOthers count (S.file shelf.old) (S.file shelf.new) }
-    ensures texts { LeaveTexts count (S.file shelf.old) (S.file shelf.new) }
-    ensures left { LeavesPart (comparison_in compared.now) (Q.formula queries.now) (saving (S.file shelf.old) (S.file shelf.new) (S.write_faults shelf.old) (S.write_faults shelf.new) (finding_name count)) }
-    ensures answer { Answers (ReportsAccepted count (comparison_in compared.now) (Q.formula queries.now) (saving (S.file shelf.old) (S.file shelf.new) (S.write_faults shelf.old) (S.write_faults shelf.new) (finding_name count))) ⊥ result (K.taken out.old) (K.taken out.new) }
+    requires unfailed { (K.state out.old).put_failed ≡ false }
+    ensures others { KeepsOthers count (S.state shelf.old).file (S.state shelf.new).file }
+    ensures texts { LeaveTexts count (S.state shelf.old).file (S.state shelf.new).file }
+    ensures left { LeavesPart (comparison_in compared.now) (Q.formula queries.now) (change (S.state shelf.old) (S.state shelf.new)) (finding_name count) }
+    ensures answer { Answers (ReportsAccepted count (comparison_in compared.now) (Q.formula queries.now) (change (S.state shelf.old) (S.state shelf.new))) ⊥ result (K.state out.old).taken (K.state out.new).taken }
     ensures usage { result ≢ Status.Usage }
     ensures read_fault { result ≢ Status.ReadFault }
-    ensures write_fault { result ≡ Status.WriteFault → OneFailed count (saving (S.file shelf.old) (S.file shelf.new) (S.write_faults shelf.old) (S.write_faults shelf.new) (finding_name count)) ⊎ Rose (K.faults out.old) (K.faults out.new) }
-    ensures reads { NoneFell (S.read_faults shelf.old) (S.read_faults shelf.new) }
-    ensures writes { NoneFell (S.write_faults shelf.old) (S.write_faults shelf.new) }
-    ensures faults { K.faults out.old ≤ K.faults out.new }
+    ensures write_fault { result ≡ Status.WriteFault → OneFailed count (change (S.state shelf.old) (S.state shelf.new)) ⊎ Rose (K.state out.old).faults (K.state out.new).faults }
+    ensures reads { NoneFell (S.state shelf.old).read_faults (S.state shelf.new).read_faults }
+    ensures writes { NoneFell (S.state shelf.old).write_faults (S.state shelf.new).write_faults }
+    ensures faults { (K.state out.old).faults ≤ (K.state out.new).faults }
 {
     let finding = made.names.finding.as_str();
     match save_texts(count, &made.names, &made.texts, shelf) {

@@ -12,11 +12,11 @@ use outside::{OutErr, Shelf};
 
 // Makes a file, and puts a text into it.
 fn save_text<S: Shelf>(shelf: &mut S, name: &str, text: &[u8]) -> Result<(), OutErr>
-    ensures holds { OnOk result (HoldsText (S.file shelf.new name.now) text.now) }
-    ensures leaves { LeavesText (S.file shelf.old name.now) (S.file shelf.new name.now) text.now }
-    ensures others { OthersStay (S.file shelf.old) (S.file shelf.new) name.now }
-    ensures cause { HasFileCause (S.write_faults shelf.old) (S.write_faults shelf.new) name.now result }
-    ensures reads { NoneFell (S.read_faults shelf.old) (S.read_faults shelf.new) }
+    ensures holds { OnOk result (HoldsText ((S.state shelf.new).file name.now) text.now) }
+    ensures leaves { LeavesText ((S.state shelf.old).file name.now) ((S.state shelf.new).file name.now) text.now }
+    ensures others { OthersStay (S.state shelf.old).file (S.state shelf.new).file name.now }
+    ensures cause { HasFileCause (S.state shelf.old).write_faults (S.state shelf.new).write_faults name.now result }
+    ensures reads { NoneFell (S.state shelf.old).read_faults (S.state shelf.new).read_faults }
 {
     shelf.create(name)?;
     shelf.append(name, text)
@@ -31,12 +31,12 @@ pub fn save_texts<S: Shelf>(
 ) -> Result<(), OutErr>
     requires names { AreFileNames count names.now }
     requires texts { AreGenerated count texts.now }
-    ensures hold { OnOk result (HoldTexts count (S.file shelf.new)) }
-    ensures leave { LeaveTexts count (S.file shelf.old) (S.file shelf.new) }
-    ensures others { OtherFilesStay count (S.file shelf.old) (S.file shelf.new) }
-    ensures fault { IsErrOf result OutErr.Fault → OneTextFailed count (S.write_faults shelf.old) (S.write_faults shelf.new) }
-    ensures writes { NoneFell (S.write_faults shelf.old) (S.write_faults shelf.new) }
-    ensures reads { NoneFell (S.read_faults shelf.old) (S.read_faults shelf.new) }
+    ensures hold { OnOk result (HoldTexts count (S.state shelf.new).file) }
+    ensures leave { LeaveTexts count (S.state shelf.old).file (S.state shelf.new).file }
+    ensures others { OtherFilesStay count (S.state shelf.old).file (S.state shelf.new).file }
+    ensures fault { IsErrOf result OutErr.Fault → OneTextFailed count (S.state shelf.old).write_faults (S.state shelf.new).write_faults }
+    ensures writes { NoneFell (S.state shelf.old).write_faults (S.state shelf.new).write_faults }
+    ensures reads { NoneFell (S.state shelf.old).read_faults (S.state shelf.new).read_faults }
 {
     save_text(shelf, names.old.as_str(), &texts.old)?;
     save_text(shelf, names.new.as_str(), &texts.new)?;

@@ -9,7 +9,7 @@ use crate::cells::{either, read, store};
 use crate::evaluation::{Evaluated, evaluate_in};
 use crate::scope::{Reading, Scope};
 use crate::statements::run_all;
-use plc_types::Range;
+use plc_types::{Range, Value};
 use program_tree::{Called, TypedExpr};
 
 /// What a FUNCTION answers, by its number, and whether an input or its run meets a fault. What is no FUNCTION answers 0.
@@ -18,7 +18,7 @@ pub fn answer(
     inputs: &[TypedExpr],
     function: usize,
     reading: &Reading<'_>,
-    stack: &mut [i64],
+    stack: &mut [Value],
 ) -> Evaluated
     requires known { reading.now.scope.now.below ≤ length reading.now.scope.now.called.now }
     requires bound { reading.now.scope.now.base + (reading.now.scope.now.below + 1) * 2 ^ 64 ≤ 2 ^ 128 }
@@ -53,7 +53,7 @@ pub fn answer(
 
 // The inputs of what is no FUNCTION are evaluated, too.
 #[cycle(run)]
-fn unanswered(inputs: &[TypedExpr], reading: &Reading<'_>, stack: &mut [i64]) -> Evaluated
+fn unanswered(inputs: &[TypedExpr], reading: &Reading<'_>, stack: &mut [Value]) -> Evaluated
     requires known { reading.now.scope.now.below ≤ length reading.now.scope.now.called.now }
     requires bound { reading.now.scope.now.base + (reading.now.scope.now.below + 1) * 2 ^ 64 ≤ 2 ^ 128 }
     requires room { room_here reading.now.scope.now ≤ length stack.old }
@@ -72,9 +72,9 @@ fn fill(
     inputs: &[TypedExpr],
     place: u128,
     ranges: &[Range],
-    start: &[i64],
+    start: &[Value],
     reading: &Reading<'_>,
-    stack: &mut [i64],
+    stack: &mut [Value],
 ) -> bool
     requires known { reading.now.scope.now.below ≤ length reading.now.scope.now.called.now }
     requires bound { reading.now.scope.now.base + (reading.now.scope.now.below + 1) * 2 ^ 64 ≤ 2 ^ 128 }
@@ -101,7 +101,7 @@ fn fill(
 }
 
 // What a FUNCTION gives that ended in this state.
-fn ended(own: &[i64], fault: bool) -> Evaluated
+fn ended(own: &[Value], fault: bool) -> Evaluated
     ensures value { result.value ≡ answer_in own.now }
     ensures fault { result.fault ≡ (fault || fault_in own.now) }
 {

@@ -4,11 +4,11 @@ ghost use Rattle.std.specs.Int.{w64};
 ghost use Rattle.plc_types.specs.Types.{in_range};
 ghost use Rattle.meaning.specs.Effects.{range_at, with_fault, stored};
 
-use plc_types::Range;
+use plc_types::{Range, Value};
 
 /// The value of a cell of two states, one behind the other; 0 where there is none.
 #[inline(always)]
-pub fn read_of_two(first: &[i64], second: &[i64], place: u128) -> i64
+pub fn read_of_two(first: &[Value], second: &[Value], place: u128) -> Value
     ensures { result ≡ slice_index_or (first.now ++ second.now) place (pos 0) }
 {
     let behind = first.len() as u128;
@@ -21,7 +21,7 @@ pub fn read_of_two(first: &[i64], second: &[i64], place: u128) -> i64
 
 /// The value of a cell; 0 where there is none.
 #[inline(always)]
-pub fn read(state: &[i64], place: u128) -> i64
+pub fn read(state: &[Value], place: u128) -> Value
     ensures { result ≡ slice_index_or state.now place (pos 0) }
 {
     if place < state.len() as u128 {
@@ -33,7 +33,7 @@ pub fn read(state: &[i64], place: u128) -> i64
 
 /// Puts a value into a cell, where there is one.
 #[inline(always)]
-pub fn put(state: &mut [i64], place: u128, value: i64)
+pub fn put(state: &mut [Value], place: u128, value: Value)
     ensures { state.new ≡ slice_set state.old place value }
 {
     if place < state.len() as u128 {
@@ -43,7 +43,7 @@ pub fn put(state: &mut [i64], place: u128, value: i64)
 
 /// Adds a fault that is met to FAULT.
 #[inline(always)]
-pub fn add_fault(fault: bool, state: &mut [i64])
+pub fn add_fault(fault: bool, state: &mut [Value])
     ensures { state.new ≡ with_fault fault state.old }
 {
     if fault {
@@ -53,7 +53,7 @@ pub fn add_fault(fault: bool, state: &mut [i64])
 
 /// Assigns a value where it is in the target's range; else that is a fault.
 #[inline(always)]
-pub fn store(ranges: &[Range], target: u128, value: i64, state: &mut [i64])
+pub fn store(ranges: &[Range], target: u128, value: Value, state: &mut [Value])
     ensures { state.new ≡ stored ranges.now target value state.old }
 {
     if is_in_range(value, range_at(ranges, target)) {
@@ -77,13 +77,13 @@ pub fn range_at(ranges: &[Range], place: u128) -> Range
 
 /// Whether a value lies in a range.
 #[inline(always)]
-pub fn is_in_range(value: i64, range: Range) -> bool
+pub fn is_in_range(value: Value, range: Range) -> bool
     ensures { result ≡ in_range value range }
 {
     range.low <= value && value <= range.high
 }
 
-/// The same of any number; one in the range is an i64.
+/// The same of any number; one in the range is a Value.
 pub fn is_within(value: i128, range: Range) -> bool
     ensures value { result ≡ in_range value range }
     ensures fits { IsTrue result → FitsSigned w64 value }

@@ -13,6 +13,7 @@ use crate::evaluation::evaluate_over;
 use crate::markings::{clear, enter_all, latch_all, mark, may_leave, read_before, read_now, runs};
 use crate::scope::Scope;
 use crate::statements::run_all;
+use plc_types::Value;
 use program_tree::{StepCells, TypedAction, TypedTransition};
 
 /// Sets and resets latches, runs actions, takes transitions and writes the next marking. Four markings stand on the stack: where
@@ -23,8 +24,8 @@ pub fn run_chart(
     actions: &[TypedAction],
     transitions: &[TypedTransition],
     scope: &Scope<'_>,
-    cells: &mut [i64],
-    stack: &mut [i64],
+    cells: &mut [Value],
+    stack: &mut [Value],
 )
     requires known { scope.now.below ≤ length scope.now.called.now }
     requires bound { scope.now.base + (scope.now.below + 1) * 2 ^ 64 ≤ 2 ^ 128 }
@@ -50,11 +51,11 @@ pub fn run_chart(
 #[cycle(run)]
 fn run_actions(
     actions: &[TypedAction],
-    now: &[i64],
-    before: &[i64],
+    now: &[Value],
+    before: &[Value],
     scope: &Scope<'_>,
-    cells: &mut [i64],
-    stack: &mut [i64],
+    cells: &mut [Value],
+    stack: &mut [Value],
 )
     requires known { scope.now.below ≤ length scope.now.called.now }
     requires bound { scope.now.base + (scope.now.below + 1) * 2 ^ 64 ≤ 2 ^ 128 }
@@ -70,11 +71,11 @@ fn run_actions(
 #[cycle(run)]
 fn run_action(
     action: &TypedAction,
-    now: &[i64],
-    before: &[i64],
+    now: &[Value],
+    before: &[Value],
     scope: &Scope<'_>,
-    cells: &mut [i64],
-    stack: &mut [i64],
+    cells: &mut [Value],
+    stack: &mut [Value],
 )
     requires known { scope.now.below ≤ length scope.now.called.now }
     requires bound { scope.now.base + (scope.now.below + 1) * 2 ^ 64 ≤ 2 ^ 128 }
@@ -93,12 +94,12 @@ fn run_action(
 #[cycle(run)]
 fn fire_all(
     transitions: &[TypedTransition],
-    now: &[i64],
-    exited: &mut [i64],
-    entered: &mut [i64],
+    now: &[Value],
+    exited: &mut [Value],
+    entered: &mut [Value],
     scope: &Scope<'_>,
-    cells: &[i64],
-    stack: &mut [i64],
+    cells: &[Value],
+    stack: &mut [Value],
 ) -> bool
     requires known { scope.now.below ≤ length scope.now.called.now }
     requires bound { scope.now.base + (scope.now.below + 1) * 2 ^ 64 ≤ 2 ^ 128 }
@@ -119,12 +120,12 @@ fn fire_all(
 #[cycle(run)]
 fn fire(
     transition: &TypedTransition,
-    now: &[i64],
-    exited: &mut [i64],
-    entered: &mut [i64],
+    now: &[Value],
+    exited: &mut [Value],
+    entered: &mut [Value],
     scope: &Scope<'_>,
-    cells: &[i64],
-    stack: &mut [i64],
+    cells: &[Value],
+    stack: &mut [Value],
 ) -> bool
     requires known { scope.now.below ≤ length scope.now.called.now }
     requires bound { scope.now.base + (scope.now.below + 1) * 2 ^ 64 ≤ 2 ^ 128 }

@@ -13,18 +13,18 @@ use crate::scope::{Reading, Scope};
 use operations::{
     apply, apply_unary, call_of_one, call_of_three, divides_by_zero, joined, wrap_short,
 };
-use plc_types::{Elementary, Function, Operator};
+use plc_types::{Elementary, Function, Operator, Value};
 use program_tree::{Operand, TypedExpr};
 
 /// What an expression gives.
 #[derive(Clone, Copy)]
 pub struct Evaluated {
-    pub value: i64,
+    pub value: Value,
     pub fault: bool,
 }
 
 /// The value of an expression that calls no POU, over two states, one behind the other, and whether a fault is met.
-pub fn evaluate(expr: &TypedExpr, first: &[i64], second: &[i64]) -> Evaluated
+pub fn evaluate(expr: &TypedExpr, first: &[Value], second: &[Value]) -> Evaluated
     ensures value { result.value ≡ value_of no_callees 0 (expr_view expr.now) (first.now ++ second.now) }
     ensures fault { result.fault ≡ faults no_callees 0 (expr_view expr.now) (first.now ++ second.now) }
 {
@@ -47,9 +47,9 @@ pub fn evaluate(expr: &TypedExpr, first: &[i64], second: &[i64]) -> Evaluated
 #[inline(always)]
 pub fn evaluate_over(
     expr: &TypedExpr,
-    cells: &[i64],
+    cells: &[Value],
     scope: &Scope<'_>,
-    stack: &mut [i64],
+    stack: &mut [Value],
 ) -> Evaluated
     requires known { scope.now.below ≤ length scope.now.called.now }
     requires bound { scope.now.base + (scope.now.below + 1) * 2 ^ 64 ≤ 2 ^ 128 }
@@ -68,7 +68,7 @@ pub fn evaluate_over(
 
 /// The value of an expression over what is read, and whether a fault is met.
 #[cycle(run)]
-pub fn evaluate_in(expr: &TypedExpr, reading: &Reading<'_>, stack: &mut [i64]) -> Evaluated
+pub fn evaluate_in(expr: &TypedExpr, reading: &Reading<'_>, stack: &mut [Value]) -> Evaluated
     requires known { reading.now.scope.now.below ≤ length reading.now.scope.now.called.now }
     requires bound { reading.now.scope.now.base + (reading.now.scope.now.below + 1) * 2 ^ 64 ≤ 2 ^ 128 }
     requires room { room_here reading.now.scope.now ≤ length stack.old }
@@ -103,7 +103,7 @@ fn evaluate_on(
     mut so_far: Evaluated,
     operands: &[Operand],
     reading: &Reading<'_>,
-    stack: &mut [i64],
+    stack: &mut [Value],
 ) -> Evaluated
     requires known { reading.now.scope.now.below ≤ length reading.now.scope.now.called.now }
     requires bound { reading.now.scope.now.base + (reading.now.scope.now.below + 1) * 2 ^ 64 ≤ 2 ^ 128 }
@@ -126,7 +126,7 @@ fn evaluate_call(
     function: Function,
     kind: Elementary,
     reading: &Reading<'_>,
-    stack: &mut [i64],
+    stack: &mut [Value],
 ) -> Evaluated
     requires known { reading.now.scope.now.below ≤ length reading.now.scope.now.called.now }
     requires bound { reading.now.scope.now.base + (reading.now.scope.now.below + 1) * 2 ^ 64 ≤ 2 ^ 128 }
@@ -159,7 +159,7 @@ fn evaluate_joined(
     operands: &[TypedExpr],
     function: Function,
     reading: &Reading<'_>,
-    stack: &mut [i64],
+    stack: &mut [Value],
 ) -> Evaluated
     requires known { reading.now.scope.now.below ≤ length reading.now.scope.now.called.now }
     requires bound { reading.now.scope.now.base + (reading.now.scope.now.below + 1) * 2 ^ 64 ≤ 2 ^ 128 }
@@ -183,7 +183,7 @@ fn evaluate_joined(
 
 // The value of a cell, or 0 where there is none.
 #[inline(always)]
-fn read(reading: &Reading<'_>, place: usize) -> i64
+fn read(reading: &Reading<'_>, place: usize) -> Value
     requires { reading.now.scope.now.base + (reading.now.scope.now.below + 1) * 2 ^ 64 ≤ 2 ^ 128 }
     ensures { result ≡ slice_index_or (cells_read reading.now) (reading.now.scope.now.base + place) (pos 0) }
 {
@@ -195,7 +195,7 @@ fn read(reading: &Reading<'_>, place: usize) -> i64
 }
 
 #[inline(always)]
-fn faultless(value: i64) -> Evaluated
+fn faultless(value: Value) -> Evaluated
     ensures value { result.value ≡ value }
     ensures fault { result.fault ≡ false }
 {

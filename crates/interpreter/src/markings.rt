@@ -9,17 +9,18 @@ ghost use Rattle.meaning.specs.Flags.{no_steps, with_steps, may_leave, is_next_f
 
 use crate::cells::{put, read, store};
 use crate::scope::Scope;
+use plc_types::Value;
 use program_tree::{Association, Qualifier, StepCells, TypedAction};
 
 /// Whether a step is active in a marking.
-fn is_on(marking: &[i64], step: usize) -> bool
+fn is_on(marking: &[Value], step: usize) -> bool
     ensures { result ≡ is_on marking.now step }
 {
     read(marking, step as u128) == 1
 }
 
 /// Reads which steps are active.
-pub fn read_now(marking: &mut [i64], steps: &[StepCells], base: u128, cells: &[i64])
+pub fn read_now(marking: &mut [Value], steps: &[StepCells], base: u128, cells: &[Value])
     requires long { length marking.old ≡ length steps.now }
     requires bound { base + 2 ^ 64 ≤ 2 ^ 128 }
     ensures { marking.new ≡ marking_now base steps.now cells.now }
@@ -30,7 +31,7 @@ pub fn read_now(marking: &mut [i64], steps: &[StepCells], base: u128, cells: &[i
 }
 
 /// Reads which steps were active.
-pub fn read_before(marking: &mut [i64], steps: &[StepCells], base: u128, cells: &[i64])
+pub fn read_before(marking: &mut [Value], steps: &[StepCells], base: u128, cells: &[Value])
     requires long { length marking.old ≡ length steps.now }
     requires bound { base + 2 ^ 64 ≤ 2 ^ 128 }
     ensures { marking.new ≡ marking_before base steps.now cells.now }
@@ -41,7 +42,7 @@ pub fn read_before(marking: &mut [i64], steps: &[StepCells], base: u128, cells: 
 }
 
 /// Makes no step active.
-pub fn clear(marking: &mut [i64])
+pub fn clear(marking: &mut [Value])
     ensures { marking.new ≡ no_steps marking.old }
 {
     for i in 0..marking.len() {
@@ -50,7 +51,7 @@ pub fn clear(marking: &mut [i64])
 }
 
 /// Makes these steps active.
-pub fn enter_all(marking: &mut [i64], steps: &[usize])
+pub fn enter_all(marking: &mut [Value], steps: &[usize])
     ensures { marking.new ≡ with_steps steps.now marking.old }
 {
     for step in steps {
@@ -59,7 +60,7 @@ pub fn enter_all(marking: &mut [i64], steps: &[usize])
 }
 
 /// Whether all these steps are active, and none is left.
-pub fn may_leave(steps: &[usize], now: &[i64], exited: &[i64]) -> bool
+pub fn may_leave(steps: &[usize], now: &[Value], exited: &[Value]) -> bool
     ensures { result ≡ may_leave now.now exited.now steps.now }
 {
     for step in steps {
@@ -70,19 +71,19 @@ pub fn may_leave(steps: &[usize], now: &[i64], exited: &[i64]) -> bool
     true
 }
 
-fn sets(now: &[i64], association: Association) -> bool
+fn sets(now: &[Value], association: Association) -> bool
     ensures { result ≡ sets now.now association }
 {
     matches!(association.qualifier, Qualifier::Set) && is_on(now, association.step)
 }
 
-fn resets(now: &[i64], association: Association) -> bool
+fn resets(now: &[Value], association: Association) -> bool
     ensures { result ≡ resets now.now association }
 {
     matches!(association.qualifier, Qualifier::Reset) && is_on(now, association.step)
 }
 
-fn asks(now: &[i64], before: &[i64], association: Association) -> bool
+fn asks(now: &[Value], before: &[Value], association: Association) -> bool
     ensures { result ≡ asks now.now before.now association }
 {
     is_asked_for(
@@ -103,7 +104,7 @@ fn is_asked_for(qualifier: Qualifier, now: bool, before: bool) -> bool
     }
 }
 
-fn any_sets(associations: &[Association], now: &[i64]) -> bool
+fn any_sets(associations: &[Association], now: &[Value]) -> bool
     ensures { result ≡ list_any (sets now.now) associations.now }
 {
     for association in associations {
@@ -114,7 +115,7 @@ fn any_sets(associations: &[Association], now: &[i64]) -> bool
     false
 }
 
-fn any_resets(associations: &[Association], now: &[i64]) -> bool
+fn any_resets(associations: &[Association], now: &[Value]) -> bool
     ensures { result ≡ list_any (resets now.now) associations.now }
 {
     for association in associations {
@@ -125,7 +126,7 @@ fn any_resets(associations: &[Association], now: &[i64]) -> bool
     false
 }
 
-fn any_asks(associations: &[Association], now: &[i64], before: &[i64]) -> bool
+fn any_asks(associations: &[Association], now: &[Value], before: &[Value]) -> bool
     ensures { result ≡ list_any (asks now.now before.now) associations.now }
 {
     for association in associations {
@@ -136,7 +137,7 @@ fn any_asks(associations: &[Association], now: &[i64], before: &[i64]) -> bool
     false
 }
 
-fn latch_is_on(latch: Option<usize>, base: u128, cells: &[i64]) -> bool
+fn latch_is_on(latch: Option<usize>, base: u128, cells: &[Value]) -> bool
     requires { base + 2 ^ 64 ≤ 2 ^ 128 }
     ensures { result ≡ latch_is_on base latch cells.now }
 {
@@ -147,7 +148,13 @@ fn latch_is_on(latch: Option<usize>, base: u128, cells: &[i64]) -> bool
 }
 
 /// Whether an action runs.
-pub fn runs(action: &TypedAction, now: &[i64], before: &[i64], base: u128, cells: &[i64]) -> bool
+pub fn runs(
+    action: &TypedAction,
+    now: &[Value],
+    before: &[Value],
+    base: u128,
+    cells: &[Value],
+) -> bool
     requires { base + 2 ^ 64 ≤ 2 ^ 128 }
     ensures { result ≡ runs base now.now before.now action.now.latch action.now.associations.items cells.now }
 {
@@ -156,7 +163,7 @@ pub fn runs(action: &TypedAction, now: &[i64], before: &[i64], base: u128, cells
 }
 
 /// Sets or resets the latch of each action that has one.
-pub fn latch_all(actions: &[TypedAction], now: &[i64], scope: &Scope<'_>, cells: &mut [i64])
+pub fn latch_all(actions: &[TypedAction], now: &[Value], scope: &Scope<'_>, cells: &mut [Value])
     requires { scope.now.base + 2 ^ 64 ≤ 2 ^ 128 }
     ensures { cells.new ≡ all_latched scope.now.ranges.now scope.now.base now.now (actions_view actions.now) cells.old }
 {
@@ -165,7 +172,7 @@ pub fn latch_all(actions: &[TypedAction], now: &[i64], scope: &Scope<'_>, cells:
     }
 }
 
-fn latch(action: &TypedAction, now: &[i64], scope: &Scope<'_>, cells: &mut [i64])
+fn latch(action: &TypedAction, now: &[Value], scope: &Scope<'_>, cells: &mut [Value])
     requires { scope.now.base + 2 ^ 64 ≤ 2 ^ 128 }
     ensures { cells.new ≡ latched scope.now.ranges.now scope.now.base now.now action.now.latch action.now.associations.items cells.old }
 {
@@ -180,7 +187,7 @@ fn latch(action: &TypedAction, now: &[i64], scope: &Scope<'_>, cells: &mut [i64]
     }
 }
 
-fn next_latch(action: &TypedAction, now: &[i64], base: u128, cells: &[i64]) -> bool
+fn next_latch(action: &TypedAction, now: &[Value], base: u128, cells: &[Value]) -> bool
     requires { base + 2 ^ 64 ≤ 2 ^ 128 }
     ensures { result ≡ next_latch base now.now action.now.latch action.now.associations.items cells.now }
 {
@@ -188,26 +195,26 @@ fn next_latch(action: &TypedAction, now: &[i64], base: u128, cells: &[i64]) -> b
         && !any_resets(&action.associations, now)
 }
 
-fn is_next(now: &[i64], exited: &[i64], entered: &[i64], step: usize) -> bool
+fn is_next(now: &[Value], exited: &[Value], entered: &[Value], step: usize) -> bool
     ensures { result ≡ is_next_from now.now exited.now entered.now step }
 {
     is_on(now, step) && !is_on(exited, step) || is_on(entered, step)
 }
 
-fn number(holds: bool) -> i64
+fn number(holds: bool) -> Value
     ensures { result ≡ number_of holds }
 {
-    i64::from(holds)
+    Value::from(holds)
 }
 
 /// Writes the marking that was, and the next one.
 pub fn mark(
     steps: &[StepCells],
-    now: &[i64],
-    exited: &[i64],
-    entered: &[i64],
+    now: &[Value],
+    exited: &[Value],
+    entered: &[Value],
     scope: &Scope<'_>,
-    cells: &mut [i64],
+    cells: &mut [Value],
 )
     requires { scope.now.base + 2 ^ 64 ≤ 2 ^ 128 }
     ensures { cells.new ≡ marked scope.now.ranges.now scope.now.base now.now (is_next_from now.now exited.now entered.now) 0 steps.now cells.old }

@@ -3,6 +3,7 @@ ghost use Rattle.std.specs.Prelude.{◌≡◌, ◌+◌, length, OnOk};
 ghost use Rattle.program_tree.specs.View.{stmt_view, stmts_view, choices_view, entries_view, actions_view, all_called_view};
 ghost use Rattle.meaning.specs.Room.{markings_in, markings_in_all, markings_in_choices, markings_in_entries, markings_in_actions, room_for};
 
+use plc_types::Value;
 use program_tree::{Called, TypedAction, TypedArm, TypedEntry, TypedStmt};
 use std::alloc::AllocError;
 
@@ -10,7 +11,7 @@ use std::alloc::AllocError;
 pub fn add_room(
     called: &[Called],
     body: &[TypedStmt],
-    stack: &mut Vec<i64>,
+    stack: &mut Vec<Value>,
 ) -> Result<(), AllocError>
     ensures { OnOk result (length stack.new.items ≡ length stack.old.items + room_for (all_called_view called.now) (length called.now) + markings_in_all (stmts_view body.now)) }
 {
@@ -26,7 +27,7 @@ pub fn add_room(
     add_markings_of_all(body, stack)
 }
 
-fn add_cells(count: usize, stack: &mut Vec<i64>) -> Result<(), AllocError>
+fn add_cells(count: usize, stack: &mut Vec<Value>) -> Result<(), AllocError>
     ensures { OnOk result (length stack.new.items ≡ length stack.old.items + count) }
 {
     for _ in 0..count {
@@ -36,7 +37,7 @@ fn add_cells(count: usize, stack: &mut Vec<i64>) -> Result<(), AllocError>
 }
 
 #[cycle(room)]
-fn add_markings_of_all(list: &[TypedStmt], stack: &mut Vec<i64>) -> Result<(), AllocError>
+fn add_markings_of_all(list: &[TypedStmt], stack: &mut Vec<Value>) -> Result<(), AllocError>
     ensures { OnOk result (length stack.new.items ≡ length stack.old.items + markings_in_all (stmts_view list.now)) }
 {
     for stmt in list {
@@ -46,7 +47,7 @@ fn add_markings_of_all(list: &[TypedStmt], stack: &mut Vec<i64>) -> Result<(), A
 }
 
 #[cycle(room)]
-fn add_markings(stmt: &TypedStmt, stack: &mut Vec<i64>) -> Result<(), AllocError>
+fn add_markings(stmt: &TypedStmt, stack: &mut Vec<Value>) -> Result<(), AllocError>
     ensures { OnOk result (length stack.new.items ≡ length stack.old.items + markings_in (stmt_view stmt.now)) }
 {
     match stmt {
@@ -70,7 +71,7 @@ fn add_markings(stmt: &TypedStmt, stack: &mut Vec<i64>) -> Result<(), AllocError
 }
 
 #[cycle(room)]
-fn add_markings_of_arms(arms: &[TypedArm], stack: &mut Vec<i64>) -> Result<(), AllocError>
+fn add_markings_of_arms(arms: &[TypedArm], stack: &mut Vec<Value>) -> Result<(), AllocError>
     ensures { OnOk result (length stack.new.items ≡ length stack.old.items + markings_in_choices (choices_view arms.now)) }
 {
     for arm in arms {
@@ -80,7 +81,7 @@ fn add_markings_of_arms(arms: &[TypedArm], stack: &mut Vec<i64>) -> Result<(), A
 }
 
 #[cycle(room)]
-fn add_markings_of_entries(entries: &[TypedEntry], stack: &mut Vec<i64>) -> Result<(), AllocError>
+fn add_markings_of_entries(entries: &[TypedEntry], stack: &mut Vec<Value>) -> Result<(), AllocError>
     ensures { OnOk result (length stack.new.items ≡ length stack.old.items + markings_in_entries (entries_view entries.now)) }
 {
     for entry in entries {
@@ -90,7 +91,10 @@ fn add_markings_of_entries(entries: &[TypedEntry], stack: &mut Vec<i64>) -> Resu
 }
 
 #[cycle(room)]
-fn add_markings_of_actions(actions: &[TypedAction], stack: &mut Vec<i64>) -> Result<(), AllocError>
+fn add_markings_of_actions(
+    actions: &[TypedAction],
+    stack: &mut Vec<Value>,
+) -> Result<(), AllocError>
     ensures { OnOk result (length stack.new.items ≡ length stack.old.items + markings_in_actions (actions_view actions.now)) }
 {
     for action in actions {

@@ -1,5 +1,5 @@
 // What evaluations and runs read.
-use plc_types::Range;
+use plc_types::{Range, Value};
 use program_tree::Called;
 
 /// What a POU runs over: the ranges of its owner's cells, where its own begin among them, and the POUs that it may call, which are
@@ -15,7 +15,7 @@ pub struct Scope<'a> {
 /// What an evaluation reads: an owner's cells, or those of two as one, OLD's and then NEW's, and the scope.
 #[derive(Clone, Copy)]
 pub struct Reading<'a> {
-    pub first: &'a [i64],
-    pub second: &'a [i64],
+    pub first: &'a [Value],
+    pub second: &'a [Value],
     pub scope: &'a Scope<'a>,
 }

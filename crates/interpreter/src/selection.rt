@@ -10,11 +10,17 @@ use crate::cells::{add_fault, is_in_range};
 use crate::evaluation::evaluate_over;
 use crate::scope::Scope;
 use crate::statements::run_all;
+use plc_types::Value;
 use program_tree::{TypedArm, TypedEntry, TypedLabel};
 
 /// Evaluates conditions up to the first that is TRUE, and runs its statements; whether there is one.
 #[cycle(run)]
-pub fn run_arms(arms: &[TypedArm], scope: &Scope<'_>, cells: &mut [i64], stack: &mut [i64]) -> bool
+pub fn run_arms(
+    arms: &[TypedArm],
+    scope: &Scope<'_>,
+    cells: &mut [Value],
+    stack: &mut [Value],
+) -> bool
     requires known { scope.now.below ≤ length scope.now.called.now }
     requires bound { scope.now.base + (scope.now.below + 1) * 2 ^ 64 ≤ 2 ^ 128 }
     requires room { room_here scope.now + markings_in_choices (choices_view arms.now) ≤ length stack.old }
@@ -37,10 +43,10 @@ pub fn run_arms(arms: &[TypedArm], scope: &Scope<'_>, cells: &mut [i64], stack: 
 #[cycle(run)]
 pub fn run_entries(
     entries: &[TypedEntry],
-    value: i64,
+    value: Value,
     scope: &Scope<'_>,
-    cells: &mut [i64],
-    stack: &mut [i64],
+    cells: &mut [Value],
+    stack: &mut [Value],
 ) -> bool
     requires known { scope.now.below ≤ length scope.now.called.now }
     requires bound { scope.now.base + (scope.now.below + 1) * 2 ^ 64 ≤ 2 ^ 128 }
@@ -59,7 +65,7 @@ pub fn run_entries(
 }
 
 // Most entries have one label, which needs no loop.
-fn is_labelled(value: i64, labels: &[TypedLabel]) -> bool
+fn is_labelled(value: Value, labels: &[TypedLabel]) -> bool
     ensures { result ≡ is_labelled value labels.now }
 {
     match labels {
@@ -68,7 +74,7 @@ fn is_labelled(value: i64, labels: &[TypedLabel]) -> bool
     }
 }
 
-fn is_in_any(value: i64, labels: &[TypedLabel]) -> bool
+fn is_in_any(value: Value, labels: &[TypedLabel]) -> bool
     ensures { result ≡ is_labelled value labels.now }
 {
     for label in labels {
@@ -79,7 +85,7 @@ fn is_in_any(value: i64, labels: &[TypedLabel]) -> bool
     false
 }
 
-fn is_named(value: i64, label: TypedLabel) -> bool
+fn is_named(value: Value, label: TypedLabel) -> bool
     ensures { result ≡ is_named value label }
 {
     match label {

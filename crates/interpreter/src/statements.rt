@@ -11,11 +11,12 @@ use crate::evaluation::evaluate_over;
 use crate::scope::Scope;
 use crate::selection::{run_arms, run_entries};
 use crate::turns::run_turns;
+use plc_types::Value;
 use program_tree::{Called, TypedStmt};
 
 /// Runs statements of a POU over the cells of its owner. The calls and charts in them have room on the stack.
 #[cycle(run)]
-pub fn run_all(list: &[TypedStmt], scope: &Scope<'_>, cells: &mut [i64], stack: &mut [i64])
+pub fn run_all(list: &[TypedStmt], scope: &Scope<'_>, cells: &mut [Value], stack: &mut [Value])
     requires known { scope.now.below ≤ length scope.now.called.now }
     requires bound { scope.now.base + (scope.now.below + 1) * 2 ^ 64 ≤ 2 ^ 128 }
     requires room { room_here scope.now + markings_in_all (stmts_view list.now) ≤ length stack.old }
@@ -28,7 +29,7 @@ pub fn run_all(list: &[TypedStmt], scope: &Scope<'_>, cells: &mut [i64], stack: 
 }
 
 #[cycle(run)]
-fn run(stmt: &TypedStmt, scope: &Scope<'_>, cells: &mut [i64], stack: &mut [i64])
+fn run(stmt: &TypedStmt, scope: &Scope<'_>, cells: &mut [Value], stack: &mut [Value])
     requires known { scope.now.below ≤ length scope.now.called.now }
     requires bound { scope.now.base + (scope.now.below + 1) * 2 ^ 64 ≤ 2 ^ 128 }
     requires room { room_here scope.now + markings_in (stmt_view stmt.now) ≤ length stack.old }
@@ -68,7 +69,13 @@ fn run(stmt: &TypedStmt, scope: &Scope<'_>, cells: &mut [i64], stack: &mut [i64]
 
 // Runs the body of a FUNCTION_BLOCK over the cells of an instance, which begin at a place of the POU's.
 #[cycle(run)]
-fn run_block(block: usize, offset: usize, scope: &Scope<'_>, cells: &mut [i64], stack: &mut [i64])
+fn run_block(
+    block: usize,
+    offset: usize,
+    scope: &Scope<'_>,
+    cells: &mut [Value],
+    stack: &mut [Value],
+)
     requires known { scope.now.below ≤ length scope.now.called.now }
     requires bound { scope.now.base + (scope.now.below + 1) * 2 ^ 64 ≤ 2 ^ 128 }
     requires room { room_here scope.now ≤ length stack.old }

@@ -9,18 +9,18 @@ ghost use Rattle.interpreter.specs.Scopes.{callees_here, room_here};
 use crate::cells::{is_within, put, range_at};
 use crate::scope::Scope;
 use crate::statements::run_all;
-use plc_types::Range;
+use plc_types::{Range, Value};
 use program_tree::{Turns, TypedStmt};
 
-/// Runs a body turn by turn, and leaves the control variable at the value that ends them. A value that is no i64 is in
+/// Runs a body turn by turn, and leaves the control variable at the value that ends them. A number that is no Value is in
 /// no cell's range.
 #[cycle(run)]
 pub fn run_turns(
     body: &[TypedStmt],
     turns: Turns,
     scope: &Scope<'_>,
-    cells: &mut [i64],
-    stack: &mut [i64],
+    cells: &mut [Value],
+    stack: &mut [Value],
 )
     requires known { scope.now.below ≤ length scope.now.called.now }
     requires bound { scope.now.base + (scope.now.below + 1) * 2 ^ 64 ≤ 2 ^ 128 }
@@ -41,11 +41,11 @@ pub fn run_turns(
 }
 
 // Gives the control variable a value where that is in its range; else that is a fault.
-fn set_control(control: u128, range: Range, value: i128, cells: &mut [i64])
+fn set_control(control: u128, range: Range, value: i128, cells: &mut [Value])
     ensures { cells.new ≡ (if in_range value range then slice_set cells.old control value else slice_set cells.old 0 (pos 1)) }
 {
     if is_within(value, range) {
-        put(cells, control, value as i64);
+        put(cells, control, value as Value);
     } else {
         put(cells, 0, 1);
     }

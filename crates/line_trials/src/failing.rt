@@ -1,6 +1,7 @@
 // Which of the candidates fail on runs. Of the marks nothing is asked.
 ghost use Rattle.scan_replay.specs.Duos.{AreComparable};
 
+use plc_types::Value;
 use program_tree::Program;
 use scan_model::Relation;
 use scan_replay::Duo;
@@ -16,7 +17,7 @@ fn mark(duo: &Duo<'_>, given: usize, marks: &mut [bool]) {
 }
 
 // Marks what fails on the pair and along rows from there.
-fn mark_along(duo: &mut Duo<'_>, given: usize, rows: &[Vec<i64>], marks: &mut [bool]) {
+fn mark_along(duo: &mut Duo<'_>, given: usize, rows: &[Vec<Value>], marks: &mut [bool]) {
     mark(duo, given, marks);
     for row in rows {
         if !duo.allowed(row.as_slice()) {
@@ -34,7 +35,7 @@ pub fn failing(
     new: &Program,
     relation: &Relation,
     given: usize,
-    runs: &[Vec<Vec<i64>>],
+    runs: &[Vec<Vec<Value>>],
 ) -> Result<Vec<bool>, AllocError>
     requires { AreComparable old.now new.now relation.now }
 {

@@ -5,6 +5,7 @@ ghost use Rattle.scan_model.specs.Pairs.{relation_view};
 ghost use Rattle.scan_replay.specs.Duos.{AreComparable, with_pair};
 ghost use Rattle.line_trials.specs.Held.{rows_of, runs_of, candidates_hold, held_along, held_on_runs};
 
+use plc_types::Value;
 use program_tree::Program;
 use scan_model::Relation;
 use scan_replay::Duo;
@@ -24,7 +25,7 @@ fn candidates_hold(duo: &Duo<'_>, first: usize, count: usize) -> bool
 }
 
 // Whether they hold on the pair and along rows from there.
-fn held_along(duo: &mut Duo<'_>, first: usize, count: usize, rows: &[Vec<i64>]) -> bool
+fn held_along(duo: &mut Duo<'_>, first: usize, count: usize, rows: &[Vec<Value>]) -> bool
     requires { first + count < 2 ^ 64 }
     ensures held { result ≡ held_along (program_view duo.old.old_program) (program_view duo.old.new_program) (relation_view duo.old.relation) first count (rows_of rows.now) duo.old.pair }
     ensures same { duo.new ≡ with_pair duo.new.pair duo.old }
@@ -46,7 +47,7 @@ pub fn held_on_runs(
     relation: &Relation,
     first: usize,
     count: usize,
-    runs: &[Vec<Vec<i64>>],
+    runs: &[Vec<Vec<Value>>],
 ) -> Result<bool, AllocError>
     requires comparable { AreComparable old.now new.now relation.now }
     requires fits { first + count < 2 ^ 64 }

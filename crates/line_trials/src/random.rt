@@ -1,5 +1,5 @@
 // Numbers that follow from a seed (SplitMix64).
-use plc_types::Range;
+use plc_types::{Range, Value};
 
 /// Where the numbers stand.
 #[derive(Clone, Copy)]
@@ -26,7 +26,7 @@ impl Random {
     }
 
     // One of the numbers, or the number before or behind it; 0 where there is none.
-    fn near(&mut self, numbers: &[i64]) -> i64 {
+    fn near(&mut self, numbers: &[Value]) -> Value {
         let place = self.below(numbers.len() as u64);
         let beside = match self.below(4) {
             0 => -1,
@@ -40,7 +40,7 @@ impl Random {
     }
 
     // The least or the greatest number of a range, 0 or 1.
-    fn edge(&mut self, range: Range) -> i64 {
+    fn edge(&mut self, range: Range) -> Value {
         match self.below(4) {
             0 => range.low,
             1 => range.high,
@@ -50,14 +50,14 @@ impl Random {
     }
 
     // Any number of a range.
-    fn inside(&mut self, range: Range) -> i64 {
+    fn inside(&mut self, range: Range) -> Value {
         let count = range.high.wrapping_sub(range.low).cast_unsigned();
         let offset = self.below(count.wrapping_add(1));
         range.low.wrapping_add(offset.cast_signed())
     }
 
     /// A number of a range: an edge, a number of the texts or one beside it, or any, each about as often.
-    pub fn value(&mut self, range: Range, numbers: &[i64]) -> i64 {
+    pub fn value(&mut self, range: Range, numbers: &[Value]) -> Value {
         let value = match self.below(3) {
             0 => self.edge(range),
             1 => self.near(numbers),

@@ -1,6 +1,6 @@
 // Rows of inputs.
 use crate::random::Random;
-use plc_types::Range;
+use plc_types::{Range, Value};
 use scan_model::InputLine;
 use std::alloc::{AllocError, Global};
 
@@ -17,10 +17,10 @@ pub fn draw_row(
     alloc: Global,
     random: &mut Random,
     lines: &[InputLine],
-    numbers: &[i64],
+    numbers: &[Value],
     hundredths: u64,
-    last: &[i64],
-) -> Result<Vec<i64>, AllocError> {
+    last: &[Value],
+) -> Result<Vec<Value>, AllocError> {
     let mut row = Vec::new(alloc);
     for (place, line) in lines.iter().enumerate() {
         let drawn = random.value(range_of(*line), numbers);

@@ -4,6 +4,7 @@ ghost use Rattle.scan_replay.specs.Duos.{AreComparable};
 use crate::plan::Plan;
 use crate::random::Random;
 use crate::rows::draw_row;
+use plc_types::Value;
 use program_tree::Program;
 use scan_model::{Relation, Side};
 use scan_replay::Duo;
@@ -17,7 +18,7 @@ const MOST_TRIES: usize = 20;
 /// run, from 1, with which all ended.
 #[derive(Drop)]
 pub struct Tried {
-    pub runs: Vec<Vec<Vec<i64>>>,
+    pub runs: Vec<Vec<Vec<Value>>>,
     pub unrelated: Option<usize>,
 }
 
@@ -33,7 +34,7 @@ enum Scan {
 struct Source<'a> {
     alloc: Global,
     relation: &'a Relation,
-    numbers: &'a [i64],
+    numbers: &'a [Value],
     hundredths: u64,
 }
 
@@ -42,8 +43,8 @@ fn allowed_row(
     source: &Source<'_>,
     duo: &mut Duo<'_>,
     random: &mut Random,
-    last: &[i64],
-) -> Result<Option<Vec<i64>>, AllocError> {
+    last: &[Value],
+) -> Result<Option<Vec<Value>>, AllocError> {
     for _ in 0..MOST_TRIES {
         let row = draw_row(
             source.alloc,
@@ -61,7 +62,7 @@ fn allowed_row(
 }
 
 // The last row of a run.
-fn last_of(run: &[Vec<i64>]) -> &[i64] {
+fn last_of(run: &[Vec<Value>]) -> &[Value] {
     match run.last() {
         Some(row) => row.as_slice(),
         None => &[],
@@ -73,7 +74,7 @@ fn run_scan(
     source: &Source<'_>,
     duo: &mut Duo<'_>,
     random: &mut Random,
-    run: &mut Vec<Vec<i64>>,
+    run: &mut Vec<Vec<Value>>,
 ) -> Result<Scan, AllocError> {
     let Some(row) = allowed_row(source, duo, random, last_of(run.as_slice()))? else {
         return Ok(Scan::NoRow);
@@ -102,7 +103,7 @@ fn try_run(
     duo: &mut Duo<'_>,
     random: &mut Random,
     seen: &mut Seen,
-    run: &mut Vec<Vec<i64>>,
+    run: &mut Vec<Vec<Value>>,
 ) -> Result<bool, AllocError> {
     for _ in 0..scans {
         if seen.rows() >= most {
@@ -134,7 +135,7 @@ pub fn try_runs(
     old: &Program,
     new: &Program,
     relation: &Relation,
-    numbers: &[i64],
+    numbers: &[Value],
     plan: &Plan,
     seen: &mut Seen,
 ) -> Result<Tried, AllocError>

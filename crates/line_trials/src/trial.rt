@@ -12,6 +12,7 @@ use crate::held::held_on_runs;
 use crate::line::InvariantLine;
 use crate::reading::read_back;
 use crate::texts::with_lines;
+use plc_types::Value;
 use program_tree::Program;
 use rules::Fault;
 use std::alloc::{AllocError, Global};
@@ -32,7 +33,7 @@ pub fn try_lines(
     given: usize,
     text: &[u8],
     lines: &[InvariantLine],
-    runs: &[Vec<Vec<i64>>],
+    runs: &[Vec<Vec<Value>>],
 ) -> Result<Trial, AllocError>
     requires old { IsFitToRun (program_view old.now) }
     requires new { IsFitToRun (program_view new.now) }

@@ -2,6 +2,8 @@ pub mod Values
 pub mod Charts
 pub mod Effects
 pub mod Calls
+pub mod Frames
+pub mod StaysIn
 pub mod Room
 pub mod Flags
 pub mod Laws

@@ -17,3 +17,4 @@ pub mod CircleLemmas
 pub mod TextSetLemmas
 pub mod ChartLemmas
 pub mod DeclarationLemmas
+pub mod NamedItems

@@ -14,3 +14,4 @@ pub mod Table
 pub mod Ends
 pub mod PouShapes
 pub mod Slots
+pub mod NamedItems

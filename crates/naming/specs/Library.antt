@@ -4,10 +4,10 @@ use Rattle.std.specs.Str.{bytes_eq}
 use denote.Enum.Bare.{sameb}
 use Rattle.plc_types.specs.contracts.elementary.Elementary.{the_type}
 use Rattle.plc_types.specs.declared.elementary.Elementary.{Elementary}
-use Rattle.plc_types.specs.declared.elementary.Elementary.TheVariants as types
 use Rattle.plc_types.specs.declared.function.Shift.TheVariants as shifts
 use Rattle.plc_types.specs.declared.function.StandardFunction.{StandardFunction}
 use Rattle.plc_types.specs.declared.function.StandardFunction.TheVariants as functions
+use Rattle.plc_types.specs.Types.{elementary_types, type_name, type_named}
 
 -- the standard functions, but for the conversions
 abbrev pub functions_by_name : List (List ℕ × StandardFunction)
@@ -23,28 +23,9 @@ functions_by_name =
     ∷ (codes "ROR", functions.Shift shifts.RotateRight)
     ∷ []
 
--- the elementary types
-abbrev pub types_by_name : List (List ℕ × Elementary)
-types_by_name =
-    (codes "BOOL", types.Bool)
-    ∷ (codes "SINT", types.Sint)
-    ∷ (codes "INT", types.Int)
-    ∷ (codes "DINT", types.Dint)
-    ∷ (codes "USINT", types.Usint)
-    ∷ (codes "UINT", types.Uint)
-    ∷ (codes "UDINT", types.Udint)
-    ∷ (codes "BYTE", types.Byte)
-    ∷ (codes "WORD", types.Word)
-    ∷ (codes "DWORD", types.Dword)
-    ∷ []
-
 abbrev pub function_in : List (List ℕ × StandardFunction) → List ℕ → Option StandardFunction
 function_in [] text = None
 function_in (e ∷ es) text = if bytes_eq e.0 text then Some e.1 else function_in es text
-
-abbrev pub type_in : List (List ℕ × Elementary) → List ℕ → Option Elementary
-type_in [] text = None
-type_in (e ∷ es) text = if bytes_eq e.0 text then Some e.1 else type_in es text
 
 -- what stands in a text behind a front of it
 abbrev pub after_front : List ℕ → List ℕ → Option (List ℕ)
@@ -60,7 +41,7 @@ conversion_to from (Some to) = if sameb the_type from to then None else Some (fu
 -- `A_TO_B`, A being this type, of this name
 abbrev pub conversion_from : List ℕ → Elementary → List ℕ → Option StandardFunction
 conversion_from name from text =
-    conversion_to from (option_and_then (type_in types_by_name) (option_and_then (after_front (codes "_TO_")) (after_front name text)))
+    conversion_to from (option_and_then type_named (option_and_then (after_front (codes "_TO_")) (after_front name text)))
 
 -- the first of two, where there is one
 abbrev pub either_function : Option StandardFunction → Option StandardFunction → Option StandardFunction
@@ -68,13 +49,13 @@ either_function (Some f) other = Some f
 either_function None other = other
 
 -- `A_TO_B`, A being one of these types
-abbrev pub conversion_in : List (List ℕ × Elementary) → List ℕ → Option StandardFunction
+abbrev pub conversion_in : List Elementary → List ℕ → Option StandardFunction
 conversion_in [] text = None
-conversion_in (e ∷ es) text = either_function (conversion_from e.0 e.1 text) (conversion_in es text)
+conversion_in (t ∷ ts) text = either_function (conversion_from (type_name t) t text) (conversion_in ts text)
 
 -- the standard function of a name in upper case, conversions among them
 unfoldable pub standard_function : List ℕ → Option StandardFunction
-standard_function text = either_function (function_in functions_by_name text) (conversion_in types_by_name text)
+standard_function text = either_function (function_in functions_by_name text) (conversion_in elementary_types text)
 
 -- a standard function or a conversion
 abbrev pub is_library : List ℕ → Bool

@@ -1,6 +1,6 @@
 // Names that each file's scope has from the start.
 ghost use Rattle.std.specs.Prelude.{◌≡◌, map, option_map};
-ghost use Rattle.naming.specs.Library.{function_in, type_in, after_front, conversion_to, conversion_from, conversion_in, standard_function, is_library};
+ghost use Rattle.naming.specs.Library.{function_in, after_front, conversion_to, conversion_from, conversion_in, standard_function, is_library};
 
 use plc_types::{Elementary, Shift, StandardFunction};
 
@@ -17,20 +17,6 @@ const FUNCTIONS: [(&str, StandardFunction); 9] = [
     ("ROR", StandardFunction::Shift(Shift::RotateRight)),
 ];
 
-// The elementary types, between each two of which there is a conversion `A_TO_B`.
-const ELEMENTARY: [(&str, Elementary); 10] = [
-    ("BOOL", Elementary::Bool),
-    ("SINT", Elementary::Sint),
-    ("INT", Elementary::Int),
-    ("DINT", Elementary::Dint),
-    ("USINT", Elementary::Usint),
-    ("UINT", Elementary::Uint),
-    ("UDINT", Elementary::Udint),
-    ("BYTE", Elementary::Byte),
-    ("WORD", Elementary::Word),
-    ("DWORD", Elementary::Dword),
-];
-
 // The function of a name, among these.
 fn function_in(functions: &[(&str, StandardFunction)], text: &[u8]) -> Option<StandardFunction>
     ensures { result ≡ function_in (map (λ e. (e.0.now, e.1)) functions.now) text.now }
@@ -38,18 +24,6 @@ fn function_in(functions: &[(&str, StandardFunction)], text: &[u8]) -> Option<St
     for (name, function) in functions {
         if name.as_bytes() == text {
             return Some(*function);
-        }
-    }
-    None
-}
-
-// The type of a name, among these.
-fn type_in(types: &[(&str, Elementary)], text: &[u8]) -> Option<Elementary>
-    ensures { result ≡ type_in (map (λ e. (e.0.now, e.1)) types.now) text.now }
-{
-    for (name, kind) in types {
-        if name.as_bytes() == text {
-            return Some(*kind);
         }
     }
     None
@@ -95,17 +69,17 @@ fn conversion_from(name: &[u8], from: Elementary, text: &[u8]) -> Option<Standar
         None => None,
         Some(rest) => match after_front(b"_TO_", rest) {
             None => None,
-            Some(to) => conversion_to(from, type_in(&ELEMENTARY, to)),
+            Some(to) => conversion_to(from, Elementary::named(to)),
         },
     }
 }
 
 // The conversion `A_TO_B` that a text names, A being one of these types.
-fn conversion_in(types: &[(&str, Elementary)], text: &[u8]) -> Option<StandardFunction>
-    ensures { result ≡ conversion_in (map (λ e. (e.0.now, e.1)) types.now) text.now }
+fn conversion_in(types: &[Elementary], text: &[u8]) -> Option<StandardFunction>
+    ensures { result ≡ conversion_in types.now text.now }
 {
-    for (name, from) in types {
-        if let Some(conversion) = conversion_from(name.as_bytes(), *from, text) {
+    for from in types {
+        if let Some(conversion) = conversion_from(from.name().as_bytes(), *from, text) {
             return Some(conversion);
         }
     }
@@ -120,7 +94,7 @@ pub fn standard_function(text: &str) -> Option<StandardFunction>
     let bytes = text.as_bytes();
     match function_in(&FUNCTIONS, bytes) {
         Some(function) => Some(function),
-        None => conversion_in(&ELEMENTARY, bytes),
+        None => conversion_in(Elementary::all(), bytes),
     }
 }
 

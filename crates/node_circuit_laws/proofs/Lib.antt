@@ -1,4 +1,4 @@
-pub mod Numbers
+pub mod Conversions
 pub mod Widths
 pub mod RowValues
 pub mod Words

@@ -1,5 +1,5 @@
 -- The words of nodes leave each gate behind its operands, and are words of the circuit.
-use Rattle.std.proofs.Common.{◌≡◌, ℕ, Bool, true, false, List, [], ◌∷◌, ◌++◌, zero, suc}
+use Rattle.std.proofs.Common.{◌≡◌, ◌⊎◌, inl, inr, sym, subst, ℕ, Bool, true, false, List, [], ◌∷◌, ◌++◌, zero, suc}
 use Rattle.std.specs.Prelude.{All}
 use Rattle.std.proofs.lemmas.List.Elements.{All-head, All-tail, All-push, All-weaker}
 use Rattle.clause_core.specs.declared.literal.Lit.{Lit}
@@ -35,6 +35,7 @@ use Rattle.word_orders.proofs.Choices.{makes_bitwise, makes_choose, makes_any}
 use Rattle.node_circuits.specs.Rows.{one_bit, sum_alone, unary_of, binary_of, conversion_of, shift_of}
 use Rattle.node_circuits.specs.NodeWords.{Words, word_in, operand_of, node_of, words_of_nodes}
 use Rattle.node_circuit_laws.specs.WordValues.{MakesWords}
+use Rattle.node_circuit_laws.proofs.Conversions.{IsResizing, bool_or_resizing}
 
 -- ---- words of a list
 
@@ -78,16 +79,11 @@ makes_binary ops.Divide s a b n o h k = makes_division parts.Quotient s a b n o 
 makes_binary ops.Mod s a b n o h k = makes_division parts.Remainder s a b n o h k
 
 makes_conversion : (from to : Elementary) (a : List Lit) (n : Netlist) → IsOrdered n → IsWordOf n a → MakesWord n (conversion_of from to a n)
-makes_conversion from types.Bool a n o h = of_literal n _ (makes_any a n o h)
-makes_conversion from types.Sint a n o h = makes_ready_word _ n o (IsWordOf-resized n (is_signed from) 8 a o h)
-makes_conversion from types.Int a n o h = makes_ready_word _ n o (IsWordOf-resized n (is_signed from) 16 a o h)
-makes_conversion from types.Dint a n o h = makes_ready_word _ n o (IsWordOf-resized n (is_signed from) 32 a o h)
-makes_conversion from types.Usint a n o h = makes_ready_word _ n o (IsWordOf-resized n (is_signed from) 8 a o h)
-makes_conversion from types.Uint a n o h = makes_ready_word _ n o (IsWordOf-resized n (is_signed from) 16 a o h)
-makes_conversion from types.Udint a n o h = makes_ready_word _ n o (IsWordOf-resized n (is_signed from) 32 a o h)
-makes_conversion from types.Byte a n o h = makes_ready_word _ n o (IsWordOf-resized n (is_signed from) 8 a o h)
-makes_conversion from types.Word a n o h = makes_ready_word _ n o (IsWordOf-resized n (is_signed from) 16 a o h)
-makes_conversion from types.Dword a n o h = makes_ready_word _ n o (IsWordOf-resized n (is_signed from) 32 a o h)
+makes_conversion from to a n o h = by (bool_or_resizing to)
+  where
+    by : (to ≡ types.Bool) ⊎ IsResizing to → MakesWord n (conversion_of from to a n)
+    by (inl e) = subst (λ (t : Elementary). MakesWord n (conversion_of from t a n)) (sym e) (of_literal n _ (makes_any a n o h))
+    by (inr is) = rw (is.word from a n) (makes_ready_word _ n o (IsWordOf-resized n (is_signed from) (width_of to) a o h))
 
 shift_word : (s : AnyShift) (k : ℕ) (a : List Lit) (n : Netlist) → IsOrdered n → IsWordOf n a → IsWordOf n (shift_of s k a)
 shift_word shifts.Left k a n o h = IsWordOf-shl n k a o h

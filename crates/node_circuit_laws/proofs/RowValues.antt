@@ -1,5 +1,5 @@
 -- The value of each row: in every model of the circuit, the word that a row makes has the value that its node has, given those of its operands.
-use Rattle.std.proofs.Common.{◌≡◌, ℕ, ◌+◌, ◌*◌, ◌-◌, ◌^◌, ◌/◌, ◌%◌, ◌<◌, ◌≤◌, Bool, true, false, not, ◌||◌, refl, sym, ◌∙◌, ap, subst, List, [], ◌∷◌, length, ℤ, pos, ◌+ℤ◌, ◌*ℤ◌, arith}
+use Rattle.std.proofs.Common.{◌≡◌, ◌⊎◌, inl, inr, Option, Some, None, ℕ, ◌+◌, ◌*◌, ◌-◌, ◌^◌, ◌/◌, ◌%◌, ◌<◌, ◌≤◌, Bool, true, false, not, ◌||◌, refl, sym, ◌∙◌, ap, subst, List, [], ◌∷◌, length, ℤ, pos, ◌+ℤ◌, ◌*ℤ◌, arith}
 use Rattle.std.specs.Prelude.{nat_eq, nat_lt, int_lt, unsigned_abs, ◌-ℤ◌, neg_ℤ, if◌then◌else◌}
 use Rattle.std.specs.Ordering.{int_eq}
 use Rattle.std.proofs.Math.Nat.{mul-mod_right, div-eq_of_lt, div-le_self, pow-le-pow_right}
@@ -21,8 +21,11 @@ use Rattle.plc_types.specs.declared.operator.UnaryOperator.{UnaryOperator}
 use Rattle.plc_types.specs.declared.operator.UnaryOperator.TheVariants as signs
 use Rattle.plc_types.specs.declared.range.Range.{Range}
 use Rattle.plc_types.specs.Types.{width_of, is_signed, range_of, in_range, wrap_to}
-use Rattle.meaning.specs.Values.{number_of, is_truth, is_zero, result_type, unary_applied, applied, converted, shifted, lesser, greater}
-use Rattle.node_core.specs.NodeTypes.{is_for}
+use Rattle.plc_types.proofs.Widths.{some_bits}
+use Rattle.plc_types.proofs.InRange.{not_between}
+use Rattle.plc_types.proofs.TypeRanges.{wrapped_same, wrapped_zero}
+use Rattle.num_core.proofs.Ranges.{number_wrapped, number_kept}
+use Rattle.meaning.specs.Values.{or_zero, number_of, is_truth, is_zero, result_type, unary_applied, applied, converted, shifted, lesser, greater}
 use Rattle.gates.specs.Models.{IsModel}
 use Rattle.gates.specs.Netlists.{Netlist}
 use Rattle.gates.specs.Literals.{false_lit}
@@ -35,6 +38,7 @@ use Rattle.word_circuits.specs.Words.{zeros, top_of, constant_of, bitwise_of}
 use Rattle.word_circuits.specs.Comparisons.{comparison_of, is_zero_of, outside_of}
 use Rattle.word_circuits.specs.Choices.{choose_of, min_of, max_of, abs_of}
 use Rattle.word_circuits.specs.Conversions.{resized}
+use Rattle.program_tree.specs.OperandTypes.{is_for}
 use Rattle.word_laws.specs.Numbers.{bit, number, value}
 use Rattle.word_laws.specs.Results.{combined, compared, divided}
 use Rattle.word_laws.specs.Results as turns
@@ -49,11 +53,16 @@ use Rattle.word_laws.proofs.SignedDivisions.{value-division}
 use Rattle.word_laws.proofs.ChoiceLaws.{value-compare, value-outside, value-choose, value-min, value-max, value-abs}
 use Rattle.word_laws.proofs.ShiftLaws.{value-resize, number-shl, number-shr, number-rol, number-ror}
 use Rattle.node_circuits.specs.Rows.{unary_of, binary_of, conversion_of, shift_of}
-use Rattle.node_circuit_laws.proofs.Numbers.{some_bits, wrapped_same, wrapped_zero, number_wrapped, number_kept, same_or_zero, not_between}
+use Rattle.node_circuit_laws.proofs.Conversions.{IsResizing, bool_or_resizing}
 
 -- a word of a type has some bits
-some_of : (t : Elementary) (a : List Lit) → length a ≡ width_of t → 0 < length a
+pub some_of : (t : Elementary) (a : List Lit) → length a ≡ width_of t → 0 < length a
 some_of t a e = omega (arith, some_bits t)
+
+-- two names of what a division by zero gives
+same_or_zero : (o : Option ℤ) → turns.or_zero o ≡ or_zero o
+same_or_zero None = refl
+same_or_zero (Some v) = refl
 
 -- ---- words of one bit
 
@@ -135,17 +144,15 @@ row-resized from to v a e one = value-resize (is_signed from) (is_signed to) v a
 
 pub row-conversion : (from to : Elementary) (v : ℕ → Bool) (a : List Lit) (n : Netlist) → length a ≡ width_of from → IsModel v (conversion_of from to a n).net
     → value (is_signed to) v (conversion_of from to a n).word ≡ wrap_to to (converted to (value (is_signed from) v a))
-row-conversion from types.Bool v a n e m =
-    one_wrapped v _ _ ((Compares-any v a n m).value ∙ ap not (zero_test from v a e m.one))
-row-conversion from types.Sint v a n e m = row-resized from types.Sint v a e m.one
-row-conversion from types.Int v a n e m = row-resized from types.Int v a e m.one
-row-conversion from types.Dint v a n e m = row-resized from types.Dint v a e m.one
-row-conversion from types.Usint v a n e m = row-resized from types.Usint v a e m.one
-row-conversion from types.Uint v a n e m = row-resized from types.Uint v a e m.one
-row-conversion from types.Udint v a n e m = row-resized from types.Udint v a e m.one
-row-conversion from types.Byte v a n e m = row-resized from types.Byte v a e m.one
-row-conversion from types.Word v a n e m = row-resized from types.Word v a e m.one
-row-conversion from types.Dword v a n e m = row-resized from types.Dword v a e m.one
+row-conversion from to v a n e m = by (bool_or_resizing to)
+  where
+    to_bool : IsModel v (conversion_of from types.Bool a n).net → value false v (conversion_of from types.Bool a n).word ≡ wrap_to types.Bool (converted types.Bool (value (is_signed from) v a))
+    to_bool m = one_wrapped v _ _ ((Compares-any v a n m).value ∙ ap not (zero_test from v a e m.one))
+
+    by : (to ≡ types.Bool) ⊎ IsResizing to → value (is_signed to) v (conversion_of from to a n).word ≡ wrap_to to (converted to (value (is_signed from) v a))
+    by (inl is) =
+        subst (λ (t : Elementary). IsModel v (conversion_of from t a n).net → value (is_signed t) v (conversion_of from t a n).word ≡ wrap_to t (converted t (value (is_signed from) v a))) (sym is) to_bool m
+    by (inr is) = rw (is.word from a n, is.value (value (is_signed from) v a)) (row-resized from to v a e m.one)
 
 pub row-absolute : (t : Elementary) (v : ℕ → Bool) (a : List Lit) (n : Netlist) → length a ≡ width_of t → IsModel v (abs_of (is_signed t) a n).net
     → value (is_signed t) v (abs_of (is_signed t) a n).word ≡ wrap_to t (pos (unsigned_abs (value (is_signed t) v a)))

@@ -1,5 +1,5 @@
 -- The widths of words: each operation gives as many bits as its type has.
-use Rattle.std.proofs.Common.{◌≡◌, ℕ, ◌+◌, ◌-◌, ◌%◌, ◌<◌, Bool, false, refl, sym, ◌∙◌, ap, subst, List, [], ◌∷◌, ◌++◌, length, map, take, drop, replicate, min, arith, length-append, append_assoc}
+use Rattle.std.proofs.Common.{◌≡◌, ◌⊎◌, inl, inr, ℕ, ◌+◌, ◌-◌, ◌%◌, ◌<◌, Bool, false, refl, sym, ◌∙◌, ap, subst, List, [], ◌∷◌, ◌++◌, length, map, take, drop, replicate, min, arith, length-append, append_assoc}
 use Rattle.std.proofs.lemmas.List.{length-replicate, length-take, length-drop, length-map, map-append, append-nil}
 use Rattle.clause_core.specs.declared.literal.Lit.{Lit}
 use Rattle.clause_core.specs.Values.{negation}
@@ -31,6 +31,7 @@ use Rattle.word_laws.proofs.SignedDivisions.{length-abs, length-division}
 use Rattle.node_circuits.specs.Rows.{unary_of, binary_of, conversion_of, shift_of}
 use Rattle.node_circuits.specs.NodeWords.{Words, word_in, operand_of, node_of, words_of_nodes}
 use Rattle.node_circuit_laws.specs.WordValues.{HaveWidths}
+use Rattle.node_circuit_laws.proofs.Conversions.{IsResizing, bool_or_resizing}
 
 length-kept : (k w : ℕ) (fill : Lit) (a : List Lit) → k ≡ min w (length a) → length (kept_below k w fill a) ≡ w
 length-kept k w fill a e = omega (arith, length-append (take k a) (replicate (w - k) fill), length-take k a, length-replicate (w - k) fill)
@@ -62,16 +63,11 @@ length-binary ops.Divide t a b n e f = length-division parts.Quotient (is_signed
 length-binary ops.Mod t a b n e f = length-division parts.Remainder (is_signed t) a b n (e ∙ sym f) ∙ e
 
 length-conversion : (from to : Elementary) (a : List Lit) (n : Netlist) → length (conversion_of from to a n).word ≡ width_of to
-length-conversion from types.Bool a n = refl
-length-conversion from types.Sint a n = length-resized (is_signed from) 8 a
-length-conversion from types.Int a n = length-resized (is_signed from) 16 a
-length-conversion from types.Dint a n = length-resized (is_signed from) 32 a
-length-conversion from types.Usint a n = length-resized (is_signed from) 8 a
-length-conversion from types.Uint a n = length-resized (is_signed from) 16 a
-length-conversion from types.Udint a n = length-resized (is_signed from) 32 a
-length-conversion from types.Byte a n = length-resized (is_signed from) 8 a
-length-conversion from types.Word a n = length-resized (is_signed from) 16 a
-length-conversion from types.Dword a n = length-resized (is_signed from) 32 a
+length-conversion from to a n = by (bool_or_resizing to)
+  where
+    by : (to ≡ types.Bool) ⊎ IsResizing to → length (conversion_of from to a n).word ≡ width_of to
+    by (inl e) = subst (λ (t : Elementary). length (conversion_of from t a n).word ≡ width_of t) (sym e) refl
+    by (inr is) = rw (is.word from a n) (length-resized (is_signed from) (width_of to) a)
 
 -- so many places are moved, at most as many as there are
 length-up : (k : ℕ) (a : List Lit) → k < length a + 1 → length (zeros k ++ take (length a - k) a) ≡ length a

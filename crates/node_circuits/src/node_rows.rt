@@ -9,7 +9,7 @@ use crate::rows::{conversion, range_test, shifted, zero_test};
 use clause_core::Lit;
 use gates::{Circuit, GateFault};
 use node_core::Node;
-use plc_types::{Elementary, Operator, Range, Shift, UnaryOperator};
+use plc_types::{Elementary, Operator, Range, Shift, UnaryOperator, Value};
 use std::alloc::Global;
 use word_circuits::{abs, choose, constant, max, min, top};
 
@@ -18,7 +18,7 @@ pub(crate) fn constant_word(
     alloc: Global,
     circuit: &mut Circuit,
     kind: Elementary,
-    value: i64,
+    value: Value,
 ) -> Result<Vec<Lit>, GateFault>
     ensures { Makes (node_of [] (Node.Constant kind value) circuit.old) circuit.old circuit.new result }
 {

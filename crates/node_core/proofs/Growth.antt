@@ -8,13 +8,15 @@ use Rattle.plc_types.specs.declared.function.Function.{Function}
 use Rattle.plc_types.specs.declared.function.Function.TheVariants as functions
 use Rattle.plc_types.specs.declared.operator.Operator.{Operator}
 use Rattle.program_tree.specs.Tree.{Expression, number, cell, unary, chain, call_standard, call_function, Operands, no_operands, operand, Expressions, no_expressions, expression}
+use Rattle.program_tree.specs.declared.scratch.Scratch.{Scratch}
+use Rattle.program_tree.specs.OperandTypes.{first_operand_kind, first_kind}
+use Rattle.program_tree.specs.Places.{place_at}
 use Rattle.meaning.specs.Values.{divides}
-use Rattle.flat_core.specs.declared.flat_tree.Scratch.{Scratch}
 use Rattle.flat_core.specs.FlatTree.{FlatStatement, set, branch, FlatStatements, no_flats, flat}
 use Rattle.node_core.specs.declared.node.Node.{Node}
 use Rattle.node_core.specs.declared.node.Node.TheVariants.{Binary, IsZero, Maximum, Outside, Mux}
-use Rattle.node_core.specs.Words.{NodeList, Made, Store, word_at, taken, made, faulted, joined, first_operand_kind, folded, of_one, of_many, limited_word, selected_word, called_word, first_kind, word_of, word_on, words_of}
-use Rattle.node_core.specs.Stores.{place_at, with_fault_of, with_word, tested_word, target_word, set_word, merged_word, merged, store_of, store_of_all}
+use Rattle.node_core.specs.Words.{NodeList, Made, Store, word_at, taken, made, faulted, joined, folded, of_one, of_many, limited_word, selected_word, called_word, word_of, word_on, words_of}
+use Rattle.node_core.specs.Stores.{with_fault_of, with_word, tested_word, target_word, set_word, merged_word, merged, store_of, store_of_all}
 
 -- a list of nodes begins with another, over the same start words
 pub record Grows (n m : NodeList) : Type 0 where

@@ -1,6 +1,5 @@
 pub mod Nodes
 pub mod NodeTypes
-pub mod Sources
 pub mod Words
 pub mod Stores
 pub mod Scans

@@ -5,6 +5,7 @@ use Rattle.plc_types.specs.declared.elementary.Elementary.{Elementary}
 use Rattle.plc_types.specs.declared.elementary.Elementary.TheVariants as types
 use Rattle.plc_types.specs.DataTypes.{carrier}
 use Rattle.program_tree.specs.Tree.{Expression, CellData}
+use Rattle.program_tree.specs.Places.{of_cell, IsTypedPlace}
 use Rattle.meaning.specs.Values.{State, number_of, no_callees, value_of, faults}
 use Rattle.scan_model.specs.Scans.{ranges_of}
 use Rattle.scan_model.specs.InRange.{IsInRange}
@@ -14,9 +15,8 @@ use Rattle.flat_core.specs.FlatRules.{Reads}
 use Rattle.node_core.specs.declared.node.Node.{Node}
 use Rattle.node_core.specs.Nodes.{WordsAre, NodesHold, value_in, all_values}
 use Rattle.node_core.specs.NodeTypes.{IsWordOf, AreTypedNodes, all_kinds}
-use Rattle.node_core.specs.Stores.{of_cell}
 use Rattle.node_core.specs.Scans.{scan_of, clause_of}
-use Rattle.node_core.specs.TypedFlats.{IsTypedPlace, IsTypedFlat, IsTypedClause}
+use Rattle.node_core.specs.TypedFlats.{IsTypedFlat, IsTypedClause}
 
 -- ---- what the words are
 

@@ -1,10 +1,9 @@
 -- The types of words. Each operand of a node is an earlier word, of the type that the node asks for.
-use Rattle.std.specs.Prelude.{◌≡◌, ℕ, List, [], ◌∷◌, ◌++◌, Bool, true, false, not, map, Some, slice_get}
+use Rattle.std.specs.Prelude.{◌≡◌, ℕ, List, [], ◌∷◌, ◌++◌, Bool, true, false, map, Some, slice_get}
 use Rattle.plc_types.specs.declared.elementary.Elementary.{Elementary}
 use Rattle.plc_types.specs.declared.elementary.Elementary.TheVariants as types
-use Rattle.plc_types.specs.declared.operator.Operator.{Operator}
-use Rattle.plc_types.specs.declared.operator.Operator.TheVariants as ops
 use Rattle.plc_types.specs.Types.{range_of, is_signed, in_range}
+use Rattle.program_tree.specs.OperandTypes.{is_for}
 use Rattle.meaning.specs.Values.{result_type}
 use Rattle.node_core.specs.declared.node.Node.{Node}
 use Rattle.node_core.specs.declared.node.Node.TheVariants.{Constant, Unary, Binary, Convert, Absolute, Minimum, Maximum, Shift, IsZero, Outside, Mux}
@@ -22,13 +21,6 @@ kind_of (Shift s n t a) = t
 kind_of (IsZero t a) = types.Bool
 kind_of (Outside t r a) = types.Bool
 kind_of (Mux t c a b) = t
-
--- operators on bits are for BOOL and bit strings, whose numbers have no sign
-abbrev pub is_for : Operator → Elementary → Bool
-is_for ops.Or t = not (is_signed t)
-is_for ops.Xor t = not (is_signed t)
-is_for ops.And t = not (is_signed t)
-is_for _ t = true
 
 -- a word is there, and is of a type
 abbrev pub IsWordOf : List Elementary → Elementary → ℕ → Type 0

@@ -1,23 +1,15 @@
 -- The words that flat statements leave in the store. The places are those of the cells and behind them those of the scratch cells.
-use Rattle.std.specs.Prelude.{ℕ, ◌+◌, List, [], ◌∷◌, ◌++◌, map, nat_eq, false, Option, None, Some, slice_index_or, slice_set, pos, if◌then◌else◌}
+use Rattle.std.specs.Prelude.{ℕ, ◌+◌, List, [], ◌∷◌, ◌++◌, map, nat_eq, Option, None, Some, slice_index_or, slice_set, if◌then◌else◌}
 use Rattle.plc_types.specs.declared.elementary.Elementary.TheVariants as types
-use Rattle.plc_types.specs.DataTypes.{carrier}
-use Rattle.program_tree.specs.Tree.{Expression, CellData}
-use Rattle.flat_core.specs.declared.flat_tree.Scratch.{Scratch}
+use Rattle.program_tree.specs.Tree.{Expression}
+use Rattle.program_tree.specs.declared.scratch.Scratch.{Scratch}
+use Rattle.program_tree.specs.Places.{of_cell, place_at}
 use Rattle.flat_core.specs.FlatTree.{FlatStatement, set, branch, FlatStatements, no_flats, flat, FlatData}
 use Rattle.node_core.specs.declared.node.Node.TheVariants.{Outside, Mux}
 use Rattle.node_core.specs.Words.{NodeList, Made, Store, word_at, taken, made, faulted, word_of}
 
--- what each place takes: the type of its words, a range, and whether it is a subrange, which takes no others
-abbrev pub of_cell : CellData → Scratch
-of_cell c = record { kind = carrier c.kind; range = c.range; is_subrange = c.is_subrange }
-
 abbrev pub places_of : FlatData → List Scratch
 places_of f = map of_cell f.cells ++ f.scratch
-
--- where there is no place, there is nothing that one takes
-abbrev pub place_at : List Scratch → ℕ → Scratch
-place_at ps place = slice_index_or ps place (record { kind = types.Bool; range = record { low = pos 1; high = pos 0 }; is_subrange = false })
 
 pub record MadeStore : Type 0 where
   pub store : Store

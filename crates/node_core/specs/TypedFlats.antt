@@ -1,28 +1,22 @@
 -- Flat programs whose expressions have the types that their places ask for, and whose numbers and cells lie in the ranges of their types.
 -- What is assigned to a place that is no subrange lies in its range.
-use Rattle.std.specs.Prelude.{◌≡◌, List, [], ◌∷◌, Bool, true, false, not, ◌&&◌, ◌||◌, int_le, All}
+use Rattle.std.specs.Prelude.{◌≡◌, List, [], ◌∷◌, Bool, true, false, ◌&&◌, ◌||◌, All}
 use Rattle.plc_types.specs.declared.elementary.Elementary.{Elementary}
 use Rattle.plc_types.specs.declared.elementary.Elementary.TheVariants as types
-use Rattle.plc_types.specs.declared.function.Function.{Function}
-use Rattle.plc_types.specs.declared.function.Function.TheVariants as functions
 use Rattle.plc_types.specs.declared.range.Range.{Range}
-use Rattle.plc_types.specs.Types.{range_of, in_range, is_signed}
+use Rattle.plc_types.specs.Types.{range_of, in_range}
 use Rattle.program_tree.specs.Tree.{Expression, number, cell, unary, chain, call_standard, call_function, Operands, no_operands, operand, Expressions, no_expressions, expression}
+use Rattle.program_tree.specs.declared.scratch.Scratch.{Scratch}
+use Rattle.program_tree.specs.OperandTypes.{is_for, first_operand_kind, first_kind, is_function_for}
+use Rattle.program_tree.specs.Places.{place_at, IsTypedPlace}
 use Rattle.meaning.specs.Values.{result_type}
+use Rattle.meaning.specs.StaysIn.{covers, last_stays, chosen_stay}
 use Rattle.scan_model.specs.InRange.{BeginsWithFault}
-use Rattle.flat_core.specs.declared.flat_tree.Scratch.{Scratch}
 use Rattle.flat_core.specs.FlatTree.{FlatStatement, set, branch, FlatStatements, no_flats, flat, FlatData}
 use Rattle.flat_core.specs.FlatRules.{IsFlat}
-use Rattle.node_core.specs.NodeTypes.{is_for}
-use Rattle.node_core.specs.Words.{first_operand_kind, first_kind}
-use Rattle.node_core.specs.Stores.{places_of, place_at}
+use Rattle.node_core.specs.Stores.{places_of}
 
 -- ---- the types of expressions
-
--- shifts are for bit strings, whose numbers have no sign
-abbrev pub is_function_for : Function → Elementary → Bool
-is_function_for (functions.Shift s n) t = not (is_signed t)
-is_function_for _ t = true
 
 -- an expression of a type; operands behind a value of a type, whose result is of a type; and the operands of a function
 abbrev mutual
@@ -43,20 +37,6 @@ abbrev mutual
   AreOf ps first others (expression e es) = IsOf ps first e × AreOf ps others others es
 
 -- ---- values that stay in a range
-
--- all values of the second range lie in the first
-abbrev pub covers : Range → Range → Bool
-covers r s = int_le r.low s.low && int_le s.high r.high
-
--- the result of the last operator lies in a range; without operators it is told
-abbrev pub last_stays : Bool → Operands → Range → Bool
-last_stays first no_operands r = first
-last_stays first (operand o t e os) r = last_stays (covers r (range_of (result_type o t))) os r
-
--- SEL answers one of its last two operands
-abbrev pub chosen_stay : Function → List Bool → Bool
-chosen_stay functions.Select (g ∷ v ∷ w ∷ []) = v && w
-chosen_stay _ _ = false
 
 -- whether the types of an expression and the ranges of its cells say that its values lie in a range
 abbrev mutual
@@ -88,10 +68,6 @@ abbrev mutual
   AreTypedFlatOver ps (flat t ts) = IsTypedFlatOver ps t × AreTypedFlatOver ps ts
 
 -- ---- programs
-
--- the range of a place is one of numbers of its type
-abbrev pub IsTypedPlace : Scratch → Type 0
-IsTypedPlace p = (in_range p.range.low (range_of p.kind) ≡ true) × (in_range p.range.high (range_of p.kind) ≡ true)
 
 -- a flat program, whose first cell is FAULT, a whole BOOL
 pub record IsTypedFlat (f : FlatData) : Type 0 where

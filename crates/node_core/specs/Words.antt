@@ -8,8 +8,8 @@ use Rattle.plc_types.specs.declared.function.Function.TheVariants as functions
 use Rattle.plc_types.specs.declared.operator.Operator.{Operator}
 use Rattle.plc_types.specs.declared.operator.Operator.TheVariants.{Or}
 use Rattle.program_tree.specs.Tree.{Expression, number, cell, unary, chain, call_standard, call_function, Operands, no_operands, operand, Expressions, no_expressions, expression}
+use Rattle.program_tree.specs.OperandTypes.{first_operand_kind, first_kind}
 use Rattle.meaning.specs.Values.{divides}
-use Rattle.node_core.specs.Sources.{source_of}
 use Rattle.node_core.specs.declared.node.Node.{Node}
 use Rattle.node_core.specs.declared.node.Node.TheVariants.{Constant, Unary, Binary, Convert, Absolute, Minimum, Maximum, Shift, IsZero, Mux}
 
@@ -57,11 +57,6 @@ joined o t a b n =
 
 -- ---- standard functions
 
--- the type of a function's first operand; the others have the function's
-abbrev pub first_operand_kind : Function → Elementary → Elementary
-first_operand_kind functions.Select t = types.Bool
-first_operand_kind f t = source_of f t
-
 -- two words after the other become one, from left to right
 abbrev pub folded : (ℕ → ℕ → Node) → ℕ → List ℕ → NodeList → Made
 folded x a [] n = taken a n
@@ -104,11 +99,6 @@ called_word functions.Select t ws n = selected_word t ws n
 called_word (functions.Shift s k) t ws n = of_one (Shift s k t) t ws n
 
 -- ---- expressions
-
--- The type that the first operand of a chain has is that of its first operator. A chain without operators is its first operand.
-abbrev pub first_kind : Elementary → Operands → Elementary
-first_kind t no_operands = t
-first_kind t (operand o k e os) = k
 
 -- The word of an expression whose place asks for a type. No FUNCTION is called in a flat program.
 abbrev mutual

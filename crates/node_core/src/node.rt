@@ -1,5 +1,5 @@
 // Nodes.
-use plc_types::{Elementary, Operator, Range, Shift, UnaryOperator};
+use plc_types::{Elementary, Operator, Range, Shift, UnaryOperator, Value};
 
 /// One step of a scan in single assignment: it makes a word, of a type, from words made earlier, which it names by their
 /// numbers. The kind of a node is the type of its operands, and that of a `Constant` is the type of its number. `Divide` and
@@ -9,7 +9,7 @@ use plc_types::{Elementary, Operator, Range, Shift, UnaryOperator};
 pub enum Node {
     Constant {
         kind: Elementary,
-        value: i64,
+        value: Value,
     },
     Unary {
         operator: UnaryOperator,

@@ -6,17 +6,18 @@ use Rattle.std.proofs.lemmas.List.{length-map, get_or-set_other, set-get_or, set
 use Rattle.plc_types.specs.declared.range.Range.{Range}
 use Rattle.plc_types.specs.Types.{in_range}
 use Rattle.program_tree.specs.Tree.{Expression, CellData}
+use Rattle.program_tree.specs.declared.scratch.Scratch.{Scratch}
+use Rattle.program_tree.specs.Places.{of_cell, place_at, IsTypedPlace}
 use Rattle.meaning.specs.Values.{State, number_of, is_truth, no_callees, value_of, faults}
 use Rattle.meaning.specs.Effects.{with_fault}
 use Rattle.scan_model.specs.Scans.{ranges_of}
-use Rattle.flat_core.specs.declared.flat_tree.Scratch.{Scratch}
 use Rattle.flat_core.specs.FlatTree.{set}
 use Rattle.flat_core.specs.FlatScans.{run_of}
 use Rattle.flat_core.specs.FlatRules.{IsReadable, IsFlatOver}
 use Rattle.node_core.specs.declared.node.Node.TheVariants.{Outside, Mux}
 use Rattle.node_core.specs.Words.{NodeList, Made, Store, taken, made, faulted, word_of}
-use Rattle.node_core.specs.Stores.{of_cell, place_at, with_fault_of, with_word, tested_word, target_word, set_word, store_of}
-use Rattle.node_core.specs.TypedFlats.{IsTypedPlace, Takes, stays_in}
+use Rattle.node_core.specs.Stores.{with_fault_of, with_word, tested_word, target_word, set_word, store_of}
+use Rattle.node_core.specs.TypedFlats.{Takes, stays_in}
 use Rattle.node_core.proofs.Growth.{grows_made, grows_faulted, grows_target}
 use Rattle.node_laws.proofs.Held.{Hold, hold_before, value_made, fault_made, value_faulted}
 use Rattle.node_laws.proofs.Expressions.{stays, gives}

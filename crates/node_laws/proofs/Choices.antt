@@ -3,17 +3,18 @@ use Rattle.std.proofs.Common.{◌≡◌, ℕ, zero, suc, ◌+◌, Bool, true, fa
 use Rattle.std.specs.Prelude.{if◌then◌else◌, nat_eq, slice_index_or, All}
 use Rattle.plc_types.specs.declared.elementary.Elementary.TheVariants as types
 use Rattle.program_tree.specs.Tree.{CellData}
+use Rattle.program_tree.specs.declared.scratch.Scratch.{Scratch}
+use Rattle.program_tree.specs.Places.{of_cell, place_at, IsTypedPlace}
 use Rattle.meaning.specs.Values.{State, is_truth, no_callees, faults}
 use Rattle.meaning.specs.Effects.{with_fault}
 use Rattle.scan_model.specs.Scans.{ranges_of}
-use Rattle.flat_core.specs.declared.flat_tree.Scratch.{Scratch}
 use Rattle.flat_core.specs.FlatTree.{FlatStatement, set, branch, FlatStatements, no_flats, flat}
 use Rattle.flat_core.specs.FlatScans.{run_of, run_of_all}
 use Rattle.flat_core.specs.FlatRules.{IsReadable, set_behind, IsFlatOver, AreFlatOver}
 use Rattle.node_core.specs.declared.node.Node.TheVariants.{Mux}
 use Rattle.node_core.specs.Words.{NodeList, Store, word_at, made, word_of}
-use Rattle.node_core.specs.Stores.{of_cell, place_at, with_fault_of, with_word, merged_word, merged, store_of, store_of_all}
-use Rattle.node_core.specs.TypedFlats.{IsTypedPlace, IsTypedFlatOver, AreTypedFlatOver}
+use Rattle.node_core.specs.Stores.{with_fault_of, with_word, merged_word, merged, store_of, store_of_all}
+use Rattle.node_core.specs.TypedFlats.{IsTypedFlatOver, AreTypedFlatOver}
 use Rattle.node_core.proofs.Growth.{grows_merged, grows_all}
 use Rattle.node_laws.proofs.Held.{Hold, hold_before, value_made}
 use Rattle.node_laws.proofs.Expressions.{gives}

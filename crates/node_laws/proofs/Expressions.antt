@@ -7,15 +7,18 @@ use Rattle.plc_types.specs.declared.function.Function.{Function}
 use Rattle.plc_types.specs.declared.function.Function.TheVariants as functions
 use Rattle.plc_types.specs.declared.range.Range.{Range}
 use Rattle.plc_types.specs.Types.{range_of, in_range}
+use Rattle.plc_types.proofs.InRange.{covers_in}
+use Rattle.plc_types.proofs.TypeRanges.{wrapped_in, wrapped_same}
 use Rattle.program_tree.specs.Tree.{Expression, number, cell, unary, chain, call_standard, call_function, Operands, no_operands, operand, Expressions, no_expressions, expression}
+use Rattle.program_tree.specs.declared.scratch.Scratch.{Scratch}
+use Rattle.program_tree.specs.OperandTypes.{first_operand_kind, first_kind}
+use Rattle.program_tree.specs.Places.{place_at}
 use Rattle.meaning.specs.Values.{State, number_of, is_truth, selected, unary_applied, applied, result_type, divides_by_zero, called, function_result, no_callees, value_of, value_on, values_of, faults, any_faults, one_faults}
-use Rattle.flat_core.specs.declared.flat_tree.Scratch.{Scratch}
+use Rattle.meaning.specs.StaysIn.{covers, last_stays, chosen_stay}
 use Rattle.flat_core.specs.FlatRules.{Reads, AllRead, EachReads}
 use Rattle.node_core.specs.declared.node.Node.TheVariants.{Constant, Unary}
-use Rattle.node_core.specs.Words.{NodeList, Store, word_at, made, joined, first_operand_kind, called_word, first_kind, word_of, word_on, words_of}
-use Rattle.node_core.specs.Stores.{place_at}
-use Rattle.node_core.specs.TypedFlats.{IsOf, Join, AreOf, covers, last_stays, chosen_stay, stays_in, each_stays}
-use Rattle.node_laws.proofs.Ranges.{covers-in, wrapped-in, wrapped-same}
+use Rattle.node_core.specs.Words.{NodeList, Store, word_at, made, joined, called_word, word_of, word_on, words_of}
+use Rattle.node_core.specs.TypedFlats.{IsOf, Join, AreOf, stays_in, each_stays}
 use Rattle.node_core.proofs.Growth.{grows_made, grows_joined, grows_called, grows_on, grows_words}
 use Rattle.node_laws.proofs.Held.{Hold, hold_before, Gives, gives_made, gives_joined}
 use Rattle.node_laws.proofs.Functions.{Fit, fit_none, fit_more, gives_called}
@@ -78,20 +81,20 @@ module _ (val : ℕ → ℤ) (ps : List Scratch) (store : Store) (s : State) (P 
   last_in : (first : Bool) (v : ℤ) (os : Operands) (r : Range) → (first ≡ true → in_range v r ≡ true) → last_stays first os r ≡ true → in_range (value_on no_callees 0 v os s) r ≡ true
   last_in first v no_operands r is h = is h
   last_in first v (operand o t e os) r is h =
-      last_in (covers r (range_of (result_type o t))) (applied o t v (value_of no_callees 0 e s)) os r (λ c. covers-in r (range_of (result_type o t)) (applied o t v (value_of no_callees 0 e s)) c (wrapped-in (result_type o t) _)) h
+      last_in (covers r (range_of (result_type o t))) (applied o t v (value_of no_callees 0 e s)) os r (λ c. covers_in r (range_of (result_type o t)) (applied o t v (value_of no_callees 0 e s)) c (wrapped_in (result_type o t) _)) h
 
   mutual
     pub stays : (e : Expression) (r : Range) → stays_in ps e r ≡ true → Reads P e → in_range (value_of no_callees 0 e s) r ≡ true
     stays (number v) r h reads = h
-    stays (cell place) r h reads = subst (λ (v : ℤ). in_range v r ≡ true) (sym (at place reads)) (covers-in r (place_at ps place).range _ h (known place reads).inside)
-    stays (unary o t e) r h reads = covers-in r (range_of t) (unary_applied o t (value_of no_callees 0 e s)) h (wrapped-in t _)
+    stays (cell place) r h reads = subst (λ (v : ℤ). in_range v r ≡ true) (sym (at place reads)) (covers_in r (place_at ps place).range _ h (known place reads).inside)
+    stays (unary o t e) r h reads = covers_in r (range_of t) (unary_applied o t (value_of no_callees 0 e s)) h (wrapped_in t _)
     stays (chain e os) r h reads = last_in (stays_in ps e r) (value_of no_callees 0 e s) os r (λ c. stays e r c reads.0) h
     stays (call_standard f t es) r h reads =
         let vs = values_of no_callees 0 es s in
         let all = stays_each es r reads in
         by_either (covers r (range_of t)) (covers (range_of t) r) (chosen_stay f (each_stays ps es r)) h
-        (λ c. covers-in r (range_of t) (called f t vs) c (wrapped-in t _))
-        (λ c d. let is = chosen-in r f t (each_stays ps es r) vs all d in subst (λ v. in_range v r ≡ true) (sym (wrapped-same t (function_result f t vs) (covers-in (range_of t) r (function_result f t vs) c is))) is)
+        (λ c. covers_in r (range_of t) (called f t vs) c (wrapped_in t _))
+        (λ c d. let is = chosen-in r f t (each_stays ps es r) vs all d in subst (λ v. in_range v r ≡ true) (sym (wrapped_same t (function_result f t vs) (covers_in (range_of t) r (function_result f t vs) c is))) is)
     stays (call_function f es) r h reads = absurd reads
 
     stays_each : (es : Expressions) (r : Range) → EachReads P es → AllIn r (each_stays ps es r) (values_of no_callees 0 es s)
@@ -102,15 +105,15 @@ module _ (val : ℕ → ℤ) (ps : List Scratch) (store : Store) (s : State) (P 
 
   fits_on : (os : Operands) (left t : Elementary) (v : ℤ) → Join ps left t os → in_range v (range_of left) ≡ true → in_range (value_on no_callees 0 v os s) (range_of t) ≡ true
   fits_on no_operands left t v join h = subst (λ (k : Elementary). in_range v (range_of k) ≡ true) join h
-  fits_on (operand o k e os) left t v join h = fits_on os (result_type o k) t (applied o k v (value_of no_callees 0 e s)) join.3 (wrapped-in (result_type o k) _)
+  fits_on (operand o k e os) left t v join h = fits_on os (result_type o k) t (applied o k v (value_of no_callees 0 e s)) join.3 (wrapped_in (result_type o k) _)
 
   pub fits : (e : Expression) (t : Elementary) → IsOf ps t e → Reads P e → in_range (value_of no_callees 0 e s) (range_of t) ≡ true
   fits (number v) t is reads = is
   fits (cell place) t is reads =
       subst (λ (v : ℤ). in_range v (range_of t) ≡ true) (sym (at place reads)) (subst (λ (k : Elementary). in_range (slice_index_or s place (pos 0)) (range_of k) ≡ true) is (known place reads).typed)
-  fits (unary o k e) t is reads = subst (λ (j : Elementary). in_range (unary_applied o k (value_of no_callees 0 e s)) (range_of j) ≡ true) is.0 (wrapped-in k _)
+  fits (unary o k e) t is reads = subst (λ (j : Elementary). in_range (unary_applied o k (value_of no_callees 0 e s)) (range_of j) ≡ true) is.0 (wrapped_in k _)
   fits (chain e os) t is reads = fits_on os (first_kind t os) t (value_of no_callees 0 e s) is.1 (fits e (first_kind t os) is.0 reads.0)
-  fits (call_standard f k es) t is reads = subst (λ (j : Elementary). in_range (called f k (values_of no_callees 0 es s)) (range_of j) ≡ true) is.0 (wrapped-in k _)
+  fits (call_standard f k es) t is reads = subst (λ (j : Elementary). in_range (called f k (values_of no_callees 0 es s)) (range_of j) ≡ true) is.0 (wrapped_in k _)
   fits (call_function f es) t is reads = absurd reads
 
   pub fit_all : (es : Expressions) (first others : Elementary) → AreOf ps first others es → EachReads P es → Fit first others (values_of no_callees 0 es s)

@@ -7,14 +7,14 @@ use Rattle.plc_types.specs.declared.function.Function.{Function}
 use Rattle.plc_types.specs.declared.function.Function.TheVariants as functions
 use Rattle.plc_types.specs.declared.range.Range.{Range}
 use Rattle.plc_types.specs.Types.{width_of, range_of, in_range, wrap_to}
+use Rattle.plc_types.proofs.TypeRanges.{zero_in, wrapped_same}
+use Rattle.program_tree.specs.OperandTypes.{source_of, first_operand_kind}
 use Rattle.meaning.specs.Values.{number_of, is_truth, converted, shifted, lesser, greater, least, greatest, limited, selected, of_one, of_many, of_three, called}
 use Rattle.node_core.specs.declared.node.Node.{Node}
 use Rattle.node_core.specs.declared.node.Node.TheVariants.{Constant, Convert, Absolute, Minimum, Maximum, Shift, Mux}
 use Rattle.node_core.specs.Nodes.{node_value}
-use Rattle.node_core.specs.Sources.{source_of}
 use Rattle.node_core.specs.Words as words
-use Rattle.node_core.specs.Words.{NodeList, Made, made, taken, first_operand_kind, folded, nothing, limited_word, selected_word, called_word}
-use Rattle.node_laws.proofs.Ranges.{wrapped-same, zero-in}
+use Rattle.node_core.specs.Words.{NodeList, Made, made, taken, folded, nothing, limited_word, selected_word, called_word}
 use Rattle.node_core.proofs.Growth.{grows_made, grows_folded}
 use Rattle.node_laws.proofs.Held.{Hold, hold_before, Gives, gives_made}
 
@@ -54,7 +54,7 @@ greatest_in t v (w ∷ vs) h more = greatest_in t (greater v w) vs (greater_in (
 
 module _ (val : ℕ → ℤ) where
   gives_nothing : (t : Elementary) (n : NodeList) (b : Bool) → Hold val (nothing t n).list → val n.fault ≡ number_of b → Gives val (nothing t n) (wrap_to t (pos 0)) b
-  gives_nothing t n b h is_b = gives_made val (Constant t (pos 0)) n _ b h is_b (sym (wrapped-same t (pos 0) (zero-in t)))
+  gives_nothing t n b h is_b = gives_made val (Constant t (pos 0)) n _ b h is_b (sym (wrapped_same t (pos 0) (zero_in t)))
 
   gives_one : (x : ℕ → Node) (r : ℤ → ℤ) (t : Elementary) (ws : List ℕ) (n : NodeList) (b : Bool) → ((a : ℕ) → node_value val (x a) ≡ wrap_to t (r (val a)))
       → Hold val (words.of_one x t ws n).list → val n.fault ≡ number_of b → Gives val (words.of_one x t ws n) (wrap_to t (of_one r (map val ws))) b
@@ -75,7 +75,7 @@ module _ (val : ℕ → ℤ) where
 
   -- a value of the type is not changed by being wrapped
   gives_wrapped : (m : Made) (t : Elementary) (v : ℤ) (b : Bool) → in_range v (range_of t) ≡ true → Gives val m v b → Gives val m (wrap_to t v) b
-  gives_wrapped m t v b h g = record { word = g.word ∙ sym (wrapped-same t v h); fault = g.fault }
+  gives_wrapped m t v b h g = record { word = g.word ∙ sym (wrapped_same t v h); fault = g.fault }
 
   gives_least : (t : Elementary) (ws : List ℕ) (n : NodeList) (b : Bool) → Fit t t (map val ws) → Hold val (words.of_many (Minimum t) t ws n).list → val n.fault ≡ number_of b
       → Gives val (words.of_many (Minimum t) t ws n) (wrap_to t (of_many least (map val ws))) b

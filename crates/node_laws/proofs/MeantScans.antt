@@ -5,23 +5,24 @@ use Rattle.std.proofs.lemmas.List.{length-map, get_or-append-add, get_or_append_
 use Rattle.plc_types.specs.declared.elementary.Elementary.TheVariants as types
 use Rattle.plc_types.specs.declared.range.Range.{Range}
 use Rattle.plc_types.specs.Types.{in_range}
+use Rattle.plc_types.proofs.InRange.{in_range_from}
 use Rattle.program_tree.specs.Tree.{CellData}
+use Rattle.program_tree.specs.declared.scratch.Scratch.{Scratch}
+use Rattle.program_tree.specs.Places.{of_cell, place_at}
 use Rattle.meaning.specs.Values.{State, number_of}
 use Rattle.meaning.specs.Effects.{range_at}
 use Rattle.scan_model.specs.Scans.{ranges_of}
 use Rattle.scan_model.specs.InRange.{IsInRange, BeginsWithFault}
 use Rattle.scan_model.proofs.Keeping.{IsInRange-length}
-use Rattle.flat_core.specs.declared.flat_tree.Scratch.{Scratch}
 use Rattle.flat_core.specs.FlatTree.{FlatData}
 use Rattle.flat_core.specs.FlatScans.{run_of_all, cleared}
 use Rattle.flat_core.specs.FlatRules.{IsReadable}
 use Rattle.node_core.specs.Nodes.{WordsAre, NodesHold}
 use Rattle.node_core.specs.Words.{NodeList, Store, word_of}
-use Rattle.node_core.specs.Stores.{of_cell, places_of, place_at}
+use Rattle.node_core.specs.Stores.{places_of}
 use Rattle.node_core.specs.Scans.{start_words, start_store, run_of, words_in, scan_of, clause_of}
 use Rattle.node_core.specs.TypedFlats.{IsTypedFlat}
 use Rattle.node_core.specs.NodeLaws.{NodesMeanScans, NodesMeanClauses}
-use Rattle.node_laws.proofs.Ranges.{within}
 use Rattle.node_core.proofs.Growth.{grows_word, grows_all}
 use Rattle.node_laws.proofs.Expressions.{Known, gives}
 use Rattle.node_laws.proofs.Places.{range_below, typed_at, Holds, Shows, word_is, FaultFirst}
@@ -58,7 +59,7 @@ words_at val word (v ∷ vs) (suc place) h are = ap val (one word place) ∙ wor
 range_at-in : (rs : List Range) (s : State) (place : ℕ) → place < length rs → IsInRange rs s → in_range (slice_index_or s place (pos 0)) (range_at rs place) ≡ true
 range_at-in [] s place h is = absurd (omega arith)
 range_at-in (r ∷ rs) [] place h is = absurd is
-range_at-in (r ∷ rs) (v ∷ s) zero h is = within v r.low r.high is.0 is.1
+range_at-in (r ∷ rs) (v ∷ s) zero h is = in_range_from v r is.0 is.1
 range_at-in (r ∷ rs) (v ∷ s) (suc place) h is = range_at-in rs s place (omega arith) is.2
 
 fault_first : (cells : List CellData) (cs : List Scratch) → BeginsWithFault cells → (place_at (map of_cell cells ++ cs) 0).is_subrange ≡ false → FaultFirst (map of_cell cells ++ cs) (length cells)

@@ -7,18 +7,19 @@ use Rattle.std.proofs.lemmas.List.{length-map, length-set, get_or-set_same, get_
 use Rattle.plc_types.specs.declared.elementary.Elementary.TheVariants as types
 use Rattle.plc_types.specs.declared.range.Range.{Range}
 use Rattle.plc_types.specs.Types.{range_of, in_range}
+use Rattle.plc_types.proofs.InRange.{bounds, between_in}
 use Rattle.program_tree.specs.Tree.{Expression, number, cell, unary, chain, call_standard, call_function, CellData}
+use Rattle.program_tree.specs.declared.scratch.Scratch.{Scratch}
+use Rattle.program_tree.specs.Places.{of_cell, place_at, IsTypedPlace}
 use Rattle.meaning.specs.Values.{State, number_of, is_truth, no_callees, value_of}
 use Rattle.meaning.specs.Effects.{range_at, with_fault, stored}
 use Rattle.scan_model.specs.Scans.{ranges_of}
-use Rattle.flat_core.specs.declared.flat_tree.Scratch.{Scratch}
 use Rattle.flat_core.specs.FlatTree.{FlatStatement, set, branch}
 use Rattle.flat_core.specs.FlatScans.{takes, placed}
 use Rattle.flat_core.specs.FlatRules.{IsReadable, has_subrange, IsTakenNumber, MaySet, set_behind}
 use Rattle.node_core.specs.Words.{Store, word_at}
-use Rattle.node_core.specs.Stores.{of_cell, place_at, with_word}
-use Rattle.node_core.specs.TypedFlats.{IsTypedPlace}
-use Rattle.node_laws.proofs.Ranges.{bounds, between-in, number_of-in, zero_or_one}
+use Rattle.node_core.specs.Stores.{with_word}
+use Rattle.node_laws.proofs.Ranges.{number_of-in, zero_or_one}
 use Rattle.node_laws.proofs.Expressions.{Known}
 
 -- ---- places
@@ -34,7 +35,7 @@ typed_at ps place v typed h = by_place (nat_lt place (length ps)) refl
     by_place true e =
         let below : place < length ps = search (rules, tests) in
         let is = typed place (record { kind = types.Bool; range = record { low = pos 1; high = pos 0 }; is_subrange = false }) below in
-        between-in (range_of (place_at ps place).kind) (place_at ps place).range v is.0 is.1 h
+        between_in (range_of (place_at ps place).kind) (place_at ps place).range v is.0 is.1 h
     by_place false e =
         let above : length ps ≤ place = search (rules, tests) in
         let none = get_or_past ps place (record { kind = types.Bool; range = record { low = pos 1; high = pos 0 }; is_subrange = false }) above in

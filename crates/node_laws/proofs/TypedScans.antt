@@ -6,13 +6,13 @@ use Rattle.plc_types.specs.declared.elementary.Elementary.{Elementary}
 use Rattle.plc_types.specs.declared.elementary.Elementary.TheVariants as types
 use Rattle.plc_types.specs.DataTypes.{carrier}
 use Rattle.program_tree.specs.Tree.{CellData}
+use Rattle.program_tree.specs.declared.scratch.Scratch.{Scratch}
+use Rattle.program_tree.specs.Places.{of_cell, place_at}
 use Rattle.scan_model.specs.InRange.{BeginsWithFault}
-use Rattle.flat_core.specs.declared.flat_tree.Scratch.{Scratch}
 use Rattle.flat_core.specs.FlatTree.{FlatData}
 use Rattle.flat_core.specs.FlatRules.{IsReadable}
 use Rattle.node_core.specs.NodeTypes.{IsWordOf, all_kinds}
 use Rattle.node_core.specs.Words.{NodeList, Store, word_at}
-use Rattle.node_core.specs.Stores.{of_cell, place_at}
 use Rattle.node_core.specs.Scans.{start_words, start_store, run_of, words_in, scan_of}
 use Rattle.node_core.specs.TypedFlats.{IsTypedFlat}
 use Rattle.node_core.specs.NodeLaws.{kinds_of, AreWordsOf, NodesOfScansAreTyped, NodesOfClausesAreTyped}

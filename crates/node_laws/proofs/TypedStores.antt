@@ -5,14 +5,15 @@ use Rattle.std.proofs.lemmas.List.{length-map, length-set, get_or-set_same, get_
 use Rattle.plc_types.specs.declared.elementary.Elementary.{Elementary}
 use Rattle.plc_types.specs.declared.elementary.Elementary.TheVariants as types
 use Rattle.program_tree.specs.Tree.{Expression, CellData}
-use Rattle.flat_core.specs.declared.flat_tree.Scratch.{Scratch}
+use Rattle.program_tree.specs.declared.scratch.Scratch.{Scratch}
+use Rattle.program_tree.specs.Places.{of_cell, place_at, IsTypedPlace}
 use Rattle.flat_core.specs.FlatTree.{FlatStatement, set, branch, FlatStatements, no_flats, flat}
 use Rattle.flat_core.specs.FlatRules.{Reads, IsReadable, set_behind, IsFlatOver, AreFlatOver}
 use Rattle.node_core.specs.declared.node.Node.TheVariants.{Outside, Mux}
 use Rattle.node_core.specs.NodeTypes.{IsWordOf, all_kinds}
 use Rattle.node_core.specs.Words.{NodeList, Store, word_at, taken, made, faulted, word_of}
-use Rattle.node_core.specs.Stores.{of_cell, place_at, with_fault_of, with_word, tested_word, target_word, merged_word, merged, store_of, store_of_all}
-use Rattle.node_core.specs.TypedFlats.{IsTypedPlace, IsOf, Takes, IsTypedFlatOver, AreTypedFlatOver}
+use Rattle.node_core.specs.Stores.{with_fault_of, with_word, tested_word, target_word, merged_word, merged, store_of, store_of_all}
+use Rattle.node_core.specs.TypedFlats.{IsOf, Takes, IsTypedFlatOver, AreTypedFlatOver}
 use Rattle.node_core.proofs.Growth.{Grows, grows_both, grows_made, grows_from, grows_word, grows_target, grows_merged_word, grows_merged, grows_all}
 use Rattle.node_laws.proofs.TypedWords.{Typed, adds_made, Makes, later, makes_made, makes_faulted, grows_fault, Reading, makes}
 use Rattle.node_laws.proofs.Choices.{length-merged}

@@ -9,18 +9,18 @@ use Rattle.plc_types.specs.declared.function.Function.TheVariants as functions
 use Rattle.plc_types.specs.declared.operator.Operator.{Operator}
 use Rattle.plc_types.specs.declared.operator.Operator.TheVariants as ops
 use Rattle.plc_types.specs.Types.{is_signed}
+use Rattle.plc_types.proofs.TypeRanges.{zero_in}
 use Rattle.program_tree.specs.Tree.{Expression, number, cell, unary, chain, call_standard, call_function, Operands, no_operands, operand, Expressions, no_expressions, expression}
+use Rattle.program_tree.specs.declared.scratch.Scratch.{Scratch}
+use Rattle.program_tree.specs.OperandTypes.{is_for, source_of, first_operand_kind, first_kind, is_function_for}
+use Rattle.program_tree.specs.Places.{place_at}
 use Rattle.meaning.specs.Values.{divides, result_type}
-use Rattle.flat_core.specs.declared.flat_tree.Scratch.{Scratch}
 use Rattle.flat_core.specs.FlatRules.{Reads, AllRead, EachReads}
 use Rattle.node_core.specs.declared.node.Node.{Node}
 use Rattle.node_core.specs.declared.node.Node.TheVariants.{Constant, Unary, Binary, Convert, Absolute, Minimum, Maximum, Shift, IsZero, Mux}
-use Rattle.node_core.specs.NodeTypes.{kind_of, is_for, IsWordOf, IsTypedNode, AreTypedNodes, all_kinds}
-use Rattle.node_core.specs.Sources.{source_of}
-use Rattle.node_core.specs.Words.{NodeList, Made, Store, word_at, taken, made, faulted, joined, first_operand_kind, folded, nothing, of_one, of_many, limited_word, selected_word, called_word, first_kind, word_of, word_on, words_of}
-use Rattle.node_core.specs.Stores.{place_at}
-use Rattle.node_core.specs.TypedFlats.{is_function_for, IsOf, Join, AreOf}
-use Rattle.node_laws.proofs.Ranges.{zero-in}
+use Rattle.node_core.specs.NodeTypes.{kind_of, IsWordOf, IsTypedNode, AreTypedNodes, all_kinds}
+use Rattle.node_core.specs.Words.{NodeList, Made, Store, word_at, taken, made, faulted, joined, folded, nothing, of_one, of_many, limited_word, selected_word, called_word, word_of, word_on, words_of}
+use Rattle.node_core.specs.TypedFlats.{IsOf, Join, AreOf}
 use Rattle.node_laws.proofs.Held.{fault_made}
 use Rattle.node_core.proofs.Growth.{Grows, grows_both, grows_made, grows_joined, grows_word, grows_words}
 
@@ -146,7 +146,7 @@ module _ (ts : List Elementary) where
 
   module _ (t : Elementary) where
     makes_nothing : (n : NodeList) → Typed ts n → IsWordOf (all_kinds ts n.nodes) types.Bool n.fault → Makes ts (nothing t n) t
-    makes_nothing n typed fault = makes_made (Constant t (pos 0)) n t refl typed fault (zero-in t)
+    makes_nothing n typed fault = makes_made (Constant t (pos 0)) n t refl typed fault (zero_in t)
 
     makes_one : (x : ℕ → Node) (first : Elementary) (ws : List ℕ) (n : NodeList) → ((a : ℕ) → kind_of (x a) ≡ t) → ((a : ℕ) (ks : List Elementary) → IsWordOf ks first a → IsTypedNode ks (x a))
         → Typed ts n → IsWordOf (all_kinds ts n.nodes) types.Bool n.fault → EachOf (all_kinds ts n.nodes) first t ws → Makes ts (of_one x t ws n) t

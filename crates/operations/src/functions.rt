@@ -5,10 +5,10 @@ ghost use Rattle.meaning.specs.Values.{called, converted, limited, selected, les
 ghost use Rattle.operations.specs.Joined.{joined};
 
 use crate::wrapping::{truth, wrap_bits, wrap_short, wrap_wide};
-use plc_types::{Elementary, Function, Shift};
+use plc_types::{Elementary, Function, Shift, Value};
 
 /// What a function makes of one value.
-pub fn call_of_one(function: Function, kind: Elementary, value: i64) -> i64
+pub fn call_of_one(function: Function, kind: Elementary, value: Value) -> Value
     ensures { result ≡ called function kind (value ∷ []) }
 {
     match function {
@@ -21,7 +21,13 @@ pub fn call_of_one(function: Function, kind: Elementary, value: i64) -> i64
 }
 
 /// What a function makes of three values.
-pub fn call_of_three(function: Function, kind: Elementary, one: i64, two: i64, three: i64) -> i64
+pub fn call_of_three(
+    function: Function,
+    kind: Elementary,
+    one: Value,
+    two: Value,
+    three: Value,
+) -> Value
     ensures { result ≡ called function kind (one ∷ two ∷ three ∷ []) }
 {
     match function {
@@ -34,7 +40,7 @@ pub fn call_of_three(function: Function, kind: Elementary, one: i64, two: i64, t
 }
 
 /// What MIN and MAX make of two values, one of which is what they make of the values before.
-pub fn joined(function: Function, so_far: i64, value: i64) -> i64
+pub fn joined(function: Function, so_far: Value, value: Value) -> Value
     ensures { result ≡ joined function so_far value }
 {
     match function {
@@ -48,7 +54,7 @@ pub fn joined(function: Function, so_far: i64, value: i64) -> i64
     }
 }
 
-fn convert(kind: Elementary, value: i64) -> i64
+fn convert(kind: Elementary, value: Value) -> Value
     ensures { result ≡ wrap_to kind (converted kind value) }
 {
     match kind {
@@ -57,32 +63,32 @@ fn convert(kind: Elementary, value: i64) -> i64
     }
 }
 
-fn lesser(left: i64, right: i64) -> i64
+fn lesser(left: Value, right: Value) -> Value
     ensures { result ≡ lesser left right }
 {
     if right < left { right } else { left }
 }
 
-fn greater(left: i64, right: i64) -> i64
+fn greater(left: Value, right: Value) -> Value
     ensures { result ≡ greater left right }
 {
     if left < right { right } else { left }
 }
 
-fn limited(low: i64, value: i64, high: i64) -> i64
+fn limited(low: Value, value: Value, high: Value) -> Value
     ensures { result ≡ limited low value high }
 {
     lesser(greater(value, low), high)
 }
 
-fn selected(choice: i64, no: i64, yes: i64) -> i64
+fn selected(choice: Value, no: Value, yes: Value) -> Value
     ensures { result ≡ selected choice no yes }
 {
     if choice == 1 { yes } else { no }
 }
 
 // The bits of a value, shifted or rotated.
-fn move_bits(shift: Shift, amount: u8, kind: Elementary, value: i64) -> i64
+fn move_bits(shift: Shift, amount: u8, kind: Elementary, value: Value) -> Value
     ensures { result ≡ wrap_to kind (pos (shifted shift (width_of kind) amount (unsigned_abs value))) }
 {
     let bits = shifted(shift, kind.width(), u32::from(amount), value.unsigned_abs());

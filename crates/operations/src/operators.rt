@@ -7,11 +7,11 @@ ghost use Rattle.meaning.specs.Values.{unary_applied, unary_result, or_zero, app
 
 use crate::wrapping::{truth, wrap_bits, wrap_short, wrap_wide};
 use num_core::{quot, rem};
-use plc_types::{Elementary, Operator, UnaryOperator};
+use plc_types::{Elementary, Operator, UnaryOperator, Value};
 
 /// Whether an operator meets a divisor of 0.
 #[inline(always)]
-pub fn divides_by_zero(operator: Operator, right: i64) -> bool
+pub fn divides_by_zero(operator: Operator, right: Value) -> bool
     ensures { result ≡ divides_by_zero operator right }
 {
     matches!(operator, Operator::Divide | Operator::Mod) && right == 0
@@ -19,7 +19,7 @@ pub fn divides_by_zero(operator: Operator, right: i64) -> bool
 
 /// What a unary operator makes of a value. Only a value at the edge of 64 bits needs more than 64.
 #[inline(always)]
-pub fn apply_unary(operator: UnaryOperator, kind: Elementary, value: i64) -> i64
+pub fn apply_unary(operator: UnaryOperator, kind: Elementary, value: Value) -> Value
     ensures { result ≡ unary_applied operator kind value }
 {
     match operator {
@@ -28,7 +28,7 @@ pub fn apply_unary(operator: UnaryOperator, kind: Elementary, value: i64) -> i64
     }
 }
 
-fn negated(kind: Elementary, value: i64) -> i64
+fn negated(kind: Elementary, value: Value) -> Value
     ensures { result ≡ wrap_to kind (neg_ℤ value) }
 {
     match value.checked_neg() {
@@ -37,14 +37,14 @@ fn negated(kind: Elementary, value: i64) -> i64
     }
 }
 
-fn exact_negation(value: i64) -> i128
+fn exact_negation(value: Value) -> i128
     ensures { result ≡ neg_ℤ value }
 {
     -i128::from(value)
 }
 
 // Each bit turned. FALSE and TRUE need not be wrapped.
-fn turned(kind: Elementary, value: i64) -> i64
+fn turned(kind: Elementary, value: Value) -> Value
     ensures { result ≡ wrap_to kind (unary_result signs.Not value) }
 {
     match (kind, value) {
@@ -56,7 +56,7 @@ fn turned(kind: Elementary, value: i64) -> i64
 
 /// What an operator makes of two values. What does not fit 64 bits is worked out in 128.
 #[inline(always)]
-pub fn apply(operator: Operator, kind: Elementary, left: i64, right: i64) -> i64
+pub fn apply(operator: Operator, kind: Elementary, left: Value, right: Value) -> Value
     ensures { result ≡ applied operator kind left right }
 {
     match operator {
@@ -78,7 +78,7 @@ pub fn apply(operator: Operator, kind: Elementary, left: i64, right: i64) -> i64
 }
 
 #[inline(always)]
-fn sum(kind: Elementary, left: i64, right: i64) -> i64
+fn sum(kind: Elementary, left: Value, right: Value) -> Value
     ensures { result ≡ wrap_to kind (left +ℤ right) }
 {
     match left.checked_add(right) {
@@ -87,14 +87,14 @@ fn sum(kind: Elementary, left: i64, right: i64) -> i64
     }
 }
 
-fn exact_sum(left: i64, right: i64) -> i128
+fn exact_sum(left: Value, right: Value) -> i128
     ensures { result ≡ left +ℤ right }
 {
     i128::from(left) + i128::from(right)
 }
 
 #[inline(always)]
-fn difference(kind: Elementary, left: i64, right: i64) -> i64
+fn difference(kind: Elementary, left: Value, right: Value) -> Value
     ensures { result ≡ wrap_to kind (left -ℤ right) }
 {
     match left.checked_sub(right) {
@@ -103,14 +103,14 @@ fn difference(kind: Elementary, left: i64, right: i64) -> i64
     }
 }
 
-fn exact_difference(left: i64, right: i64) -> i128
+fn exact_difference(left: Value, right: Value) -> i128
     ensures { result ≡ left -ℤ right }
 {
     i128::from(left) - i128::from(right)
 }
 
 #[inline(always)]
-fn product(kind: Elementary, left: i64, right: i64) -> i64
+fn product(kind: Elementary, left: Value, right: Value) -> Value
     ensures { result ≡ wrap_to kind (left *ℤ right) }
 {
     match left.checked_mul(right) {
@@ -119,14 +119,14 @@ fn product(kind: Elementary, left: i64, right: i64) -> i64
     }
 }
 
-fn exact_product(left: i64, right: i64) -> i128
+fn exact_product(left: Value, right: Value) -> i128
     ensures { result ≡ left *ℤ right }
 {
     i128::from(left) * i128::from(right)
 }
 
 #[inline(always)]
-fn quotient(kind: Elementary, left: i64, right: i64) -> i64
+fn quotient(kind: Elementary, left: Value, right: Value) -> Value
     ensures { result ≡ wrap_to kind (or_zero (quot left right)) }
 {
     match left.checked_div(right) {
@@ -136,7 +136,7 @@ fn quotient(kind: Elementary, left: i64, right: i64) -> i64
 }
 
 #[inline(always)]
-fn remainder(kind: Elementary, left: i64, right: i64) -> i64
+fn remainder(kind: Elementary, left: Value, right: Value) -> Value
     ensures { result ≡ wrap_to kind (or_zero (rem left right)) }
 {
     match left.checked_rem(right) {

@@ -6,20 +6,20 @@ ghost use Rattle.std.specs.Int.{int_rem_euclid};
 ghost use Rattle.meaning.specs.Values.{number_of};
 
 use num_core::{IntType, wrap};
-use plc_types::Elementary;
+use plc_types::{Elementary, Value};
 
 /// 1 where a test holds, as a BOOL.
 #[inline(always)]
-pub fn truth(holds: bool) -> i64
+pub fn truth(holds: bool) -> Value
     ensures { result ≡ wrap_to types.Bool (number_of holds) }
 {
-    i64::from(holds)
+    Value::from(holds)
 }
 
 /// The value of a type that differs from a number by a multiple of 2 to the type's width. Most numbers lie in
 /// their type's range.
 #[inline(always)]
-pub fn wrap_short(kind: Elementary, value: i64) -> i64
+pub fn wrap_short(kind: Elementary, value: Value) -> Value
     ensures { result ≡ wrap_to kind value }
 {
     if least(kind) <= value && value <= greatest(kind) {
@@ -31,30 +31,30 @@ pub fn wrap_short(kind: Elementary, value: i64) -> i64
 
 /// The same of a natural number.
 #[inline(always)]
-pub fn wrap_bits(kind: Elementary, bits: u64) -> i64
+pub fn wrap_bits(kind: Elementary, bits: u64) -> Value
     ensures { result ≡ wrap_to kind (pos bits) }
 {
     if bits <= 0xffff_ffff {
-        wrap_short(kind, bits as i64)
+        wrap_short(kind, bits as Value)
     } else {
         wrap_wide(kind, i128::from(bits))
     }
 }
 
 /// The same of any number.
-pub fn wrap_wide(kind: Elementary, value: i128) -> i64
+pub fn wrap_wide(kind: Elementary, value: i128) -> Value
     ensures { result ≡ wrap_to kind value }
 {
-    if i128::from(i64::MIN) <= value && value <= i128::from(i64::MAX) {
-        wrap_short(kind, value as i64)
+    if i128::from(Value::MIN) <= value && value <= i128::from(Value::MAX) {
+        wrap_short(kind, value as Value)
     } else {
-        narrowed(kind, value) as i64
+        narrowed(kind, value) as Value
     }
 }
 
 // The least number of a type.
 #[inline(always)]
-fn least(kind: Elementary) -> i64
+fn least(kind: Elementary) -> Value
     ensures { result ≡ least_of kind }
 {
     match kind {
@@ -73,7 +73,7 @@ fn least(kind: Elementary) -> i64
 
 // The greatest number of a type.
 #[inline(always)]
-fn greatest(kind: Elementary) -> i64
+fn greatest(kind: Elementary) -> Value
     ensures { result ≡ greatest_of kind }
 {
     match kind {
@@ -88,7 +88,7 @@ fn greatest(kind: Elementary) -> i64
 }
 
 #[inline(never)]
-fn wrapped(kind: Elementary, value: i64) -> i64
+fn wrapped(kind: Elementary, value: Value) -> Value
     ensures { result ≡ wrap_to kind value }
 {
     let remainder = remainder(kind, value);
@@ -100,7 +100,7 @@ fn wrapped(kind: Elementary, value: i64) -> i64
 }
 
 // Two to the power of the type's width.
-fn modulus(kind: Elementary) -> i64
+fn modulus(kind: Elementary) -> Value
     ensures value { result ≡ pos (2 ^ width_of kind) }
     ensures bounded { result ≤ℤ pos (2 ^ 32) }
 {
@@ -113,7 +113,7 @@ fn modulus(kind: Elementary) -> i64
 }
 
 // What a number leaves modulo 2 to the type's width. The divisors are constants, so that no division is needed.
-fn remainder(kind: Elementary, value: i64) -> i64
+fn remainder(kind: Elementary, value: Value) -> Value
     ensures value { result ≡ int_rem_euclid value (pos (2 ^ width_of kind)) }
     ensures not_negative { pos 0 ≤ℤ result }
 {

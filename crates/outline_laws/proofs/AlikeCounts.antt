@@ -10,12 +10,13 @@ use Rattle.program_tree.specs.Tree.{Expression, number, call_function, Expressio
 use Rattle.program_tree.specs.View.{expressions_of, actions_of as actions_from}
 use Rattle.source_tree.specs.declared.syntax.Literal.{Literal}
 use Rattle.source_tree.specs.Syntax.{Named, Tree, literal, path, enumerator, paren, unary, chain, call, Links, no_links, link, Arguments, no_arguments, argument, ConnectionData, input, output, empty, assign, invoke, branch, cases, iterate, Stmts, no_stmts, stmt, Arms, no_arms, arm, Entries, no_entries, entry, Otherwise, no_else, else_stmts, ChartTransitionData, ChartActionData, PartData, BodyData, statements, chart as chart_body, FileData}
+use Rattle.program_tree.specs.OperandTypes.{arity}
 use Rattle.naming.specs.Broken.{alone}
 use Rattle.naming.specs.Library.{standard_function}
 use Rattle.naming.specs.Scopes.{Variable}
+use Rattle.meaning.specs.Frames.{FrameData}
 use Rattle.sfc_shape.specs.Shapes.{steps_of, transitions_of, actions_of, step_numbers, associations_of, in_firing_order}
-use Rattle.flat_form.specs.Frames.{FrameData, others_behind}
-use Rattle.flat_form.specs.Calls.{arity}
+use Rattle.flat_form.specs.Frames.{others_behind}
 use Rattle.flat_count.specs.Counts.{Counting, count_of_start, count_in, count_in_operands, count_in_all, count_in_inputs, count_of_latch, count_of_latches, count_of_transitions, count_of_associated, count_of, count_of_all, count_of_choices, count_of_entries, count_of_actions}
 use Rattle.typing.specs.declared.scope.Place.{Place}
 use Rattle.typing.specs.declared.scope.Place.TheVariants as places

@@ -4,8 +4,9 @@ use Rattle.std.proofs.Common.{◌≡◌, ◌≤◌, ◌⊎◌, ℕ, zero, suc, �
 use Rattle.std.proofs.lemmas.Bool.Decides.{nat_tests}
 use Rattle.program_tree.specs.declared.typed.Association.{Association}
 use Rattle.program_tree.specs.Tree.{Expression, number, cell, unary, chain, call_standard, call_function, Operands, no_operands, operand, Expressions, no_expressions, expression, Statement, assign, call_block, choice, cases, repeat, chart, Statements, no_statements, statement, Choices, no_choices, choose, Entries, no_entries, entry, TransitionData, Actions, no_actions, action}
-use Rattle.flat_form.specs.Frames.{FrameData, others_behind}
-use Rattle.flat_form.specs.Calls.{arity}
+use Rattle.program_tree.specs.OperandTypes.{arity}
+use Rattle.meaning.specs.Frames.{FrameData}
+use Rattle.flat_form.specs.Frames.{others_behind}
 use Rattle.flat_count.specs.Counts.{Counting, count_of_start, count_in, count_in_operands, count_in_all, count_in_inputs, count_of_latches, count_of_transition, count_of_transitions, count_of_associated, count_of, count_of_all, count_of_choices, count_of_entries, count_of_actions, capped}
 
 -- ---- numbers up to the limit

@@ -17,7 +17,8 @@ use Rattle.naming.specs.FileScope.{pous_of, pou_at}
 use Rattle.naming.specs.Scopes.{variables_in_pou}
 use Rattle.naming.proofs.CircleLemmas.{nothing_left}
 use Rattle.meaning.specs.Calls.{nothing}
-use Rattle.flat_form.specs.Frames.{FrameData, frame_of, frames_of, function_body, others_behind}
+use Rattle.meaning.specs.Frames.{FrameData, frame_of, frames_of, function_body}
+use Rattle.flat_form.specs.Frames.{others_behind}
 use Rattle.flat_form.specs.Pous.{block_body}
 use Rattle.flat_form.specs.FlatPrograms.{is_short}
 use Rattle.flat_count.specs.Counts.{Counting, count_of_start, count_of_all, counting_of, capped}

@@ -77,16 +77,9 @@ impl MemShelf {
 
 impl Shelf for MemShelf {
     ghost use Rattle.outside.specs.Shelves.{file_of, bytes_of, schedule_of, failure_ahead, left_by_create, OtherFilesStay, read_faults_of, write_faults_of};
+    ghost use Rattle.outside.specs.States.{shelf_state};
 
-    ghost file = { λ s name. Some (bytes_of s name) };
-
-    ghost read_faults = { λ s name. read_faults_of s };
-
-    ghost write_faults = { λ s name. write_faults_of s };
-
-    ghost read_failed = { λ s. false };
-
-    ghost reach = { λ s name. 0 };
+    ghost state = { λ s. shelf_state (λ name. Some (bytes_of s name)) (read_faults_of s) (write_faults_of s) };
 
     fn read_at(&mut self, name: &str, from: u64, buf: &mut [u8]) -> Result<usize, OutErr>
         requires { 0 < length buf.old }

@@ -51,12 +51,9 @@ impl MemSink {
 
 impl Sink for MemSink {
     ghost use Rattle.outside.specs.Sinks.{taken_by, schedule_of, failure_ahead, faults_of};
+    ghost use Rattle.outside.specs.States.{sink_state};
 
-    ghost taken = { λ s. Some (taken_by s) };
-
-    ghost faults = { λ s. faults_of s };
-
-    ghost put_failed = { λ s. false };
+    ghost state = { λ s. sink_state (Some (taken_by s)) (faults_of s) };
 
     fn put(&mut self, bytes: &[u8]) -> Result<(), OutErr>
         ensures ok { OnOk result (taken_by self.new ≡ taken_by self.old ++ bytes.now) }

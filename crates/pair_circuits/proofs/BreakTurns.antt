@@ -4,15 +4,14 @@ use Rattle.std.proofs.Math.Nat.{suc-mul}
 use Rattle.gates.specs.Netlists.{Netlist, IsExtensionOf}
 use Rattle.gates.proofs.Growth.{extends_self, extends_then}
 use Rattle.node_circuits.specs.NodeWords.{Words}
-use Rattle.pair_circuits.specs.CellShapes.{bits_of}
-use Rattle.pair_circuits.specs.Parts.{Parts}
-use Rattle.pair_circuits.specs.PairWords.{PairWords, free_words}
-use Rattle.pair_circuits.specs.Literals.{outside_cells, pair_literals}
-use Rattle.pair_circuits.specs.PairScans.{scanned_pair}
-use Rattle.pair_circuits.specs.Products.{loaded_row}
-use Rattle.pair_circuits.specs.Breaks.{Breaks, ScanLiterals, scan_from, scans_from}
-use Rattle.pair_circuits.proofs.Growth.{extends_outside_cells, extends_pair_literals, extends_scans}
-use Rattle.pair_circuits.proofs.Composed.{extends_row}
+use Rattle.query_formulas.specs.CellShapes.{bits_of}
+use Rattle.query_formulas.specs.Parts.{Parts}
+use Rattle.query_formulas.specs.PairWords.{PairWords, free_words}
+use Rattle.query_formulas.specs.Literals.{outside_cells, pair_literals}
+use Rattle.query_formulas.specs.PairScans.{scanned_pair}
+use Rattle.query_formulas.specs.Products.{loaded_row}
+use Rattle.query_formulas.specs.Breaks.{Breaks, ScanLiterals, scan_from, scans_from}
+use Rattle.query_formulas.proofs.Growth.{extends_pair_literals, extends_scans, extends_row, extends_scans_from}
 
 module _ (parts : Parts) (inputs : Words) (pair : PairWords) (n : Netlist) where
   pub after_ranges : IsExtensionOf (outside_cells parts.lines inputs n).net (scan_from parts inputs pair n).net
@@ -51,16 +50,6 @@ module _ (parts : Parts) (inputs : Words) (pair : PairWords) (n : Netlist) where
       → b ≡ (scanned_pair parts.old_scan parts.new_scan q j).pair → i ≡ (scanned_pair parts.old_scan parts.new_scan q j).net
       → (pair_literals b parts.relates i).net ≡ (scan_from parts inputs pair n).net
   relates_same q b k j i f g h s t = rw (s, t, g, h, f) refl
-
-extends_scan_from : (parts : Parts) (inputs : Words) (pair : PairWords) (n : Netlist) → IsExtensionOf n (scan_from parts inputs pair n).net
-extends_scan_from parts inputs pair n =
-    extends_then n (outside_cells parts.lines inputs n).net _ (extends_outside_cells parts.lines inputs n) (after_ranges parts inputs pair n)
-
-extends_scans_from : (parts : Parts) (k v : ℕ) (pair : PairWords) (n : Netlist) → IsExtensionOf n (scans_from parts k v pair n).net
-extends_scans_from parts zero v pair n = extends_self n
-extends_scans_from parts (suc k) v pair n =
-    let s = scan_from parts (free_words v parts.lines) pair n in
-    extends_then n s.net _ (extends_scan_from parts (free_words v parts.lines) pair n) (extends_scans_from parts k (v + bits_of parts.lines) s.pair s.net)
 
 -- one scan more of those that are left
 pub scans_less : (parts : Parts) (count i v : ℕ) (pair : PairWords) (n : Netlist) → i < count

@@ -3,13 +3,13 @@ use Rattle.std.proofs.Common.{◌≡◌, ℕ, ◌+◌, refl, []}
 use Rattle.gates.specs.Netlists.{Netlist, IsExtensionOf}
 use Rattle.gates.proofs.Growth.{extends_self, extends_then}
 use Rattle.node_circuits.specs.NodeWords.{Words}
-use Rattle.pair_circuits.specs.Parts.{Parts}
-use Rattle.pair_circuits.specs.PairWords.{PairWords, loaded_words}
-use Rattle.pair_circuits.specs.Literals.{outside_cells, pair_literals}
-use Rattle.pair_circuits.specs.PairScans.{scanned_words, scanned_pair}
+use Rattle.query_formulas.specs.Parts.{Parts}
+use Rattle.query_formulas.specs.PairWords.{PairWords, loaded_words}
+use Rattle.query_formulas.specs.Literals.{outside_cells, pair_literals}
+use Rattle.query_formulas.specs.PairScans.{scanned_words, scanned_pair}
 use Rattle.node_core.specs.Scans.{ScanData}
-use Rattle.pair_circuits.specs.Products.{outside_all, premises_from, loaded_row, consequences_from, product_from, product_bits, product_of}
-use Rattle.pair_circuits.proofs.Growth.{extends_outside_cells, extends_pair_literals, extends_scan, extends_scans}
+use Rattle.query_formulas.specs.Products.{outside_all, premises_from, loaded_row, consequences_from, product_from, product_bits, product_of}
+use Rattle.query_formulas.proofs.Growth.{extends_outside_cells, extends_pair_literals, extends_scan, extends_scans, extends_row}
 
 pub after_old_scan : (old new : ScanData) (pair : PairWords) (n : Netlist) → IsExtensionOf (scanned_words old pair.old n).net (scanned_pair old new pair n).net
 after_old_scan old new pair n = extends_scan new pair.new (scanned_words old pair.old n).net
@@ -44,9 +44,6 @@ after_before parts pair inputs n k e = rw e (extends_self _)
 
 pub after_environment : (parts : Parts) (inputs : Words) (pair loaded : PairWords) (n : Netlist) → loaded ≡ loaded_words parts.inputs inputs pair → IsExtensionOf (pair_literals loaded parts.environment n).net (loaded_row parts inputs pair n).net
 after_environment parts inputs pair loaded n e = rw e (extends_self _)
-
-pub extends_row : (parts : Parts) (inputs : Words) (pair : PairWords) (n : Netlist) → IsExtensionOf n (loaded_row parts inputs pair n).net
-extends_row parts inputs pair n = extends_pair_literals (loaded_words parts.inputs inputs pair) parts.environment n
 
 pub after_scans : (parts : Parts) (pair : PairWords) (n : Netlist) → IsExtensionOf (scanned_pair parts.old_scan parts.new_scan pair n).net (consequences_from parts pair n).net
 after_scans parts pair n =

@@ -4,7 +4,7 @@ use Rattle.std.specs.Prelude.{◌&&◌, IsTrue}
 use Rattle.std.specs.List.{list_all}
 use Rattle.clause_core.specs.declared.literal.Lit.{Lit}
 use Rattle.clause_core.specs.Clauses.{is_inside}
-use Rattle.pair_circuits.specs.QueryClauses.{AreInside, negations}
+use Rattle.query_formulas.specs.QueryClauses.{AreInside, negations}
 
 negations_same : (v : ℕ) (ls : List Lit) → list_all (is_inside v) (negations ls) ≡ list_all (is_inside v) ls
 negations_same v [] = refl

@@ -1,5 +1,6 @@
 pub mod Front
-pub mod Growth
+pub mod Turns
+pub mod Lines
 pub mod Composed
 pub mod BreakTurns
 pub mod Inside

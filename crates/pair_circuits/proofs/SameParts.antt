@@ -5,8 +5,8 @@ use Rattle.scan_model.specs.declared.relation.Candidate.{Candidate}
 use Rattle.scan_model.specs.declared.relation.InputLine.{InputLine}
 use Rattle.scan_model.specs.Pairs.{clauses_among, candidates_view}
 use Rattle.node_core.specs.Scans.{ScanData, ClauseData}
-use Rattle.pair_circuits.specs.declared.shapes.CellShape.{CellShape}
-use Rattle.pair_circuits.specs.Parts.{Parts}
+use Rattle.query_formulas.specs.declared.shapes.CellShape.{CellShape}
+use Rattle.query_formulas.specs.Parts.{Parts}
 
 abbrev pub parts_with : List CellShape → List CellShape → List CellShape → List InputLine → ScanData → ScanData → List ClauseData → List ClauseData → List ClauseData → ℕ → Parts
 parts_with a b l i s t c e r d = record { old = a; new = b; lines = l; inputs = i; old_scan = s; new_scan = t; candidates = c; environment = e; relates = r; depth = d }

@@ -1,8 +1,2 @@
-pub mod CellShapes
-pub mod Parts
-pub mod PairWords
-pub mod Literals
-pub mod PairScans
-pub mod Products
-pub mod Breaks
-pub mod QueryClauses
+pub mod Views
+pub mod LineShapes

@@ -1,10 +1,9 @@
 ghost use Rattle.std.specs.Prelude.{◌≡◌, ℕ, ◌+◌, ◌-◌, ◌*◌, ◌<◌, ◌^◌, map, IfOk, IfErr, OnOk};
 ghost use Rattle.gates.specs.declared.circuit.GateFault.{GateFault};
 ghost use Rattle.gates.specs.Netlists.{IsOverfull, IsWithinLimit, IsExtensionOf};
-ghost use Rattle.pair_circuits.specs.CellShapes.{bits_of};
-ghost use Rattle.pair_circuits.specs.PairWords.{pair_view};
-ghost use Rattle.pair_circuits.specs.Parts.{parts_view};
-ghost use Rattle.pair_circuits.specs.Breaks.{Breaks, scans_from, breaks_bits, breaks_of, breaks_view, scan_lits_view, start_words};
+ghost use Rattle.query_formulas.specs.CellShapes.{bits_of};
+ghost use Rattle.pair_circuits.specs.Views.{pair_view, parts_view, breaks_view, scan_lits_view};
+ghost use Rattle.query_formulas.specs.Breaks.{Breaks, scans_from, breaks_bits, breaks_of, start_words};
 
 use crate::free::{count_bits, free_words};
 use crate::initial::initial_words;

@@ -3,9 +3,8 @@ ghost use Rattle.gates.specs.declared.circuit.GateFault.{GateFault};
 ghost use Rattle.gates.specs.Netlists.{IsOverfull, IsWithinLimit, IsExtensionOf};
 ghost use Rattle.node_core.specs.Scans.{clause_view};
 ghost use Rattle.node_circuits.specs.NodeWords.{words_view};
-ghost use Rattle.pair_circuits.specs.Literals.{bit_of, clause_literal, clause_literals, pair_literals};
-ghost use Rattle.pair_circuits.specs.PairWords.{pair_view};
-ghost use Rattle.pair_circuits.specs.Parts.{clauses_view};
+ghost use Rattle.query_formulas.specs.Literals.{bit_of, clause_literal, clause_literals, pair_literals};
+ghost use Rattle.pair_circuits.specs.Views.{pair_view, clauses_view};
 
 use crate::pair::{WordPair, clause_words};
 use clause_core::Lit;

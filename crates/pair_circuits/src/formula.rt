@@ -2,7 +2,7 @@ ghost use Rattle.std.specs.Prelude.{◌≡◌, ℕ, ◌+◌, ◌-◌, ◌≤◌,
 ghost use Rattle.clause_core.specs.Formula.{BeginsWith};
 ghost use Rattle.gates.specs.Clauses.{with_clauses};
 ghost use Rattle.gates.specs.Order.{IsOrdered};
-ghost use Rattle.pair_circuits.specs.QueryClauses.{AreInside, negations, units, some_fails, gates_formula};
+ghost use Rattle.query_formulas.specs.QueryClauses.{AreInside, negations, units, some_fails, gates_formula};
 
 use clause_core::{Cnf, Lit};
 use gates::{Circuit, TRUE};

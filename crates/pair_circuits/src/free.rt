@@ -1,10 +1,10 @@
 ghost use Rattle.std.specs.Prelude.{◌≡◌, ℕ, ◌+◌, ◌<◌, ◌≤◌, ◌^◌, length, IfOk};
 ghost use Rattle.node_circuits.specs.NodeWords.{words_view};
-ghost use Rattle.pair_circuits.specs.CellShapes.{bits_of};
-ghost use Rattle.pair_circuits.specs.PairWords.{free_word, free_words};
+ghost use Rattle.query_formulas.specs.CellShapes.{bits_of};
+ghost use Rattle.query_formulas.specs.PairWords.{free_word, free_words};
 
-use crate::shapes::CellShape;
 use clause_core::Lit;
+use query_formulas::CellShape;
 use std::alloc::{AllocError, Global};
 
 // A word of so many variables from one on.

@@ -1,9 +1,9 @@
 ghost use Rattle.std.specs.Prelude.{◌≡◌, IfOk};
 ghost use Rattle.node_circuits.specs.NodeWords.{words_view};
-ghost use Rattle.pair_circuits.specs.PairWords.{initial_word, initial_words};
+ghost use Rattle.query_formulas.specs.PairWords.{initial_word, initial_words};
 
-use crate::shapes::CellShape;
 use clause_core::Lit;
+use query_formulas::CellShape;
 use std::alloc::{AllocError, Global};
 use word_circuits::constant;
 

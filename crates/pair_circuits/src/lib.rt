@@ -42,4 +42,3 @@ pub use members::member_lits;
 pub use pair::WordPair;
 pub use parts::{PairParts, pair_parts};
 pub use product::{Product, ProductLits, product_circuit};
-pub use shapes::CellShape;

@@ -1,6 +1,7 @@
 ghost use Rattle.std.specs.Prelude.{◌≡◌, slice_set, IfOk, OnOk};
 ghost use Rattle.node_circuits.specs.NodeWords.{words_view};
-ghost use Rattle.pair_circuits.specs.PairWords.{pair_view, loaded_word, loaded_words};
+ghost use Rattle.pair_circuits.specs.Views.{pair_view};
+ghost use Rattle.query_formulas.specs.PairWords.{loaded_word, loaded_words};
 
 use crate::pair::{WordPair, copy_word};
 use clause_core::Lit;

@@ -1,6 +1,6 @@
 ghost use Rattle.std.specs.Prelude.{◌≡◌, ◌∷◌, ◌++◌, [], if◌then◌else◌, IfOk, OnOk};
 ghost use Rattle.queries.specs.Sets.{members};
-ghost use Rattle.pair_circuits.specs.QueryClauses.{members_of};
+ghost use Rattle.query_formulas.specs.QueryClauses.{members_of};
 
 use clause_core::Lit;
 use queries::CandidateSet;

@@ -2,11 +2,11 @@ ghost use Rattle.std.specs.Prelude.{◌≡◌, ◌++◌, IfOk, IfErr, OnOk};
 ghost use Rattle.gates.specs.declared.circuit.GateFault.{GateFault};
 ghost use Rattle.gates.specs.Netlists.{IsOverfull, IsWithinLimit, IsExtensionOf};
 ghost use Rattle.node_circuits.specs.NodeWords.{words_view};
-ghost use Rattle.pair_circuits.specs.Literals.{outside_cell, outside_one, outside_cells};
+ghost use Rattle.query_formulas.specs.Literals.{outside_cell, outside_one, outside_cells};
 
-use crate::shapes::CellShape;
 use clause_core::Lit;
 use gates::{Circuit, GateFault};
+use query_formulas::CellShape;
 use std::alloc::Global;
 use word_circuits::outside;
 

@@ -1,6 +1,7 @@
 ghost use Rattle.std.specs.Prelude.{◌≡◌, ◌++◌, IfOk, OnOk};
 ghost use Rattle.node_circuits.specs.NodeWords.{words_view};
-ghost use Rattle.pair_circuits.specs.PairWords.{pair_view, clause_words};
+ghost use Rattle.pair_circuits.specs.Views.{pair_view};
+ghost use Rattle.query_formulas.specs.PairWords.{clause_words};
 
 use clause_core::Lit;
 use gates::FALSE;

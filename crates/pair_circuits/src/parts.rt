@@ -2,11 +2,13 @@ ghost use Rattle.std.specs.Prelude.{◌≡◌, ◌+◌, ◌<◌, ◌^◌, length
 ghost use Rattle.program_tree.specs.View.{expr_view, exprs_view, program_view};
 ghost use Rattle.scan_model.specs.Pairs.{clauses_among, relation_view};
 ghost use Rattle.node_core.specs.Scans.{scan_view};
-ghost use Rattle.pair_circuits.specs.Parts.{clauses_view, clauses_of, parts_view, parts_of};
+ghost use Rattle.pair_circuits.specs.Views.{clauses_view, parts_view};
+ghost use Rattle.query_formulas.specs.Parts.{clauses_of, parts_of};
 
-use crate::shapes::{CellShape, line_shapes, shapes};
+use crate::shapes::{line_shapes, shapes};
 use node_core::{ClauseNodes, Scan};
 use program_tree::{Program, TypedExpr};
+use query_formulas::CellShape;
 use scan_model::{Candidate, InputLine, Relation};
 use scan_ssa::clause_nodes;
 use std::alloc::{AllocError, Global};

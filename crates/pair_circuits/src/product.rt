@@ -2,9 +2,8 @@ ghost use Rattle.std.specs.Prelude.{◌≡◌, ℕ, ◌+◌, ◌-◌, ◌<◌, �
 ghost use Rattle.gates.specs.declared.circuit.GateFault.{GateFault};
 ghost use Rattle.gates.specs.Netlists.{IsOverfull, IsWithinLimit, IsExtensionOf};
 ghost use Rattle.node_circuits.specs.NodeWords.{words_view};
-ghost use Rattle.pair_circuits.specs.PairWords.{pair_view};
-ghost use Rattle.pair_circuits.specs.Parts.{parts_view};
-ghost use Rattle.pair_circuits.specs.Products.{product_from, product_bits, product_of, product_view};
+ghost use Rattle.pair_circuits.specs.Views.{pair_view, parts_view, product_view};
+ghost use Rattle.query_formulas.specs.Products.{product_from, product_bits, product_of};
 
 use crate::consequences::literals_behind;
 use crate::free::{count_bits, free_words};

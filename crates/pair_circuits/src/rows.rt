@@ -2,9 +2,8 @@ ghost use Rattle.std.specs.Prelude.{◌≡◌, IfOk, IfErr, OnOk};
 ghost use Rattle.gates.specs.declared.circuit.GateFault.{GateFault};
 ghost use Rattle.gates.specs.Netlists.{IsOverfull, IsWithinLimit, IsExtensionOf};
 ghost use Rattle.node_circuits.specs.NodeWords.{words_view};
-ghost use Rattle.pair_circuits.specs.PairWords.{pair_view};
-ghost use Rattle.pair_circuits.specs.Parts.{parts_view};
-ghost use Rattle.pair_circuits.specs.Products.{loaded_row};
+ghost use Rattle.pair_circuits.specs.Views.{pair_view, parts_view};
+ghost use Rattle.query_formulas.specs.Products.{loaded_row};
 
 use crate::clauses::pair_literals;
 use crate::loading::load;

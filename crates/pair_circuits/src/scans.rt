@@ -3,8 +3,8 @@ ghost use Rattle.gates.specs.declared.circuit.GateFault.{GateFault};
 ghost use Rattle.gates.specs.Netlists.{IsOverfull, IsWithinLimit, IsExtensionOf};
 ghost use Rattle.node_core.specs.Scans.{scan_view};
 ghost use Rattle.node_circuits.specs.NodeWords.{words_view, word_in};
-ghost use Rattle.pair_circuits.specs.PairWords.{pair_view};
-ghost use Rattle.pair_circuits.specs.PairScans.{scanned_words, scanned_pair};
+ghost use Rattle.pair_circuits.specs.Views.{pair_view};
+ghost use Rattle.query_formulas.specs.PairScans.{scanned_words, scanned_pair};
 
 use crate::pair::{WordPair, copy_word};
 use clause_core::Lit;

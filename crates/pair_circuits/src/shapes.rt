@@ -1,21 +1,13 @@
 ghost use Rattle.std.specs.Prelude.{◌≡◌, map, IfOk};
 ghost use Rattle.program_tree.specs.View.{cell_view, cells_view};
-ghost use Rattle.pair_circuits.specs.CellShapes.{is_enumeration, shape_of, shapes_of, shape_at, shape_of_line, shapes_of_lines};
+ghost use Rattle.query_formulas.specs.CellShapes.{is_enumeration, shape_of, shapes_of};
+ghost use Rattle.pair_circuits.specs.LineShapes.{shape_at, shape_of_line, shapes_of_lines};
 
 use plc_types::{DataType, Elementary, Range};
 use program_tree::Cell;
+use query_formulas::CellShape;
 use scan_model::InputLine;
 use std::alloc::{AllocError, Global};
-
-/// What circuits have to know of a cell: the elementary type whose numbers its values are, whether a word of that type can lie
-/// outside of its range, its range, and the value that it begins with.
-#[derive(Clone, Copy)]
-pub struct CellShape {
-    pub kind: Elementary,
-    pub bounded: bool,
-    pub range: Range,
-    pub initial: i64,
-}
 
 fn is_enumeration(kind: DataType) -> bool
     ensures { result ≡ is_enumeration kind }

@@ -6,12 +6,13 @@ use Rattle.std.proofs.lemmas.List.Elements.{All-head, All-tail, All-take}
 use Rattle.meaning.specs.Values.{State}
 use Rattle.scan_model.specs.InRange.{Row}
 use Rattle.node_circuits.specs.NodeWords.{words_view}
-use Rattle.query_formulas.specs.Decoded.{DecodedData}
+use Rattle.query_formulas.specs.Decoded.{DecodedData, decoded_state, first_state, scans_decoded}
 use Rattle.pair_circuits.specs.declared.breaks.ScanLits.{ScanLits}
-use Rattle.pair_circuits.specs.declared.shapes.CellShape.{CellShape}
-use Rattle.pair_circuits.specs.Parts.{Parts}
-use Rattle.pair_circuits.specs.Breaks.{ScanLiterals, scan_lits_view}
-use Rattle.pair_decoding.specs.Decoded.{AreWide, AreWideRows, decoded_state, first_state, scans_decoded}
+use Rattle.query_formulas.specs.declared.shapes.CellShape.{CellShape}
+use Rattle.query_formulas.specs.Parts.{Parts}
+use Rattle.query_formulas.specs.Breaks.{ScanLiterals}
+use Rattle.pair_circuits.specs.Views.{scan_lits_view}
+use Rattle.pair_decoding.specs.Widths.{AreWide, AreWideRows}
 
 -- ---- widths
 

@@ -5,11 +5,11 @@ use Rattle.clause_core.specs.declared.literal.Lit.{Lit}
 use Rattle.clause_core.specs.Satisfaction.{literal_true}
 use Rattle.plc_types.specs.declared.elementary.Elementary.{Elementary}
 use Rattle.plc_types.specs.Types.{width_of, is_signed, wrap_to}
+use Rattle.plc_types.proofs.Widths.{some_bits}
 use Rattle.word_laws.specs.Numbers.{bit, number, value}
 use Rattle.word_laws.proofs.Numbers.{number-lt}
 use Rattle.word_laws.proofs.Multiples.{differs_same}
 use Rattle.word_laws.proofs.Values.{value_wraps_at}
-use Rattle.node_circuit_laws.proofs.Numbers.{some_bits}
 
 -- a word of at most 32 bits spells a number below 2 to the 32
 number_small : (v : ℕ → Bool) (w : List Lit) → length w ≤ 32 → number v w < 2 ^ 32

@@ -1,11 +1,9 @@
 ghost use Rattle.std.specs.Prelude.{◌≡◌, IfOk};
 ghost use Rattle.clause_core.specs.Satisfaction.{assigned};
 ghost use Rattle.queries.specs.Questions.{query_view};
-ghost use Rattle.query_formulas.specs.Decoded.{decoded_view};
-ghost use Rattle.pair_circuits.specs.Parts.{parts_view};
-ghost use Rattle.pair_circuits.specs.Products.{product_view};
-ghost use Rattle.pair_circuits.specs.Breaks.{breaks_view};
-ghost use Rattle.pair_decoding.specs.Decoded.{product_decoded, scans_decoded, decoded, IsWideProduct, AreWideRows};
+ghost use Rattle.query_formulas.specs.Decoded.{decoded_view, product_decoded, scans_decoded, decoded};
+ghost use Rattle.pair_circuits.specs.Views.{parts_view, product_view, breaks_view};
+ghost use Rattle.pair_decoding.specs.Widths.{IsWideProduct, AreWideRows};
 
 use crate::rows::{first_scans, row, rows};
 use crate::states::{first_state, state};

@@ -5,7 +5,7 @@ ghost use Rattle.word_laws.specs.Numbers.{bit, number, value};
 
 use clause_core::{Assignment, Lit};
 use operations::wrap_short;
-use plc_types::Elementary;
+use plc_types::{Elementary, Value};
 
 // 1 where a literal is true, and 0 where it is false.
 fn bit(lit: Lit, found: &Assignment) -> u32
@@ -30,10 +30,10 @@ fn number(word: &[Lit], found: &Assignment) -> u32
 }
 
 /// The number of a type that a word of its width spells.
-pub(crate) fn value(kind: Elementary, word: &[Lit], found: &Assignment) -> i64
+pub(crate) fn value(kind: Elementary, word: &[Lit], found: &Assignment) -> Value
     requires { length word.now ≡ width_of kind }
     ensures { result ≡ value (is_signed kind) (assigned found.now) word.now }
 {
     kind.width();
-    wrap_short(kind, i64::from(number(word, found)))
+    wrap_short(kind, Value::from(number(word, found)))
 }

@@ -1,13 +1,15 @@
 ghost use Rattle.std.specs.Prelude.{◌≡◌, map, take, IfOk};
 ghost use Rattle.clause_core.specs.Satisfaction.{assigned};
 ghost use Rattle.node_circuits.specs.NodeWords.{words_view};
-ghost use Rattle.pair_circuits.specs.Breaks.{scan_lits_view};
-ghost use Rattle.pair_decoding.specs.Decoded.{AreWide, AreWideRows, decoded_state};
+ghost use Rattle.pair_circuits.specs.Views.{scan_lits_view};
+ghost use Rattle.pair_decoding.specs.Widths.{AreWide, AreWideRows};
+ghost use Rattle.query_formulas.specs.Decoded.{decoded_state};
 
 use crate::states::state;
 use clause_core::{Assignment, Lit};
-use pair_circuits::{CellShape, ScanLits};
+use pair_circuits::ScanLits;
 use queries::Row;
+use query_formulas::CellShape;
 use std::alloc::{AllocError, Global};
 
 /// The row that words spell.

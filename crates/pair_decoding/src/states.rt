@@ -1,11 +1,13 @@
 ghost use Rattle.std.specs.Prelude.{◌≡◌, IfOk};
 ghost use Rattle.clause_core.specs.Satisfaction.{assigned};
 ghost use Rattle.node_circuits.specs.NodeWords.{words_view};
-ghost use Rattle.pair_decoding.specs.Decoded.{AreWide, decoded_state, first_state};
+ghost use Rattle.pair_decoding.specs.Widths.{AreWide};
+ghost use Rattle.query_formulas.specs.Decoded.{decoded_state, first_state};
 
 use crate::numbers::value;
 use clause_core::{Assignment, Lit};
-use pair_circuits::CellShape;
+use plc_types::Value;
+use query_formulas::CellShape;
 use std::alloc::{AllocError, Global};
 
 /// The numbers that the words of cells spell.
@@ -14,7 +16,7 @@ pub(crate) fn state(
     cells: &[CellShape],
     words: &[Vec<Lit>],
     found: &Assignment,
-) -> Result<Vec<i64>, AllocError>
+) -> Result<Vec<Value>, AllocError>
     requires { AreWide cells.now (words_view words.now) }
     ensures { IfOk result (λ s. s.items ≡ decoded_state cells.now (words_view words.now) (assigned found.now)) }
 {
@@ -27,7 +29,7 @@ pub(crate) fn state(
 }
 
 /// The numbers that cells begin with.
-pub(crate) fn first_state(alloc: Global, cells: &[CellShape]) -> Result<Vec<i64>, AllocError>
+pub(crate) fn first_state(alloc: Global, cells: &[CellShape]) -> Result<Vec<Value>, AllocError>
     ensures { IfOk result (λ s. s.items ≡ first_state cells.now) }
 {
     let mut numbers = Vec::new(alloc);

@@ -1,8 +1,8 @@
 ghost use Rattle.std.specs.Prelude.{ℕ};
-ghost use Rattle.pair_circuits.specs.Parts.{Parts};
-ghost use Rattle.pair_circuits.specs.Products.{product_of};
-ghost use Rattle.pair_circuits.specs.Breaks.{breaks_of};
-ghost use Rattle.pair_decoding.specs.Decoded.{IsWideProduct, AreWideRows};
+ghost use Rattle.query_formulas.specs.Parts.{Parts};
+ghost use Rattle.query_formulas.specs.Products.{product_of};
+ghost use Rattle.query_formulas.specs.Breaks.{breaks_of};
+ghost use Rattle.pair_decoding.specs.Widths.{IsWideProduct, AreWideRows};
 
 /// The words that are made are as wide as the types of their cells.
 pub fn law_wide()

@@ -6,18 +6,18 @@ ghost use Rattle.scan_model.specs.Scans.{ranges_of};
 ghost use Rattle.scan_model.specs.Pairs.{range_of_line, fits_lines};
 ghost use Rattle.queries.specs.Ranges.{are_in_range};
 
-use plc_types::Range;
+use plc_types::{Range, Value};
 use program_tree::Cell;
 use scan_model::InputLine;
 
-fn is_in_range(value: i64, range: Range) -> bool
+fn is_in_range(value: Value, range: Range) -> bool
     ensures { result ≡ in_range value range }
 {
     range.low <= value && value <= range.high
 }
 
 /// Whether each cell has one value, in its range.
-pub fn are_in_range(cells: &[Cell], values: &[i64]) -> bool
+pub fn are_in_range(cells: &[Cell], values: &[Value]) -> bool
     ensures { result ≡ are_in_range (ranges_of (cells_view cells.now)) values.now }
 {
     if cells.len() != values.len() {
@@ -42,7 +42,7 @@ fn range_of_line(line: InputLine) -> Range
 }
 
 /// Whether a row has one number for each INPUT line, in its range.
-pub fn fits_lines(lines: &[InputLine], row: &[i64]) -> bool
+pub fn fits_lines(lines: &[InputLine], row: &[Value]) -> bool
     ensures { result ≡ fits_lines lines.now row.now }
 {
     if lines.len() != row.len() {

@@ -4,6 +4,7 @@ ghost use Rattle.scan_replay.specs.Duos.{AreComparable, with_pair};
 ghost use Rattle.pair_trial.specs.Trials.{setting_in};
 
 use crate::ranges::{are_in_range, fits_lines};
+use plc_types::Value;
 use program_tree::Program;
 use scan_model::Relation;
 use scan_replay::Duo;
@@ -94,14 +95,14 @@ impl<'p> Trial<'p> {
     }
 
     /// Whether each cell has one value, in its range.
-    pub fn pair_fits(&self, old: &[i64], new: &[i64]) -> bool
+    pub fn pair_fits(&self, old: &[Value], new: &[Value]) -> bool
         ensures { result ≡ (setting_in self.now).in_range (record { old = old.now; new = new.now }) }
     {
         are_in_range(&self.old_program.cells, old) && are_in_range(&self.new_program.cells, new)
     }
 
     /// Whether a row has one number for each input, in its range.
-    pub fn row_fits(&self, row: &[i64]) -> bool
+    pub fn row_fits(&self, row: &[Value]) -> bool
         ensures { result ≡ (setting_in self.now).fits row.now }
     {
         fits_lines(&self.relation.inputs, row)
@@ -115,7 +116,7 @@ impl<'p> Trial<'p> {
     }
 
     /// Another state of each program.
-    pub fn set_pair(&mut self, old: &[i64], new: &[i64])
+    pub fn set_pair(&mut self, old: &[Value], new: &[Value])
         requires { IsTrue ((setting_in self.old).in_range (record { old = old.now; new = new.now })) }
         ensures { self.new ≡ with_pair (record { old = old.now; new = new.now }) self.old }
     {
@@ -123,7 +124,7 @@ impl<'p> Trial<'p> {
     }
 
     /// Whether a row may come: its numbers fit, and every ENV clause holds once they are loaded.
-    pub fn allowed(&mut self, row: &[i64]) -> bool
+    pub fn allowed(&mut self, row: &[Value]) -> bool
         ensures allowed { result ≡ (setting_in self.old).allowed row.now self.old.pair }
         ensures unchanged { self.new ≡ self.old }
     {
@@ -131,7 +132,7 @@ impl<'p> Trial<'p> {
     }
 
     /// Loads a row that is allowed, and runs both programs one scan.
-    pub fn step(&mut self, row: &[i64])
+    pub fn step(&mut self, row: &[Value])
         requires { IsTrue ((setting_in self.old).allowed row.now self.old.pair) }
         ensures { self.new ≡ with_pair ((setting_in self.old).after row.now self.old.pair) self.old }
     {

@@ -1,10 +1,38 @@
--- The elementary types, and the ranges of their values.
-use Rattle.std.specs.Prelude.{ℕ, Bool, true, false, ◌&&◌, ℤ, int_le, slice_index_or, List}
+-- The elementary types: the one table of their names, widths, signs and sorts, and the ranges of their values.
+use Rattle.std.specs.Prelude.{ℕ, Bool, true, false, ◌&&◌, ℤ, int_le, List, [], ◌∷◌, codes, bytes_eq, Option, Some, None, if◌then◌else◌}
 use Rattle.num_core.specs.Ranges.{lowest, highest}
 use Rattle.num_core.specs.Wrapping.{wrap}
 use Rattle.plc_types.specs.declared.elementary.Elementary.{Elementary}
 use Rattle.plc_types.specs.declared.elementary.Elementary.TheVariants as types
 use Rattle.plc_types.specs.declared.range.Range.{Range}
+
+-- all of them
+abbrev pub elementary_types : List Elementary
+elementary_types =
+    types.Bool
+    ∷ types.Sint
+    ∷ types.Int
+    ∷ types.Dint
+    ∷ types.Usint
+    ∷ types.Uint
+    ∷ types.Udint
+    ∷ types.Byte
+    ∷ types.Word
+    ∷ types.Dword
+    ∷ []
+
+-- the names that the standard gives them
+abbrev pub type_name : Elementary → List ℕ
+type_name types.Bool = codes "BOOL"
+type_name types.Sint = codes "SINT"
+type_name types.Int = codes "INT"
+type_name types.Dint = codes "DINT"
+type_name types.Usint = codes "USINT"
+type_name types.Uint = codes "UINT"
+type_name types.Udint = codes "UDINT"
+type_name types.Byte = codes "BYTE"
+type_name types.Word = codes "WORD"
+type_name types.Dword = codes "DWORD"
 
 abbrev pub width_of : Elementary → ℕ
 width_of types.Bool = 1
@@ -42,6 +70,14 @@ is_integer types.Bool = false
 is_integer types.Byte = false
 is_integer types.Word = false
 is_integer types.Dword = false
+
+-- the type of a name, among these
+abbrev pub type_among : List Elementary → List ℕ → Option Elementary
+type_among [] text = None
+type_among (t ∷ ts) text = if bytes_eq (type_name t) text then Some t else type_among ts text
+
+abbrev pub type_named : List ℕ → Option Elementary
+type_named text = type_among elementary_types text
 
 abbrev pub least_of : Elementary → ℤ
 least_of t = lowest (width_of t) (is_signed t)

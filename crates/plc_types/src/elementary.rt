@@ -1,6 +1,6 @@
-// The elementary types.
+// The elementary types: a type more is a row more in each of the tables of this file, and in those of `specs/Types.antt`.
 ghost use Rattle.std.specs.Prelude.{◌≡◌, ◌<◌, ◌≤◌};
-ghost use Rattle.plc_types.specs.Types.{width_of, is_signed, is_integer};
+ghost use Rattle.plc_types.specs.Types.{elementary_types, type_name, type_among, type_named, width_of, is_signed, is_integer};
 
 /// An elementary type (IEC 61131-3, 2.3.1). Bit strings are read as unsigned numbers.
 #[derive(Clone, Copy, PartialEq, Eq)]
@@ -17,7 +17,64 @@ pub enum Elementary {
     Dword,
 }
 
+static ELEMENTARY_TYPES: [Elementary; 10] = [
+    Elementary::Bool,
+    Elementary::Sint,
+    Elementary::Int,
+    Elementary::Dint,
+    Elementary::Usint,
+    Elementary::Uint,
+    Elementary::Udint,
+    Elementary::Byte,
+    Elementary::Word,
+    Elementary::Dword,
+];
+
+// The type of a name, among these.
+fn type_among(types: &[Elementary], text: &[u8]) -> Option<Elementary>
+    ensures { result ≡ type_among types.now text.now }
+{
+    for kind in types {
+        if kind.name().as_bytes() == text {
+            return Some(*kind);
+        }
+    }
+    None
+}
+
 impl Elementary {
+    /// All of them.
+    pub fn all() -> &'static [Elementary]
+        ensures { result.now ≡ elementary_types }
+    {
+        &ELEMENTARY_TYPES
+    }
+
+    /// The type of a name in upper case.
+    pub fn named(text: &[u8]) -> Option<Elementary>
+        ensures { result ≡ type_named text.now }
+    {
+        type_among(Elementary::all(), text)
+    }
+
+    /// The name that the standard gives it, in upper case.
+    pub fn name(self) -> &'static str
+        ensures { result.now ≡ type_name self }
+    {
+        match self {
+            Elementary::Bool => "BOOL",
+            Elementary::Sint => "SINT",
+            Elementary::Int => "INT",
+            Elementary::Dint => "DINT",
+            Elementary::Usint => "USINT",
+            Elementary::Uint => "UINT",
+            Elementary::Udint => "UDINT",
+            Elementary::Byte => "BYTE",
+            Elementary::Word => "WORD",
+            Elementary::Dword => "DWORD",
+        }
+    }
+
     /// How many bits a value has.
     pub fn width(self) -> u32
         ensures width { result ≡ width_of self }

@@ -1,8 +1,9 @@
 // Ranges of values.
+use crate::value::Value;
 
 /// The least and the greatest value of a cell.
 #[derive(Clone, Copy)]
 pub struct Range {
-    pub low: i64,
-    pub high: i64,
+    pub low: Value,
+    pub high: Value,
 }

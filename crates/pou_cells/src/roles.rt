@@ -5,6 +5,7 @@ ghost use Rattle.typing.specs.Places.{has_cell, is_stored_action, is_front};
 ghost use Rattle.typing.specs.TypedPrograms.{part_of, part_in, active_first, is_constant, is_temporary};
 
 use naming::Role;
+use plc_types::Value;
 use program_tree::Part;
 
 /// Own inputs, constants and the names of a chart may not be assigned.
@@ -50,7 +51,7 @@ pub fn is_stored_action(role: Role) -> bool
 }
 
 /// Whether a step is active in the first run.
-pub fn active_first(role: Role) -> i64
+pub fn active_first(role: Role) -> Value
     ensures { result ≡ active_first role }
 {
     match role {

@@ -1,5 +1,5 @@
 -- How many cells, bits and literals there are at most.
-use Rattle.std.proofs.Common.{◌≡◌, ℕ, suc, ◌+◌, ◌-◌, ◌*◌, ◌^◌, ◌<◌, ◌≤◌, refl, ap, List, [], ◌∷◌, ◌++◌, length, length-append, arith, Bool}
+use Rattle.std.proofs.Common.{◌≡◌, ℕ, suc, ◌+◌, ◌-◌, ◌*◌, ◌^◌, ◌<◌, ◌≤◌, refl, ◌∙◌, ap, List, [], ◌∷◌, ◌++◌, length, length-append, arith, Bool}
 use Rattle.std.specs.Prelude.{codes}
 use Rattle.std.proofs.lemmas.List.{length-map}
 use Rattle.std.proofs.lemmas.Nat.{mul-le}
@@ -7,16 +7,17 @@ use Rattle.plc_types.specs.declared.elementary.Elementary.{Elementary}
 use Rattle.plc_types.specs.declared.elementary.Elementary.TheVariants as types
 use Rattle.plc_types.specs.Types.{width_of}
 use Rattle.plc_types.specs.Enumerations.{paired_type}
+use Rattle.plc_types.proofs.Widths.{at_most_32_bits}
 use Rattle.program_tree.specs.Tree.{Expression, CellData}
 use Rattle.scan_model.specs.Pairs.{CandidateData}
 use Rattle.scan_model.specs.Candidates.{numbered, same_cells, relate_clauses, initial_values, exclusive_steps, paths_of, candidates_of}
 use Rattle.queries.specs.Comparisons.{Comparison, IsComparison}
 use Rattle.node_core.specs.Scans.{ScanData}
-use Rattle.pair_circuits.specs.declared.shapes.CellShape.{CellShape}
-use Rattle.pair_circuits.specs.CellShapes.{bits_of, shape_of, shapes_of, shape_of_line, shapes_of_lines}
-use Rattle.pair_circuits.specs.Parts.{parts_of}
-use Rattle.pair_circuits.specs.Products.{product_bits}
-use Rattle.pair_circuits.specs.Breaks.{breaks_bits}
+use Rattle.query_formulas.specs.declared.shapes.CellShape.{CellShape}
+use Rattle.query_formulas.specs.CellShapes.{bits_of, shape_of, shapes_of, cell_of_line}
+use Rattle.query_formulas.specs.Parts.{lines_cells, parts_of}
+use Rattle.query_formulas.specs.Products.{product_bits}
+use Rattle.query_formulas.specs.Breaks.{breaks_bits}
 use Rattle.product_build.specs.Limits.{most_gates, HasFewLines}
 
 -- ---- cells and RELATE clauses
@@ -50,41 +51,33 @@ few_cells c is =
 
 -- ---- bits
 
-narrow : (t : Elementary) → width_of t ≤ 32
-narrow types.Bool = omega arith
-narrow types.Sint = omega arith
-narrow types.Int = omega arith
-narrow types.Dint = omega arith
-narrow types.Usint = omega arith
-narrow types.Uint = omega arith
-narrow types.Udint = omega arith
-narrow types.Byte = omega arith
-narrow types.Word = omega arith
-narrow types.Dword = omega arith
-
 pub narrow_cell : (c : CellShape) → width_of c.kind ≤ 32
-narrow_cell c = narrow c.kind
+narrow_cell c = at_most_32_bits c.kind
 
 bits_few : (cs : List CellShape) → bits_of cs ≤ 32 * length cs
 bits_few [] = omega arith
-bits_few (c ∷ cs) = let w = narrow c.kind in let rest = bits_few cs in omega (arith, w, rest)
+bits_few (c ∷ cs) = let w = at_most_32_bits c.kind in let rest = bits_few cs in omega (arith, w, rest)
+
+-- there is a shape for each INPUT line
+pub length-lines : (c : Comparison) → length (shapes_of (lines_cells c)) ≡ length c.relation.inputs
+length-lines c = length-map (lines_cells c) shape_of ∙ length-map c.relation.inputs (cell_of_line c.old c.new)
 
 pub product_few : (c : Comparison) (old new : ScanData) → IsComparison c → HasFewLines c → product_bits (parts_of c old new) + most_gates < 2 ^ 31 - 1
 product_few c old new is lines =
     let cells = few_cells c is in
     let a = bits_few (shapes_of c.old.cells) in
     let b = bits_few (shapes_of c.new.cells) in
-    let l = bits_few (shapes_of_lines (shapes_of c.old.cells) (shapes_of c.new.cells) c.relation.inputs) in
+    let l = bits_few (shapes_of (lines_cells c)) in
     let la : length (shapes_of c.old.cells) ≡ length c.old.cells = length-map c.old.cells shape_of in
     let lb : length (shapes_of c.new.cells) ≡ length c.new.cells = length-map c.new.cells shape_of in
-    let ll : length (shapes_of_lines (shapes_of c.old.cells) (shapes_of c.new.cells) c.relation.inputs) ≡ length c.relation.inputs = length-map c.relation.inputs (shape_of_line (shapes_of c.old.cells) (shapes_of c.new.cells)) in
+    let ll = length-lines c in
     omega (arith, cells, a, b, l, la, lb, ll, lines.inputs)
 
 pub breaks_few : (c : Comparison) (old new : ScanData) → IsComparison c → HasFewLines c → breaks_bits (parts_of c old new) + most_gates < 2 ^ 31 - 1
 breaks_few c old new is lines =
-    let shapes : List CellShape = shapes_of_lines (shapes_of c.old.cells) (shapes_of c.new.cells) c.relation.inputs in
+    let shapes : List CellShape = shapes_of (lines_cells c) in
     let l = bits_few shapes in
-    let ll : length shapes ≡ length c.relation.inputs = length-map c.relation.inputs (shape_of_line (shapes_of c.old.cells) (shapes_of c.new.cells)) in
+    let ll = length-lines c in
     let some : bits_of shapes ≤ 16777216 = omega (arith, l, ll, lines.inputs) in
     let all = mul-le c.relation.depth (bits_of shapes) 64 16777216 is.depth some in
     omega (arith, all)

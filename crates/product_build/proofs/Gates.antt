@@ -1,44 +1,25 @@
 -- Whether the circuits that are made have more gates than they may have.
-use Rattle.std.proofs.Common.{◌≡◌, ℕ, zero, suc, ◌+◌, ◌<◌, ◌≤◌, refl, ◌∙◌, ap, subst, [], length, arith}
+use Rattle.std.proofs.Common.{◌≡◌, ℕ, ◌+◌, ◌<◌, ◌≤◌, ◌∙◌, ap, subst, [], length, arith}
 use Rattle.std.specs.Prelude.{Result, Err, IfErr}
 use Rattle.gates.specs.declared.circuit.GateFault.{GateFault}
 use Rattle.gates.specs.declared.circuit.GateFault.TheVariants.{TooMany}
 use Rattle.gates.specs.Netlists.{Netlist, IsOverfull, IsWithinLimit}
 use Rattle.node_core.specs.Scans.{ScanData}
-use Rattle.node_circuits.specs.NodeWords.{Words}
 use Rattle.queries.specs.Comparisons.{Comparison}
-use Rattle.pair_circuits.specs.CellShapes.{bits_of}
-use Rattle.pair_circuits.specs.Parts.{Parts, parts_of}
-use Rattle.pair_circuits.specs.PairWords.{PairWords, free_words}
-use Rattle.pair_circuits.specs.Literals.{outside_cells}
-use Rattle.pair_circuits.specs.Products.{Product, product_from, product_bits, product_of}
-use Rattle.pair_circuits.specs.Breaks.{Breaks, scan_from, scans_from, start_words, breaks_bits, breaks_of}
-use Rattle.pair_circuits.proofs.Growth.{extends_outside_cells}
-use Rattle.pair_circuits.proofs.Composed.{after_old, after_outside, after_premises}
-use Rattle.pair_circuits.proofs.BreakTurns.{after_ranges}
+use Rattle.query_formulas.specs.Parts.{Parts, parts_of}
+use Rattle.query_formulas.specs.Products.{Product, product_of}
+use Rattle.query_formulas.specs.Breaks.{Breaks, start_words, breaks_bits, breaks_of}
+use Rattle.query_formulas.proofs.Growth.{extends_scans_from}
+use Rattle.query_formula_laws.proofs.Orders.{extends_product}
 use Rattle.product_build.specs.Limits.{most_gates, HasFewGates, HasManyGates, in_product, in_breaks}
 
 -- ---- the limit stays
 
-limit_from : (parts : Parts) (pair : PairWords) (inputs : Words) (n : Netlist) → (product_from parts pair inputs n).net.limit ≡ n.limit
-limit_from parts pair inputs n =
-    let o = outside_cells parts.old pair.old n in
-    (after_premises parts pair inputs n).limit ∙ (after_outside parts pair inputs n).limit ∙ (after_old parts pair inputs n).limit ∙ (extends_outside_cells parts.old pair.old n).limit
-
 product_limit : (parts : Parts) (limit : ℕ) → (product_of parts limit).lits.net.limit ≡ limit
-product_limit parts limit =
-    let words = product_of parts limit in
-    limit_from parts words.pair words.inputs (record { first = product_bits parts + 2; limit = limit; gates = [] })
-
-scans_limit : (parts : Parts) (k v : ℕ) (pair : PairWords) (n : Netlist) → (scans_from parts k v pair n).net.limit ≡ n.limit
-scans_limit parts zero v pair n = refl
-scans_limit parts (suc k) v pair n =
-    let inputs = free_words v parts.lines in
-    let s = scan_from parts inputs pair n in
-    scans_limit parts k (v + bits_of parts.lines) s.pair s.net ∙ (after_ranges parts inputs pair n).limit ∙ (extends_outside_cells parts.lines inputs n).limit
+product_limit parts limit = (extends_product parts limit).limit
 
 breaks_limit : (parts : Parts) (limit : ℕ) → (breaks_of parts limit).net.limit ≡ limit
-breaks_limit parts limit = scans_limit parts parts.depth 2 (start_words parts) (record { first = breaks_bits parts + 2; limit = limit; gates = [] })
+breaks_limit parts limit = (extends_scans_from parts parts.depth 2 (start_words parts) (record { first = breaks_bits parts + 2; limit = limit; gates = [] })).limit
 
 -- ---- both circuits
 

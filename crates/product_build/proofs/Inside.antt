@@ -8,9 +8,8 @@ use Rattle.std.proofs.lemmas.List.Elements.{All-nil, All-cons, All-head, All-tai
 use Rattle.clause_core.specs.declared.literal.Lit.{Lit}
 use Rattle.clause_core.specs.Clauses.{is_inside}
 use Rattle.scan_model.specs.Verdicts.{CandidateSet}
-use Rattle.pair_circuits.specs.Breaks.{ScanLiterals}
-use Rattle.pair_circuits.specs.QueryClauses.{AreInside, members_from, members_of, last_count}
-use Rattle.pair_bridges.specs.Views.{IsScanInside}
+use Rattle.query_formulas.specs.Breaks.{ScanLiterals}
+use Rattle.query_formulas.specs.QueryClauses.{AreInside, members_from, members_of, last_count, IsScanInside}
 use Rattle.product_build.specs.Counts.{AreLitsInside, AreRising}
 
 -- ---- lists of literals

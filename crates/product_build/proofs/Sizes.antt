@@ -16,18 +16,17 @@ use Rattle.node_circuits.specs.NodeWords.{Words}
 use Rattle.scan_model.specs.Verdicts.{CandidateSet}
 use Rattle.queries.specs.Comparisons.{Comparison, IsComparison}
 use Rattle.queries.specs.Questions.{QueryData, first, step, goal, deep}
-use Rattle.pair_circuits.specs.declared.shapes.CellShape.{CellShape}
-use Rattle.pair_circuits.specs.CellShapes.{bits_of, shape_of, shapes_of, shape_of_line}
-use Rattle.pair_circuits.specs.Parts.{Parts, parts_of}
-use Rattle.pair_circuits.specs.PairWords.{PairWords, free_words, loaded_words, clause_words}
-use Rattle.pair_circuits.specs.Literals.{MadeLiterals, none_made, outside_cell, outside_one, outside_cells, clause_literal, clause_literals, pair_literals}
-use Rattle.pair_circuits.specs.PairScans.{scanned_pair}
-use Rattle.pair_circuits.specs.Products.{ProductLits, loaded_row, product_from, product_bits, product_of}
-use Rattle.pair_circuits.specs.Breaks.{ScanLiterals, scan_from, scans_from, start_words, breaks_bits, breaks_of}
-use Rattle.pair_circuits.specs.QueryClauses.{negations, units, members_from, members_of, some_fails, gates_formula, with_gates, premises_of, row_units, break_units, last_count, listed_formula, begun_formula, first_formula, break_formula}
+use Rattle.query_formulas.specs.declared.shapes.CellShape.{CellShape}
+use Rattle.query_formulas.specs.CellShapes.{bits_of, shape_of, shapes_of}
+use Rattle.query_formulas.specs.Parts.{Parts, parts_of}
+use Rattle.query_formulas.specs.PairWords.{PairWords, free_words, loaded_words, clause_words}
+use Rattle.query_formulas.specs.Literals.{MadeLiterals, none_made, outside_cell, outside_one, outside_cells, clause_literal, clause_literals, pair_literals}
+use Rattle.query_formulas.specs.PairScans.{scanned_pair}
+use Rattle.query_formulas.specs.Products.{ProductLits, loaded_row, product_from, product_bits, product_of}
+use Rattle.query_formulas.specs.Breaks.{ScanLiterals, scan_from, scans_from, start_words, breaks_bits, breaks_of}
+use Rattle.query_formulas.specs.QueryClauses.{negations, units, members_from, members_of, some_fails, gates_formula, with_gates, premises_of, row_units, break_units, last_count, listed_formula, begun_formula, first_formula, break_formula, formula_of}
 use Rattle.product_build.specs.Limits.{most_gates, HasFewGates, HasFewLines}
-use Rattle.product_build.specs.MadeCircuits.{formula_by}
-use Rattle.product_build.proofs.Few.{few_cells}
+use Rattle.product_build.proofs.Few.{few_cells, length-lines}
 
 -- ---- gates
 
@@ -182,7 +181,7 @@ length-parts : (c : Comparison) (old new : ScanData) → IsComparison c → HasF
 length-parts c old new is lines =
     let cells = few_cells c is in
     let count : ℕ = length c.old.cells + length c.new.cells in
-    omega (arith, cells, lines.inputs, lines.environment, length-map c.relation.inputs (shape_of_line (shapes_of c.old.cells) (shapes_of c.new.cells)), length-map c.relation.environment (clause_of count), length-map c.relation.relates (clause_of count))
+    omega (arith, cells, lines.inputs, lines.environment, length-lines c, length-map c.relation.environment (clause_of count), length-map c.relation.relates (clause_of count))
 
 module _ (c : Comparison) (old new : ScanData) (is : IsComparison c) (lines : HasFewLines c) (gates : HasFewGates c old new) where
   length-given : (set : CandidateSet) → length (premises_of (product_of (parts_of c old new) most_gates).lits set) ≤ 1100000
@@ -205,7 +204,7 @@ module _ (c : Comparison) (old new : ScanData) (is : IsComparison c) (lines : Ha
         lines.environment,
         length-map c.old.cells shape_of,
         length-map c.new.cells shape_of,
-        length-map c.relation.inputs (shape_of_line (shapes_of c.old.cells) (shapes_of c.new.cells)),
+        length-lines c,
         length-map c.relation.environment (clause_of count),
         length-map (map (λ k. k.clause) c.relation.candidates) (clause_of count),
         length-map c.relation.candidates (λ k. k.clause),
@@ -240,7 +239,7 @@ module _ (c : Comparison) (old new : ScanData) (is : IsComparison c) (lines : Ha
       let few = length-parts c old new is lines in
       omega (arith, all, few)
 
-  pub query_few : (q : QueryData) → length (formula_by (product_of (parts_of c old new) most_gates) (breaks_of (parts_of c old new) most_gates) q).clauses < 2 ^ 31
+  pub query_few : (q : QueryData) → length (formula_of (parts_of c old new) most_gates q).clauses < 2 ^ 31
   query_few first = first_few
   query_few (step set) = let p = (product_of (parts_of c old new) most_gates).lits in product_few set (some_fails (members_of set p.after))
   query_few (goal set) = let p = (product_of (parts_of c old new) most_gates).lits in product_few set (some_fails p.relates)

@@ -8,9 +8,9 @@ use Rattle.clause_core.specs.declared.literal.Lit.{Lit}
 use Rattle.clause_core.specs.Formula.{Formula}
 use Rattle.gates.specs.Clauses.{with_clauses}
 use Rattle.pair_circuits.specs.declared.breaks.ScanLits.{ScanLits}
-use Rattle.pair_circuits.specs.Breaks.{ScanLiterals, Breaks, scan_lits_view}
-use Rattle.pair_circuits.specs.QueryClauses.{units, row_units, break_units, last_count}
-use Rattle.pair_bridges.specs.Views.{IsScanInside}
+use Rattle.query_formulas.specs.Breaks.{ScanLiterals, Breaks}
+use Rattle.pair_circuits.specs.Views.{scan_lits_view}
+use Rattle.query_formulas.specs.QueryClauses.{units, row_units, break_units, last_count, IsScanInside}
 use Rattle.product_build.specs.Counts.{AreLitsInside, AreRising, AreScansInOrder}
 use Rattle.product_build.proofs.Inside.{rising_whole, rising_taken, last_within, first_inside, others_inside}
 

@@ -1,8 +1,7 @@
 -- Scans from the start whose literals are those of the variables up to their counts of gates.
 use Rattle.std.specs.Prelude.{ℕ, ◌≤◌, List, [], ◌∷◌, length}
-use Rattle.pair_circuits.specs.Breaks.{ScanLiterals, Breaks}
-use Rattle.pair_circuits.specs.QueryClauses.{AreInside}
-use Rattle.pair_bridges.specs.Views.{AreBreaksInOrder}
+use Rattle.query_formulas.specs.Breaks.{ScanLiterals, Breaks}
+use Rattle.query_formulas.specs.QueryClauses.{AreInside, AreBreaksInOrder}
 
 -- the literals of a scan are those of so many variables
 pub record AreLitsInside (variables : ℕ) (s : ScanLiterals) : Type 0 where

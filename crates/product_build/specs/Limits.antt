@@ -2,9 +2,9 @@
 use Rattle.std.specs.Prelude.{ℕ, ◌<◌, ◌≤◌, length}
 use Rattle.queries.specs.Comparisons.{Comparison}
 use Rattle.node_core.specs.Scans.{ScanData}
-use Rattle.pair_circuits.specs.Parts.{parts_of}
-use Rattle.pair_circuits.specs.Products.{product_of}
-use Rattle.pair_circuits.specs.Breaks.{breaks_of}
+use Rattle.query_formulas.specs.Parts.{parts_of}
+use Rattle.query_formulas.specs.Products.{product_of}
+use Rattle.query_formulas.specs.Breaks.{breaks_of}
 
 -- how many gates a circuit may have
 abbrev pub most_gates : ℕ

@@ -6,12 +6,12 @@ use Rattle.program_tree.specs.View.{program_view}
 use Rattle.scan_model.specs.declared.relation.Relation.{Relation}
 use Rattle.scan_model.specs.Pairs.{relation_view}
 use Rattle.queries.specs.Comparisons.{Comparison}
-use Rattle.queries.specs.Questions.{QueryData, first, step, goal, deep}
+use Rattle.queries.specs.Questions.{QueryData}
 use Rattle.node_core.specs.Scans.{ScanData}
-use Rattle.pair_circuits.specs.Parts.{Parts, parts_of}
-use Rattle.pair_circuits.specs.Products.{Product, product_of}
-use Rattle.pair_circuits.specs.Breaks.{Breaks, breaks_of}
-use Rattle.pair_circuits.specs.QueryClauses.{gates_formula, first_formula, step_formula, goal_formula, break_formula}
+use Rattle.query_formulas.specs.Parts.{Parts, parts_of}
+use Rattle.query_formulas.specs.Products.{Product, product_of}
+use Rattle.query_formulas.specs.Breaks.{Breaks, breaks_of}
+use Rattle.query_formulas.specs.QueryClauses.{gates_formula, formula_by}
 use Rattle.query_formula_laws.specs.TypedComparisons.{IsTypedComparison, IsScanOf}
 use Rattle.product_build.specs.Limits.{most_gates, HasFewGates, HasFewLines}
 
@@ -30,12 +30,6 @@ abbrev pub comparison_of : MadeCircuits → Comparison
 comparison_of m = comparison_between m.old_program m.new_program m.relation
 
 -- the formula of a query
-abbrev pub formula_by : Product → Breaks → QueryData → Formula
-formula_by p b first = first_formula b
-formula_by p b (step set) = step_formula p.lits set
-formula_by p b (goal set) = goal_formula p.lits set
-formula_by p b (deep scans) = break_formula b scans
-
 abbrev pub formula_of : MadeCircuits → QueryData → Formula
 formula_of m q = formula_by m.product m.breaks q
 

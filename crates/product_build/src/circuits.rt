@@ -3,9 +3,10 @@ ghost use Rattle.gates.specs.declared.circuit.GateFault.{GateFault};
 ghost use Rattle.gates.specs.Order.{IsOrdered};
 ghost use Rattle.program_tree.specs.View.{program_view};
 ghost use Rattle.node_core.specs.Scans.{scan_view};
-ghost use Rattle.pair_circuits.specs.Parts.{parts_of};
-ghost use Rattle.pair_circuits.specs.Products.{product_of, product_view};
-ghost use Rattle.pair_circuits.specs.Breaks.{breaks_of};
+ghost use Rattle.query_formulas.specs.Parts.{parts_of};
+ghost use Rattle.query_formulas.specs.Products.{product_of};
+ghost use Rattle.pair_circuits.specs.Views.{product_view};
+ghost use Rattle.query_formulas.specs.Breaks.{breaks_of};
 ghost use Rattle.query_formula_laws.specs.TypedComparisons.{IsTypedComparison, IsScanOf};
 ghost use Rattle.product_build.specs.Limits.{most_gates, HasFewGates, HasManyGates, HasFewLines};
 ghost use Rattle.product_build.specs.MadeCircuits.{comparison_between};
@@ -36,9 +37,7 @@ impl<'p> Model for Circuits<'p> {
     ghost use Rattle.program_tree.specs.contracts.typed.TypedStmt as stmt;
     ghost use Rattle.program_tree.specs.contracts.typed.TypedExpr as expr;
     ghost use Rattle.std.specs.Coded.{codes};
-    ghost use Rattle.pair_circuits.specs.Parts.{parts_view};
-    ghost use Rattle.pair_circuits.specs.Products.{product_view};
-    ghost use Rattle.pair_circuits.specs.Breaks.{breaks_view};
+    ghost use Rattle.pair_circuits.specs.Views.{parts_view, product_view, breaks_view};
     ghost use Rattle.product_build.specs.MadeCircuits.{MadeCircuits, comparison_between, AreCircuitsOf};
 
     ghost Value = { MadeCircuits };

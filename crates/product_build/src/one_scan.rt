@@ -1,7 +1,7 @@
 ghost use Rattle.std.specs.Prelude.{◌≡◌, length, IfOk, OnOk};
 ghost use Rattle.queries.specs.Sets.{members};
-ghost use Rattle.pair_circuits.specs.Products.{product_view};
-ghost use Rattle.pair_circuits.specs.QueryClauses.{IsProductInOrder, gates_formula, with_gates, premises_of, step_formula, goal_formula};
+ghost use Rattle.pair_circuits.specs.Views.{product_view};
+ghost use Rattle.query_formulas.specs.QueryClauses.{IsProductInOrder, gates_formula, with_gates, premises_of, step_formula, goal_formula};
 
 use clause_core::Cnf;
 use pair_circuits::{

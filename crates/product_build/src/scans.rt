@@ -1,7 +1,7 @@
 ghost use Rattle.std.specs.Prelude.{◌≡◌, ◌++◌, ◌∷◌, [], All, map, length, IfOk, OnOk};
 ghost use Rattle.gates.specs.Clauses.{with_clauses};
-ghost use Rattle.pair_circuits.specs.Breaks.{breaks_view, scan_lits_view};
-ghost use Rattle.pair_circuits.specs.QueryClauses.{AreInside, units, some_fails, row_units, break_units, last_count, first_formula, break_formula};
+ghost use Rattle.pair_circuits.specs.Views.{breaks_view, scan_lits_view};
+ghost use Rattle.query_formulas.specs.QueryClauses.{AreInside, units, some_fails, row_units, break_units, last_count, first_formula, break_formula};
 ghost use Rattle.product_build.specs.Counts.{AreLitsInside, AreScansInOrder};
 
 use clause_core::Cnf;

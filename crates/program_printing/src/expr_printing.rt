@@ -17,7 +17,7 @@ pub fn print_expr(
         TypedExpr::Unary(operator, kind, inner) => {
             text.push_str(unary_name(*operator))?;
             text.push_str(":")?;
-            text.push_str(kind_name(*kind))?;
+            text.push_str(kind.name())?;
             text.push_str(" ")?;
             print_expr(inner, names, alloc, text)
         }
@@ -64,7 +64,7 @@ fn print_operands(
         text.push_str(" ")?;
         text.push_str(operator_name(operand.operator))?;
         text.push_str(":")?;
-        text.push_str(kind_name(operand.kind))?;
+        text.push_str(operand.kind.name())?;
         text.push_str(" ")?;
         print_expr(&operand.right, names, alloc, text)?;
         text.push_str(")")?;
@@ -107,24 +107,8 @@ fn print_function(
             text.push_str(format!(in alloc; " {amount}:")?.as_str())?;
         }
     }
-    text.push_str(kind_name(kind))?;
+    text.push_str(kind.name())?;
     text.push_str("(")
-}
-
-/// The name of a type.
-pub fn kind_name(kind: Elementary) -> &'static str {
-    match kind {
-        Elementary::Bool => "BOOL",
-        Elementary::Sint => "SINT",
-        Elementary::Int => "INT",
-        Elementary::Dint => "DINT",
-        Elementary::Usint => "USINT",
-        Elementary::Uint => "UINT",
-        Elementary::Udint => "UDINT",
-        Elementary::Byte => "BYTE",
-        Elementary::Word => "WORD",
-        Elementary::Dword => "DWORD",
-    }
 }
 
 /// The name of an operator of one operand.

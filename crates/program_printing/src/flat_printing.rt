@@ -1,5 +1,5 @@
 // Flat programs as texts: the types of the scratch cells, with a mark where they are subranges, and the statements.
-use crate::expr_printing::{kind_name, print_expr};
+use crate::expr_printing::print_expr;
 use flat_core::{Flat, FlatArm, FlatStmt};
 use std::alloc::{AllocError, Global};
 
@@ -7,7 +7,7 @@ use std::alloc::{AllocError, Global};
 pub fn print_flat(alloc: Global, flat: &Flat) -> Result<String, AllocError> {
     let mut text = String::new(alloc);
     for scratch in &flat.scratch {
-        text.push_str(kind_name(scratch.kind))?;
+        text.push_str(scratch.kind.name())?;
         text.push_str(if scratch.is_subrange { "! " } else { " " })?;
     }
     text.push_str("|")?;

@@ -1,5 +1,5 @@
 // The nodes of a scan as a text: a line for each node, and at the end the words that the cells hold.
-use crate::expr_printing::{kind_name, operator_name, shift_name, unary_name};
+use crate::expr_printing::{operator_name, shift_name, unary_name};
 use node_core::{Node, Scan};
 use std::alloc::{AllocError, Global};
 
@@ -24,14 +24,14 @@ pub fn print_nodes(alloc: Global, scan: &Scan) -> Result<String, AllocError> {
 fn print_node(alloc: Global, node: Node, text: &mut String) -> Result<(), AllocError> {
     match node {
         Node::Constant { kind, value } => {
-            let kind = kind_name(kind);
+            let kind = kind.name();
             text.push_str(format!(in alloc; "{kind} {value}")?.as_str())
         }
         Node::Unary {
             operator,
             kind,
             operand,
-        } => print_one(alloc, unary_name(operator), kind_name(kind), operand, text),
+        } => print_one(alloc, unary_name(operator), kind.name(), operand, text),
         Node::Binary {
             operator,
             kind,
@@ -40,25 +40,25 @@ fn print_node(alloc: Global, node: Node, text: &mut String) -> Result<(), AllocE
         } => print_two(
             alloc,
             operator_name(operator),
-            kind_name(kind),
+            kind.name(),
             left,
             right,
             text,
         ),
         Node::Convert { from, to, operand } => {
-            let (from, to) = (kind_name(from), kind_name(to));
+            let (from, to) = (from.name(), to.name());
             text.push_str(format!(in alloc; "CONVERT {from} {to} #{operand}")?.as_str())
         }
         Node::Minimum { kind, left, right } => {
-            print_two(alloc, "MIN", kind_name(kind), left, right, text)
+            print_two(alloc, "MIN", kind.name(), left, right, text)
         }
         Node::Maximum { kind, left, right } => {
-            print_two(alloc, "MAX", kind_name(kind), left, right, text)
+            print_two(alloc, "MAX", kind.name(), left, right, text)
         }
         Node::IsZero { kind, operand } => {
-            print_one(alloc, "IS_ZERO", kind_name(kind), operand, text)
+            print_one(alloc, "IS_ZERO", kind.name(), operand, text)
         }
-        Node::Absolute { kind, operand } => print_one(alloc, "ABS", kind_name(kind), operand, text),
+        Node::Absolute { kind, operand } => print_one(alloc, "ABS", kind.name(), operand, text),
         _ => print_others(alloc, node, text),
     }
 }
@@ -72,7 +72,7 @@ fn print_others(alloc: Global, node: Node, text: &mut String) -> Result<(), Allo
             kind,
             operand,
         } => {
-            let (shift, kind) = (shift_name(shift), kind_name(kind));
+            let (shift, kind) = (shift_name(shift), kind.name());
             text.push_str(format!(in alloc; "{shift} {amount} {kind} #{operand}")?.as_str())
         }
         Node::Outside {
@@ -80,7 +80,7 @@ fn print_others(alloc: Global, node: Node, text: &mut String) -> Result<(), Allo
             range,
             operand,
         } => {
-            let (kind, low, high) = (kind_name(kind), range.low, range.high);
+            let (kind, low, high) = (kind.name(), range.low, range.high);
             text.push_str(format!(in alloc; "OUTSIDE {low}..{high} {kind} #{operand}")?.as_str())
         }
         Node::Mux {
@@ -89,7 +89,7 @@ fn print_others(alloc: Global, node: Node, text: &mut String) -> Result<(), Allo
             on,
             off,
         } => {
-            let kind = kind_name(kind);
+            let kind = kind.name();
             text.push_str(format!(in alloc; "MUX {kind} #{condition} #{on} #{off}")?.as_str())
         }
         _ => Ok(()),

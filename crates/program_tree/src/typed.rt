@@ -1,5 +1,5 @@
 // Programs whose names are cells and whose operators have types.
-use plc_types::{DataType, Elementary, Function, Operator, Range, UnaryOperator};
+use plc_types::{DataType, Elementary, Function, Operator, Range, UnaryOperator, Value};
 
 /// An expression over the cells of a POU, each by its place. An operator has the type of its operands, and a call of a
 /// standard function that of its result. A FUNCTION is called by its number among the POUs that the program may call, with the
@@ -7,7 +7,7 @@ use plc_types::{DataType, Elementary, Function, Operator, Range, UnaryOperator};
 #[derive(Drop)]
 #[cycle(typed_expr)]
 pub enum TypedExpr {
-    Number(i64),
+    Number(Value),
     Cell(usize),
     Unary(UnaryOperator, Elementary, Box<TypedExpr>),
     Chain(Box<TypedExpr>, Vec<Operand>),
@@ -104,8 +104,8 @@ pub struct TypedEntry {
 pub struct Turns {
     pub count: u16,
     pub control: usize,
-    pub first: i64,
-    pub step: i64,
+    pub first: Value,
+    pub step: Value,
 }
 
 /// What part a cell plays in its program.
@@ -121,7 +121,7 @@ pub enum Part {
 /// since its test compares twice.
 #[derive(Clone, Copy)]
 pub enum TypedLabel {
-    Single(i64),
+    Single(Value),
     Span(Range),
 }
 
@@ -134,7 +134,7 @@ pub struct Cell {
     pub kind: DataType,
     pub range: Range,
     pub is_subrange: bool,
-    pub initial: i64,
+    pub initial: Value,
 }
 
 /// The type of a cell that has no path: its data type, and whether it is a subrange of it.
@@ -150,7 +150,7 @@ pub struct CellType {
 pub struct Frame {
     pub types: Vec<CellType>,
     pub ranges: Vec<Range>,
-    pub start: Vec<i64>,
+    pub start: Vec<Value>,
 }
 
 /// Where the cells of a chart's steps stand, one step behind the other, each with two cells: the place of the first, and how many

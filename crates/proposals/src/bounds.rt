@@ -2,15 +2,15 @@
 use crate::facts::Facts;
 use crate::proposal::Proposal;
 use crate::subject::Sort;
-use plc_types::Range;
+use plc_types::{Range, Value};
 use std::alloc::AllocError;
 
 // The cell is at least a number that is at most its least value: the greatest of these, or the nth below it, counted from 0.
 fn add_at_least(
     cell: usize,
-    value: i64,
+    value: Value,
     range: Range,
-    edges: &[i64],
+    edges: &[Value],
     nth: usize,
     found: &mut Vec<Proposal>,
 ) -> Result<(), AllocError> {
@@ -31,9 +31,9 @@ fn add_at_least(
 // The cell is at most a number that is at least its greatest value: the least of these, or the nth above it.
 fn add_at_most(
     cell: usize,
-    value: i64,
+    value: Value,
     range: Range,
-    edges: &[i64],
+    edges: &[Value],
     nth: usize,
     found: &mut Vec<Proposal>,
 ) -> Result<(), AllocError> {
@@ -54,7 +54,7 @@ fn add_at_most(
 /// its greatest; by `nth` the numbers next to these are taken. The numbers rise.
 pub fn add_bounds(
     facts: &Facts<'_>,
-    edges: &[i64],
+    edges: &[Value],
     nth: usize,
     found: &mut Vec<Proposal>,
 ) -> Result<(), AllocError> {

@@ -8,6 +8,7 @@ use crate::junctions::add_junctions;
 use crate::proposal::Proposal;
 use crate::subject::Subject;
 use crate::sums::{add_counts, add_sums, add_sums_of_two};
+use plc_types::Value;
 use scan_model::Side;
 use seen_values::Seen;
 use std::alloc::{AllocError, Global};
@@ -31,7 +32,7 @@ fn add_ties(
 // The forms on one program.
 fn add_others(
     facts: &Facts<'_>,
-    edges: &[i64],
+    edges: &[Value],
     found: &mut Vec<Proposal>,
 ) -> Result<(), AllocError> {
     add_counts(facts, Side::Old, found)?;
@@ -48,7 +49,7 @@ pub fn proposals(
     alloc: Global,
     seen: &Seen,
     subjects: &[Subject],
-    edges: &[i64],
+    edges: &[Value],
     room: usize,
 ) -> Result<Vec<Proposal>, AllocError> {
     let mut found = Vec::new(alloc);

@@ -2,6 +2,7 @@
 use crate::facts::{Facts, key_of};
 use crate::proposal::Proposal;
 use crate::subject::Sort;
+use plc_types::Value;
 use seen_values::{few_values, indicator};
 use std::alloc::AllocError;
 
@@ -12,7 +13,7 @@ const MOST_VALUES: usize = 20;
 const BOOL_GROUP: u64 = 1;
 
 // The class of BOOL cells that are TRUE exactly where a cell has a value, or has not.
-fn flag_class(facts: &Facts<'_>, cell: usize, value: i64, negated: bool) -> Option<usize> {
+fn flag_class(facts: &Facts<'_>, cell: usize, value: Value, negated: bool) -> Option<usize> {
     let sum = indicator(facts.seen, cell, value, negated);
     facts.classes.find(key_of(BOOL_GROUP, sum))
 }
@@ -20,7 +21,7 @@ fn flag_class(facts: &Facts<'_>, cell: usize, value: i64, negated: bool) -> Opti
 fn add_flag(
     facts: &mut Facts<'_>,
     class: usize,
-    value: i64,
+    value: Value,
     negated: bool,
     found: &mut Vec<Proposal>,
 ) -> Result<bool, AllocError> {

@@ -1,4 +1,5 @@
 // What may be proposed.
+use plc_types::Value;
 
 /// How a BOOL cell is made of two others.
 #[derive(Clone, Copy)]
@@ -19,18 +20,18 @@ pub enum Proposal {
     HasValue {
         flag: usize,
         cell: usize,
-        value: i64,
+        value: Value,
         negated: bool,
     },
     /// A sum of multiples of integer cells, the factors before the cells, is a constant.
     Sum {
-        terms: Vec<(i64, usize)>,
-        constant: i64,
+        terms: Vec<(Value, usize)>,
+        constant: Value,
     },
     /// The same of BOOL cells as 0 and 1.
     Count {
-        terms: Vec<(i64, usize)>,
-        constant: i64,
+        terms: Vec<(Value, usize)>,
+        constant: Value,
     },
     /// A BOOL cell is TRUE exactly where this is of two others.
     Joined {
@@ -48,13 +49,13 @@ pub enum Proposal {
     /// A cell is at least so great; the least value that it was seen to have.
     AtLeast {
         cell: usize,
-        bound: i64,
-        seen: i64,
+        bound: Value,
+        seen: Value,
     },
     /// A cell is at most so great; the greatest value that it was seen to have.
     AtMost {
         cell: usize,
-        bound: i64,
-        seen: i64,
+        bound: Value,
+        seen: Value,
     },
 }

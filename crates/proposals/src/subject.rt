@@ -44,20 +44,16 @@ fn sort_of(kind: DataType) -> Sort {
     }
 }
 
-// A number for each elementary type.
+// A number for each elementary type: its place in the table of these, from 1.
 fn number_of(kind: Elementary) -> u64 {
-    match kind {
-        Elementary::Bool => 1,
-        Elementary::Sint => 2,
-        Elementary::Int => 3,
-        Elementary::Dint => 4,
-        Elementary::Usint => 5,
-        Elementary::Uint => 6,
-        Elementary::Udint => 7,
-        Elementary::Byte => 8,
-        Elementary::Word => 9,
-        Elementary::Dword => 10,
+    let mut number = 1u64;
+    for other in Elementary::all() {
+        if *other == kind {
+            return number;
+        }
+        number = number.wrapping_add(1);
     }
+    number
 }
 
 // A checksum of the names of an enumeration's values.

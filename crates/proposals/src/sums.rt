@@ -2,6 +2,7 @@
 use crate::facts::{Facts, key_of};
 use crate::proposal::Proposal;
 use crate::subject::Sort;
+use plc_types::Value;
 use scan_model::Side;
 use seen_values::{Affine, Classes, Signature, affine_relations};
 use std::alloc::AllocError;
@@ -10,7 +11,7 @@ use std::alloc::AllocError;
 const MOST_CELLS: usize = 64;
 
 // Whether a number can be written where values have this integer type.
-fn can_be_written(group: u64, number: i64) -> bool {
+fn can_be_written(group: u64, number: Value) -> bool {
     let most = match group {
         2 => 127,
         3 => 32_767,
@@ -28,7 +29,7 @@ fn add_two(
     group: u64,
     cell: usize,
     other: usize,
-    factor: i64,
+    factor: Value,
     found: &mut Vec<Proposal>,
 ) -> Result<(), AllocError> {
     let times = factor.wrapping_mul(facts.seen.value(0, other));
@@ -36,15 +37,15 @@ fn add_two(
     if !can_be_written(group, constant) {
         return Ok(());
     }
-    let mut terms = Vec::new(facts.alloc);
-    terms.push((1i64, cell))?;
+    let mut terms: Vec<(Value, usize)> = Vec::new(facts.alloc);
+    terms.push((1, cell))?;
     terms.push((factor, other))?;
     found.push(Proposal::Sum { terms, constant })?;
     Ok(())
 }
 
 // An earlier class whose cells differ from those of this one by a constant, or give one with them; and the factor.
-fn earlier(moved: &Classes, group: u64, signature: Signature) -> Option<(usize, i64)> {
+fn earlier(moved: &Classes, group: u64, signature: Signature) -> Option<(usize, Value)> {
     if let Some(number) = moved.find(key_of(group, signature.above)) {
         return Some((number, -1));
     }
@@ -145,7 +146,7 @@ fn in_old(facts: &Facts<'_>, cell: usize) -> usize {
 }
 
 // Whether each of these terms is among others, with cells of OLD in the place of cells that are equal to them.
-fn are_among(facts: &Facts<'_>, terms: &[(i64, usize)], others: &[(i64, usize)]) -> bool {
+fn are_among(facts: &Facts<'_>, terms: &[(Value, usize)], others: &[(Value, usize)]) -> bool {
     for (factor, cell) in terms.iter() {
         let old = in_old(facts, *cell);
         if !others.iter().any(|term| term.0 == *factor && term.1 == old) {

@@ -4,21 +4,18 @@ use Rattle.std.proofs.lemmas.Int.{ints}
 use Rattle.std.proofs.lemmas.Bool.{false≢true, cases_lt, and_parts, and_from, and_cases, or_parts, or_left, or_right, false_from_ne_true}
 use Rattle.plc_types.specs.declared.range.Range.{Range}
 use Rattle.plc_types.specs.Types.{in_range}
+use Rattle.plc_types.proofs.InRange.{bounds, in_range_from}
 use Rattle.meaning.specs.Values.{State}
 use Rattle.scan_model.specs.Scans.{ranges_of}
 use Rattle.scan_model.specs.InRange.{IsInRange}
 use Rattle.scan_model.specs.Pairs.{Pair, CandidateData, IsPairInRange}
 use Rattle.scan_model.specs.Candidates.{candidate_holds, candidates_of}
 use Rattle.scan_model.specs.Verdicts.{CandidateSet, count_of, Meets}
-use Rattle.scan_model.proofs.Keeping.{within}
 use Rattle.verdict_laws.specs.Evidence.{candidate_on, FailsOn, held_at_start, left_on}
 use Rattle.queries.specs.Comparisons.{Comparison, IsComparison}
 use Rattle.queries.specs.Ranges.{are_in_range, is_pair_in_range}
 use Rattle.queries.specs.Questions.{deep, IsQueryOf}
 use Rattle.queries.specs.Settings.{Setting, setting_of, meets_below, meets, first_set, left_of}
-
-in_range_from : (v : ℤ) (r : Range) → r.low ≤ℤ v → v ≤ℤ r.high → in_range v r ≡ true
-in_range_from v r low high = search (rules, tests, ints)
 
 -- the test of ranges
 pub IsInRange-test : (rs : List Range) (s : State) → are_in_range rs s ≡ true → IsInRange rs s
@@ -27,7 +24,7 @@ IsInRange-test [] (v ∷ vs) h = false≢true h
 IsInRange-test (r ∷ rs) [] h = false≢true h
 IsInRange-test (r ∷ rs) (v ∷ vs) h =
     let parts = and_parts (in_range v r) (are_in_range rs vs) h in
-    let w = within v r parts.0 in
+    let w = bounds v r parts.0 in
     (w.0, w.1, IsInRange-test rs vs parts.1)
 
 pub test-IsInRange : (rs : List Range) (s : State) → IsInRange rs s → are_in_range rs s ≡ true

@@ -1,12 +1,13 @@
 ghost use Rattle.std.specs.Prelude.{◌≡◌, ◌++◌, ◌∷◌, [], OnErr, OnOk};
 
+use plc_types::Value;
 use std::alloc::{AllocError, Global};
 use std::marker::Model;
 
 /// The inputs of one scan, in their order: contracts see the list of them.
 #[derive(Drop)]
 pub struct Row {
-    numbers: Vec<i64>,
+    numbers: Vec<Value>,
 }
 
 impl Model for Row {
@@ -29,14 +30,14 @@ impl Row {
 
     /// The inputs in their order.
     #[inline]
-    pub fn as_slice(&self) -> &[i64]
+    pub fn as_slice(&self) -> &[Value]
         ensures { result.now ≡ self.now }
     {
         self.numbers.as_slice()
     }
 
     /// Adds an input behind the others.
-    pub fn push(&mut self, number: i64) -> Result<(), AllocError>
+    pub fn push(&mut self, number: Value) -> Result<(), AllocError>
         ensures ok { OnOk result (self.new ≡ self.old ++ number ∷ []) }
         ensures err { OnErr result (self.new ≡ self.old) }
     {

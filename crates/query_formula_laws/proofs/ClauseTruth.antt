@@ -12,19 +12,18 @@ use Rattle.scan_model.specs.Scans.{ranges_of}
 use Rattle.scan_model.specs.InRange.{IsInRange}
 use Rattle.flat_core.specs.FlatRules.{Reads}
 use Rattle.gates.specs.Literals.{false_lit}
-use Rattle.gates.specs.Netlists.{Netlist, Made}
+use Rattle.gates.specs.Netlists.{Netlist}
 use Rattle.gates.specs.Models.{IsModel}
-use Rattle.gates.specs.Rules.{and_of}
 use Rattle.gates.proofs.Booleans.{literal_true-not}
 use Rattle.gates.proofs.NetLaws.{Means-and}
 use Rattle.word_circuits.specs.Words.{top_of}
+use Rattle.program_tree.specs.Places.{of_cell, IsTypedPlace}
 use Rattle.word_laws.specs.Numbers.{bit, value}
 use Rattle.node_core.specs.Nodes.{WordsAre, NodesHold}
 use Rattle.node_core.specs.NodeTypes.{IsWordOf, all_kinds}
 use Rattle.node_core.specs.NodeLaws.{kinds_of}
 use Rattle.node_core.specs.Scans.{clause_of}
-use Rattle.node_core.specs.Stores.{of_cell}
-use Rattle.node_core.specs.TypedFlats.{IsTypedPlace, IsTypedClause}
+use Rattle.node_core.specs.TypedFlats.{IsTypedClause}
 use Rattle.node_laws.proofs.MeantScans.{meant_clauses}
 use Rattle.node_laws.proofs.TypedScans.{typed_clauses}
 use Rattle.node_circuits.specs.NodeWords.{Words, operand_of, words_of_nodes}
@@ -32,7 +31,7 @@ use Rattle.node_circuit_laws.specs.WordValues.{HaveWidths, value_at, values_of}
 use Rattle.node_circuit_laws.proofs.Widths.{length-operand, widths_of_nodes}
 use Rattle.node_circuit_laws.proofs.Words.{operand_same, HasValues-all}
 use Rattle.node_circuit_laws.proofs.NodeValues.{values_of_nodes, start_values}
-use Rattle.query_formulas.specs.Literals.{bit_of}
+use Rattle.query_formulas.specs.Literals.{bit_of, clause_literal}
 use Rattle.query_formula_laws.proofs.Values.{widths-append, values-append, words_are, same_place}
 use Rattle.query_formula_laws.proofs.Spelled.{Spells, length-spelled}
 
@@ -60,18 +59,16 @@ bit_at v ts words i h is =
 
 -- ---- one clause over cells
 
-abbrev pub literal_of : ℕ → Words → Expression → Netlist → Made
-literal_of k words e n =
-    let c = clause_of k e in
-    let m = words_of_nodes c.nodes (words ++ (false_lit ∷ []) ∷ []) n in
-    and_of (bit_of m.words c.value) (negation (bit_of m.words c.fault)) m.net
+-- what a clause starts with behind the words of cells
+abbrev pub starts_of : Words → Words
+starts_of words = words ++ (false_lit ∷ []) ∷ []
 
 false_word : (v : ℕ → Bool) → v 1 ≡ true → values_of v (types.Bool ∷ []) ((false_lit ∷ []) ∷ []) ≡ pos 0 ∷ []
 false_word v one = ap (λ (b : Bool). pos (bit (signed true b) + 2 * 0) ∷ []) one
 
 pub literal_holds : (v : ℕ → Bool) (cells : List CellData) (words : Words) (s : State) (e : Expression) (n : Netlist) → All IsTypedPlace (map of_cell cells) → IsTypedClause (map of_cell cells) e → Reads (λ place. place < length cells) e
-    → Spells v cells words s → IsInRange (ranges_of cells) s → IsModel v (literal_of (length cells) words e n).net
-    → literal_true v (literal_of (length cells) words e n).lit ≡ (is_truth (value_of no_callees 0 e s) && not (faults no_callees 0 e s))
+    → Spells v cells words s → IsInRange (ranges_of cells) s → IsModel v (clause_literal (starts_of words) (clause_of (length cells) e) n).net
+    → literal_true v (clause_literal (starts_of words) (clause_of (length cells) e) n).lit ≡ (is_truth (value_of no_callees 0 e s) && not (faults no_callees 0 e s))
 literal_holds v cells words s e n places clause reads h inside model =
     let c = clause_of (length cells) e in
     let ts = kinds_of cells ++ types.Bool ∷ [] in

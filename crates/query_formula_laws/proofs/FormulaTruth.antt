@@ -1,15 +1,17 @@
 -- When the clauses of a formula are true.
-use Rattle.std.proofs.Common.{◌≡◌, ℕ, zero, suc, ◌+◌, ◌<◌, Bool, true, false, not, ◌&&◌, ◌||◌, refl, sym, ◌∙◌, ap, List, [], ◌∷◌, ◌++◌, length, map, arith}
+use Rattle.std.proofs.Common.{◌≡◌, ℕ, zero, suc, ◌+◌, ◌<◌, Bool, true, false, not, ◌&&◌, ◌||◌, refl, sym, ◌∙◌, ap, List, [], ◌∷◌, ◌++◌, length, map, take, arith, subst}
 use Rattle.std.specs.Prelude.{if◌then◌else◌}
 use Rattle.std.specs.List.{list_any}
 use Rattle.std.proofs.lemmas.Bool.{false≢true, and_parts, and_from}
+use Rattle.std.proofs.lemmas.List.{take-append-le, take_all}
 use Rattle.std.proofs.lemmas.List.Folds.{list_all-append}
 use Rattle.clause_core.specs.declared.literal.Lit.{Lit}
 use Rattle.clause_core.specs.Satisfaction.{literal_true, clause_true, formula_true, Satisfies}
 use Rattle.clause_core.proofs.Sets.{list_any-set_of}
-use Rattle.gates.specs.Netlists.{Netlist}
+use Rattle.clause_core.specs.declared.gate.Gate.{Gate}
+use Rattle.gates.specs.Netlists.{Netlist, IsExtensionOf}
 use Rattle.gates.specs.Models.{IsModel}
-use Rattle.gates.specs.Clauses.{formula_of}
+use Rattle.gates.specs.Clauses.{formula_of as gates_clauses}
 use Rattle.gates.proofs.Booleans.{literal_true-not}
 use Rattle.gates.proofs.ClauseLaws.{formula_IsModel, IsModel_formula}
 use Rattle.scan_model.specs.Pairs.{CandidateData, Pair, holds}
@@ -75,13 +77,33 @@ some_fails-true v ls = alone (clause_true v (some_fails ls)) ∙ list_any-set_of
 
 -- ---- a formula with the clauses of a circuit
 
-pub gates-model : (v : ℕ → Bool) (n : Netlist) (more : List (List Lit)) → Satisfies v (with_gates n more).clauses → IsModel v n × (formula_true v more ≡ true)
-gates-model v n more h =
-    let parts = and_parts (formula_true v (formula_of n)) (formula_true v more) (sym (list_all-append (clause_true v) (formula_of n) more) ∙ h) in
-    (formula_IsModel v n parts.0, parts.1)
+-- the first gates of a circuit, so many
+abbrev front_of : Netlist → ℕ → Netlist
+front_of n count = record { first = n.first; limit = n.limit; gates = take count n.gates }
 
-pub model-gates : (v : ℕ → Bool) (n : Netlist) (more : List (List Lit)) → IsModel v n → formula_true v more ≡ true → Satisfies v (with_gates n more).clauses
-model-gates v n more m h = list_all-append (clause_true v) (formula_of n) more ∙ and_from (formula_true v (formula_of n)) (formula_true v more) (IsModel_formula v n m) h
+abbrev net_with : ℕ → ℕ → List Gate → Netlist
+net_with first limit gates = record { first = first; limit = limit; gates = gates }
+
+-- those of a circuit are the first of a later one
+front_same : (n later : Netlist) → IsExtensionOf n later → front_of later (length n.gates) ≡ n
+front_same n later h =
+    ap (λ (x : ℕ). net_with x later.limit (take (length n.gates) later.gates)) h.first
+    ∙ ap (λ (x : ℕ). net_with n.first x (take (length n.gates) later.gates)) h.limit
+    ∙ ap (net_with n.first n.limit) (ap (λ (gs : List Gate). take (length n.gates) gs) h.gates ∙ take-append-le (length n.gates) n.gates h.more (omega arith) ∙ take_all (length n.gates) n.gates (omega arith))
+
+-- the clauses of the gates up to a count, which are those of a circuit, and more
+pub gates-model : (v : ℕ → Bool) (n later : Netlist) (count : ℕ) (more : List (List Lit)) → IsExtensionOf n later → count ≡ length n.gates → Satisfies v (with_gates later count more).clauses → IsModel v n × (formula_true v more ≡ true)
+gates-model v n later count more e k h =
+    let front = front_of later count in
+    let parts = and_parts (formula_true v (gates_clauses front)) (formula_true v more) (sym (list_all-append (clause_true v) (gates_clauses front) more) ∙ h) in
+    let same : front ≡ n = ap (front_of later) k ∙ front_same n later e in
+    (subst (λ (x : Netlist). IsModel v x) same (formula_IsModel v front parts.0), parts.1)
+
+pub model-gates : (v : ℕ → Bool) (n later : Netlist) (count : ℕ) (more : List (List Lit)) → IsExtensionOf n later → count ≡ length n.gates → IsModel v n → formula_true v more ≡ true → Satisfies v (with_gates later count more).clauses
+model-gates v n later count more e k m h =
+    let front = front_of later count in
+    let same : front ≡ n = ap (front_of later) k ∙ front_same n later e in
+    list_all-append (clause_true v) (gates_clauses front) more ∙ and_from (formula_true v (gates_clauses front)) (formula_true v more) (IsModel_formula v front (subst (λ (x : Netlist). IsModel v x) (sym same) m)) h
 
 pub formula-append : (v : ℕ → Bool) (f g : List (List Lit)) → formula_true v (f ++ g) ≡ (formula_true v f && formula_true v g)
 formula-append v f g = list_all-append (clause_true v) f g
@@ -92,7 +114,7 @@ abbrev pub chosen : ℕ → CandidateSet → List Bool → List Bool
 chosen k set [] = []
 chosen k set (b ∷ bs) = if set k then b ∷ chosen (k + 1) set bs else chosen (k + 1) set bs
 
-members_by : (v : ℕ → Bool) (t : Bool) (l : Lit) (ls : List Lit) (bs : List Bool) → truths v ls ≡ bs → truths v (if t then l ∷ ls else ls) ≡ (if t then literal_true v l ∷ bs else bs)
+members_by : (v : ℕ → Bool) (t : Bool) (l : Lit) (ls : List Lit) (bs : List Bool) → truths v ls ≡ bs → truths v ((if t then l ∷ [] else []) ++ ls) ≡ (if t then literal_true v l ∷ bs else bs)
 members_by v true l ls bs e = ap (λ (cs : List Bool). literal_true v l ∷ cs) e
 members_by v false l ls bs e = e
 

@@ -7,10 +7,10 @@ use Rattle.meaning.specs.Values.{State}
 use Rattle.word_circuits.specs.Words.{constant_of}
 
 -- the bits of the word of each value, the lowest first
-abbrev pub bits_of : List Elementary → State → List (List Bool)
-bits_of [] s = []
-bits_of (t ∷ ts) [] = []
-bits_of (t ∷ ts) (x ∷ s) = map (literal_true (λ y. true)) (constant_of (width_of t) x) ∷ bits_of ts s
+abbrev pub value_bits : List Elementary → State → List (List Bool)
+value_bits [] s = []
+value_bits (t ∷ ts) [] = []
+value_bits (t ∷ ts) (x ∷ s) = map (literal_true (λ y. true)) (constant_of (width_of t) x) ∷ value_bits ts s
 
 -- one behind the other
 abbrev pub joined : List (List Bool) → List Bool

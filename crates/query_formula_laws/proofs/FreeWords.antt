@@ -1,10 +1,11 @@
 -- Free words: each list of values of their types is given by some setting of the variables.
-use Rattle.std.proofs.Common.{◌≡◌, ℕ, zero, suc, ◌+◌, ◌*◌, Bool, true, false, refl, sym, ◌∙◌, ap, List, [], ◌∷◌, ◌++◌, length, map, arith, append_assoc, length-append, ℤ, pos, ◌+ℤ◌, ◌-ℤ◌}
+use Rattle.std.proofs.Common.{◌≡◌, ℕ, zero, suc, ◌+◌, ◌*◌, Bool, true, false, refl, sym, ◌∙◌, ap, subst, List, [], ◌∷◌, ◌++◌, length, map, arith, append_assoc, length-append, ℤ, pos, ◌+ℤ◌, ◌-ℤ◌}
 use Rattle.std.specs.Prelude.{slice_index_or}
 use Rattle.std.proofs.lemmas.List.{length-map}
 use Rattle.clause_core.specs.declared.literal.Lit.{Lit}
 use Rattle.clause_core.specs.Satisfaction.{literal_true, assigned}
 use Rattle.plc_types.specs.declared.elementary.Elementary.{Elementary}
+use Rattle.plc_types.specs.DataTypes.{carrier}
 use Rattle.plc_types.specs.Types.{width_of, is_signed, range_of, in_range}
 use Rattle.meaning.specs.Values.{State}
 use Rattle.program_tree.specs.Tree.{CellData}
@@ -14,11 +15,13 @@ use Rattle.word_laws.proofs.BitLaws.{length-constant}
 use Rattle.node_core.specs.NodeLaws.{kinds_of}
 use Rattle.node_circuit_laws.specs.WordValues.{HaveWidths, values_of}
 use Rattle.node_circuit_laws.proofs.RowValues.{row-constant}
-use Rattle.query_formulas.specs.PairWords.{free_word, free_words, sum_of, initial_words}
+use Rattle.query_formulas.specs.CellShapes.{bits_of, shapes_of}
+use Rattle.query_formulas.specs.PairWords.{free_word, free_words, initial_words}
 use Rattle.scan_model.specs.Scans.{initial}
+use Rattle.query_formulas.specs.Decoded.{types_of}
+use Rattle.query_formulas.proofs.Widths.{widths-cons, widths-free as wide}
 use Rattle.query_formula_laws.proofs.TypedValues.{AreOfTypes}
-use Rattle.query_formula_laws.proofs.FreeBits.{bits_of, joined}
-use Rattle.query_formula_laws.proofs.Values.{widths-cons}
+use Rattle.query_formula_laws.proofs.FreeBits.{value_bits, joined}
 
 -- ---- what a word is depends on its bits alone
 
@@ -70,14 +73,16 @@ free_bits (b ∷ bits) front back values k e f =
 
 -- ---- and so are their values
 
-pub length-bits : (ts : List Elementary) (s : State) → AreOfTypes ts s → length (joined (bits_of ts s)) ≡ sum_of (map width_of ts)
+pub length-bits : (cells : List CellData) (s : State) → AreOfTypes (kinds_of cells) s → length (joined (value_bits (kinds_of cells) s)) ≡ bits_of (shapes_of cells)
 length-bits [] [] h = refl
 length-bits [] (x ∷ s) h = refl
-length-bits (t ∷ ts) [] h = absurd h
-length-bits (t ∷ ts) (x ∷ s) h =
+length-bits (c ∷ cells) [] h = absurd h
+length-bits (c ∷ cells) (x ∷ s) h =
+    let t = carrier c.kind in
+    let ts = kinds_of cells in
     let word = constant_of (width_of t) x in
     let long : length (map (literal_true (λ y. true)) word) ≡ width_of t = length-map word (literal_true (λ y. true)) ∙ length-constant (width_of t) x in
-    length-append (map (literal_true (λ y. true)) word) (joined (bits_of ts s)) ∙ ap (λ (j : ℕ). j + length (joined (bits_of ts s))) long ∙ ap (λ (j : ℕ). width_of t + j) (length-bits ts s h.1)
+    length-append (map (literal_true (λ y. true)) word) (joined (value_bits ts s)) ∙ ap (λ (j : ℕ). j + length (joined (value_bits ts s))) long ∙ ap (λ (j : ℕ). width_of t + j) (length-bits cells s h.1)
 
 free_value : (t : Elementary) (x : ℤ) (front back values : List Bool) (k : ℕ) → in_range x (range_of t) ≡ true → values ≡ front ++ map (literal_true (λ y. true)) (constant_of (width_of t) x) ++ back → k ≡ length front
     → value (is_signed t) (assigned values) (free_word k (width_of t)) ≡ x
@@ -89,38 +94,40 @@ free_value t x front back values k typed e f =
     ∙ value_by_bits (is_signed t) (assigned values) (λ y. true) (free_word k (length bits)) word (free_bits bits front back values k e f)
     ∙ row-constant t x (λ y. true) typed refl
 
-pub free_values : (ts : List Elementary) (s : State) (front back values : List Bool) (k : ℕ) → AreOfTypes ts s → values ≡ front ++ joined (bits_of ts s) ++ back → k ≡ length front
-    → values_of (assigned values) ts (free_words k (map width_of ts)) ≡ s
+pub free_values : (cells : List CellData) (s : State) (front back values : List Bool) (k : ℕ) → AreOfTypes (kinds_of cells) s → values ≡ front ++ joined (value_bits (kinds_of cells) s) ++ back → k ≡ length front
+    → values_of (assigned values) (kinds_of cells) (free_words k (shapes_of cells)) ≡ s
 free_values [] [] front back values k h e f = refl
 free_values [] (x ∷ s) front back values k h e f = absurd h
-free_values (t ∷ ts) [] front back values k h e f = absurd h
-free_values (t ∷ ts) (x ∷ s) front back values k h e f =
+free_values (c ∷ cells) [] front back values k h e f = absurd h
+free_values (c ∷ cells) (x ∷ s) front back values k h e f =
+    let t = carrier c.kind in
+    let ts = kinds_of cells in
     let word = constant_of (width_of t) x in
     let bits = map (literal_true (λ y. true)) word in
     let long : length bits ≡ width_of t = length-map word (literal_true (λ y. true)) ∙ length-constant (width_of t) x in
-    let next : values ≡ (front ++ bits) ++ joined (bits_of ts s) ++ back = e ∙ ap (λ (bs : List Bool). bs ++ back) (sym (append_assoc front bits (joined (bits_of ts s)))) in
-    let first : values ≡ front ++ bits ++ (joined (bits_of ts s) ++ back) = next ∙ append_assoc (front ++ bits) (joined (bits_of ts s)) back in
-    let here = free_value t x front (joined (bits_of ts s) ++ back) values k h.0 first f in
-    let rest = free_values ts s (front ++ bits) back values (k + width_of t) h.1 next (omega (arith, length-append front bits)) in
-    ap (λ (y : ℤ). y ∷ values_of (assigned values) ts (free_words (k + width_of t) (map width_of ts))) here ∙ ap (λ (ys : State). x ∷ ys) rest
+    let next : values ≡ (front ++ bits) ++ joined (value_bits ts s) ++ back = e ∙ ap (λ (bs : List Bool). bs ++ back) (sym (append_assoc front bits (joined (value_bits ts s)))) in
+    let first : values ≡ front ++ bits ++ (joined (value_bits ts s) ++ back) = next ∙ append_assoc (front ++ bits) (joined (value_bits ts s)) back in
+    let here = free_value t x front (joined (value_bits ts s) ++ back) values k h.0 first f in
+    let rest = free_values cells s (front ++ bits) back values (k + width_of t) h.1 next (omega (arith, length-append front bits)) in
+    ap (λ (y : ℤ). y ∷ values_of (assigned values) ts (free_words (k + width_of t) (shapes_of cells))) here ∙ ap (λ (ys : State). x ∷ ys) rest
 
 -- ---- widths
 
-length-free : (k w : ℕ) → length (free_word k w) ≡ w
-length-free k zero = refl
-length-free k (suc w) = ap suc (length-free (k + 1) w)
+-- the types of shapes are those of their cells
+pub types_same : (cells : List CellData) → types_of (shapes_of cells) ≡ kinds_of cells
+types_same [] = refl
+types_same (c ∷ cells) = ap (λ (ts : List Elementary). carrier c.kind ∷ ts) (types_same cells)
 
-pub widths-free : (k : ℕ) (ts : List Elementary) → HaveWidths ts (free_words k (map width_of ts))
-widths-free k [] = refl
-widths-free k (t ∷ ts) = widths-cons t ts (free_word k (width_of t)) (free_words (k + width_of t) (map width_of ts)) (length-free k (width_of t)) (widths-free (k + width_of t) ts)
+pub widths-free : (k : ℕ) (cells : List CellData) → HaveWidths (kinds_of cells) (free_words k (shapes_of cells))
+widths-free k cells = subst (λ (ts : List Elementary). HaveWidths ts (free_words k (shapes_of cells))) (types_same cells) (wide k (shapes_of cells))
 
 -- ---- first values
 
-pub widths-initial : (cells : List CellData) → HaveWidths (kinds_of cells) (initial_words cells)
+pub widths-initial : (cells : List CellData) → HaveWidths (kinds_of cells) (initial_words (shapes_of cells))
 widths-initial [] = refl
-widths-initial (c ∷ cells) = widths-cons _ (kinds_of cells) _ (initial_words cells) (length-constant _ c.initial) (widths-initial cells)
+widths-initial (c ∷ cells) = widths-cons _ (kinds_of cells) _ (initial_words (shapes_of cells)) (length-constant _ c.initial) (widths-initial cells)
 
-pub values-initial : (v : ℕ → Bool) (cells : List CellData) → v 1 ≡ true → AreOfTypes (kinds_of cells) (initial cells) → values_of v (kinds_of cells) (initial_words cells) ≡ initial cells
+pub values-initial : (v : ℕ → Bool) (cells : List CellData) → v 1 ≡ true → AreOfTypes (kinds_of cells) (initial cells) → values_of v (kinds_of cells) (initial_words (shapes_of cells)) ≡ initial cells
 values-initial v [] one h = refl
 values-initial v (c ∷ cells) one h =
-    ap (λ (y : ℤ). y ∷ values_of v (kinds_of cells) (initial_words cells)) (row-constant _ c.initial v h.0 one) ∙ ap (λ (ys : State). c.initial ∷ ys) (values-initial v cells one h.1)
+    ap (λ (y : ℤ). y ∷ values_of v (kinds_of cells) (initial_words (shapes_of cells))) (row-constant _ c.initial v h.0 one) ∙ ap (λ (ys : State). c.initial ∷ ys) (values-initial v cells one h.1)

@@ -15,5 +15,8 @@ pub mod Given
 pub mod StepGoal
 pub mod ScanTruth
 pub mod Begun
+pub mod Runs
 pub mod Deep
+pub mod FromStart
+pub mod Meanings
 pub mod TypedCandidates

@@ -11,7 +11,7 @@ use Rattle.verdict_laws.specs.Evidence.{LeavesSet, LeavesRelation, FailsOn}
 use Rattle.queries.specs.Comparisons.{Comparison}
 use Rattle.queries.specs.Ranges.{is_pair_in_range, are_in_range}
 use Rattle.queries.proofs.SettingLemmas.{IsInRange-test, test-IsInRange}
-use Rattle.query_formulas.specs.Products.{Product}
+use Rattle.query_formulas.specs.Products.{ProductLits}
 use Rattle.query_formulas.specs.QueryClauses.{negations, units, some_fails, members_of, premises_of}
 use Rattle.query_formula_laws.specs.TypedComparisons.{IsTypedComparison}
 use Rattle.query_formula_laws.proofs.FormulaTruth.{twice, all_of, truths, holding, chosen, units-true, negations-true, some_fails-true, formula-append, members-all, chosen-each, chosen-from, chosen-fails, fails-chosen}
@@ -83,7 +83,7 @@ pub record Begins (c : Comparison) (set : CandidateSet) (pair : Pair) (row : Row
   pub fits : fits_lines c.relation.inputs row ≡ true
   pub allowed : is_allowed c.relation row pair ≡ true
 
-module _ (v : ℕ → Bool) (c : Comparison) (t : IsTypedComparison c) (p : Product) (pair : Pair) (row : Row) (h : ProductTruth v c p pair row) where
+module _ (v : ℕ → Bool) (c : Comparison) (t : IsTypedComparison c) (p : ProductLits) (pair : Pair) (row : Row) (h : ProductTruth v c p pair row) where
   none_outside : formula_true v (units (negations p.outside)) ≡ (is_pair_in_range c.old c.new pair && fits_lines c.relation.inputs row)
   none_outside = units-true v (negations p.outside) ∙ negations-true v p.outside ∙ ap not h.outside ∙ twice (is_pair_in_range c.old c.new pair && fits_lines c.relation.inputs row)
 

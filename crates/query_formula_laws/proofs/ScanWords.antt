@@ -9,9 +9,9 @@ use Rattle.scan_model.specs.InRange.{IsInRange}
 use Rattle.scan_model.specs.Pairs.{Pair, IsPairInRange, scanned_both}
 use Rattle.flat_core.specs.FlatTree.{FlatData}
 use Rattle.flat_core.specs.FlatScans.{flat_scanned}
-use Rattle.gates.specs.Netlists.{Netlist, IsExtensionOf}
+use Rattle.gates.specs.Netlists.{Netlist}
 use Rattle.gates.specs.Models.{IsModel}
-use Rattle.gates.proofs.Growth.{extends_then, IsModel-front}
+use Rattle.gates.proofs.Growth.{IsModel-front}
 use Rattle.node_core.specs.Nodes.{WordsAre, NodesHold}
 use Rattle.node_core.specs.NodeTypes.{IsWordOf, all_kinds}
 use Rattle.node_core.specs.NodeLaws.{kinds_of}
@@ -20,15 +20,16 @@ use Rattle.node_core.specs.TypedFlats.{IsTypedFlat}
 use Rattle.node_laws.proofs.MeantScans.{meant_scans}
 use Rattle.node_laws.proofs.TypedScans.{typed_scans}
 use Rattle.node_circuits.specs.NodeWords.{Words, word_in, words_of_nodes}
-use Rattle.node_circuits.proofs.Growth.{extends_nodes}
 use Rattle.node_circuit_laws.specs.WordValues.{HaveWidths, value_at, values_of}
 use Rattle.node_circuit_laws.proofs.Widths.{widths_of_nodes}
 use Rattle.node_circuit_laws.proofs.Words.{width_at, HasValues-all}
 use Rattle.node_circuit_laws.proofs.NodeValues.{values_of_nodes, start_values}
 use Rattle.query_formulas.specs.PairWords.{PairWords}
 use Rattle.query_formulas.specs.PairScans.{scanned_words, scanned_pair}
+use Rattle.query_formulas.proofs.Growth.{extends_scan}
+use Rattle.query_formulas.proofs.Widths.{widths-cons}
 use Rattle.query_formula_laws.specs.TypedComparisons.{IsScanOf}
-use Rattle.query_formula_laws.proofs.Values.{widths-cons, words_are, same_place}
+use Rattle.query_formula_laws.proofs.Values.{words_are, same_place}
 use Rattle.query_formula_laws.proofs.Spelled.{Spells, SpellsPair, length-spelled}
 
 -- ---- words by their numbers
@@ -48,9 +49,6 @@ found_values v all (t ∷ ts) words (i ∷ last) are =
     ap (λ (x : ℤ). x ∷ values_of v ts (map (word_in words) last)) (sym (every.at i t are.0)) ∙ ap (λ (xs : State). value_at v all words i ∷ xs) (found_values v all ts words last are.1)
 
 -- ---- one program
-
-pub extends_scanned : (s : ScanData) (words : Words) (n : Netlist) → IsExtensionOf n (scanned_words s words n).net
-extends_scanned s words n = extends_nodes s.nodes words n
 
 flat_spells : (v : ℕ → Bool) (f : FlatData) (words : Words) (s : State) (n : Netlist) → IsTypedFlat f → Spells v f.cells words s → IsInRange (ranges_of f.cells) s → IsModel v (scanned_words (scan_of f) words n).net
     → Spells v f.cells (scanned_words (scan_of f) words n).words (flat_scanned f s)
@@ -82,16 +80,11 @@ spells_scanned v p d words s n is h inside model =
 
 -- ---- both programs
 
-pub extends_pair : (a b : ScanData) (words : PairWords) (n : Netlist) → IsExtensionOf n (scanned_pair a b words n).net
-extends_pair a b words n =
-    let o = scanned_words a words.old n in
-    extends_then n o.net _ (extends_scanned a words.old n) (extends_scanned b words.new o.net)
-
 pub spells_both : (v : ℕ → Bool) (p q : ProgramData) (a b : ScanData) (words : PairWords) (pair : Pair) (n : Netlist) → IsScanOf p a → IsScanOf q b → SpellsPair v p q words pair → IsPairInRange p q pair → IsModel v (scanned_pair a b words n).net
     → SpellsPair v p q (scanned_pair a b words n).pair (scanned_both p q pair)
 spells_both v p q a b words pair n is_a is_b h inside m =
     let o = scanned_words a words.old n in
-    let m_old = IsModel-front v o.net _ (extends_scanned b words.new o.net) m in
+    let m_old = IsModel-front v o.net _ (extends_scan b words.new o.net) m in
     record {
       old = spells_scanned v p a words.old pair.old n is_a h.old inside.0 m_old;
       new = spells_scanned v q b words.new pair.new o.net is_b h.new inside.1 m;

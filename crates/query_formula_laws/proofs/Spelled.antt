@@ -21,9 +21,10 @@ use Rattle.node_core.specs.NodeTypes.{IsWordOf}
 use Rattle.node_core.specs.NodeLaws.{kinds_of}
 use Rattle.node_circuits.specs.NodeWords.{Words}
 use Rattle.node_circuit_laws.specs.WordValues.{HaveWidths, values_of}
-use Rattle.query_formulas.specs.PairWords.{PairWords, cell_at, cell_of_line, cells_of_lines, loaded_word, loaded_words}
+use Rattle.query_formulas.specs.PairWords.{PairWords, loaded_word, loaded_words}
+use Rattle.query_formulas.specs.CellShapes.{cell_at, cell_of_line, cells_of_lines}
 use Rattle.queries.specs.Comparisons.{Comparison}
-use Rattle.query_formulas.specs.Products.{lines_cells}
+use Rattle.query_formulas.specs.Parts.{lines_cells}
 use Rattle.query_formula_laws.specs.TypedComparisons.{NamesAlike, IsTypedCell, IsTypedComparison}
 use Rattle.query_formula_laws.proofs.Values.{widths-head, widths-tail, widths-none, widths-more, widths-append, widths-set, values-append, values-set}
 

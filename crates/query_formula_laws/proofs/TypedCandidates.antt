@@ -15,12 +15,12 @@ use Rattle.plc_types.specs.Enumerations.{paired_number, paired_type, names_at}
 use Rattle.plc_types.specs.Types.{range_of, in_range}
 use Rattle.program_tree.specs.Tree.{Expression, number, cell, CellData}
 use Rattle.program_tree.specs.declared.typed.ChartCells.{ChartCells}
+use Rattle.program_tree.specs.Places.{of_cell, place_at}
 use Rattle.scan_model.specs.Scans.{initial}
 use Rattle.scan_model.specs.Pairs.{CandidateData}
 use Rattle.scan_model.specs.Candidates.{is_equal, same_if, same_as, same_cells, numbered, relate_clauses, initial_values, not_both, not_both_with, not_both_among, stands_among, exclusive_steps, paths_of, candidates_of}
 use Rattle.queries.specs.Comparisons.{Comparison}
 use Rattle.node_core.specs.NodeLaws.{kinds_of}
-use Rattle.node_core.specs.Stores.{of_cell, place_at}
 use Rattle.query_formula_laws.specs.TypedComparisons.{IsClauseOf, IsBoolPlace, AreSteps, HasTypedClauses, IsTypedComparison}
 use Rattle.query_formula_laws.proofs.TypedValues.{AreOfTypes}
 use Rattle.query_formula_laws.proofs.Given.{of_types}

@@ -6,15 +6,16 @@ use Rattle.num_core.specs.Wrapping.{DiffersByMultiple}
 use Rattle.clause_core.specs.declared.literal.Lit.{Lit}
 use Rattle.plc_types.specs.declared.elementary.Elementary.{Elementary}
 use Rattle.plc_types.specs.Types.{width_of, is_signed, range_of, in_range, wrap_to}
+use Rattle.plc_types.proofs.Widths.{some_bits}
+use Rattle.plc_types.proofs.TypeRanges.{wrapped_in}
 use Rattle.meaning.specs.Values.{State}
 use Rattle.node_core.specs.Nodes.{WordsAre}
 use Rattle.node_core.specs.NodeTypes.{IsWordOf}
-use Rattle.node_laws.proofs.Ranges.{wrapped-in}
 use Rattle.word_laws.specs.Numbers.{number, value}
 use Rattle.word_laws.proofs.Values.{value_wraps_at, value_differs}
 use Rattle.node_circuits.specs.NodeWords.{Words}
 use Rattle.node_circuit_laws.specs.WordValues.{HaveWidths, value_at, values_of}
-use Rattle.node_circuit_laws.proofs.Numbers.{some_bits}
+use Rattle.query_formulas.proofs.Widths.{widths-cons}
 use Rattle.query_formula_laws.proofs.TypedValues.{AreOfTypes}
 
 -- ---- widths
@@ -30,9 +31,6 @@ widths-none t ts h = absurd (cc)
 
 pub widths-more : {P : Type 0} → (w : List Lit) (ws : Words) → HaveWidths [] (w ∷ ws) → P
 widths-more w ws h = absurd (cc)
-
-pub widths-cons : (t : Elementary) (ts : List Elementary) (w : List Lit) (ws : Words) → length w ≡ width_of t → HaveWidths ts ws → HaveWidths (t ∷ ts) (w ∷ ws)
-widths-cons t ts w ws e h = cc
 
 pub widths-append : (ts us : List Elementary) (ws xs : Words) → HaveWidths ts ws → HaveWidths us xs → HaveWidths (ts ++ us) (ws ++ xs)
 widths-append ts us ws xs h k = map-append (λ (w : List Lit). length w) ws xs ∙ ap (λ (js : List ℕ). js ++ map (λ (w : List Lit). length w) xs) h ∙ ap (λ (js : List ℕ). map width_of ts ++ js) k ∙ sym (map-append width_of ts us)
@@ -57,7 +55,7 @@ value_typed v t w e =
     let x = value (is_signed t) v w in
     let differs : DiffersByMultiple (pos (2 ^ width_of t)) x (pos (number v w)) = subst (λ (k : ℕ). DiffersByMultiple (pos (2 ^ k)) x (pos (number v w))) e (value_differs (is_signed t) v w) in
     let is : x ≡ wrap_to t x = value_wraps_at (is_signed t) v w (width_of t) x e (some_bits t) differs in
-    subst (λ (y : ℤ). in_range y (range_of t) ≡ true) (sym is) (wrapped-in t x)
+    subst (λ (y : ℤ). in_range y (range_of t) ≡ true) (sym is) (wrapped_in t x)
 
 pub values_typed : (v : ℕ → Bool) (ts : List Elementary) (ws : Words) → HaveWidths ts ws → AreOfTypes ts (values_of v ts ws)
 values_typed v [] ws h = tt

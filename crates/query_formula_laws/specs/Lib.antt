@@ -1,2 +1,1 @@
 pub mod TypedComparisons
-pub mod Decoded

@@ -4,6 +4,7 @@ use Rattle.plc_types.specs.declared.elementary.Elementary.TheVariants as types
 use Rattle.plc_types.specs.DataTypes.{carrier}
 use Rattle.plc_types.specs.Types.{range_of}
 use Rattle.program_tree.specs.Tree.{Expression, CellData, ProgramData}
+use Rattle.program_tree.specs.Places.{of_cell, place_at, IsTypedPlace}
 use Rattle.scan_model.specs.declared.relation.InputLine.{InputLine}
 use Rattle.scan_model.specs.declared.relation.InputLine.TheVariants.{Both, Old, New}
 use Rattle.queries.specs.Comparisons.{Comparison, IsComparison}
@@ -11,10 +12,8 @@ use Rattle.flat_core.specs.FlatTree.{FlatData}
 use Rattle.flat_core.specs.FlatRules.{Reads}
 use Rattle.flat_form.specs.FlatLaws.{LeavesTheSame}
 use Rattle.node_core.specs.Scans.{ScanData, scan_of}
-use Rattle.node_core.specs.Stores.{of_cell, place_at}
-use Rattle.node_core.specs.TypedFlats.{IsTypedPlace, IsTypedFlat, IsTypedClause}
-use Rattle.query_formulas.specs.PairWords.{cell_at}
-use Rattle.query_formulas.specs.Literals.{is_bounded}
+use Rattle.node_core.specs.TypedFlats.{IsTypedFlat, IsTypedClause}
+use Rattle.query_formulas.specs.CellShapes.{cell_at, is_bounded}
 
 -- a cell's range is one of numbers of its type; where it has no bounds, it is that of the type
 pub record IsTypedCell (c : CellData) : Type 0 where

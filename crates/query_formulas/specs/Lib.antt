@@ -1,3 +1,5 @@
+pub mod CellShapes
+pub mod Parts
 pub mod PairWords
 pub mod Literals
 pub mod PairScans

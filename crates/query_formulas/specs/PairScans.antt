@@ -1,5 +1,5 @@
 -- Scans of both programs on words.
-use Rattle.std.specs.Prelude.{ℕ, List, [], ◌∷◌, map}
+use Rattle.std.specs.Prelude.{map}
 use Rattle.gates.specs.Netlists.{Netlist}
 use Rattle.node_core.specs.Scans.{ScanData}
 use Rattle.node_circuits.specs.NodeWords.{Words, MadeWords, word_in, words_of_nodes}

@@ -7,9 +7,9 @@ use outside::OutErr;
 use std::io::{self, Eprint, ErrorKind};
 use std::time::Clock;
 
-// Tells what could not be done, and the system's reason: `cannot read trace.json: no such file`. Where this cannot be told either,
-// nothing more is tried.
-fn tell(rt: &impl Eprint, doing: &str, name: &str, error: &io::Error) {
+/// Tells what could not be done, and the system's reason: `cannot read trace.json: no such file`. Where this cannot be told either,
+/// nothing more is tried.
+pub fn tell_fault(rt: &impl Eprint, doing: &str, name: &str, error: &io::Error) {
     let _told = match error.kind() {
         ErrorKind::NotFound => eprintln!(rt; "cannot {doing} {name}: no such file"),
         _ => eprintln!(rt; "cannot {doing} {name}: {error}"),
@@ -34,7 +34,7 @@ pub fn counted<R: Eprint + Clock, T: Drop>(
         Err(error) => {
             if *faults == 0 {
                 progress.clear();
-                tell(progress.system(), doing, name, &error);
+                tell_fault(progress.system(), doing, name, &error);
             }
             *faults = faults.saturating_add(1);
             Err(OutErr::Fault)

@@ -1,42 +1,59 @@
 // The files that the system has. What they hold is not told.
-ghost use Rattle.std.specs.Prelude.{false, ◌≡◌, List, ℕ, None, IfOk, ◌≤◌, length};
+ghost use Rattle.std.specs.Prelude.{◌≡◌, List, ℕ, None, IfOk, ◌≤◌, length};
 
 use crate::fault::counted;
+use crate::identity::FileIdentity;
+use crate::own_files::OwnFiles;
 use crate::progress::Progress;
 use outside::{OutErr, Shelf};
-use std::fs::{File, OpenOptions};
+use std::alloc::Global;
+use std::fs::{File, OpenFile, OpenOptions};
 use std::io::{self, Eprint, Read, Seek, SeekFrom, Write};
 use std::rt::Files;
 use std::time::Clock;
 
-/// Files by their paths, which are those of the folder that the program runs in.
+/// Files by their paths, which are those of the folder that the program runs in. A file that was read, or that the program itself would not
+/// write so, is not written over: to make it is a fault.
 #[derive(Drop)]
 pub struct FileShelf<'a, R> {
     progress: &'a Progress<'a, R>,
+    own: OwnFiles,
+    read: Vec<FileIdentity>,
     read_faults: u64,
     write_faults: u64,
 }
 
 impl<'a, R: Eprint + Files + Clock> FileShelf<'a, R> {
-    pub fn new(progress: &'a Progress<'a, R>) -> Self
-        ensures reads { (name : List ℕ) → ⟦<FileShelf<'a, R> as Shelf>⟧.read_faults result name ≡ 0 }
-        ensures writes { (name : List ℕ) → ⟦<FileShelf<'a, R> as Shelf>⟧.write_faults result name ≡ 0 }
+    pub fn new(alloc: Global, progress: &'a Progress<'a, R>, own: OwnFiles) -> Self
+        ensures reads { (name : List ℕ) → (⟦<FileShelf<'a, R> as Shelf>⟧.state result).read_faults name ≡ 0 }
+        ensures writes { (name : List ℕ) → (⟦<FileShelf<'a, R> as Shelf>⟧.state result).write_faults name ≡ 0 }
     {
         FileShelf {
             progress,
+            own,
+            read: Vec::new(alloc),
             read_faults: 0,
             write_faults: 0,
         }
     }
 }
 
+// What was read at once: of which file, and how many bytes.
+#[derive(Clone, Copy)]
+struct Piece {
+    identity: FileIdentity,
+    count: usize,
+}
+
 // Reads once from that place on. A folder, or a file that cannot be opened or has no places, is an error.
-fn read_from<R: Files>(rt: &R, name: &str, from: u64, buf: &mut [u8]) -> io::Result<usize>
-    ensures { IfOk result (λ count. count ≤ length buf.new) }
+fn read_from<R: Files>(rt: &R, name: &str, from: u64, buf: &mut [u8]) -> io::Result<Piece>
+    ensures { IfOk result (λ piece. piece.count ≤ length buf.new) }
 {
     let mut file = File::open(rt, name)?;
+    let identity = FileIdentity::of(&file.metadata()?);
     file.seek(SeekFrom::Start(from))?;
-    file.read(buf)
+    let count = file.read(buf)?;
+    Ok(Piece { identity, count })
 }
 
 fn make_empty<R: Files>(rt: &R, name: &str) -> io::Result<()> {
@@ -51,24 +68,27 @@ fn add_to<R: Files>(rt: &R, name: &str, bytes: &[u8]) -> io::Result<()> {
 }
 
 impl<R: Eprint + Files + Clock> Shelf for FileShelf<'_, R> {
-    ghost file = { λ s name. None };
+    ghost use Rattle.outside.specs.States.{shelf_state};
 
-    ghost read_faults = { λ s name. s.read_faults };
-
-    ghost write_faults = { λ s name. s.write_faults };
-
-    ghost read_failed = { λ s. false };
-
-    ghost reach = { λ s name. 0 };
+    ghost state = { λ s. shelf_state (λ name. None) s.read_faults s.write_faults };
 
     fn read_at(&mut self, name: &str, from: u64, buf: &mut [u8]) -> Result<usize, OutErr> {
         let answer = read_from(self.progress.system(), name, from, buf);
-        counted(self.progress, answer, "read", name, &mut self.read_faults)
+        let piece = counted(self.progress, answer, "read", name, &mut self.read_faults)?;
+        if !self.read.contains(&piece.identity) {
+            self.read.push(piece.identity)?;
+        }
+        Ok(piece.count)
     }
 
     fn create(&mut self, name: &str) -> Result<(), OutErr> {
-        let answer = make_empty(self.progress.system(), name);
-        counted(self.progress, answer, "make", name, &mut self.write_faults)
+        let system = self.progress.system();
+        let (at, answer) = match self.own.barring(system, name, &self.read) {
+            Ok(None) => (name, make_empty(system, name)),
+            Ok(Some(barred)) => (barred.name, Err(barred.error)),
+            Err(error) => (name, Err(error)),
+        };
+        counted(self.progress, answer, "make", at, &mut self.write_faults)
     }
 
     fn append(&mut self, name: &str, bytes: &[u8]) -> Result<(), OutErr> {

@@ -5,16 +5,20 @@ ghost use Rattle.std.specs.Prelude.{false, ◌≡◌};
 
 mod fault;
 mod file_shelf;
+mod identity;
+mod own_files;
 mod progress;
 mod std_sink;
 mod suggesting;
 mod words;
 
+use command_line::{Command, count_of, read_words};
 use file_shelf::FileShelf;
 use outside::{Shelf, Sink};
+use own_files::OwnFiles;
 use progress::Progress;
 use regver_top::{Status, regver};
-use std::alloc::Global;
+use std::alloc::{AllocError, Global};
 use std::io::{self, ErrorKind, IsTerminal};
 use std::process::ExitCode;
 use std_sink::StdSink;
@@ -28,8 +32,8 @@ fn answer<S: Shelf, K: Sink>(
     shelf: &mut S,
     out: &mut K,
 ) -> Status
-    requires reads { S.read_failed shelf.old ≡ false }
-    requires puts { K.put_failed out.old ≡ false }
+    requires reads { (S.state shelf.old).read_failed ≡ false }
+    requires puts { (K.state out.old).put_failed ≡ false }
 {
     match words {
         Ok(words) => regver(alloc, words, shelf, out),
@@ -40,10 +44,36 @@ fn answer<S: Shelf, K: Sink>(
     }
 }
 
+// How many inputs the command asks `gen` for, if it does.
+fn count_of_gen(command: &Option<Command>) -> Option<u32> {
+    match command {
+        Some(Command::Gen(word)) => count_of(word),
+        _ => None,
+    }
+}
+
+fn count_in(alloc: Global, words: Vec<String>) -> Result<Option<u32>, AllocError> {
+    let command = read_words(alloc, words)?;
+    Ok(count_of_gen(&command))
+}
+
+// The files that the program may write, by the words that it was called with.
+fn files_of(rt: &HostRuntime) -> Result<OwnFiles, AllocError> {
+    let alloc = rt.alloc();
+    let count = match words_of(rt) {
+        Ok(words) => count_in(alloc, words)?,
+        Err(_) => None,
+    };
+    OwnFiles::new(alloc, count)
+}
+
 // Answers the words as the regression verifier does.
 fn run(rt: &HostRuntime, words: io::Result<Vec<String>>) -> Status {
+    let Ok(own) = files_of(rt) else {
+        return Status::Memory;
+    };
     let progress = Progress::new(rt, rt.stderr().is_terminal());
-    let mut shelf = FileShelf::new(&progress);
+    let mut shelf = FileShelf::new(rt.alloc(), &progress, own);
     let mut out = StdSink::new(&progress);
     let status = answer(rt.alloc(), words, &mut shelf, &mut out);
     progress.clear();

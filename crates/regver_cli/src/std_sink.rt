@@ -1,5 +1,5 @@
 // Standard output. What it has taken is not told.
-ghost use Rattle.std.specs.Prelude.{false, ◌≡◌, None};
+ghost use Rattle.std.specs.Prelude.{◌≡◌, None};
 
 use crate::fault::counted;
 use crate::progress::Progress;
@@ -16,7 +16,7 @@ pub struct StdSink<'a, R> {
 
 impl<'a, R: Eprint + Print + Clock> StdSink<'a, R> {
     pub fn new(progress: &'a Progress<'a, R>) -> Self
-        ensures { ⟦<StdSink<'a, R> as Sink>⟧.faults result ≡ 0 }
+        ensures { (⟦<StdSink<'a, R> as Sink>⟧.state result).faults ≡ 0 }
     {
         StdSink {
             progress,
@@ -26,11 +26,9 @@ impl<'a, R: Eprint + Print + Clock> StdSink<'a, R> {
 }
 
 impl<R: Eprint + Print + Clock> Sink for StdSink<'_, R> {
-    ghost taken = { λ s. None };
+    ghost use Rattle.outside.specs.States.{sink_state};
 
-    ghost faults = { λ s. s.faults };
-
-    ghost put_failed = { λ s. false };
+    ghost state = { λ s. sink_state None s.faults };
 
     fn put(&mut self, bytes: &[u8]) -> Result<(), OutErr> {
         self.progress.clear();

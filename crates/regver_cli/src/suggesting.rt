@@ -1,5 +1,6 @@
-// What the program does by the name `regver-suggest`: it prints the text of a relation with INVARIANT lines behind it. What is told beside it
-// goes to standard error.
+// What the program does by the name `regver-suggest`: it prints the text of a relation with INVARIANT lines behind it. All else goes to
+// standard error, so that standard output has a relation or nothing.
+use crate::fault::tell_fault;
 use regver_top::Status;
 use std::io::Eprint;
 use std::rt::Files;
@@ -8,15 +9,13 @@ use suggest_command::{
     Asked, Ending, Suggestion, ending_of, ending_without, read_words, suggest_for,
 };
 
-// Prints a line, and ends with that status.
-fn end(rt: &impl Print, line: &str, status: u8) -> u8 {
-    match println!(rt; "{line}") {
-        Ok(()) => status,
-        Err(_) => Status::WriteFault.code(),
-    }
+// Ends without a text: standard error says why. Where it cannot be told, nothing more is tried.
+fn end(rt: &impl Eprint, line: &str, status: u8) -> u8 {
+    let _told = eprintln!(rt; "{line}");
+    status
 }
 
-fn end_for_memory(rt: &impl Print) -> u8 {
+fn end_for_memory(rt: &impl Eprint) -> u8 {
     end(rt, "MEMORY", Status::Memory.code())
 }
 
@@ -30,7 +29,10 @@ fn end_with(rt: &(impl Print + Eprint), suggestion: &Suggestion, ending: &Ending
     tell(rt, ending.line.as_str());
     match rt.write_all(suggestion.text.as_slice()) {
         Ok(()) => ending.status,
-        Err(_) => Status::WriteFault.code(),
+        Err(error) => {
+            tell_fault(rt, "write", "standard output", &error);
+            end(rt, "WRITE FAULT", Status::WriteFault.code())
+        }
     }
 }
 
@@ -55,11 +57,22 @@ fn suggest_to(
     }
 }
 
+// Reads a file, and tells it where that cannot be done.
+fn read(rt: &(impl Files + Eprint + AllocGlobal), name: &str) -> io::Result<Vec<u8>> {
+    match fs::read(rt, name) {
+        Ok(bytes) => Ok(bytes),
+        Err(error) => {
+            tell_fault(rt, "read", name, &error);
+            Err(error)
+        }
+    }
+}
+
 // Reads the three files, and prints what is suggested for them.
 fn answer(rt: &(impl Files + Print + Eprint + AllocGlobal), asked: &Asked<'_>) -> io::Result<u8> {
-    let old = fs::read(rt, asked.old)?;
-    let new = fs::read(rt, asked.new)?;
-    let relation = fs::read(rt, asked.relation)?;
+    let old = read(rt, asked.old)?;
+    let new = read(rt, asked.new)?;
+    let relation = read(rt, asked.relation)?;
     Ok(suggest_to(rt, &old, &new, &relation, asked.seed))
 }
 

@@ -1,14 +1,14 @@
 // The top call: all that the program does.
-ghost use Rattle.std.specs.Prelude.{◌≡◌, ◌≢◌, ◌≤◌, ◌⊎◌, Some, map, string_bytes, true, false};
+ghost use Rattle.std.specs.Prelude.{◌≡◌, ◌≢◌, ◌⊎◌, Some, map, string_bytes, true, false};
 ghost use Rattle.clap.specs.Words.{takes};
 ghost use Rattle.command_line.specs.Asked.{asked, asked_of, gen, read_as, words_of};
 ghost use Rattle.command_line.specs.Grammar.{grammar};
 ghost use Rattle.command_line.specs.Subcommands.{verifies};
-ghost use Rattle.outside.specs.Causes.{Rose, NoneFell};
-ghost use Rattle.command_answers.specs.Answers.{Answers, IsExact};
+ghost use Rattle.outside.specs.States.{change};
+ghost use Rattle.command_answers.specs.Ends.{Ends, IsComplete};
+ghost use Rattle.finding_answers.specs.Verdicts.{IsOfVerdict};
 ghost use Rattle.finding_commands.specs.Texts.{Texts};
-ghost use Rattle.gen_command.specs.verify_command.Lines.{IsOfVerdict};
-ghost use Rattle.regver_top.specs.Asking.{change, asked_in, is_refused, settled, AreTold, IsAsked, IsShownBy, IsSavedBy, SomeRose, WriteRose, KeepsFiles, LeavesFinding};
+ghost use Rattle.regver_top.specs.Asking.{asking, asked_in, is_refused, settled, IsShownBy, IsSavedBy};
 
 use cdcl_watch::Watched;
 use command_answers::{Status, put_last};
@@ -35,21 +35,11 @@ fn answer_saving<S: Shelf, K: Sink>(
     shelf: &mut S,
     out: &mut K,
 ) -> Status
-    requires reads { S.read_failed shelf.old ≡ false }
-    requires puts { K.put_failed out.old ≡ false }
-    ensures kept { let k = change S.file S.read_faults S.write_faults shelf.old shelf.new in KeepsFiles k (settled (asked_of verifies (words_of words.now))) }
-    ensures untouched { (result ≡ Status.ReadFault) ⊎ (result ≡ Status.Usage) → S.file shelf.new ≡ S.file shelf.old }
-    ensures left { let k = change S.file S.read_faults S.write_faults shelf.old shelf.new in let asked = settled (asked_of verifies (words_of words.now)) in
-        (t : Texts) → AreTold k asked t → LeavesFinding k asked t }
-    ensures answer { let k = change S.file S.read_faults S.write_faults shelf.old shelf.new in let asked = settled (asked_of verifies (words_of words.now)) in
-        (t : Texts) → AreTold k asked t → Answers (IsAsked k asked t) (SomeRose k asked) result (K.taken out.old) (K.taken out.new) }
+    requires reads { (S.state shelf.old).read_failed ≡ false }
+    requires puts { (K.state out.old).put_failed ≡ false }
+    ensures ends { Ends (asking (settled (asked_of verifies (words_of words.now)))) result (change (S.state shelf.old) (S.state shelf.new)) (K.state out.old) (K.state out.new) }
     ensures usage { is_refused (asked_of verifies (words_of words.now)) ≡ false → result ≢ Status.Usage }
     ensures only_usage { is_refused (asked_of verifies (words_of words.now)) ≡ true → result ≢ Status.WriteFault → result ≢ Status.Memory → result ≡ Status.Usage }
-    ensures read_fault { let k = change S.file S.read_faults S.write_faults shelf.old shelf.new in result ≡ Status.ReadFault → SomeRose k (settled (asked_of verifies (words_of words.now))) }
-    ensures write_fault { let k = change S.file S.read_faults S.write_faults shelf.old shelf.new in result ≡ Status.WriteFault → WriteRose k (settled (asked_of verifies (words_of words.now))) ⊎ Rose (K.faults out.old) (K.faults out.new) }
-    ensures reads { NoneFell (S.read_faults shelf.old) (S.read_faults shelf.new) }
-    ensures writes { NoneFell (S.write_faults shelf.old) (S.write_faults shelf.new) }
-    ensures faults { K.faults out.old ≤ K.faults out.new }
 {
     if repeats(words) {
         return put_last(out, USAGE, Status::Usage);
@@ -74,20 +64,10 @@ fn answer_making<S: Shelf, K: Sink>(
     shelf: &mut S,
     out: &mut K,
 ) -> Status
-    requires unfailed { K.put_failed out.old ≡ false }
-    ensures kept { let k = change S.file S.read_faults S.write_faults shelf.old shelf.new in KeepsFiles k (settled (gen count.now)) }
-    ensures untouched { (result ≡ Status.ReadFault) ⊎ (result ≡ Status.Usage) → S.file shelf.new ≡ S.file shelf.old }
-    ensures left { let k = change S.file S.read_faults S.write_faults shelf.old shelf.new in let asked = settled (gen count.now) in
-        (t : Texts) → AreTold k asked t → LeavesFinding k asked t }
-    ensures answer { let k = change S.file S.read_faults S.write_faults shelf.old shelf.new in let asked = settled (gen count.now) in
-        (t : Texts) → AreTold k asked t → Answers (IsAsked k asked t) (SomeRose k asked) result (K.taken out.old) (K.taken out.new) }
+    requires unfailed { (K.state out.old).put_failed ≡ false }
+    ensures ends { Ends (asking (settled (gen count.now))) result (change (S.state shelf.old) (S.state shelf.new)) (K.state out.old) (K.state out.new) }
     ensures usage { is_refused (gen count.now) ≡ false → result ≢ Status.Usage }
     ensures only_usage { is_refused (gen count.now) ≡ true → result ≢ Status.WriteFault → result ≢ Status.Memory → result ≡ Status.Usage }
-    ensures read_fault { let k = change S.file S.read_faults S.write_faults shelf.old shelf.new in result ≡ Status.ReadFault → SomeRose k (settled (gen count.now)) }
-    ensures write_fault { let k = change S.file S.read_faults S.write_faults shelf.old shelf.new in result ≡ Status.WriteFault → WriteRose k (settled (gen count.now)) ⊎ Rose (K.faults out.old) (K.faults out.new) }
-    ensures reads { NoneFell (S.read_faults shelf.old) (S.read_faults shelf.new) }
-    ensures writes { NoneFell (S.write_faults shelf.old) (S.write_faults shelf.new) }
-    ensures faults { K.faults out.old ≤ K.faults out.new }
 {
     match count_of(count) {
         Some(count) => {
@@ -105,21 +85,11 @@ fn answer_command<S: Shelf, K: Sink>(
     shelf: &mut S,
     out: &mut K,
 ) -> Status
-    requires reads { S.read_failed shelf.old ≡ false }
-    requires puts { K.put_failed out.old ≡ false }
-    ensures kept { let k = change S.file S.read_faults S.write_faults shelf.old shelf.new in KeepsFiles k (settled (read_as (Some command.now))) }
-    ensures untouched { (result ≡ Status.ReadFault) ⊎ (result ≡ Status.Usage) → S.file shelf.new ≡ S.file shelf.old }
-    ensures left { let k = change S.file S.read_faults S.write_faults shelf.old shelf.new in let asked = settled (read_as (Some command.now)) in
-        (t : Texts) → AreTold k asked t → LeavesFinding k asked t }
-    ensures answer { let k = change S.file S.read_faults S.write_faults shelf.old shelf.new in let asked = settled (read_as (Some command.now)) in
-        (t : Texts) → AreTold k asked t → Answers (IsAsked k asked t) (SomeRose k asked) result (K.taken out.old) (K.taken out.new) }
+    requires reads { (S.state shelf.old).read_failed ≡ false }
+    requires puts { (K.state out.old).put_failed ≡ false }
+    ensures ends { Ends (asking (settled (read_as (Some command.now)))) result (change (S.state shelf.old) (S.state shelf.new)) (K.state out.old) (K.state out.new) }
     ensures usage { is_refused (read_as (Some command.now)) ≡ false → result ≢ Status.Usage }
     ensures only_usage { is_refused (read_as (Some command.now)) ≡ true → result ≢ Status.WriteFault → result ≢ Status.Memory → result ≡ Status.Usage }
-    ensures read_fault { let k = change S.file S.read_faults S.write_faults shelf.old shelf.new in result ≡ Status.ReadFault → SomeRose k (settled (read_as (Some command.now))) }
-    ensures write_fault { let k = change S.file S.read_faults S.write_faults shelf.old shelf.new in result ≡ Status.WriteFault → WriteRose k (settled (read_as (Some command.now))) ⊎ Rose (K.faults out.old) (K.faults out.new) }
-    ensures reads { NoneFell (S.read_faults shelf.old) (S.read_faults shelf.new) }
-    ensures writes { NoneFell (S.write_faults shelf.old) (S.write_faults shelf.new) }
-    ensures faults { K.faults out.old ≤ K.faults out.new }
 {
     match command {
         Command::Check(words) => answer_check(
@@ -161,21 +131,11 @@ fn answer_words<S: Shelf, K: Sink>(
     shelf: &mut S,
     out: &mut K,
 ) -> Status
-    requires reads { S.read_failed shelf.old ≡ false }
-    requires puts { K.put_failed out.old ≡ false }
-    ensures kept { let k = change S.file S.read_faults S.write_faults shelf.old shelf.new in KeepsFiles k (asked_in words.items) }
-    ensures untouched { (result ≡ Status.ReadFault) ⊎ (result ≡ Status.Usage) → S.file shelf.new ≡ S.file shelf.old }
-    ensures left { let k = change S.file S.read_faults S.write_faults shelf.old shelf.new in let asked = asked_in words.items in
-        (t : Texts) → AreTold k asked t → LeavesFinding k asked t }
-    ensures answer { let k = change S.file S.read_faults S.write_faults shelf.old shelf.new in let asked = asked_in words.items in
-        (t : Texts) → AreTold k asked t → Answers (IsAsked k asked t) (SomeRose k asked) result (K.taken out.old) (K.taken out.new) }
+    requires reads { (S.state shelf.old).read_failed ≡ false }
+    requires puts { (K.state out.old).put_failed ≡ false }
+    ensures ends { Ends (asking (asked_in words.items)) result (change (S.state shelf.old) (S.state shelf.new)) (K.state out.old) (K.state out.new) }
     ensures usage { takes grammar (map string_bytes words.items) ≡ true → is_refused (asked (map string_bytes words.items)) ≡ false → result ≢ Status.Usage }
     ensures only_usage { (takes grammar (map string_bytes words.items) ≡ false) ⊎ (is_refused (asked (map string_bytes words.items)) ≡ true) → result ≢ Status.WriteFault → result ≢ Status.Memory → result ≡ Status.Usage }
-    ensures read_fault { let k = change S.file S.read_faults S.write_faults shelf.old shelf.new in result ≡ Status.ReadFault → SomeRose k (asked_in words.items) }
-    ensures write_fault { let k = change S.file S.read_faults S.write_faults shelf.old shelf.new in result ≡ Status.WriteFault → WriteRose k (asked_in words.items) ⊎ Rose (K.faults out.old) (K.faults out.new) }
-    ensures reads { NoneFell (S.read_faults shelf.old) (S.read_faults shelf.new) }
-    ensures writes { NoneFell (S.write_faults shelf.old) (S.write_faults shelf.new) }
-    ensures faults { K.faults out.old ≤ K.faults out.new }
 {
     match read_words(alloc, words) {
         Ok(None) => put_last(out, USAGE, Status::Usage),
@@ -192,49 +152,33 @@ pub fn regver<S: Shelf, K: Sink>(
     out: &mut K,
 ) -> Status
     // No read and no put has failed before, and none follows one that failed.
-    requires reads { S.read_failed shelf.old ≡ false }
-    requires puts { K.put_failed out.old ≡ false }
+    requires reads { (S.state shelf.old).read_failed ≡ false }
+    requires puts { (K.state out.old).put_failed ≡ false }
 
-    // No file changes but the finding that `verify` writes and the four files of `gen`, and none where a read failed or the command line is
-    // none that there is.
-    ensures kept { let k = change S.file S.read_faults S.write_faults shelf.old shelf.new in KeepsFiles k (asked_in words.items) }
-    ensures untouched { (result ≡ Status.ReadFault) ⊎ (result ≡ Status.Usage) → S.file shelf.new ≡ S.file shelf.old }
-
-    // A finding is as at entry, or what is told of it is a part of a finding on what the texts state; a text that `gen` makes is as at entry,
-    // or what is told of it is a front of the text.
-    ensures left { let k = change S.file S.read_faults S.write_faults shelf.old shelf.new in let asked = asked_in words.items in
-        (t : Texts) → AreTold k asked t → LeavesFinding k asked t }
-
-    // The bytes on the sink and the status are those of what the words ask for, where the texts of the files that
-    // they name are told: of a report on them, or of how the program is used.
-    ensures answer { let k = change S.file S.read_faults S.write_faults shelf.old shelf.new in let asked = asked_in words.items in
-        (t : Texts) → AreTold k asked t → Answers (IsAsked k asked t) (SomeRose k asked) result (K.taken out.old) (K.taken out.new) }
+    // What is before and what is after is that of what the words ask for, with this status (`kept`, `untouched`, `left`, `answer`, `read_fault`,
+    // `write_fault`, `reads`, `writes`, `faults`). No file changes but the finding that `verify` writes and the four files of `gen`, and none where
+    // a read failed or the command line is none that there is. A finding is as at entry, or what is told of it is a part of a finding on what the
+    // texts state; a text that `gen` makes is as at entry, or what is told of it is a front of the text. The bytes on the sink and the status are
+    // those of a report on the texts of the files that the words name, where these are told, or of how the program is used. A fault comes only
+    // where a count rose, and no count falls.
+    ensures ends { Ends (asking (asked_in words.items)) result (change (S.state shelf.old) (S.state shelf.new)) (K.state out.old) (K.state out.new) }
 
     // Where the status is that of VALID, the finding is valid by what the texts state, its verdict, or the report on it, is what was put, and
     // the verdict is that of the model, or SPENT with its log.
-    ensures shown { let k = change S.file S.read_faults S.write_faults shelf.old shelf.new in let asked = asked_in words.items in
-        (t : Texts) → AreTold k asked t → result ≡ Status.Valid → IsShownBy asked t (K.taken out.old) (K.taken out.new) }
+    ensures shown { let asked = asked_in words.items in (t : Texts) → (asking asked).Tells (S.state shelf.old) t
+        → result ≡ Status.Valid → IsShownBy asked t (K.state out.old).taken (K.state out.new).taken }
 
     // Where the answer is a verdict, a finding was saved that is judged valid with it, and it is that of the model, or SPENT with its log.
-    ensures saved { let k = change S.file S.read_faults S.write_faults shelf.old shelf.new in let asked = asked_in words.items in
-        (t : Texts) → AreTold k asked t → IsOfVerdict result → IsSavedBy k asked t result (K.taken out.old) (K.taken out.new) }
+    ensures saved { let asked = asked_in words.items in (t : Texts) → (asking asked).Tells (S.state shelf.old) t
+        → IsOfVerdict result → IsSavedBy (change (S.state shelf.old) (S.state shelf.new)) asked t result (K.state out.old).taken (K.state out.new).taken }
 
     // USAGE comes exactly where clap does not take the words, `verify` would write one of the files that it reads, or the word of `gen` is
     // no number from 1 to 341, unless the sink or memory gives up.
     ensures usage { takes grammar (map string_bytes words.items) ≡ true → is_refused (asked (map string_bytes words.items)) ≡ false → result ≢ Status.Usage }
     ensures only_usage { (takes grammar (map string_bytes words.items) ≡ false) ⊎ (is_refused (asked (map string_bytes words.items)) ≡ true) → result ≢ Status.WriteFault → result ≢ Status.Memory → result ≡ Status.Usage }
 
-    // A fault comes only where a count rose, and no count falls.
-    ensures read_fault { let k = change S.file S.read_faults S.write_faults shelf.old shelf.new in result ≡ Status.ReadFault → SomeRose k (asked_in words.items) }
-    ensures write_fault { let k = change S.file S.read_faults S.write_faults shelf.old shelf.new in result ≡ Status.WriteFault → WriteRose k (asked_in words.items) ⊎ Rose (K.faults out.old) (K.faults out.new) }
-    ensures reads { NoneFell (S.read_faults shelf.old) (S.read_faults shelf.new) }
-    ensures writes { NoneFell (S.write_faults shelf.old) (S.write_faults shelf.new) }
-    ensures faults { K.faults out.old ≤ K.faults out.new }
-
     // Where no count rose, the answer is the whole of what is asked for, or memory was wanting.
-    ensures complete { let k = change S.file S.read_faults S.write_faults shelf.old shelf.new in let asked = asked_in words.items in
-        (t : Texts) → AreTold k asked t → ¬ SomeRose k asked → ¬ WriteRose k asked → ¬ Rose (K.faults out.old) (K.faults out.new)
-        → result ≢ Status.Memory → IsExact (IsAsked k asked t) result (K.taken out.old) (K.taken out.new) }
+    ensures complete { IsComplete (asking (asked_in words.items)) result (change (S.state shelf.old) (S.state shelf.new)) (K.state out.old) (K.state out.new) }
 {
     answer_words(alloc, words, shelf, out)
 }

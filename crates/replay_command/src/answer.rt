@@ -42,12 +42,12 @@ fn ending_line(alloc: Global, ending: Ending) -> Result<String, AllocError>
 
 // Puts the line on how a replay ended, behind its other lines.
 fn put_ending<K: Sink>(alloc: Global, ending: Ending, out: &mut K) -> Status
-    requires unfailed { K.put_failed out.old ≡ false }
-    ensures answer { (told : Option (List ℕ)) (o : Outcome) → K.taken out.old ≡ extended told o.lines → ending ≡ o.ending → Answers (λ r. r ≡ outcome_report o) ⊥ result told (K.taken out.new) }
+    requires unfailed { (K.state out.old).put_failed ≡ false }
+    ensures answer { (told : Option (List ℕ)) (o : Outcome) → (K.state out.old).taken ≡ extended told o.lines → ending ≡ o.ending → Answers (λ r. r ≡ outcome_report o) ⊥ result told (K.state out.new).taken }
     ensures no_usage { result ≢ Status.Usage }
     ensures no_read_fault { result ≢ Status.ReadFault }
-    ensures cause { result ≡ Status.WriteFault → Rose (K.faults out.old) (K.faults out.new) }
-    ensures later { K.faults out.old ≤ K.faults out.new }
+    ensures cause { result ≡ Status.WriteFault → Rose (K.state out.old).faults (K.state out.new).faults }
+    ensures later { (K.state out.old).faults ≤ (K.state out.new).faults }
 {
     match ending_line(alloc, ending) {
         Ok(line) => put_last(out, line.as_str(), status_of(ending)),
@@ -58,12 +58,12 @@ fn put_ending<K: Sink>(alloc: Global, ending: Ending, out: &mut K) -> Status
 // Runs the rows, and puts the lines of the run.
 fn put_replay<K: Sink>(alloc: Global, replay: &Replay, out: &mut K) -> Status
     requires comparable { AreComparable replay.now.old replay.now.new replay.now.relation }
-    requires unfailed { K.put_failed out.old ≡ false }
-    ensures answer { Answers (λ r. r ≡ outcome_report (outcome_of (program_view replay.now.old) (program_view replay.now.new) (relation_view replay.now.relation) replay.now.rows)) ⊥ result (K.taken out.old) (K.taken out.new) }
+    requires unfailed { (K.state out.old).put_failed ≡ false }
+    ensures answer { Answers (λ r. r ≡ outcome_report (outcome_of (program_view replay.now.old) (program_view replay.now.new) (relation_view replay.now.relation) replay.now.rows)) ⊥ result (K.state out.old).taken (K.state out.new).taken }
     ensures no_usage { result ≢ Status.Usage }
     ensures no_read_fault { result ≢ Status.ReadFault }
-    ensures cause { result ≡ Status.WriteFault → Rose (K.faults out.old) (K.faults out.new) }
-    ensures later { K.faults out.old ≤ K.faults out.new }
+    ensures cause { result ≡ Status.WriteFault → Rose (K.state out.old).faults (K.state out.new).faults }
+    ensures later { (K.state out.old).faults ≤ (K.state out.new).faults }
 {
     match play(
         alloc,
@@ -82,12 +82,12 @@ fn put_replay<K: Sink>(alloc: Global, replay: &Replay, out: &mut K) -> Status
 
 /// Puts the report on four texts.
 pub fn put_answer<K: Sink>(alloc: Global, texts: &ReplayTexts, out: &mut K) -> Status
-    requires unfailed { K.put_failed out.old ≡ false }
-    ensures answer { (t : Texts) → AreAllKept texts.now t → Answers (Reports t) ⊥ result (K.taken out.old) (K.taken out.new) }
+    requires unfailed { (K.state out.old).put_failed ≡ false }
+    ensures answer { (t : Texts) → AreAllKept texts.now t → Answers (Reports t) ⊥ result (K.state out.old).taken (K.state out.new).taken }
     ensures no_usage { result ≢ Status.Usage }
     ensures no_read_fault { result ≢ Status.ReadFault }
-    ensures cause { result ≡ Status.WriteFault → Rose (K.faults out.old) (K.faults out.new) }
-    ensures later { K.faults out.old ≤ K.faults out.new }
+    ensures cause { result ≡ Status.WriteFault → Rose (K.state out.old).faults (K.state out.new).faults }
+    ensures later { (K.state out.old).faults ≤ (K.state out.new).faults }
 {
     match accept(alloc, texts) {
         Ok(replay) => put_replay(alloc, &replay, out),

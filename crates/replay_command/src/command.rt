@@ -1,10 +1,12 @@
 // The command `replay`.
 ghost use Rattle.std.specs.Prelude.{false, ◌≡◌, ◌≢◌, ◌≤◌, IfOk, IsErrOf};
 ghost use Rattle.outside.specs.Causes.{Rose, NoneFell};
-ghost use Rattle.command_answers.specs.Answers.{Answers, IsExact};
+ghost use Rattle.outside.specs.States.{change};
+ghost use Rattle.command_answers.specs.Answers.{Answers};
+ghost use Rattle.command_answers.specs.Ends.{Ends, IsComplete};
 ghost use Rattle.command_files.specs.Texts.{Texts, AreFourTold, OneOfFourRose};
 ghost use Rattle.replay_command.specs.Accepted.{AreAllKept};
-ghost use Rattle.replay_command.specs.Reports.{Reports};
+ghost use Rattle.replay_command.specs.Reports.{Reports, asking_to_replay};
 
 use crate::accept::ReplayTexts;
 use crate::answer::put_answer;
@@ -22,12 +24,12 @@ fn read_all<S: Shelf>(
     trace: &str,
     shelf: &mut S,
 ) -> Result<ReplayTexts, OutErr>
-    requires unfailed { S.read_failed shelf.old ≡ false }
-    ensures texts { (t : Texts) → AreFourTold (S.file shelf.old) old.now new.now relation.now trace.now t t.trace → IfOk result (λ kept. AreAllKept kept t) }
-    ensures kept { S.file shelf.new ≡ S.file shelf.old }
-    ensures fault { IsErrOf result OutErr.Fault → OneOfFourRose (S.read_faults shelf.old) (S.read_faults shelf.new) old.now new.now relation.now trace.now }
-    ensures reads { NoneFell (S.read_faults shelf.old) (S.read_faults shelf.new) }
-    ensures writes { NoneFell (S.write_faults shelf.old) (S.write_faults shelf.new) }
+    requires unfailed { (S.state shelf.old).read_failed ≡ false }
+    ensures texts { (t : Texts) → AreFourTold (S.state shelf.old).file old.now new.now relation.now trace.now t t.trace → IfOk result (λ kept. AreAllKept kept t) }
+    ensures kept { (S.state shelf.new).file ≡ (S.state shelf.old).file }
+    ensures fault { IsErrOf result OutErr.Fault → OneOfFourRose (S.state shelf.old).read_faults (S.state shelf.new).read_faults old.now new.now relation.now trace.now }
+    ensures reads { NoneFell (S.state shelf.old).read_faults (S.state shelf.new).read_faults }
+    ensures writes { NoneFell (S.state shelf.old).write_faults (S.state shelf.new).write_faults }
 {
     let three = read_texts(alloc, old, new, relation, shelf)?;
     let trace = read_text(alloc, shelf, trace)?;
@@ -44,17 +46,17 @@ fn answer_files<S: Shelf, K: Sink>(
     shelf: &mut S,
     out: &mut K,
 ) -> Status
-    requires reads { S.read_failed shelf.old ≡ false }
-    requires puts { K.put_failed out.old ≡ false }
-    ensures kept { S.file shelf.new ≡ S.file shelf.old }
-    ensures answer { (t : Texts) → AreFourTold (S.file shelf.old) old.now new.now relation.now trace.now t t.trace
-        → Answers (Reports t) (OneOfFourRose (S.read_faults shelf.old) (S.read_faults shelf.new) old.now new.now relation.now trace.now) result (K.taken out.old) (K.taken out.new) }
+    requires reads { (S.state shelf.old).read_failed ≡ false }
+    requires puts { (K.state out.old).put_failed ≡ false }
+    ensures kept { (S.state shelf.new).file ≡ (S.state shelf.old).file }
+    ensures answer { (t : Texts) → AreFourTold (S.state shelf.old).file old.now new.now relation.now trace.now t t.trace
+        → Answers (Reports t) (OneOfFourRose (S.state shelf.old).read_faults (S.state shelf.new).read_faults old.now new.now relation.now trace.now) result (K.state out.old).taken (K.state out.new).taken }
     ensures usage { result ≢ Status.Usage }
-    ensures read_fault { result ≡ Status.ReadFault → OneOfFourRose (S.read_faults shelf.old) (S.read_faults shelf.new) old.now new.now relation.now trace.now }
-    ensures write_fault { result ≡ Status.WriteFault → Rose (K.faults out.old) (K.faults out.new) }
-    ensures reads { NoneFell (S.read_faults shelf.old) (S.read_faults shelf.new) }
-    ensures writes { NoneFell (S.write_faults shelf.old) (S.write_faults shelf.new) }
-    ensures faults { K.faults out.old ≤ K.faults out.new }
+    ensures read_fault { result ≡ Status.ReadFault → OneOfFourRose (S.state shelf.old).read_faults (S.state shelf.new).read_faults old.now new.now relation.now trace.now }
+    ensures write_fault { result ≡ Status.WriteFault → Rose (K.state out.old).faults (K.state out.new).faults }
+    ensures reads { NoneFell (S.state shelf.old).read_faults (S.state shelf.new).read_faults }
+    ensures writes { NoneFell (S.state shelf.old).write_faults (S.state shelf.new).write_faults }
+    ensures faults { (K.state out.old).faults ≤ (K.state out.new).faults }
 {
     match read_all(alloc, old, new, relation, trace, shelf) {
         Ok(texts) => put_answer(alloc, &texts, out),
@@ -74,28 +76,16 @@ pub fn answer_replay<S: Shelf, K: Sink>(
     out: &mut K,
 ) -> Status
     // No read and no put has failed before, and none follows one that failed.
-    requires reads { S.read_failed shelf.old ≡ false }
-    requires puts { K.put_failed out.old ≡ false }
+    requires reads { (S.state shelf.old).read_failed ≡ false }
+    requires puts { (K.state out.old).put_failed ≡ false }
 
-    // No file changes.
-    ensures kept { S.file shelf.new ≡ S.file shelf.old }
-
-    // The bytes on the sink and the status are those of the report on the four texts, where these are told.
-    ensures answer { (t : Texts) → AreFourTold (S.file shelf.old) old.now new.now relation.now trace.now t t.trace
-        → Answers (Reports t) (OneOfFourRose (S.read_faults shelf.old) (S.read_faults shelf.new) old.now new.now relation.now trace.now) result (K.taken out.old) (K.taken out.new) }
+    // No file changes; the bytes on the sink and the status are those of the report on the four texts, where these are told; a fault comes
+    // only where a count rose, and no count falls.
+    ensures ends { Ends (asking_to_replay old.now new.now relation.now trace.now) result (change (S.state shelf.old) (S.state shelf.new)) (K.state out.old) (K.state out.new) }
     ensures usage { result ≢ Status.Usage }
 
-    // A fault comes only where a count rose, and no count falls.
-    ensures read_fault { result ≡ Status.ReadFault → OneOfFourRose (S.read_faults shelf.old) (S.read_faults shelf.new) old.now new.now relation.now trace.now }
-    ensures write_fault { result ≡ Status.WriteFault → Rose (K.faults out.old) (K.faults out.new) }
-    ensures reads { NoneFell (S.read_faults shelf.old) (S.read_faults shelf.new) }
-    ensures writes { NoneFell (S.write_faults shelf.old) (S.write_faults shelf.new) }
-    ensures faults { K.faults out.old ≤ K.faults out.new }
-
     // Where no count rose, the answer is the whole report, or memory was wanting.
-    ensures complete { (t : Texts) → AreFourTold (S.file shelf.old) old.now new.now relation.now trace.now t t.trace
-        → ¬ OneOfFourRose (S.read_faults shelf.old) (S.read_faults shelf.new) old.now new.now relation.now trace.now → ¬ Rose (K.faults out.old) (K.faults out.new)
-        → result ≢ Status.Memory → IsExact (Reports t) result (K.taken out.old) (K.taken out.new) }
+    ensures complete { IsComplete (asking_to_replay old.now new.now relation.now trace.now) result (change (S.state shelf.old) (S.state shelf.new)) (K.state out.old) (K.state out.new) }
 {
     answer_files(alloc, old, new, relation, trace, shelf, out)
 }

@@ -48,13 +48,13 @@ fn put_scan<K: Sink>(
     new: &Program,
     duo: &Duo<'_>,
 ) -> Result<(), PlayError>
-    requires unfailed { K.put_failed out.old ≡ false }
-    ensures whole { OnOk result (K.taken out.new ≡ extended (K.taken out.old) (scan_line (program_view old.now) (program_view new.now) number duo.now.pair)) }
-    ensures part { OnErr result (PutsPart (K.taken out.old) (K.taken out.new) (scan_line (program_view old.now) (program_view new.now) number duo.now.pair)) }
-    ensures later { K.faults out.old ≤ K.faults out.new }
-    ensures cause { result ≡ Err (PlayError.Sink Fault) → Rose (K.faults out.old) (K.faults out.new) }
-    ensures unfailed { OnOk result (K.put_failed out.new ≡ false) }
-    ensures memory { result ≡ Err PlayError.Memory → K.put_failed out.new ≡ false }
+    requires unfailed { (K.state out.old).put_failed ≡ false }
+    ensures whole { OnOk result ((K.state out.new).taken ≡ extended (K.state out.old).taken (scan_line (program_view old.now) (program_view new.now) number duo.now.pair)) }
+    ensures part { OnErr result (PutsPart (K.state out.old).taken (K.state out.new).taken (scan_line (program_view old.now) (program_view new.now) number duo.now.pair)) }
+    ensures later { (K.state out.old).faults ≤ (K.state out.new).faults }
+    ensures cause { result ≡ Err (PlayError.Sink Fault) → Rose (K.state out.old).faults (K.state out.new).faults }
+    ensures unfailed { OnOk result ((K.state out.new).put_failed ≡ false) }
+    ensures memory { result ≡ Err PlayError.Memory → (K.state out.new).put_failed ≡ false }
 {
     line.clear();
     show_scan(
@@ -81,13 +81,13 @@ pub fn play<K: Sink>(
     out: &mut K,
 ) -> Result<Ending, PlayError>
     requires comparable { AreComparable old.now new.now relation.now }
-    requires unfailed { K.put_failed out.old ≡ false }
-    ensures whole { IfOk result (λ e. let o = outcome_of (program_view old.now) (program_view new.now) (relation_view relation.now) rows.now in (K.taken out.new ≡ extended (K.taken out.old) o.lines) × (e ≡ o.ending)) }
-    ensures part { OnErr result (PutsPart (K.taken out.old) (K.taken out.new) (outcome_of (program_view old.now) (program_view new.now) (relation_view relation.now) rows.now).lines) }
-    ensures later { K.faults out.old ≤ K.faults out.new }
-    ensures cause { result ≡ Err (PlayError.Sink Fault) → Rose (K.faults out.old) (K.faults out.new) }
-    ensures unfailed { OnOk result (K.put_failed out.new ≡ false) }
-    ensures memory { result ≡ Err PlayError.Memory → K.put_failed out.new ≡ false }
+    requires unfailed { (K.state out.old).put_failed ≡ false }
+    ensures whole { IfOk result (λ e. let o = outcome_of (program_view old.now) (program_view new.now) (relation_view relation.now) rows.now in ((K.state out.new).taken ≡ extended (K.state out.old).taken o.lines) × (e ≡ o.ending)) }
+    ensures part { OnErr result (PutsPart (K.state out.old).taken (K.state out.new).taken (outcome_of (program_view old.now) (program_view new.now) (relation_view relation.now) rows.now).lines) }
+    ensures later { (K.state out.old).faults ≤ (K.state out.new).faults }
+    ensures cause { result ≡ Err (PlayError.Sink Fault) → Rose (K.state out.old).faults (K.state out.new).faults }
+    ensures unfailed { OnOk result ((K.state out.new).put_failed ≡ false) }
+    ensures memory { result ≡ Err PlayError.Memory → (K.state out.new).put_failed ≡ false }
 {
     let mut duo = Duo::new(alloc, old, new, relation)?;
     let mut line = String::new(alloc);

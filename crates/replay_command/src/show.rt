@@ -4,11 +4,12 @@ ghost use Rattle.program_tree.specs.View.{cells_view, program_view};
 ghost use Rattle.replay_command.specs.Lines.{shown_cell, shown, scan_line, ending_line};
 
 use itoa::Buffer;
+use plc_types::Value;
 use program_tree::{Cell, Part, Program};
 use scan_model::Ending;
 use std::alloc::AllocError;
 
-fn show_cell(line: &mut String, part: Part, value: i64) -> Result<(), AllocError>
+fn show_cell(line: &mut String, part: Part, value: Value) -> Result<(), AllocError>
     ensures { OnOk result (string_bytes line.new ≡ string_bytes line.old ++ shown_cell part value) }
 {
     match part {
@@ -23,7 +24,7 @@ fn show_cell(line: &mut String, part: Part, value: i64) -> Result<(), AllocError
 }
 
 // FAULT, then the outputs as declared.
-fn show_cells(line: &mut String, cells: &[Cell], state: &[i64]) -> Result<(), AllocError>
+fn show_cells(line: &mut String, cells: &[Cell], state: &[Value]) -> Result<(), AllocError>
     ensures { OnOk result (string_bytes line.new ≡ string_bytes line.old ++ shown (cells_view cells.now) state.now) }
 {
     for (place, cell) in cells.iter().enumerate() {
@@ -40,9 +41,9 @@ pub fn show_scan(
     line: &mut String,
     number: usize,
     old: &Program,
-    old_state: &[i64],
+    old_state: &[Value],
     new: &Program,
-    new_state: &[i64],
+    new_state: &[Value],
 ) -> Result<(), AllocError>
     ensures { OnOk result (string_bytes line.new ≡ string_bytes line.old ++ scan_line (program_view old.now) (program_view new.now) number (record { old = old_state.now; new = new_state.now })) }
 {

@@ -1,14 +1,16 @@
 -- Two countings that say the same of each POU that statements use count the same of them.
-use Rattle.std.proofs.Common.{◌≡◌, ℕ, zero, suc, ◌+◌, ◌*◌, Bool, true, false, if◌then◌else◌, List, [], ◌∷◌, ◌++◌, length, refl, ap, ◌∙◌, arith}
+use Rattle.std.proofs.Common.{◌≡◌, ℕ, zero, suc, ◌+◌, ◌*◌, Bool, true, false, if◌then◌else◌, Option, Some, None, List, [], ◌∷◌, ◌++◌, length, refl, ap, ◌∙◌, arith}
 use Rattle.std.specs.Prelude.{◌==◌}
 use Rattle.std.proofs.lemmas.Bool.Decides.{nat_tests}
 use Rattle.call_order.specs.Uses.{is_among}
 use Rattle.call_order.proofs.Members.{is_among-left, is_among-right, is_among-head, is_among-tail}
+use Rattle.program_tree.specs.declared.typed.Association.{Association}
 use Rattle.program_tree.specs.Tree.{Expression, number, cell, unary, chain, call_standard, call_function, Operands, no_operands, operand, Expressions, no_expressions, expression, Statement, assign, call_block, choice, cases, repeat, chart, Statements, no_statements, statement, Choices, no_choices, choose, Entries, no_entries, entry, TransitionData, Actions, no_actions, action}
-use Rattle.flat_form.specs.Frames.{FrameData, others_behind}
-use Rattle.flat_form.specs.Calls.{arity}
+use Rattle.program_tree.specs.OperandTypes.{arity}
+use Rattle.meaning.specs.Frames.{FrameData}
+use Rattle.flat_form.specs.Frames.{others_behind}
 use Rattle.flat_count.specs.Counts.{Counting, count_of_start, count_in, count_in_operands, count_in_all, count_in_inputs, count_of_latches, count_of_transitions, count_of_associated, count_of, count_of_all, count_of_choices, count_of_entries, count_of_actions}
-use Rattle.running_pous.specs.Uses.{uses_in, uses_in_operands, uses_in_all, uses_of_transitions, uses_of, uses_of_all, uses_of_choices, uses_of_entries, uses_of_actions}
+use Rattle.running_pous.specs.Uses.{uses_in, uses_in_operands, uses_in_all, uses_of_transitions, uses_of, uses_of_all, uses_of_choices, uses_of_entries, uses_of_action, uses_of_actions}
 
 -- a FOR, whose statements count only where it has turns
 turns_alike : (n x y : ℕ) → ((n == 0) ≡ false → x ≡ y) → n * (1 + x) + 1 ≡ n * (1 + y) + 1
@@ -45,6 +47,12 @@ module _ (a b : Counting) where
   chosen : (test : Bool) (ns : List ℕ) → test ≡ false → AreAlike (if test then [] else ns) → AreAlike ns
   chosen true ns is all = absurd (let none : ⊥ = cc in none)
   chosen false ns is all = all
+
+  -- the statements of an action count only where a step names it
+  action_alike : (latch : Option ℕ) (associations : List Association) (ns : List ℕ) (x y : ℕ) → (AreAlike ns → x ≡ y) → AreAlike (uses_of_action latch associations ns) → count_of_associated associations x ≡ count_of_associated associations y
+  action_alike latch [] ns x y same all = refl
+  action_alike None (c ∷ more) ns x y same all = ap (λ (n : ℕ). 1 + n) (same all)
+  action_alike (Some place) (c ∷ more) ns x y same all = ap (λ (n : ℕ). 1 + n) (same all)
 
   mutual
     alike_in : (e : Expression) → AreAlike (uses_in e) → count_in a e ≡ count_in b e
@@ -138,6 +146,6 @@ module _ (a b : Counting) where
     alike_actions : (actions : Actions) → AreAlike (uses_of_actions actions) → count_of_actions a actions ≡ count_of_actions b actions
     alike_actions no_actions all = refl
     alike_actions (action latch associations ss others) all =
-        let one = alike_all ss (left (uses_of_all ss) (uses_of_actions others) all) in
-        let more = alike_actions others (right (uses_of_all ss) (uses_of_actions others) all) in
-        λ i. count_of_associated associations (one i) + more i
+        let one = action_alike latch associations (uses_of_all ss) (count_of_all a ss) (count_of_all b ss) (λ used. alike_all ss used) (left (uses_of_action latch associations (uses_of_all ss)) (uses_of_actions others) all) in
+        let more = alike_actions others (right (uses_of_action latch associations (uses_of_all ss)) (uses_of_actions others) all) in
+        λ i. one i + more i

@@ -5,7 +5,7 @@ use Rattle.std.proofs.lemmas.Bool.{eqb-true}
 use Rattle.call_order.specs.Uses.{is_among}
 use Rattle.program_tree.specs.Tree.{Statements, CalledData, block, function}
 use Rattle.meaning.specs.Calls.{nothing}
-use Rattle.flat_form.specs.Frames.{frame_of, function_body}
+use Rattle.meaning.specs.Frames.{frame_of, function_body}
 use Rattle.flat_form.specs.Pous.{block_body}
 use Rattle.flat_count.specs.Counts.{count_of_all, counting_of}
 use Rattle.running_counts.proofs.Shortness.{frames_counted}

@@ -4,7 +4,7 @@ use Rattle.std.specs.Prelude.{◌==◌, nat_lt}
 use Rattle.std.proofs.lemmas.Bool.{eqb-true}
 use Rattle.std.proofs.lemmas.Bool.Decides.{nat_tests}
 use Rattle.program_tree.specs.Tree.{CalledData, ProgramData}
-use Rattle.flat_form.specs.Frames.{frames_of}
+use Rattle.meaning.specs.Frames.{frames_of}
 use Rattle.flat_form.specs.FlatPrograms.{is_short}
 use Rattle.flat_count.specs.Counts.{count_of_all, counting_of, counting, counted, capped, AreCounts}
 use Rattle.flat_count.proofs.CountLemmas.{same_all, is_short-count}

@@ -1,10 +1,11 @@
 -- Where two sets of POUs do the same for each number that expressions and statements use, these have the same values, faults and effects.
-use Rattle.std.proofs.Common.{◌≡◌, ℕ, zero, suc, ◌+◌, Bool, true, false, ◌||◌, List, [], ◌∷◌, ◌++◌, ℤ, ◌+ℤ◌, ◌⊎◌, inl, inr, ⊎_elim, refl, ap, ap₂, subst, ◌∙◌}
+use Rattle.std.proofs.Common.{◌≡◌, ℕ, zero, suc, ◌+◌, Bool, true, false, ◌||◌, List, [], ◌∷◌, ◌++◌, ℤ, ◌+ℤ◌, Option, Some, None, ◌⊎◌, inl, inr, ⊎_elim, refl, ap, ap₂, subst, ◌∙◌}
 use Rattle.std.specs.Prelude.{◌==◌, filter, if◌then◌else◌}
 use Rattle.std.specs.List.{list_any}
 use Rattle.std.proofs.lemmas.Bool.{eqb-true}
 use Rattle.plc_types.specs.declared.range.Range.{Range}
 use Rattle.program_tree.specs.declared.typed.StepCells.{StepCells}
+use Rattle.program_tree.specs.declared.typed.Association.{Association}
 use Rattle.program_tree.specs.Tree.{Expression, number, cell, unary, chain, call_standard, call_function, Operands, no_operands, operand, Expressions, no_expressions, expression, TransitionData, Statement, assign, call_block, choice, cases, repeat, chart, Statements, no_statements, statement, Choices, no_choices, choose, Entries, no_entries, entry, Actions, no_actions, action}
 use Rattle.call_order.specs.Uses.{is_among}
 use Rattle.call_order.proofs.Members.{is_among-left, is_among-right, is_among-head, is_among-tail}
@@ -12,7 +13,7 @@ use Rattle.meaning.specs.Values.{State, Callees, is_truth, unary_applied, applie
 use Rattle.meaning.specs.Charts.{Marking, marking_now, marking_before, runs, may_fire, evaluated, fired, holds_in, faults_in, is_next}
 use Rattle.meaning.specs.Effects.{with_fault, stored, is_labelled, effect_of_turns, all_latched, marked, effect_of_transitions, effect_of, effect_of_all, effect_of_choices, effect_of_entries, effect_of_actions}
 use Rattle.meaning.proofs.Cases.{by_test}
-use Rattle.running_pous.specs.Uses.{uses_in, uses_in_operands, uses_in_all, uses_of_transitions, uses_of, uses_of_all, uses_of_choices, uses_of_entries, uses_of_actions}
+use Rattle.running_pous.specs.Uses.{uses_in, uses_in_operands, uses_in_all, uses_of_transitions, uses_of, uses_of_all, uses_of_choices, uses_of_entries, uses_of_action, uses_of_actions}
 
 -- the POU of a number does the same in both
 abbrev pub DoSame : Callees → Callees → ℕ → Type 0
@@ -99,6 +100,18 @@ module _ (a b : Callees) where
   by_turns : (count : ℕ) (us : List ℕ) → DoSameFor a b (if count == 0 then [] else us) → (count ≡ 0) ⊎ DoSameFor a b us
   by_turns count us h =
       by_test (count == 0) (λ none. inl (eqb-true count 0 none)) (λ some. inr (subst (λ (c : Bool). DoSameFor a b (if c then [] else us)) some h))
+
+  -- an action never runs, or its statements' uses count
+  by_action : (base : ℕ) (x l : Marking) (latch : Option ℕ) (associations : List Association) (us : List ℕ) → DoSameFor a b (uses_of_action latch associations us) → (s : State)
+      → (runs base x l latch associations s ≡ false) ⊎ DoSameFor a b us
+  by_action base x l None [] us h s = inl refl
+  by_action base x l None (c ∷ more) us h s = inr h
+  by_action base x l (Some place) associations us h s = inr h
+
+  -- an action does the same where it never runs, and where its statements do
+  ran_same : (test : Bool) (one other s : State) → (test ≡ false) ⊎ (one ≡ other) → (if test then one else s) ≡ (if test then other else s)
+  ran_same test one other s (inl off) = rw off refl
+  ran_same test one other s (inr same) = ap (λ (z : State). if test then z else s) same
 
   -- a call of a FUNCTION ends in the same state
   ended : (f : ℕ) (vs ws : List ℤ) → DoSame a b f → vs ≡ ws → a.ends f vs ≡ b.ends f ws
@@ -245,5 +258,9 @@ module _ (a b : Callees) where
             → effect_of_actions a rs base x l actions s ≡ effect_of_actions b rs base x l actions s
         actions_same x l no_actions h s = refl
         actions_same x l (action latch associations ss rest) h s =
-            ap (λ (z : State). effect_of_actions a rs base x l rest (if runs base x l latch associations s then z else s)) (all_same ss (left_of (uses_of_all ss) (uses_of_actions rest) h) s)
-            ∙ actions_same x l rest (right_of (uses_of_all ss) (uses_of_actions rest) h) (if runs base x l latch associations s then effect_of_all b rs base ss s else s)
+            let here = left_of (uses_of_action latch associations (uses_of_all ss)) (uses_of_actions rest) h in
+            let behind = right_of (uses_of_action latch associations (uses_of_all ss)) (uses_of_actions rest) h in
+            let ran : (runs base x l latch associations s ≡ false) ⊎ (effect_of_all a rs base ss s ≡ effect_of_all b rs base ss s) =
+            ⊎_elim (λ never. inl never) (λ used. inr (all_same ss used s)) (by_action base x l latch associations (uses_of_all ss) here s) in
+            ap (λ (z : State). effect_of_actions a rs base x l rest z) (ran_same (runs base x l latch associations s) (effect_of_all a rs base ss s) (effect_of_all b rs base ss s) s ran)
+            ∙ actions_same x l rest behind (if runs base x l latch associations s then effect_of_all b rs base ss s else s)

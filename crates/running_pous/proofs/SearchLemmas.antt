@@ -30,7 +30,7 @@ pub record IsUnderWay (f : FileData) (starts : List ℕ) (marks runs : List Bool
   pub within : (k : ℕ) → is_marked runs k ≡ true → is_marked marks k ≡ true
   pub behind : (k : ℕ) → is_marked marks k ≡ true → (is_marked runs k ≡ true) ⊎ (is_among k waiting ≡ true)
 
-none_marked : (n k : ℕ) → is_marked (replicate n false) k ≡ false
+pub none_marked : (n k : ℕ) → is_marked (replicate n false) k ≡ false
 none_marked n k =
     let long = length-replicate n false in
     ⊎_elim (λ (low : k < n). get_or-replicate n k false false low) (λ (high : n ≤ k). get_or_past (replicate n false) k false (omega (arith, long, high))) (cases_lt k n)
@@ -62,6 +62,13 @@ waiting-low f starts marks runs bodies rest number is =
     let size = is.explores.size in
     let long = length-uses f in
     omega (arith, below, size, long)
+
+-- what waits may run
+pub waiting-runs : (f : FileData) (body : Statements) (marks runs : List Bool) (bodies : List Statements) (rest : List ℕ) (number : ℕ)
+    → IsUnderWay f (uses_of_all body) marks runs bodies (rest ++ number ∷ []) → may_run (called_by f) body number ≡ true
+waiting-runs f body marks runs bodies rest number is =
+    let among : is_among number (rest ++ number ∷ []) ≡ true = is_among-right number rest (number ∷ []) (is_among-head number []) in
+    (led_exact (uses_by (called_by f)) (uses_of_all body) number).1 (is.explores.reached number (is.explores.waits number among))
 
 -- the body of one that waited is typed, and what it uses waits, where it had no mark
 pub search-more : (f : FileData) (starts : List ℕ) (marks runs marks' runs' : List Bool) (bodies bodies' : List Statements) (rest waiting : List ℕ) (number : ℕ)

@@ -1,5 +1,6 @@
 -- The POUs that expressions and statements use: the FUNCTIONs that they call, and the FUNCTION_BLOCKs whose bodies they run, by their numbers.
-use Rattle.std.specs.Prelude.{ℕ, ◌==◌, List, [], ◌∷◌, ◌++◌, if◌then◌else◌}
+use Rattle.std.specs.Prelude.{ℕ, ◌==◌, List, [], ◌∷◌, ◌++◌, Option, Some, None, if◌then◌else◌}
+use Rattle.program_tree.specs.declared.typed.Association.{Association}
 use Rattle.program_tree.specs.Tree.{Expression, number, cell, unary, chain, call_standard, call_function, Operands, no_operands, operand, Expressions, no_expressions, expression, TransitionData, Statement, assign, call_block, choice, cases, repeat, chart, Statements, no_statements, statement, Choices, no_choices, choose, Entries, no_entries, entry, Actions, no_actions, action, CalledData, block, function}
 
 abbrev mutual
@@ -22,6 +23,12 @@ abbrev mutual
 abbrev pub uses_of_transitions : List TransitionData → List ℕ
 uses_of_transitions [] = []
 uses_of_transitions (t ∷ ts) = uses_in t.condition ++ uses_of_transitions ts
+
+-- what an action uses whose statements use so much: nothing where no step names it and it has no latch, as it never runs
+abbrev pub uses_of_action : Option ℕ → List Association → List ℕ → List ℕ
+uses_of_action None [] used = []
+uses_of_action None (a ∷ more) used = used
+uses_of_action (Some place) associations used = used
 
 -- A FOR without turns uses nothing, as none of its statements ever runs.
 abbrev mutual
@@ -47,7 +54,7 @@ abbrev mutual
 
   pub uses_of_actions : Actions → List ℕ
   uses_of_actions no_actions = []
-  uses_of_actions (action latch associations ss rest) = uses_of_all ss ++ uses_of_actions rest
+  uses_of_actions (action latch associations ss rest) = uses_of_action latch associations (uses_of_all ss) ++ uses_of_actions rest
 
 -- what the body of a POU uses
 abbrev pub uses_of_called : CalledData → List ℕ

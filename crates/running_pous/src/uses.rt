@@ -1,7 +1,7 @@
 // The POUs that typed statements use.
 ghost use Rattle.std.specs.Prelude.{◌≡◌, ◌++◌, IfOk, OnOk};
 ghost use Rattle.program_tree.specs.View.{expr_view, operands_view, arguments_view, transitions_view, stmt_view, stmts_view, choices_view, entries_view, actions_view};
-ghost use Rattle.running_pous.specs.Uses.{uses_in, uses_in_operands, uses_in_all, uses_of_transitions, uses_of, uses_of_all, uses_of_choices, uses_of_entries, uses_of_actions};
+ghost use Rattle.running_pous.specs.Uses.{uses_in, uses_in_operands, uses_in_all, uses_of_transitions, uses_of, uses_of_all, uses_of_choices, uses_of_entries, uses_of_action, uses_of_actions};
 
 use program_tree::{
     Operand, TypedAction, TypedArm, TypedEntry, TypedExpr, TypedStmt, TypedTransition,
@@ -131,13 +131,24 @@ fn append_in_entries(entries: &[TypedEntry], uses: &mut Vec<usize>) -> Result<()
     Ok(())
 }
 
+// Appends what an action uses: nothing where no step names it and it has no latch.
+#[cycle(append_uses)]
+fn append_in_action(action: &TypedAction, uses: &mut Vec<usize>) -> Result<(), AllocError>
+    ensures { OnOk result (uses.new.items ≡ uses.old.items ++ uses_of_action action.now.latch action.now.associations.items (uses_of_all (stmts_view action.now.body.items))) }
+{
+    if action.latch.is_none() && action.associations.is_empty() {
+        return Ok(());
+    }
+    append_uses(&action.body, uses)
+}
+
 // Appends what the actions of a chart use.
 #[cycle(append_uses)]
 fn append_in_actions(actions: &[TypedAction], uses: &mut Vec<usize>) -> Result<(), AllocError>
     ensures { OnOk result (uses.new.items ≡ uses.old.items ++ uses_of_actions (actions_view actions.now)) }
 {
     for action in actions {
-        append_uses(&action.body, uses)?;
+        append_in_action(action, uses)?;
     }
     Ok(())
 }

@@ -7,6 +7,7 @@ use Rattle.plc_types.specs.declared.range.Range.{Range}
 use Rattle.program_tree.specs.declared.typed.StepCells.{StepCells}
 use Rattle.program_tree.specs.declared.typed.Association.{Association}
 use Rattle.plc_types.specs.Types.{in_range}
+use Rattle.plc_types.proofs.InRange.{bounds}
 use Rattle.program_tree.specs.Tree.{Statement, assign, call_block, choice, cases, repeat, chart, Statements, no_statements, statement, Choices, no_choices, choose, Entries, no_entries, entry, Actions, no_actions, action, CellData, CalledData, block, function, ProgramData}
 use Rattle.scan_model.specs.declared.relation.InputLine.{InputLine}
 use Rattle.scan_model.specs.declared.relation.InputLine.TheVariants.{Both, Old, New}
@@ -18,10 +19,6 @@ use Rattle.scan_model.specs.Scans.{ranges_of, callees_in, scanned}
 use Rattle.scan_model.specs.InRange.{Row, IsInRange, BeginsWithFault, IsFitToRun, fits_places, put_at}
 use Rattle.scan_model.specs.Pairs.{RelationData, BelongsTo, is_allowed, after_row, Pair, IsPairInRange, IsCellOf, NamesCells, fits_lines, range_of_line, loaded_one, loaded}
 
--- a test that holds, as two orders
-pub within : (v : ℤ) (r : Range) → in_range v r ≡ true → (r.low ≤ℤ v) × (v ≤ℤ r.high)
-within v r h = search (rules, tests, ints)
-
 pub IsInRange-length : (rs : List Range) (s : State) → IsInRange rs s → length rs ≡ length s
 IsInRange-length [] [] f = refl
 IsInRange-length [] (x ∷ s) f = absurd f
@@ -32,7 +29,7 @@ pub IsInRange-set : (rs : List Range) (s : State) (c : ℕ) (v : ℤ) → IsInRa
 IsInRange-set [] [] c v f h = tt
 IsInRange-set [] (x ∷ s) c v f h = absurd f
 IsInRange-set (r ∷ rs) [] c v f h = absurd f
-IsInRange-set (r ∷ rs) (x ∷ s) zero v f h = let w = within v r h in (w.0, w.1, f.2)
+IsInRange-set (r ∷ rs) (x ∷ s) zero v f h = let w = bounds v r h in (w.0, w.1, f.2)
 IsInRange-set (r ∷ rs) (x ∷ s) (suc c) v f h = (f.0, f.1, IsInRange-set rs s c v f.2 h)
 
 -- one of two states, where each is in range under its test

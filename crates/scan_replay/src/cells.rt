@@ -4,7 +4,7 @@ ghost use Rattle.plc_types.specs.Types.{in_range};
 ghost use Rattle.program_tree.specs.View.{cells_view};
 ghost use Rattle.scan_model.specs.Scans.{ranges_of};
 
-use plc_types::Range;
+use plc_types::{Range, Value};
 use program_tree::Cell;
 use std::alloc::{AllocError, Global};
 
@@ -21,7 +21,7 @@ pub fn ranges_of(alloc: Global, cells: &[Cell]) -> Result<Vec<Range>, AllocError
 
 /// Whether a value lies in a range.
 #[inline(always)]
-pub fn is_in_range(value: i64, range: Range) -> bool
+pub fn is_in_range(value: Value, range: Range) -> bool
     ensures { result ≡ in_range value range }
 {
     range.low <= value && value <= range.high
@@ -29,7 +29,7 @@ pub fn is_in_range(value: i64, range: Range) -> bool
 
 /// Puts a value into a cell, where there is one.
 #[inline(always)]
-pub fn put(state: &mut [i64], place: usize, value: i64)
+pub fn put(state: &mut [Value], place: usize, value: Value)
     ensures { state.new ≡ slice_set state.old place value }
 {
     if place < state.len() {

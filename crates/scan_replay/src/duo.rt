@@ -12,7 +12,7 @@ use crate::pair::{
 use crate::states::value_at;
 use crate::two_states::States;
 use interpreter::add_room;
-use plc_types::Range;
+use plc_types::{Range, Value};
 use program_tree::Program;
 use scan_model::{Relation, Side};
 use std::alloc::{AllocError, Global};
@@ -30,7 +30,7 @@ pub struct Duo<'p> {
     old_ranges: Vec<Range>,
     new_ranges: Vec<Range>,
     // room for calls and charts
-    stack: Vec<i64>,
+    stack: Vec<Value>,
 }
 
 impl<'p> Model for Duo<'p> {
@@ -101,7 +101,7 @@ impl<'p> Duo<'p> {
     }
 
     /// Another state of each program.
-    pub fn set_pair(&mut self, old: &[i64], new: &[i64])
+    pub fn set_pair(&mut self, old: &[Value], new: &[Value])
         requires { IsInRangeOf self.old (record { old = old.now; new = new.now }) }
         ensures { self.new ≡ with_pair (record { old = old.now; new = new.now }) self.old }
     {
@@ -109,7 +109,7 @@ impl<'p> Duo<'p> {
     }
 
     /// Whether a row may come: its numbers fit their lines, and every ENV clause holds once they are loaded.
-    pub fn allowed(&mut self, row: &[i64]) -> bool
+    pub fn allowed(&mut self, row: &[Value]) -> bool
         ensures allowed { result ≡ allows self.old row.now }
         ensures unchanged { self.new ≡ self.old }
     {
@@ -122,7 +122,7 @@ impl<'p> Duo<'p> {
     }
 
     /// Loads a row that is allowed, and runs both programs one scan.
-    pub fn step(&mut self, row: &[i64])
+    pub fn step(&mut self, row: &[Value])
         requires { IsTrue (allows self.old row.now) }
         ensures pair { self.new ≡ with_pair (pair_after self.old row.now) self.old }
         ensures in_range { IsInRangeOf self.new self.new.pair }
@@ -153,7 +153,7 @@ impl<'p> Duo<'p> {
     }
 
     /// The values of the cells of a program, in order.
-    pub fn state(&self, side: Side) -> &[i64]
+    pub fn state(&self, side: Side) -> &[Value]
         ensures { result.now ≡ state_of side self.now.pair }
     {
         match side {
@@ -163,7 +163,7 @@ impl<'p> Duo<'p> {
     }
 
     /// The value of a cell of a program, by its place.
-    pub fn value(&self, side: Side, cell: usize) -> i64
+    pub fn value(&self, side: Side, cell: usize) -> Value
         requires { cell < length (program_of side self.now).cells.items }
         ensures { result ≡ slice_index_or (state_of side self.now.pair) cell (pos 0) }
     {

@@ -10,7 +10,7 @@ use crate::cells::ranges_of;
 use crate::run::scan;
 use crate::states::{copy_over, put_all, start, state_fits, value_at};
 use interpreter::add_room;
-use plc_types::Range;
+use plc_types::{Range, Value};
 use program_tree::Program;
 use std::alloc::{AllocError, Global};
 use std::marker::Model;
@@ -20,10 +20,10 @@ use std::marker::Model;
 pub struct Machine<'p> {
     program: &'p Program,
     inputs: Vec<usize>,
-    state: Vec<i64>,
+    state: Vec<Value>,
     ranges: Vec<Range>,
     // room for calls and charts
-    stack: Vec<i64>,
+    stack: Vec<Value>,
 }
 
 impl<'p> Model for Machine<'p> {
@@ -77,7 +77,7 @@ impl<'p> Machine<'p> {
     }
 
     /// Puts the numbers of a row into the VAR_INPUT cells, in declared order.
-    pub fn load(&mut self, row: &[i64])
+    pub fn load(&mut self, row: &[Value])
         requires { IsTrue (fits_inputs self.old.program row.now) }
         ensures program { self.new.program ≡ self.old.program }
         ensures state { self.new.state ≡ with_inputs self.old.program row.now self.old.state }
@@ -86,14 +86,14 @@ impl<'p> Machine<'p> {
     }
 
     /// Whether each cell has one of the values, in its range.
-    pub fn state_fits(&self, values: &[i64]) -> bool
+    pub fn state_fits(&self, values: &[Value]) -> bool
         ensures { IsTrue result ↔ IsInRange (ranges_of (cells_view self.now.program.cells.items)) values.now }
     {
         state_fits(&self.program.cells, values)
     }
 
     /// Another state.
-    pub fn set_state(&mut self, values: &[i64])
+    pub fn set_state(&mut self, values: &[Value])
         requires { IsInRange (ranges_of (cells_view self.old.program.cells.items)) values.now }
         ensures program { self.new.program ≡ self.old.program }
         ensures state { self.new.state ≡ values.now }
@@ -102,7 +102,7 @@ impl<'p> Machine<'p> {
     }
 
     /// The value of a cell, by its place.
-    pub fn value(&self, cell: usize) -> i64
+    pub fn value(&self, cell: usize) -> Value
         requires { cell < length self.now.program.cells.items }
         ensures { result ≡ slice_index_or self.now.state cell (pos 0) }
     {

@@ -12,7 +12,7 @@ use crate::run::scan;
 use crate::states::{copy_over, reset, start};
 use crate::two_states::States;
 use interpreter::evaluate;
-use plc_types::Range;
+use plc_types::{Range, Value};
 use program_tree::{Program, TypedExpr};
 use scan_model::{Candidate, InputLine};
 use std::alloc::{AllocError, Global};
@@ -38,7 +38,7 @@ pub fn reset_both(old: &Program, new: &Program, states: &mut States)
 }
 
 /// Other states.
-pub fn copy_both(states: &mut States, old: &[i64], new: &[i64])
+pub fn copy_both(states: &mut States, old: &[Value], new: &[Value])
     requires old { length states.old.of_old.items ≡ length old.now }
     requires new { length states.old.of_new.items ≡ length new.now }
     ensures old { states.new.of_old.items ≡ old.now }
@@ -55,7 +55,7 @@ pub fn scan_both(
     old_ranges: &[Range],
     new_ranges: &[Range],
     states: &mut States,
-    stack: &mut [i64],
+    stack: &mut [Value],
 )
     requires old_ranges { old_ranges.now ≡ ranges_of (cells_view old.now.cells.items) }
     requires new_ranges { new_ranges.now ≡ ranges_of (cells_view new.now.cells.items) }
@@ -68,7 +68,7 @@ pub fn scan_both(
 }
 
 /// Whether a row has one number for each INPUT line, in its range.
-pub fn fits_lines(lines: &[InputLine], row: &[i64]) -> bool
+pub fn fits_lines(lines: &[InputLine], row: &[Value]) -> bool
     ensures { result ≡ fits_lines lines.now row.now }
 {
     if lines.len() != row.len() {
@@ -93,7 +93,7 @@ fn range_of_line(line: InputLine) -> Range
 }
 
 /// Puts each number of a row into the cells that its line names.
-pub fn load(lines: &[InputLine], row: &[i64], states: &mut States)
+pub fn load(lines: &[InputLine], row: &[Value], states: &mut States)
     ensures { pair_of states.new ≡ loaded lines.now row.now (pair_of states.old) }
 {
     for (i, line) in lines.iter().enumerate() {
@@ -104,7 +104,7 @@ pub fn load(lines: &[InputLine], row: &[i64], states: &mut States)
     }
 }
 
-fn load_one(line: InputLine, number: i64, states: &mut States)
+fn load_one(line: InputLine, number: Value, states: &mut States)
     ensures { pair_of states.new ≡ loaded_one line number (pair_of states.old) }
 {
     match line {

@@ -6,12 +6,12 @@ ghost use Rattle.scan_replay.specs.Machines.{room_of_program};
 
 use crate::cells::put;
 use interpreter::{Scope, run_all};
-use plc_types::Range;
+use plc_types::{Range, Value};
 use program_tree::Program;
 
 /// FAULT becomes FALSE, then the body runs. The ranges are those of the program's cells, and its calls and charts have room on the
 /// stack.
-pub fn scan(program: &Program, ranges: &[Range], state: &mut [i64], stack: &mut [i64])
+pub fn scan(program: &Program, ranges: &[Range], state: &mut [Value], stack: &mut [Value])
     requires ranges { ranges.now ≡ ranges_of (cells_view program.now.cells.items) }
     requires room { room_of_program program.now ≤ length stack.old }
     ensures state { state.new ≡ scanned (program_view program.now) state.old }

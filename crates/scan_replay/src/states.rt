@@ -5,11 +5,12 @@ ghost use Rattle.scan_model.specs.Scans.{ranges_of, initial};
 ghost use Rattle.scan_model.specs.InRange.{IsInRange, put_at};
 
 use crate::cells::{is_in_range, put};
+use plc_types::Value;
 use program_tree::Cell;
 use std::alloc::{AllocError, Global};
 
 /// The values that the cells begin with.
-pub fn start(alloc: Global, cells: &[Cell]) -> Result<Vec<i64>, AllocError>
+pub fn start(alloc: Global, cells: &[Cell]) -> Result<Vec<Value>, AllocError>
     ensures { IfOk result (λ state. state.items ≡ initial (cells_view cells.now)) }
 {
     let mut state = Vec::new(alloc);
@@ -20,7 +21,7 @@ pub fn start(alloc: Global, cells: &[Cell]) -> Result<Vec<i64>, AllocError>
 }
 
 /// Whether each cell has one value, in its range.
-pub fn state_fits(cells: &[Cell], values: &[i64]) -> bool
+pub fn state_fits(cells: &[Cell], values: &[Value]) -> bool
     ensures { IsTrue result ↔ IsInRange (ranges_of (cells_view cells.now)) values.now }
 {
     if cells.len() != values.len() {
@@ -35,7 +36,7 @@ pub fn state_fits(cells: &[Cell], values: &[i64]) -> bool
 }
 
 /// Puts the numbers of a row into the cells at the places.
-pub fn put_all(places: &[usize], row: &[i64], state: &mut [i64])
+pub fn put_all(places: &[usize], row: &[Value], state: &mut [Value])
     ensures { state.new ≡ put_at places.now row.now state.old }
 {
     for (i, place) in places.iter().enumerate() {
@@ -47,7 +48,7 @@ pub fn put_all(places: &[usize], row: &[i64], state: &mut [i64])
 }
 
 /// Writes each value.
-pub fn copy_over(state: &mut [i64], values: &[i64])
+pub fn copy_over(state: &mut [Value], values: &[Value])
     requires { length state.old ≡ length values.now }
     ensures { state.new ≡ values.now }
 {
@@ -55,7 +56,7 @@ pub fn copy_over(state: &mut [i64], values: &[i64])
 }
 
 /// The values that the cells begin with, again.
-pub fn reset(cells: &[Cell], state: &mut [i64])
+pub fn reset(cells: &[Cell], state: &mut [Value])
     requires { length state.old ≡ length cells.now }
     ensures { state.new ≡ initial (cells_view cells.now) }
 {
@@ -65,7 +66,7 @@ pub fn reset(cells: &[Cell], state: &mut [i64])
 }
 
 /// The value of a cell.
-pub fn value_at(state: &[i64], cell: usize) -> i64
+pub fn value_at(state: &[Value], cell: usize) -> Value
     requires { cell < length state.now }
     ensures { result ≡ slice_index_or state.now cell (pos 0) }
 {

@@ -4,8 +4,8 @@ use Rattle.std.specs.Prelude.{slice_index_or, IfErr, Err, if◌then◌else◌}
 use Rattle.plc_types.specs.declared.elementary.Elementary.{Elementary}
 use Rattle.plc_types.specs.declared.operator.Operator.{Operator}
 use Rattle.program_tree.specs.Tree.{Expression}
+use Rattle.program_tree.specs.declared.scratch.Scratch.{Scratch}
 use Rattle.meaning.specs.Values.{divides}
-use Rattle.flat_core.specs.declared.flat_tree.Scratch.{Scratch}
 use Rattle.node_core.specs.declared.node.Node.TheVariants.{Binary, IsZero, Minimum, Maximum, Outside, Mux}
 use Rattle.node_core.specs.Words.{NodeList, Made, Store, word_at, taken, made, faulted, joined, limited_word, word_of}
 use Rattle.node_core.specs.Stores.{with_fault_of, tested_word, target_word}

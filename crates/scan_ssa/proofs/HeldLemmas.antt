@@ -1,6 +1,6 @@
 -- Start words.
 use Rattle.std.proofs.Common.{◌≡◌, ℕ, zero, suc, ◌+◌, ◌-◌, ◌<◌, ◌≤◌, refl, sym, ◌∙◌, ap, Option, Some, None, arith, List, [], ◌∷◌, ◌++◌, append_assoc, length, map, drop}
-use Rattle.flat_core.specs.declared.flat_tree.Scratch.{Scratch}
+use Rattle.program_tree.specs.declared.scratch.Scratch.{Scratch}
 use Rattle.node_core.specs.Words.{word_at}
 use Rattle.node_core.specs.Scans.{start_words}
 

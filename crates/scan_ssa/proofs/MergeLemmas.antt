@@ -5,10 +5,11 @@ use Rattle.std.specs.List.Sorted.{IsStrictlyIncreasing}
 use Rattle.std.proofs.Math.Seq.{get_or-append_seam}
 use Rattle.std.proofs.lemmas.List.{get_or_past, get_or-set_other}
 use Rattle.std.proofs.lemmas.List.Elements.{Contains-append_left, Contains-append_right}
-use Rattle.flat_core.specs.declared.flat_tree.Scratch.{Scratch}
+use Rattle.program_tree.specs.declared.scratch.Scratch.{Scratch}
+use Rattle.program_tree.specs.Places.{place_at}
 use Rattle.node_core.specs.declared.node.Node.TheVariants.{Mux}
 use Rattle.node_core.specs.Words.{NodeList, Store, word_at, made}
-use Rattle.node_core.specs.Stores.{MadeStore, place_at, merged_word, merged}
+use Rattle.node_core.specs.Stores.{MadeStore, merged_word, merged}
 use Rattle.node_core.proofs.Growth.{Grows, grows_none, grows_both, grows_merged_word}
 use Rattle.scan_ssa.specs.declared.trail.Change.{Change}
 use Rattle.scan_ssa.specs.Trails.{with_changes}

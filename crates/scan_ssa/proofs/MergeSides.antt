@@ -3,7 +3,7 @@ use Rattle.std.proofs.Common.{◌≡◌, ℕ, refl, ◌∙◌, ap, List, ◌++�
 use Rattle.std.specs.Prelude.{OnOk, Contains}
 use Rattle.std.specs.List.Sorted.{IsStrictlyIncreasing}
 use Rattle.std.proofs.lemmas.Result.{on_ok_weaker}
-use Rattle.flat_core.specs.declared.flat_tree.Scratch.{Scratch}
+use Rattle.program_tree.specs.declared.scratch.Scratch.{Scratch}
 use Rattle.node_core.specs.Words.{NodeList, Store, word_at}
 use Rattle.node_core.specs.Stores.{merged}
 use Rattle.scan_ssa.specs.declared.trail.Change.{Change}

@@ -1,7 +1,7 @@
 -- Sides that are opened one after the other and closed from the last to the first make what nested IFs make.
 use Rattle.std.proofs.Common.{◌≡◌, ℕ, zero, suc, ◌+◌, ◌<◌, ◌≤◌, refl, sym, ◌∙◌, ap, subst, List, [], ◌∷◌, ◌++◌, length, drop, arith, get_or}
 use Rattle.std.proofs.lemmas.List.{map-append}
-use Rattle.flat_core.specs.declared.flat_tree.Scratch.{Scratch}
+use Rattle.program_tree.specs.declared.scratch.Scratch.{Scratch}
 use Rattle.flat_core.specs.declared.flat_tree.FlatStmt.{FlatStmt}
 use Rattle.flat_core.specs.FlatTree.{FlatStatement, branch}
 use Rattle.flat_core.specs.FlatView.{FlatArmData, nested, flats_of, flat_view, flats_view}

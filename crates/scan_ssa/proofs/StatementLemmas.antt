@@ -4,7 +4,7 @@ use Rattle.std.specs.Prelude.{IfErr, Err}
 use Rattle.plc_types.specs.declared.elementary.Elementary.TheVariants as types
 use Rattle.program_tree.specs.Tree.{Expression}
 use Rattle.program_tree.specs.View.{expr_view}
-use Rattle.flat_core.specs.declared.flat_tree.Scratch.{Scratch}
+use Rattle.program_tree.specs.declared.scratch.Scratch.{Scratch}
 use Rattle.flat_core.specs.declared.flat_tree.FlatStmt.{FlatStmt}
 use Rattle.flat_core.specs.declared.flat_tree.FlatStmt.TheFolds.{fold_out-FlatArm}
 use Rattle.flat_core.specs.declared.flat_tree.FlatArm.{FlatArm, out-FlatArm}

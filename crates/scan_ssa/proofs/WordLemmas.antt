@@ -9,7 +9,8 @@ use Rattle.program_tree.specs.declared.typed.TypedExpr.{TypedExpr}
 use Rattle.program_tree.specs.declared.typed.Operand.{Operand, out-Operand}
 use Rattle.program_tree.specs.declared.typed.TypedExpr.TheFolds.{fold_out-Operand}
 use Rattle.program_tree.specs.View.{OperandData, operands_of, expr_step, operand_step, expr_view, operand_view, operands_view, arguments_view}
-use Rattle.node_core.specs.Words.{NodeList, Store, first_kind, first_operand_kind, joined, word_of, word_on, words_of}
+use Rattle.program_tree.specs.OperandTypes.{first_kind, first_operand_kind}
+use Rattle.node_core.specs.Words.{NodeList, Store, joined, word_of, word_on, words_of}
 use Rattle.node_core.proofs.Growth.{Grows, grows_made, grows_joined, grows_called, grows_on, grows_words}
 
 pub behind_unary : (store : Store) (t k : Elementary) (o : UnaryOperator) (e whole : Expression) (n : NodeList) → whole ≡ unary o k e → Grows (word_of store k e n).list (word_of store t whole n).list

@@ -1,10 +1,11 @@
 -- The words of the places that one side of an IF changed.
 use Rattle.std.specs.Prelude.{ℕ, List, [], ◌∷◌, map, drop, nat_eq, None, slice_set, slice_index_or, if◌then◌else◌}
 use Rattle.plc_types.specs.declared.elementary.Elementary.{Elementary}
-use Rattle.flat_core.specs.declared.flat_tree.Scratch.{Scratch}
+use Rattle.program_tree.specs.declared.scratch.Scratch.{Scratch}
+use Rattle.program_tree.specs.Places.{place_at}
 use Rattle.node_core.specs.declared.node.Node.TheVariants.{Mux}
 use Rattle.node_core.specs.Words.{NodeList, Made, Store, taken, made}
-use Rattle.node_core.specs.Stores.{MadeStore, place_at, merged_word}
+use Rattle.node_core.specs.Stores.{MadeStore, merged_word}
 use Rattle.scan_ssa.specs.declared.trail.Change.{Change}
 
 abbrev pub places_in : List Change → List ℕ

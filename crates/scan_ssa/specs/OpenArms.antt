@@ -1,7 +1,7 @@
 -- The sides of IFs that were run and taken back, one behind the other.
 use Rattle.std.specs.Prelude.{◌≤◌, ℕ, List, [], ◌∷◌, map}
 use Rattle.plc_types.specs.declared.elementary.Elementary.TheVariants as types
-use Rattle.flat_core.specs.declared.flat_tree.Scratch.{Scratch}
+use Rattle.program_tree.specs.declared.scratch.Scratch.{Scratch}
 use Rattle.flat_core.specs.FlatView.{FlatArmData, flats_of}
 use Rattle.node_core.specs.Words.{NodeList, Store, word_of}
 use Rattle.node_core.specs.Stores.{MadeStore, with_fault_of, with_word, merged, store_of_all}

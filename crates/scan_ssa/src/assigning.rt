@@ -15,10 +15,9 @@ use crate::nodes::Making;
 use crate::places::place_at;
 use crate::trail::{Trail, held_at, hold};
 use crate::words::word_of;
-use flat_core::Scratch;
 use node_core::Node;
 use plc_types::Elementary;
-use program_tree::TypedExpr;
+use program_tree::{Scratch, TypedExpr};
 use std::alloc::Global;
 
 /// An assignment.

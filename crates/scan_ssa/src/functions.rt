@@ -1,9 +1,9 @@
 // The words of standard functions.
 ghost use Rattle.std.specs.Prelude.{◌≡◌, ◌<◌, IfOk, IfErr, OnOk, length, pos, slice_index_or};
 ghost use Rattle.plc_types.specs.declared.function.Function.TheVariants.{Convert, Absolute};
+ghost use Rattle.program_tree.specs.OperandTypes.{source_of};
 ghost use Rattle.node_core.specs.declared.node.Node.{Node};
 ghost use Rattle.node_core.specs.declared.node.Node.TheVariants as nodes;
-ghost use Rattle.node_core.specs.Sources.{source_of};
 ghost use Rattle.node_core.specs.Words.{nothing, of_one, of_many, limited_word, selected_word, called_word};
 ghost use Rattle.scan_ssa.specs.Making.{list_view, IsOver};
 ghost use Rattle.scan_ssa.specs.Folds.{fold_node};

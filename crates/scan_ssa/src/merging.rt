@@ -1,8 +1,9 @@
 // The end of an IF: one word for each place that one of its sides changed.
 ghost use Rattle.std.specs.Prelude.{◌≡◌, ◌≤◌, ◌++◌, ℕ, None, IfOk, IfErr, OnOk, length, map, slice_set, slice_index_or, Contains};
 ghost use Rattle.std.specs.List.Sorted.{IsStrictlyIncreasing};
+ghost use Rattle.program_tree.specs.Places.{place_at};
 ghost use Rattle.node_core.specs.Words.{word_at};
-ghost use Rattle.node_core.specs.Stores.{place_at, merged_word, merged};
+ghost use Rattle.node_core.specs.Stores.{merged_word, merged};
 ghost use Rattle.scan_ssa.specs.Making.{list_view, IsOver};
 ghost use Rattle.scan_ssa.specs.Trails.{with_changes, store_at, Keeps};
 ghost use Rattle.scan_ssa.specs.Merging.{places_in, one_word, merge_all};
@@ -13,9 +14,9 @@ use crate::making::make;
 use crate::nodes::Making;
 use crate::places::place_at;
 use crate::trail::{Change, Trail, held_at, hold, set_place, take_back, undo};
-use flat_core::Scratch;
 use node_core::Node;
 use plc_types::Elementary;
+use program_tree::Scratch;
 use std::alloc::{AllocError, Global};
 
 /// A side of an IF that was run and taken back: its condition's word, how long the log was, and what the side changed.

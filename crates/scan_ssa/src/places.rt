@@ -1,11 +1,10 @@
 // What places take.
 ghost use Rattle.std.specs.Prelude.{◌≡◌, ◌++◌, IfOk, map};
-ghost use Rattle.node_core.specs.Stores.{of_cell, place_at};
 ghost use Rattle.program_tree.specs.View.{cells_view};
+ghost use Rattle.program_tree.specs.Places.{of_cell, place_at};
 
-use flat_core::Scratch;
 use plc_types::{Elementary, Range};
-use program_tree::Cell;
+use program_tree::{Cell, Scratch};
 use std::alloc::{AllocError, Global};
 
 /// What a place takes; where there is no place, a BOOL of no value.

@@ -8,8 +8,9 @@ use crate::nodes::Making;
 use crate::places::places_of;
 use crate::statements::run_all;
 use crate::trail::Trail;
-use flat_core::{Flat, Scratch};
+use flat_core::Flat;
 use node_core::Scan;
+use program_tree::Scratch;
 use std::alloc::{AllocError, Global};
 
 /// The nodes of a scan of a flat program, where there are at most 1,000,000.

@@ -12,7 +12,8 @@ use crate::fault::NodeFault;
 use crate::merging::{OpenArm, merge};
 use crate::nodes::Making;
 use crate::trail::{Trail, take_back};
-use flat_core::{FlatArm, FlatStmt, Scratch};
+use flat_core::{FlatArm, FlatStmt};
+use program_tree::Scratch;
 use std::alloc::Global;
 
 /// The words that statements leave, one behind the other.

@@ -1,8 +1,9 @@
 // The words of expressions.
 ghost use Rattle.std.specs.Prelude.{◌≡◌, [], ◌∷◌, IfOk, IfErr, OnOk, length};
 ghost use Rattle.program_tree.specs.View.{expr_view, operand_view, operands_of, operands_view, arguments_view};
-ghost use Rattle.node_core.specs.Words.{first_kind, first_operand_kind, word_of, word_on, words_of};
+ghost use Rattle.node_core.specs.Words.{word_of, word_on, words_of};
 ghost use Rattle.program_tree.specs.Tree.{call_standard};
+ghost use Rattle.program_tree.specs.OperandTypes.{first_kind, first_operand_kind};
 ghost use Rattle.scan_ssa.specs.Making.{list_view, IsOver};
 ghost use Rattle.scan_ssa.specs.Held.{held_store};
 

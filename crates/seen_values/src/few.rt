@@ -1,6 +1,7 @@
 // Cells that hold few values.
 use crate::seen::Seen;
 use crate::signature::mixed;
+use plc_types::Value;
 use std::alloc::{AllocError, Global};
 
 /// The values that a cell was seen to hold, in the order in which they came; none where they are more than `most`.
@@ -9,8 +10,8 @@ pub fn few_values(
     seen: &Seen,
     cell: usize,
     most: usize,
-) -> Result<Option<Vec<i64>>, AllocError> {
-    let mut values: Vec<i64> = Vec::new(alloc);
+) -> Result<Option<Vec<Value>>, AllocError> {
+    let mut values: Vec<Value> = Vec::new(alloc);
     for row in 0..seen.rows() {
         let value = seen.value(row, cell);
         if values.as_slice().contains(&value) {
@@ -25,7 +26,7 @@ pub fn few_values(
 }
 
 /// The checksum of a BOOL cell that is TRUE exactly where this cell has this value, or exactly where it has not.
-pub fn indicator(seen: &Seen, cell: usize, value: i64, negated: bool) -> u64 {
+pub fn indicator(seen: &Seen, cell: usize, value: Value, negated: bool) -> u64 {
     let mut sum = 0u64;
     for row in 0..seen.rows() {
         let holds = seen.value(row, cell) == value;

@@ -1,18 +1,19 @@
 // The field of the whole numbers modulo the prime 2^31 - 1. A small fraction is told by its residue.
+use plc_types::Value;
 
 // The prime.
 const PRIME: u64 = 2_147_483_647;
 
 // The prime, as a signed number.
-const SIGNED_PRIME: i64 = 2_147_483_647;
+const SIGNED_PRIME: Value = 2_147_483_647;
 
 /// The residue of a number.
-pub fn residue(value: i64) -> u64 {
+pub fn residue(value: Value) -> u64 {
     value.wrapping_rem_euclid(SIGNED_PRIME).unsigned_abs()
 }
 
 /// The whole number nearest to 0 that has this residue.
-pub fn nearest(residue: u64) -> i64 {
+pub fn nearest(residue: u64) -> Value {
     let value = (residue % PRIME).cast_signed();
     if value > SIGNED_PRIME / 2 {
         value.wrapping_sub(SIGNED_PRIME)

@@ -2,13 +2,14 @@
 use crate::basis::{Basis, at};
 use crate::field::{nearest, product, residue};
 use crate::seen::Seen;
+use plc_types::Value;
 use std::alloc::{AllocError, Global};
 
 // How many pairs are looked at, evenly spaced.
 const MOST_ROWS: usize = 1_500;
 
 // The largest coefficient.
-const MOST_TIMES: i64 = 4;
+const MOST_TIMES: Value = 4;
 
 // How many cells a relation has at most.
 const MOST_CELLS: usize = 6;
@@ -16,8 +17,8 @@ const MOST_CELLS: usize = 6;
 /// That the sum of multiples of cells is a constant: each factor, and the number of its cell.
 #[derive(Drop)]
 pub struct Affine {
-    pub terms: Vec<(i64, usize)>,
-    pub constant: i64,
+    pub terms: Vec<(Value, usize)>,
+    pub constant: Value,
 }
 
 // 1, and then the values of the cells on a pair.
@@ -55,10 +56,10 @@ fn relation_at(
     basis: &Basis,
     cells: &[usize],
     place: usize,
-    times: i64,
+    times: Value,
 ) -> Result<Option<Affine>, AllocError> {
     let mut terms = Vec::new(alloc);
-    let mut constant = 0i64;
+    let mut constant: Value = 0;
     for pivoted in basis.rows() {
         let factor = nearest(product(at(pivoted.row.as_slice(), place), residue(times)));
         if pivoted.pivot == 0 {
@@ -87,7 +88,7 @@ fn relation_at(
 // Whether a relation holds on all pairs, also on those that were not looked at.
 fn holds_throughout(seen: &Seen, affine: &Affine) -> bool {
     for row in 0..seen.rows() {
-        let mut sum = 0i64;
+        let mut sum: Value = 0;
         for (factor, cell) in affine.terms.iter() {
             sum = sum.wrapping_add(factor.wrapping_mul(seen.value(row, *cell)));
         }

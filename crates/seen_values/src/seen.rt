@@ -1,4 +1,5 @@
 // The values of cells, pair by pair.
+use plc_types::Value;
 use std::alloc::{AllocError, Global};
 
 /// The values of the cells of two programs on pairs: a row for each pair, OLD's cells and then NEW's.
@@ -6,7 +7,7 @@ use std::alloc::{AllocError, Global};
 pub struct Seen {
     width: usize,
     rows: usize,
-    values: Vec<i64>,
+    values: Vec<Value>,
 }
 
 impl Seen {
@@ -20,7 +21,7 @@ impl Seen {
     }
 
     /// Adds a pair.
-    pub fn add(&mut self, old: &[i64], new: &[i64]) -> Result<(), AllocError> {
+    pub fn add(&mut self, old: &[Value], new: &[Value]) -> Result<(), AllocError> {
         self.values.extend_from_slice(old)?;
         self.values.extend_from_slice(new)?;
         self.rows = self.rows.saturating_add(1);
@@ -38,7 +39,7 @@ impl Seen {
     }
 
     /// The values on a pair, by its number from 0; none where there is no such pair.
-    pub fn row(&self, number: usize) -> &[i64] {
+    pub fn row(&self, number: usize) -> &[Value] {
         let start = number.wrapping_mul(self.width);
         let end = start.wrapping_add(self.width);
         match self.values.get(start..end) {
@@ -48,7 +49,7 @@ impl Seen {
     }
 
     /// The value of a cell on a pair, or 0 where there is none.
-    pub fn value(&self, row: usize, cell: usize) -> i64 {
+    pub fn value(&self, row: usize, cell: usize) -> Value {
         let row = self.row(row);
         if cell < row.len() { row[cell] } else { 0 }
     }

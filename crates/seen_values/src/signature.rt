@@ -1,5 +1,6 @@
 // Signatures: numbers by which columns of values are told apart without being compared.
 use crate::seen::Seen;
+use plc_types::Value;
 use std::alloc::{AllocError, Global};
 
 /// What is kept of the values of a cell on all pairs: checksums of the values, of what each leaves to 1, of how far
@@ -10,9 +11,9 @@ pub struct Signature {
     pub opposite: u64,
     pub above: u64,
     pub below: u64,
-    pub first: i64,
-    pub low: i64,
-    pub high: i64,
+    pub first: Value,
+    pub low: Value,
+    pub high: Value,
 }
 
 /// A checksum with one number more.
@@ -20,13 +21,13 @@ pub fn mixed(sum: u64, number: u64) -> u64 {
     (sum.rotate_left(5) ^ number).wrapping_mul(0x517c_c1b7_2722_0a95)
 }
 
-fn mixed_value(sum: u64, value: i64) -> u64 {
+fn mixed_value(sum: u64, value: Value) -> u64 {
     mixed(sum, value.cast_unsigned())
 }
 
 impl Signature {
     // The signature of a cell that was seen to hold nothing but its first value.
-    fn begun(value: i64) -> Signature {
+    fn begun(value: Value) -> Signature {
         Signature {
             values: 0,
             opposite: 0,
@@ -39,12 +40,12 @@ impl Signature {
     }
 
     // With one value more.
-    fn with(self, value: i64) -> Signature {
+    fn with(self, value: Value) -> Signature {
         let above = value.wrapping_sub(self.first);
         let below = self.first.wrapping_sub(value);
         Signature {
             values: mixed_value(self.values, value),
-            opposite: mixed_value(self.opposite, 1i64.wrapping_sub(value)),
+            opposite: mixed_value(self.opposite, Value::wrapping_sub(1, value)),
             above: mixed_value(self.above, above),
             below: mixed_value(self.below, below),
             first: self.first,
@@ -59,7 +60,7 @@ impl Signature {
     }
 }
 
-fn add_row(list: &mut [Signature], row: &[i64]) {
+fn add_row(list: &mut [Signature], row: &[Value]) {
     for place in 0..list.len() {
         if place < row.len() {
             list[place] = list[place].with(row[place]);

@@ -1,1 +1,4 @@
 pub mod Branches
+pub mod StatementInduction
+pub mod EveryItem
+pub mod LevelledItems

@@ -7,3 +7,5 @@ pub mod Levels
 pub mod SyntaxView
 pub mod Terminals
 pub mod Places
+pub mod StatementItems
+pub mod LevelledItems

@@ -1,7 +1,7 @@
 -- What tokens are for the grammar (IEC 61131-3, annexes B and C).
 use Rattle.std.specs.Prelude.{◌≡◌, ℕ, List, [], ◌∷◌, ◌++◌, map, codes, bytes_eq, true, false, unwrap_or, if◌then◌else◌}
-use Rattle.plc_types.specs.declared.elementary.Elementary.TheVariants as types
 use Rattle.plc_types.specs.declared.operator.Operator.TheVariants as operators
+use Rattle.plc_types.specs.Types.{elementary_types, type_name}
 use Rattle.source_tree.specs.declared.token.Mark.TheVariants as marks
 use Rattle.source_tree.specs.declared.token.PartWord.TheVariants as part_words
 use Rattle.source_tree.specs.declared.token.TokenClass.{TokenClass}
@@ -73,21 +73,6 @@ operator_words =
     ∷ (codes "FALSE", terminals.Truth false)
     ∷ []
 
--- the elementary types
-abbrev pub type_words : List Entry
-type_words =
-    (codes "BOOL", terminals.Type types.Bool)
-    ∷ (codes "SINT", terminals.Type types.Sint)
-    ∷ (codes "INT", terminals.Type types.Int)
-    ∷ (codes "DINT", terminals.Type types.Dint)
-    ∷ (codes "USINT", terminals.Type types.Usint)
-    ∷ (codes "UINT", terminals.Type types.Uint)
-    ∷ (codes "UDINT", terminals.Type types.Udint)
-    ∷ (codes "BYTE", terminals.Type types.Byte)
-    ∷ (codes "WORD", terminals.Type types.Word)
-    ∷ (codes "DWORD", terminals.Type types.Dword)
-    ∷ []
-
 -- words that are left out of the language
 abbrev pub left_out_words : List (List ℕ)
 left_out_words =
@@ -103,9 +88,17 @@ left_out_words =
 abbrev pub left_out : List (List ℕ) → List Entry
 left_out ws = map (λ w. (w, terminals.LeftOut)) ws
 
+-- the words that are no names, but for those of the elementary types
+unfoldable pub fixed_words : List Entry
+fixed_words = mark_words ++ chart_words ++ operator_words ++ left_out left_out_words
+
+-- the elementary types
+unfoldable pub type_words : List Entry
+type_words = map (λ t. (type_name t, terminals.Type t)) elementary_types
+
 -- all words that are no names
 unfoldable pub words : List Entry
-words = mark_words ++ chart_words ++ operator_words ++ type_words ++ left_out left_out_words
+words = fixed_words ++ type_words
 
 -- the signs
 unfoldable pub signs : List Entry

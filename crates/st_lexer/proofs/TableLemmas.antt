@@ -1,5 +1,5 @@
 -- What a table says of a text is what its entries that begin as the text say.
-use Rattle.std.proofs.Common.{◌≡◌, ℕ, ◌<◌, ◌≤◌, List, [], ◌∷◌, length, get_or, true, false, cond, ◌==◌, refl, ap, arith}
+use Rattle.std.proofs.Common.{◌≡◌, ℕ, ◌<◌, ◌≤◌, List, [], ◌∷◌, ◌++◌, length, get_or, true, false, cond, ◌==◌, refl, ap, arith}
 use Rattle.std.specs.Prelude.{bytes_eq, nat_le}
 use Rattle.std.specs.List.{list_all}
 use Rattle.std.proofs.lemmas.Bool.Decides.{nat_tests}
@@ -7,7 +7,7 @@ use Rattle.std.proofs.lemmas.Slice.Eq.{bytes_eq-Decides}
 use Rattle.std.proofs.lemmas.Bool.{and_parts}
 use Rattle.source_tree.specs.declared.token.Terminal.{Terminal}
 use Rattle.source_tree.specs.declared.token.Terminal.TheVariants.{LeftOut}
-use Rattle.source_tree.specs.Terminals.{Entry, entry_or, signs}
+use Rattle.source_tree.specs.Terminals.{Entry, entry_or, fixed_words, type_words, words, signs}
 use Rattle.st_lexer.specs.Tables.{beginning_with}
 
 unlike : (s t : List ℕ) → (length t == length s) ≡ false → bytes_eq s t ≡ false
@@ -31,6 +31,15 @@ entry_or-beginning_with other (e ∷ es) text =
       | true ↦ λ h. ap (λ r. cond (bytes_eq text e.0) e.1 r) (entry_or-beginning_with other es text)
       | false ↦ λ h. rw (apart text e.0 h) (entry_or-beginning_with other es text)
     ] refl
+
+-- what stands in neither of two tables is told by what is told of the second
+entry_or-append : (other : Terminal) (es fs : List Entry) (text : List ℕ) → entry_or other (es ++ fs) text ≡ entry_or (entry_or other fs text) es text
+entry_or-append other [] fs text = refl
+entry_or-append other (e ∷ es) fs text = ap (λ r. cond (bytes_eq text e.0) e.1 r) (entry_or-append other es fs text)
+
+pub entry_or-all_words : (other : Terminal) (text : List ℕ) → entry_or other words text ≡ entry_or (entry_or other type_words text) fixed_words text
+unfolding words
+entry_or-all_words other text = entry_or-append other fixed_words type_words text
 
 -- no sign is empty, and none has more than two characters
 pub no_sign : (text : List ℕ) → length text ≡ 0 → entry_or LeftOut signs text ≡ LeftOut

@@ -1,9 +1,10 @@
-// Words by their first letter, in upper case, and what they are for the grammar.
+// Words by their first letter, in upper case, and what they are for the grammar. The names of the elementary types stand in the
+// table of these.
 ghost use Rattle.std.specs.Prelude.{◌≡◌, bytes_eq, slice_index};
 ghost use Rattle.source_tree.specs.declared.token.Terminal.TheVariants.{Name};
 ghost use Rattle.source_tree.specs.SyntaxView.{upper};
-ghost use Rattle.source_tree.specs.Terminals.{entry_or, words};
-ghost use Rattle.st_lexer.specs.Tables.{entries_of, beginning_with};
+ghost use Rattle.source_tree.specs.Terminals.{entry_or, fixed_words, type_words, words};
+ghost use Rattle.st_lexer.specs.Tables.{entries_of, entries_of_types, beginning_with};
 
 use crate::classes::byte_at;
 use plc_types::{Elementary, Operator};
@@ -16,11 +17,7 @@ static WORDS_A: [(&str, Terminal); 4] = [
     ("AT", Terminal::LeftOut),
 ];
 
-static WORDS_B: [(&str, Terminal); 3] = [
-    ("BY", Terminal::Mark(Mark::By)),
-    ("BOOL", Terminal::Type(Elementary::Bool)),
-    ("BYTE", Terminal::Type(Elementary::Byte)),
-];
+static WORDS_B: [(&str, Terminal); 1] = [("BY", Terminal::Mark(Mark::By))];
 
 static WORDS_C: [(&str, Terminal); 3] = [
     ("CONSTANT", Terminal::Mark(Mark::Constant)),
@@ -28,10 +25,8 @@ static WORDS_C: [(&str, Terminal); 3] = [
     ("CONFIGURATION", Terminal::LeftOut),
 ];
 
-static WORDS_D: [(&str, Terminal); 6] = [
+static WORDS_D: [(&str, Terminal); 4] = [
     ("DO", Terminal::Mark(Mark::Do)),
-    ("DINT", Terminal::Type(Elementary::Dint)),
-    ("DWORD", Terminal::Type(Elementary::Dword)),
     ("DATE", Terminal::LeftOut),
     ("DATE_AND_TIME", Terminal::LeftOut),
     ("DT", Terminal::LeftOut),
@@ -63,10 +58,9 @@ static WORDS_F: [(&str, Terminal); 6] = [
     ("F_EDGE", Terminal::LeftOut),
 ];
 
-static WORDS_I: [(&str, Terminal); 3] = [
+static WORDS_I: [(&str, Terminal); 2] = [
     ("IF", Terminal::Mark(Mark::If)),
     ("INITIAL_STEP", Terminal::Part(PartWord::InitialStep)),
-    ("INT", Terminal::Type(Elementary::Int)),
 ];
 
 static WORDS_L: [(&str, Terminal); 3] = [
@@ -95,9 +89,8 @@ static WORDS_R: [(&str, Terminal); 6] = [
     ("R_EDGE", Terminal::LeftOut),
 ];
 
-static WORDS_S: [(&str, Terminal); 4] = [
+static WORDS_S: [(&str, Terminal); 3] = [
     ("STEP", Terminal::Part(PartWord::Step)),
-    ("SINT", Terminal::Type(Elementary::Sint)),
     ("STRING", Terminal::LeftOut),
     ("STRUCT", Terminal::LeftOut),
 ];
@@ -114,12 +107,7 @@ static WORDS_T: [(&str, Terminal); 9] = [
     ("TASK", Terminal::LeftOut),
 ];
 
-static WORDS_U: [(&str, Terminal); 4] = [
-    ("USINT", Terminal::Type(Elementary::Usint)),
-    ("UINT", Terminal::Type(Elementary::Uint)),
-    ("UDINT", Terminal::Type(Elementary::Udint)),
-    ("ULINT", Terminal::LeftOut),
-];
+static WORDS_U: [(&str, Terminal); 1] = [("ULINT", Terminal::LeftOut)];
 
 static WORDS_V: [(&str, Terminal); 9] = [
     ("VAR", Terminal::Mark(Mark::Var)),
@@ -133,18 +121,17 @@ static WORDS_V: [(&str, Terminal); 9] = [
     ("VAR_CONFIG", Terminal::LeftOut),
 ];
 
-static WORDS_W: [(&str, Terminal); 3] = [
-    ("WORD", Terminal::Type(Elementary::Word)),
+static WORDS_W: [(&str, Terminal); 2] = [
     ("WSTRING", Terminal::LeftOut),
     ("WHILE", Terminal::LeftOut),
 ];
 
 static WORDS_X: [(&str, Terminal); 1] = [("XOR", Terminal::Operator(Operator::Xor))];
 
-// The words that begin with a letter, which stands in upper case.
-#[tactic(auto, unfolding(source_tree::specs::Terminals::words))]
+// The words that begin with a letter, which stands in upper case, but for the elementary types.
+#[tactic(auto, unfolding(source_tree::specs::Terminals::fixed_words))]
 fn words_with(letter: u8) -> &'static [(&'static str, Terminal)]
-    ensures { entries_of result.now ≡ beginning_with letter words }
+    ensures { entries_of result.now ≡ beginning_with letter fixed_words }
 {
     match letter {
         b'A' => &WORDS_A,
@@ -176,15 +163,36 @@ fn is_same(text: &str, word: &str) -> bool
     text.eq_ignore_ascii_case(word)
 }
 
-fn entry_or_name(table: &[(&str, Terminal)], text: &str) -> Terminal
-    ensures { result ≡ entry_or Name (entries_of table.now) (upper text.now) }
+// What a table says of a text, or another terminal where the text is not in the table.
+fn entry_or(table: &[(&str, Terminal)], text: &str, other: Terminal) -> Terminal
+    ensures { result ≡ entry_or other (entries_of table.now) (upper text.now) }
 {
     for (word, terminal) in table {
         if is_same(text, word) {
             return *terminal;
         }
     }
+    other
+}
+
+// One of these types where the text is its name.
+fn type_or_name(types: &[Elementary], text: &str) -> Terminal
+    ensures { result ≡ entry_or Name (entries_of_types types.now) (upper text.now) }
+{
+    for kind in types {
+        if is_same(text, kind.name()) {
+            return Terminal::Type(*kind);
+        }
+    }
     Terminal::Name
+}
+
+// The elementary type that a text names, or a name.
+#[tactic(auto, unfolding(source_tree::specs::Terminals::type_words))]
+fn elementary_or_name(text: &str) -> Terminal
+    ensures { result ≡ entry_or Name type_words (upper text.now) }
+{
+    type_or_name(Elementary::all(), text)
 }
 
 // The first letter of a text, in upper case, or 0 where it has none.
@@ -198,5 +206,6 @@ fn first_letter(text: &str) -> u8
 pub fn word_terminal(text: &str) -> Terminal
     ensures { result ≡ entry_or Name words (upper text.now) }
 {
-    entry_or_name(words_with(first_letter(text)), text)
+    let other = elementary_or_name(text);
+    entry_or(words_with(first_letter(text)), text, other)
 }

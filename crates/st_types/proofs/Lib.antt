@@ -1,3 +1,4 @@
 mod LongLemmas
+mod LargeLemmas
 pub mod ToldLemmas
 mod ChartRoom

@@ -4,3 +4,4 @@ pub mod ToldCells
 pub mod ToldCharts
 pub mod ToldBeginnings
 pub mod LowNames
+pub mod LargePous

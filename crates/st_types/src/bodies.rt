@@ -134,20 +134,17 @@ fn begin_body<S: Scope>(
     Ok(list)
 }
 
-/// The typed statements of the body of the POU of a number, behind those that it begins with. A POU of more than 2^24 cells is want of
-/// memory: what it runs over would take some gigabytes.
+/// The typed statements of the body of the POU of a number, whose variables are placed, behind those that it begins with.
 pub(crate) fn pou_body(
     alloc: Global,
     placed: &PlacedPous<'_>,
     number: usize,
     pou: &Pou,
 ) -> Result<Vec<TypedStmt>, AllocError>
-    requires { pou_at (file_in placed.now.pous.domains) number ≡ Some (pou_view pou.now) }
+    requires there { pou_at (file_in placed.now.pous.domains) number ≡ Some (pou_view pou.now) }
+    requires placed { is_placed (file_in placed.now.pous.domains) number ≡ true }
     ensures { IfOk result (λ list. stmts_view list.items ≡ pou_body (file_in placed.now.pous.domains) number (pou_view pou.now)) }
 {
-    if !placed.is_placed(number) {
-        return Err(AllocError);
-    }
     let first = first_places(&placed.sizes, &pou.pou_type, placed.pous.told_at(number));
     let scope = PlacedScope { placed, number };
     begin_body(alloc, placed, number, first, &scope, pou)

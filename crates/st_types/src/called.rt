@@ -1,44 +1,28 @@
 // The POUs that are reached and may be called, typed. A FUNCTION that never runs keeps only the cells that its callers name.
-ghost use Rattle.std.specs.Prelude.{◌≡◌, ◌∷◌, ◌≤◌, true, Some, None, map, IfOk, OnOk};
+ghost use Rattle.std.specs.Prelude.{◌≡◌, false, Some, map, IfOk, IfErr, OnOk};
 ghost use Rattle.call_order.specs.Marks.{is_marked};
 ghost use Rattle.source_tree.specs.SyntaxView.{pou_view};
 ghost use Rattle.program_tree.specs.View.{cells_view, stmts_view, called_view, all_called_view};
 ghost use Rattle.naming.specs.FileScope.{pou_at};
 ghost use Rattle.decl_types.specs.Bodies.{file_in};
-ghost use Rattle.typing.specs.Places.{size_among, variables_at};
-ghost use Rattle.typing.specs.TypedPrograms.{fault_cell, cells_in, type_of_cell, pou_body, called_of, called_by};
+ghost use Rattle.typing.specs.Members.{called_order};
+ghost use Rattle.typing.specs.TypedPrograms.{type_of_cell, pou_body, called_of, called_by};
 ghost use Rattle.running_pous.specs.Bodies.{bodies_view, running_body, bodies_from};
 ghost use Rattle.running_pous.specs.Running.{may_run};
 ghost use Rattle.running_pous.specs.Stated.{unused_of, stated_if, stated_from, stated_by};
+ghost use Rattle.rules.specs.Faults.{IfRefused};
+ghost use Rattle.st_types.specs.LargePous.{any_large, IsRefusedIf};
 
 use crate::cells::{cells_behind_fault, front_cells};
 use crate::running::{Running, running_bodies};
 use decl_types::pou_at;
-use plc_types::Range;
-use pou_cells::{PlacedPous, size_among};
+use plc_types::{Range, Value};
+use pou_cells::PlacedPous;
 use program_tree::{Called, Cell, CellType, Frame, TypedStmt};
+use rules::Fault;
 use running_pous::is_marked;
 use source_tree::{Pou, PouType};
 use std::alloc::{AllocError, Global};
-
-// How many cells a frame has at most.
-const MOST_CELLS: usize = 16_777_216;
-
-// The cells of a FUNCTION's call. More than 2^24 of them are want of memory, before the first is made: they would take some gigabytes.
-fn frame_cells(
-    alloc: Global,
-    placed: &PlacedPous<'_>,
-    number: usize,
-) -> Result<Vec<Cell>, AllocError>
-    ensures cells { IfOk result (λ list. cells_view list.items ≡ fault_cell ∷ cells_in (file_in placed.now.pous.domains) None true (variables_at (file_in placed.now.pous.domains) number)) }
-    ensures few { OnOk result (size_among placed.now.sizes.items (Some number) ≤ 16777216) }
-{
-    if size_among(&placed.sizes, Some(number)) > MOST_CELLS {
-        return Err(AllocError);
-    }
-    let cells = cells_behind_fault(alloc, placed, None, true, number)?;
-    Ok(cells)
-}
 
 fn types_of(alloc: Global, cells: &[Cell]) -> Result<Vec<CellType>, AllocError>
     ensures { IfOk result (λ list. list.items ≡ map type_of_cell (cells_view cells.now)) }
@@ -63,7 +47,7 @@ fn ranges_of(alloc: Global, cells: &[Cell]) -> Result<Vec<Range>, AllocError>
     Ok(list)
 }
 
-fn starts_of(alloc: Global, cells: &[Cell]) -> Result<Vec<i64>, AllocError>
+fn starts_of(alloc: Global, cells: &[Cell]) -> Result<Vec<Value>, AllocError>
     ensures { IfOk result (λ list. list.items ≡ map (λ c. c.initial) (cells_view cells.now)) }
 {
     let mut list = Vec::new(alloc);
@@ -100,7 +84,7 @@ fn called_of(
 {
     match pou.pou_type {
         PouType::Function(_) => {
-            let cells = frame_cells(alloc, placed, number)?;
+            let cells = cells_behind_fault(alloc, placed, None, true, number)?;
             let frame = frame_of(alloc, &cells)?;
             Ok(Called::Function(frame, body))
         }
@@ -171,13 +155,16 @@ fn stated_from(
 }
 
 /// The POUs that are reached and may be called, each of which calls only those before it, where the PROGRAM has this body. Of these
-/// one that never runs has no statements, and a FUNCTION that never runs has of its cells those alone that its callers name.
+/// one that never runs has no statements, and a FUNCTION that never runs has of its cells those alone that its callers name. Where one that
+/// may run is large, the answer is M5.
 pub fn stated_by(
     alloc: Global,
     placed: &PlacedPous<'_>,
     body: &[TypedStmt],
-) -> Result<Vec<Called>, AllocError>
-    ensures { IfOk result (λ list. all_called_view list.items ≡ stated_by (file_in placed.now.pous.domains) (may_run (called_by (file_in placed.now.pous.domains)) (stmts_view body.now))) }
+) -> Result<Vec<Called>, Fault>
+    ensures list { IfOk result (λ list. all_called_view list.items ≡ stated_by (file_in placed.now.pous.domains) (may_run (called_by (file_in placed.now.pous.domains)) (stmts_view body.now))) }
+    ensures few { OnOk result (any_large (file_in placed.now.pous.domains) (may_run (called_by (file_in placed.now.pous.domains)) (stmts_view body.now)) 0 (called_order (file_in placed.now.pous.domains)) ≡ false) }
+    ensures refused { IfErr result (IfRefused (IsRefusedIf (any_large (file_in placed.now.pous.domains) (may_run (called_by (file_in placed.now.pous.domains)) (stmts_view body.now)) 0 (called_order (file_in placed.now.pous.domains))))) }
 {
     let running = running_bodies(alloc, placed, body)?;
     let Running { runs, bodies } = running;

@@ -14,7 +14,7 @@ ghost use Rattle.st_types.specs.ToldCells.{told_cell_for, told_cells_for, told_c
 use decl_types::Told;
 use expr_types::{bool_type, range};
 use naming::Role;
-use plc_types::Elementary;
+use plc_types::{Elementary, Value};
 use pou_cells::{
     PlacedPous, Pous, active_first, has_cell, is_constant, is_front, is_stored_action, part_in,
 };
@@ -98,7 +98,7 @@ fn flag_cell(
     before: Option<&str>,
     name: &Name,
     text: &str,
-    initial: i64,
+    initial: Value,
 ) -> Result<Cell, AllocError>
     ensures { IfOk result (λ cell. cell_view cell ≡ flag_cell (option_map (λ b. b.now) before.entry) (name_view name.now) text.now initial) }
 {

@@ -8,6 +8,7 @@ use case_files::{CaseFault, malformed, numbers_of};
 use cdcl_watch::Watched;
 use clause_core::{Decided, Decider};
 use comparison_files::Circuits;
+use plc_types::Value;
 use program_printing::print_formula;
 use queries::{CandidateSet, Queries, Query};
 use scan_model::Relation;
@@ -56,7 +57,7 @@ pub(crate) fn answer_to(
     }
 }
 
-fn depth_of(numbers: &[i64]) -> Option<u64> {
+fn depth_of(numbers: &[Value]) -> Option<u64> {
     match numbers {
         [scans] => u64::try_from(*scans).ok(),
         _ => None,
@@ -64,9 +65,9 @@ fn depth_of(numbers: &[i64]) -> Option<u64> {
 }
 
 // The set of the candidates with these numbers, from 1, of which there are so many.
-fn set_of(alloc: Global, count: usize, numbers: &[i64]) -> Result<CandidateSet, CaseFault> {
+fn set_of(alloc: Global, count: usize, numbers: &[Value]) -> Result<CandidateSet, CaseFault> {
     let mut set = CandidateSet::new(alloc);
-    let mut number = 1i64;
+    let mut number: Value = 1;
     for _ in 0..count {
         set.push(numbers.contains(&number))?;
         number = number.saturating_add(1);

@@ -1,17 +1,18 @@
 // A plain evaluator of flat programs.
 use flat_core::{Flat, FlatArm, FlatStmt};
 use interpreter::evaluate;
+use plc_types::Value;
 
 /// Runs flat statements over a store of the cells and behind them the scratch cells.
 #[cycle(run_flat)]
-pub fn run_all(list: &[FlatStmt], flat: &Flat, store: &mut [i64]) {
+pub fn run_all(list: &[FlatStmt], flat: &Flat, store: &mut [Value]) {
     for stmt in list {
         run(stmt, flat, store);
     }
 }
 
 #[cycle(run_flat)]
-fn run(stmt: &FlatStmt, flat: &Flat, store: &mut [i64]) {
+fn run(stmt: &FlatStmt, flat: &Flat, store: &mut [Value]) {
     match stmt {
         FlatStmt::Set(place, expr) => {
             let given = evaluate(expr, store, &[]);
@@ -31,7 +32,7 @@ fn run(stmt: &FlatStmt, flat: &Flat, store: &mut [i64]) {
 }
 
 #[cycle(run_flat)]
-fn run_arms(arms: &[FlatArm], flat: &Flat, store: &mut [i64]) -> bool {
+fn run_arms(arms: &[FlatArm], flat: &Flat, store: &mut [Value]) -> bool {
     for arm in arms {
         run_all(&arm.before, flat, store);
         let given = evaluate(&arm.condition, store, &[]);
@@ -44,14 +45,14 @@ fn run_arms(arms: &[FlatArm], flat: &Flat, store: &mut [i64]) -> bool {
     false
 }
 
-fn add_fault(fault: bool, store: &mut [i64]) {
+fn add_fault(fault: bool, store: &mut [Value]) {
     if fault && !store.is_empty() {
         store[0] = 1;
     }
 }
 
 // A cell takes the values of its range, and so does a scratch cell of a subrange; any other takes each.
-fn takes(flat: &Flat, place: usize, value: i64) -> bool {
+fn takes(flat: &Flat, place: usize, value: Value) -> bool {
     let cells = flat.cells.len();
     if place < cells {
         let range = flat.cells[place].range;

@@ -1,11 +1,11 @@
 // A plain evaluator of nodes.
 use node_core::{Node, Scan};
 use operations::{apply, apply_unary, call_of_one};
-use plc_types::Function;
+use plc_types::{Function, Value};
 use std::alloc::{AllocError, Global};
 
 /// The values of the cells behind a scan, from those before it.
-pub fn node_scan(alloc: Global, scan: &Scan, before: &[i64]) -> Result<Vec<i64>, AllocError> {
+pub fn node_scan(alloc: Global, scan: &Scan, before: &[Value]) -> Result<Vec<Value>, AllocError> {
     let mut values = Vec::new(alloc);
     for value in before {
         values.push(*value)?;
@@ -21,11 +21,11 @@ pub fn node_scan(alloc: Global, scan: &Scan, before: &[i64]) -> Result<Vec<i64>,
     Ok(cells)
 }
 
-fn at(values: &[i64], word: usize) -> i64 {
+fn at(values: &[Value], word: usize) -> Value {
     values.get(word).copied().unwrap_or(0)
 }
 
-fn value_of(node: Node, values: &[i64]) -> i64 {
+fn value_of(node: Node, values: &[Value]) -> Value {
     match node {
         Node::Constant { value, .. } => value,
         Node::Unary {
@@ -56,14 +56,14 @@ fn value_of(node: Node, values: &[i64]) -> i64 {
 }
 
 // The nodes that compare and choose.
-fn value_of_choice(node: Node, values: &[i64]) -> i64 {
+fn value_of_choice(node: Node, values: &[Value]) -> Value {
     match node {
         Node::Minimum { left, right, .. } => at(values, left).min(at(values, right)),
         Node::Maximum { left, right, .. } => at(values, left).max(at(values, right)),
-        Node::IsZero { operand, .. } => i64::from(at(values, operand) == 0),
+        Node::IsZero { operand, .. } => Value::from(at(values, operand) == 0),
         Node::Outside { range, operand, .. } => {
             let value = at(values, operand);
-            i64::from(value < range.low || range.high < value)
+            Value::from(value < range.low || range.high < value)
         }
         Node::Mux {
             condition,

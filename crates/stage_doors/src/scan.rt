@@ -12,6 +12,7 @@ use case_files::{
 use flat_core::Flat;
 use flat_end::{Accepted, accept_flat};
 use node_core::Scan;
+use plc_types::Value;
 use program_tree::Program;
 use rules::Fault;
 use scan_replay::Machine;
@@ -125,8 +126,8 @@ fn run_pair(
 fn interpreted_scan(
     alloc: Global,
     program: &Program,
-    before: &[i64],
-) -> Result<Option<Vec<i64>>, AllocError>
+    before: &[Value],
+) -> Result<Option<Vec<Value>>, AllocError>
     requires { IsFitToRun (program_view program.now) }
 {
     let mut machine = Machine::new(alloc, program)?;
@@ -143,7 +144,7 @@ fn interpreted_scan(
 }
 
 // The store behind a scan of the flat form, whose scratch cells begin at 0.
-fn flat_scan(alloc: Global, flat: &Flat, before: &[i64]) -> Result<Vec<i64>, AllocError> {
+fn flat_scan(alloc: Global, flat: &Flat, before: &[Value]) -> Result<Vec<Value>, AllocError> {
     let mut store = Vec::new(alloc);
     for value in before {
         store.push(*value)?;

@@ -8,12 +8,12 @@ use Rattle.std.proofs.lemmas.List.Sums.{sum_by-cons}
 use Rattle.plc_types.specs.declared.elementary.Elementary.TheVariants as types
 use Rattle.program_tree.specs.declared.typed.ChartCells.{ChartCells}
 use Rattle.source_tree.specs.Syntax.{program, PouData, FileData}
+use Rattle.program_tree.specs.declared.scratch.Scratch.{Scratch}
+use Rattle.program_tree.specs.Places.{whole_cell}
 use Rattle.naming.specs.FileScope.{pous_of, pou_at}
 use Rattle.naming.specs.Scopes.{Variable, variables_in_pou, is_step, block_of}
 use Rattle.typing.specs.Places.{has_cell, in_order, size_among, sizes_of, cells_taken, variables_in, variables_at}
 use Rattle.typing.specs.ChartPlaces.{steps_among, charts_of_variable, charts_of, block_charts, charts_in}
-use Rattle.flat_core.specs.declared.flat_tree.Scratch.{Scratch}
-use Rattle.flat_form.specs.Frames.{whole_cell}
 use Rattle.typed_files.specs.typed_cells.Places.{block_places, pou_places}
 use Rattle.typed_files.specs.typed_cells.Variables.{variable_places, variables_places}
 use Rattle.typed_files.specs.typed_cells.Premises.{IsUsedBlock, UsesItsBlocks, IsOrdered}

@@ -8,6 +8,7 @@ use Rattle.plc_types.specs.declared.elementary.Elementary.TheVariants as types
 use Rattle.plc_types.specs.declared.data_type.DataType.TheVariants as kinds
 use Rattle.plc_types.specs.Types.{range_of, in_range}
 use Rattle.plc_types.specs.Enumerations.{names_at}
+use Rattle.plc_types.proofs.TypeRanges.{few_in as usint_few}
 use Rattle.rules.specs.declared.rule.Rule.TheVariants.{TooManyValues}
 use Rattle.rules.specs.Judgements.{ok, breaks}
 use Rattle.source_tree.specs.Syntax.{Named, SpecificationData, of_type, of_values, TypeDeclarationData, FileData}
@@ -17,7 +18,6 @@ use Rattle.typing.specs.Domains.{has_few, judged_specification, judged_types}
 use Rattle.typing.specs.TypedPrograms.{value_texts, type_texts}
 use Rattle.typed_files.specs.typed_scopes.Types.{IsKnown}
 use Rattle.typed_files.specs.typed_cells.Places.{last_value, last}
-use Rattle.typed_files.proofs.typed_cells.Constants.{within}
 use Rattle.typed_files.proofs.whole_files.Told.{nil_front, nil_behind}
 use Rattle.stated_cells.specs.StatedCells.{last_number, last_of, has_values}
 
@@ -50,9 +50,6 @@ has_those f t at first others is = values_in (types_of f) t at first others is
 
 -- ---- few values
 
-few_by : (n : ℕ) → nat_lt n 256 ≡ true → in_range (pos n) (range_of types.Usint) ≡ true
-few_by n test = let h : n < 256 = search (rules, tests, arith) in within (pos n) (pos 0) (pos 255) (omega (arith, ints)) (omega (arith, ints))
-
 broken_if : (b : Bool) (at : ℕ) → (if b then ok else breaks TooManyValues at).broken ≡ [] → b ≡ true
 broken_if true at none = refl
 broken_if false at none = absurd (let e : ⊥ = cc in e)
@@ -61,7 +58,7 @@ few_of : (f : FileData) (n : Named) (s : SpecificationData) → (judged_specific
 few_of f n (of_type k) none = refl
 few_of f n (of_values at first others) none =
     let few : has_few others ≡ true = broken_if (has_few others) n.at none in
-    subst (λ (v : ℤ). in_range v (range_of types.Usint) ≡ true) (last_is (of_values at first others)) (few_by (length others) few)
+    subst (λ (v : ℤ). in_range v (range_of types.Usint) ≡ true) (last_is (of_values at first others)) (usint_few (length others) few)
 
 few_in : (f : FileData) (ds : List TypeDeclarationData) → (judged_types f ds).broken ≡ [] → (t : ℕ) → in_range (last_of (type_texts ds) t) (range_of types.Usint) ≡ true
 few_in f [] none t = refl

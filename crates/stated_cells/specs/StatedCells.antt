@@ -8,9 +8,8 @@ use Rattle.plc_types.specs.declared.data_type.DataType.TheVariants as kinds
 use Rattle.plc_types.specs.Enumerations.{names_at}
 use Rattle.program_tree.specs.declared.typed.ChartCells.{ChartCells}
 use Rattle.program_tree.specs.Tree.{CellData, ProgramData}
-use Rattle.flat_core.specs.declared.flat_tree.Scratch.{Scratch}
-use Rattle.flat_form.specs.Frames.{whole_cell}
-use Rattle.node_core.specs.Stores.{of_cell, place_at}
+use Rattle.program_tree.specs.declared.scratch.Scratch.{Scratch}
+use Rattle.program_tree.specs.Places.{whole_cell, of_cell, place_at}
 use Rattle.typed_files.specs.typed_scopes.Types.{IsKnown, IsPlaceOf}
 
 -- the number of the last of some values

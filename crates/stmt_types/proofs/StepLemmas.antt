@@ -10,16 +10,11 @@ use mir.Syntax.{w128}
 use mir.Val.{SFits, to_z, of_z}
 use Rattle.plc_types.specs.declared.range.Range.{Range}
 use Rattle.plc_types.specs.Types.{in_range}
+use Rattle.plc_types.proofs.InRange.{le_from, le_to, between}
 use Rattle.typing.specs.Constants.{goes_on, turns_within, turn_count, are_in_range}
-
-le_true : (x y : ℤ) → x ≤ℤ y → int_le x y ≡ true
-le_true x y h = grind (arith, ints)
 
 le_false : (x y : ℤ) → y <ℤ x → int_le x y ≡ false
 le_false x y h = grind (arith, ints)
-
-true_le : (x y : ℤ) → int_le x y ≡ true → x ≤ℤ y
-true_le x y h = grind (arith, ints)
 
 -- ---- the direction of a step
 
@@ -51,22 +46,22 @@ up : (b q m s : ℕ) (v last : ℤ) → m < s → last ≡ v +ℤ pos (q * s + m
 unfolding turns_within
 up zero q m s v last within is = let e : 0 ≡ min 0 (suc q) = omega arith in e
 up (suc b) zero m s v last within is =
-    one_more b v last (pos s) (going_up v last s (omega arith) ∙ le_true v last (omega (arith, ints)))
+    one_more b v last (pos s) (going_up v last s (omega arith) ∙ le_to v last (omega (arith, ints)))
     ∙ ap suc (no_more b (v +ℤ pos s) last (pos s) (going_up (v +ℤ pos s) last s (omega arith) ∙ le_false (v +ℤ pos s) last (omega (arith, ints)))) ∙ omega arith
 up (suc b) (suc q) m s v last within is =
     let e : suc q * s ≡ q * s + s = suc-mul q s in
-    one_more b v last (pos s) (going_up v last s (omega arith) ∙ le_true v last (omega (arith, ints)))
+    one_more b v last (pos s) (going_up v last s (omega arith) ∙ le_to v last (omega (arith, ints)))
     ∙ ap suc (up b q m s (v +ℤ pos s) last within (omega (arith, ints))) ∙ omega arith
 
 down : (b q m k : ℕ) (v last : ℤ) → m < suc k → v ≡ last +ℤ pos (q * suc k + m) → turns_within b v last (negsuc k) ≡ min b (suc q)
 unfolding turns_within
 down zero q m k v last within is = let e : 0 ≡ min 0 (suc q) = omega arith in e
 down (suc b) zero m k v last within is =
-    one_more b v last (negsuc k) (going_down v last k ∙ le_true last v (omega (arith, ints)))
+    one_more b v last (negsuc k) (going_down v last k ∙ le_to last v (omega (arith, ints)))
     ∙ ap suc (no_more b (v +ℤ negsuc k) last (negsuc k) (going_down (v +ℤ negsuc k) last k ∙ le_false last (v +ℤ negsuc k) (omega (arith, ints)))) ∙ omega arith
 down (suc b) (suc q) m k v last within is =
     let e : suc q * suc k ≡ q * suc k + suc k = suc-mul q (suc k) in
-    one_more b v last (negsuc k) (going_down v last k ∙ le_true last v (omega (arith, ints)))
+    one_more b v last (negsuc k) (going_down v last k ∙ le_to last v (omega (arith, ints)))
     ∙ ap suc (down b q m k (v +ℤ negsuc k) last within (omega (arith, ints))) ∙ omega arith
 
 abs_up : (x : ℤ) → pos 0 ≤ℤ x → pos (unsigned_abs x) ≡ x
@@ -89,13 +84,13 @@ unfolding turn_count
 turns_by_division first last (pos zero) on some = absurd (some refl)
 turns_by_division first last (pos (suc k)) on some =
     let n = unsigned_abs (last -ℤ first) in
-    let order : first ≤ℤ last = true_le first last (sym (going_up first last (suc k) (omega arith)) ∙ on) in
+    let order : first ≤ℤ last = le_from first last (sym (going_up first last (suc k) (omega arith)) ∙ on) in
     let far : pos n ≡ last -ℤ first = abs_up (last -ℤ first) (omega (arith, ints)) in
     let parts : n ≡ n / suc k * suc k + n % suc k = divided n (suc k) (omega arith) in
     up 4097 (n / suc k) (n % suc k) (suc k) first last (omega arith) (omega (arith, ints)) ∙ next (n / suc k)
 turns_by_division first last (negsuc k) on some =
     let n = unsigned_abs (last -ℤ first) in
-    let order : last ≤ℤ first = true_le last first (sym (going_down first last k) ∙ on) in
+    let order : last ≤ℤ first = le_from last first (sym (going_down first last k) ∙ on) in
     let far : last -ℤ first +ℤ pos n ≡ pos 0 = abs_down (last -ℤ first) (omega (arith, ints)) in
     let parts : n ≡ n / suc k * suc k + n % suc k = divided n (suc k) (omega arith) in
     down 4097 (n / suc k) (n % suc k) k first last (omega arith) (omega (arith, ints)) ∙ next (n / suc k)
@@ -123,16 +118,6 @@ middle false y z h = refl
 middle true true z h = refl
 middle true false true h = absurd (let e : false ≡ true = h refl refl in let z : ⊥ = cc in z)
 middle true false false h = refl
-
-between : (a b c : ℤ) (r : Range) → ((a ≤ℤ b) × (b ≤ℤ c)) ⊎ ((c ≤ℤ b) × (b ≤ℤ a)) → in_range a r ≡ true → in_range c r ≡ true → in_range b r ≡ true
-between a b c r order first last =
-    let f = and_parts (int_le r.low a) (int_le a r.high) first in
-    let l = and_parts (int_le r.low c) (int_le c r.high) last in
-    let a_low : r.low ≤ℤ a = true_le r.low a f.0 in
-    let a_high : a ≤ℤ r.high = true_le a r.high f.1 in
-    let c_low : r.low ≤ℤ c = true_le r.low c l.0 in
-    let c_high : c ≤ℤ r.high = true_le c r.high l.1 in
-    and_from (int_le r.low b) (int_le b r.high) (le_true r.low b (omega (arith, ints))) (le_true b r.high (omega (arith, ints)))
 
 in_one_direction : (c : ℕ) (v step : ℤ) → ((v ≤ℤ (v +ℤ step)) × ((v +ℤ step) ≤ℤ ((v +ℤ step) +ℤ (pos c *ℤ step)))) ⊎ ((((v +ℤ step) +ℤ (pos c *ℤ step)) ≤ℤ (v +ℤ step)) × ((v +ℤ step) ≤ℤ v))
 in_one_direction c v (pos s) =

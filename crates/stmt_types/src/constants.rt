@@ -5,7 +5,7 @@ ghost use Rattle.typing.specs.Constants.{is_value, means_value, is_constant, are
 
 use expr_types::type_expr;
 use interpreter::evaluate;
-use plc_types::DataType;
+use plc_types::{DataType, Value};
 use source_tree::{Expr, Link};
 use std::alloc::{AllocError, Global};
 use typing::{Meaning, Place, Scope};
@@ -62,7 +62,7 @@ pub fn constant_value<S: Scope>(
     scope: &S,
     expected: Option<DataType>,
     expr: &Expr,
-) -> Result<Option<i64>, AllocError>
+) -> Result<Option<Value>, AllocError>
     ensures { IfOk result (λ value. value ≡ constant_value (S.means scope.now) expected (tree_view expr.now)) }
 {
     if !is_constant(scope, expr) {

@@ -14,7 +14,7 @@ use crate::turns::{broken_by_turns, turn_count};
 use expr_types::{
     cell_of, judge_and_synthesize, judge_meaning, kind_at, meaning_alone, or_dint, place_of, range,
 };
-use plc_types::{DataType, Elementary, Range};
+use plc_types::{DataType, Elementary, Range, Value};
 use program_tree::Turns;
 use rules::{Outcome, Rule};
 use source_tree::{Expr, Iteration};
@@ -26,7 +26,7 @@ use typing::{Meaning, Place, Scope};
 #[derive(Clone, Copy)]
 struct JudgedBound {
     judged: Outcome,
-    value: i64,
+    value: Value,
     fits: bool,
 }
 
@@ -96,7 +96,7 @@ fn judge_control(controls: &[usize], meaning: Option<Meaning>, at: usize) -> Out
     judge_meaning(meaning).require(may_control(controls, meaning), Rule::NotAssignable, at)
 }
 
-fn value_or_zero(value: Option<i64>) -> i64
+fn value_or_zero(value: Option<Value>) -> Value
     ensures { result ≡ value_or_zero value }
 {
     match value {
@@ -194,7 +194,7 @@ fn bound_value<S: Scope>(
     scope: &S,
     kind: DataType,
     bound: &Expr,
-) -> Result<i64, AllocError>
+) -> Result<Value, AllocError>
     ensures { IfOk result (λ value. value ≡ bound_value (S.means scope.now) kind (tree_view bound.now)) }
 {
     let value = constant_value(alloc, scope, Some(kind), bound)?;
@@ -207,7 +207,7 @@ fn step_value<S: Scope>(
     scope: &S,
     kind: DataType,
     step: &Option<Expr>,
-) -> Result<i64, AllocError>
+) -> Result<Value, AllocError>
     ensures { IfOk result (λ value. value ≡ step_value (S.means scope.now) kind (initial_view step.now)) }
 {
     match step {

@@ -13,7 +13,7 @@ ghost use Rattle.stmt_types.specs.SeenLabels.{Sees};
 
 use crate::seen_labels::Seen;
 use expr_types::{constant_of, judge_and_synthesize, judge_meaning, kind_at, or_dint, place_of};
-use plc_types::{DataType, Range};
+use plc_types::{DataType, Range, Value};
 use program_tree::TypedLabel;
 use rules::{Outcome, Rule};
 use source_tree::{Entry, Expr, Label};
@@ -23,7 +23,7 @@ use typing::{Meaning, Place, Scope};
 // What judging a constant finds: its value, what it breaks, and whether it is of the type that is expected.
 #[derive(Clone, Copy)]
 struct Constant {
-    value: i64,
+    value: Value,
     judged: Outcome,
     fits: bool,
 }
@@ -93,7 +93,7 @@ fn labelled_by(range: Range, high: &Option<Expr>) -> TypedLabel
     }
 }
 
-fn value_at(place: Place) -> i64
+fn value_at(place: Place) -> Value
     ensures { result ≡ value_of_number (read_of place) }
 {
     match place {
@@ -102,7 +102,7 @@ fn value_at(place: Place) -> i64
     }
 }
 
-fn value_of(meaning: Option<Meaning>) -> i64
+fn value_of(meaning: Option<Meaning>) -> Value
     ensures { result ≡ value_of_number (meaning_read meaning) }
 {
     match meaning {

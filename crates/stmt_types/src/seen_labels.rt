@@ -4,21 +4,21 @@ ghost use Rattle.typing.specs.Labels.{overlaps};
 ghost use Rattle.typing.specs.Seen.{Keeps};
 ghost use Rattle.stmt_types.specs.SeenLabels.{is_above, greater};
 
-use plc_types::Range;
+use plc_types::{Range, Value};
 use std::alloc::{AllocError, Global};
 use std::collections::BTreeMap;
 
 // The values of labels, from the low of each to its high.
-type Highs = BTreeMap<i64, i64>;
+type Highs = BTreeMap<Value, Value>;
 
 /// The values of the labels that were seen, and the greatest of them.
 #[derive(Drop)]
 pub(crate) struct Seen {
     highs: Highs,
-    greatest: Option<i64>,
+    greatest: Option<Value>,
 }
 
-fn is_above(greatest: Option<i64>, value: i64) -> bool
+fn is_above(greatest: Option<Value>, value: Value) -> bool
     ensures { result ≡ is_above greatest value }
 {
     match greatest {
@@ -27,7 +27,7 @@ fn is_above(greatest: Option<i64>, value: i64) -> bool
     }
 }
 
-fn greater(greatest: Option<i64>, value: i64) -> i64
+fn greater(greatest: Option<Value>, value: Value) -> Value
     ensures { result ≡ greater greatest value }
 {
     match greatest {

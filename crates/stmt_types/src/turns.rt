@@ -3,14 +3,14 @@ ghost use Rattle.std.specs.Prelude.{◌≡◌, ◌+◌, ◌+ℤ◌, ◌*ℤ◌, 
 ghost use Rattle.plc_types.specs.Types.{in_range};
 ghost use Rattle.typing.specs.Constants.{goes_on, turn_count, are_in_range, broken_by_turns};
 
-use plc_types::Range;
+use plc_types::{Range, Value};
 use rules::Rule;
 
 /// How many turns a FOR has at most.
 const MOST_TURNS: u16 = 4096;
 
 // A turn begins with a value that does not pass the last one, in the direction of the step.
-fn goes_on(value: i64, last: i64, step: i64) -> bool
+fn goes_on(value: Value, last: Value, step: Value) -> bool
     ensures { result ≡ goes_on value last step }
 {
     if 0 < step {
@@ -32,7 +32,7 @@ fn with_first(more: u64) -> u16
 }
 
 /// How many turns a FOR has; 4,097 stand for any greater number.
-pub fn turn_count(first: i64, last: i64, step: i64) -> u16
+pub fn turn_count(first: Value, last: Value, step: Value) -> u16
     ensures { result ≡ turn_count first last step }
 {
     if !goes_on(first, last, step) {
@@ -57,7 +57,7 @@ fn are_both_in_range(first: i128, end: i128, range: Range) -> bool
 }
 
 // The value that so many steps lead to.
-fn end_of(count: u16, first: i64, step: i64) -> i128
+fn end_of(count: u16, first: Value, step: Value) -> i128
     ensures { result ≡ first +ℤ (pos count *ℤ step) }
 {
     let first = i128::from(first);
@@ -69,7 +69,7 @@ fn end_of(count: u16, first: i64, step: i64) -> i128
 
 // Whether the value of each of so many turns, and the one that ends the FOR, lie in a range: the first and the last of
 // these values do.
-fn are_in_range(count: u16, first: i64, step: i64, range: Range) -> bool
+fn are_in_range(count: u16, first: Value, step: Value, range: Range) -> bool
     ensures { result ≡ are_in_range count first step range }
 {
     let end = end_of(count, first, step);
@@ -77,7 +77,7 @@ fn are_in_range(count: u16, first: i64, step: i64, range: Range) -> bool
 }
 
 /// The rule that the turns of a FOR break, whose control variable has a range.
-pub fn broken_by_turns(range: Range, first: i64, last: i64, step: i64) -> Option<Rule>
+pub fn broken_by_turns(range: Range, first: Value, last: Value, step: Value) -> Option<Rule>
     ensures { result ≡ broken_by_turns range first last step }
 {
     if step == 0 {

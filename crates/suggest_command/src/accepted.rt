@@ -9,6 +9,7 @@ ghost use Rattle.suggest_command.specs.Suggested.{IsSuggestedFor, IsRefusedFor};
 use crate::numbers::numbers_in;
 use command_answers::Source;
 use command_files::{AcceptError, accept_text, fault_of};
+use plc_types::Value;
 use program_tree::Program;
 use std::alloc::Global;
 use suggestion::{Suggestion, suggest};
@@ -26,7 +27,7 @@ fn program_of(alloc: Global, source: Source, text: &[u8]) -> Result<Program, Acc
 }
 
 // The numbers of texts that are accepted; were a text refused here, there would be none.
-fn numbers_or_none(alloc: Global, old: &[u8], new: &[u8], relation: &[u8]) -> Vec<i64> {
+fn numbers_or_none(alloc: Global, old: &[u8], new: &[u8], relation: &[u8]) -> Vec<Value> {
     match numbers_in(alloc, old, new, relation) {
         Ok(numbers) => numbers,
         Err(_) => Vec::new(alloc),

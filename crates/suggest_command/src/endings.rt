@@ -1,11 +1,12 @@
 // What is told beside the text, or in its place.
 use command_answers::Source;
 use command_files::AcceptError;
+use plc_types::Value;
 use std::alloc::{AllocError, Global};
 use suggestion::Suggestion;
 
 // Adds the rows of a run as a trace.
-fn add_rows(alloc: Global, rows: &[Vec<i64>], text: &mut String) -> Result<(), AllocError> {
+fn add_rows(alloc: Global, rows: &[Vec<Value>], text: &mut String) -> Result<(), AllocError> {
     text.push_str("[")?;
     for (place, row) in rows.iter().enumerate() {
         text.push_str(if place == 0 { "[" } else { ",[" })?;

@@ -1,5 +1,6 @@
 // The numbers that stand in the texts.
 use command_files::tokens_of;
+use plc_types::Value;
 use rules::Fault;
 use source_tree::{Mark, Terminal, Tok};
 use std::alloc::Global;
@@ -22,14 +23,14 @@ fn behind_settings<'a, 'b>(toks: &'a [Tok<'b>]) -> &'a [Tok<'b>] {
 fn add_numbers_of_relation(
     alloc: Global,
     text: &[u8],
-    numbers: &mut Vec<i64>,
+    numbers: &mut Vec<Value>,
 ) -> Result<(), Fault> {
     let toks = tokens_of(alloc, text)?;
     numbers_of(behind_settings(toks.as_slice()), numbers)?;
     Ok(())
 }
 
-fn add_numbers(alloc: Global, text: &[u8], numbers: &mut Vec<i64>) -> Result<(), Fault> {
+fn add_numbers(alloc: Global, text: &[u8], numbers: &mut Vec<Value>) -> Result<(), Fault> {
     let toks = tokens_of(alloc, text)?;
     numbers_of(toks.as_slice(), numbers)?;
     Ok(())
@@ -41,7 +42,7 @@ pub fn numbers_in(
     old: &[u8],
     new: &[u8],
     relation: &[u8],
-) -> Result<Vec<i64>, Fault> {
+) -> Result<Vec<Value>, Fault> {
     let mut numbers = Vec::new(alloc);
     add_numbers(alloc, old, &mut numbers)?;
     add_numbers(alloc, new, &mut numbers)?;

@@ -1,5 +1,5 @@
 // Cells and values of both programs, as clauses name them.
-use plc_types::DataType;
+use plc_types::{DataType, Value};
 use program_tree::{Cell, Program};
 use std::alloc::{AllocError, Global};
 
@@ -36,13 +36,13 @@ pub fn add_cell(names: &Names<'_>, number: usize, text: &mut String) -> Result<(
 }
 
 /// Adds a number in decimal digits.
-pub fn add_number(names: &Names<'_>, value: i64, text: &mut String) -> Result<(), AllocError> {
+pub fn add_number(names: &Names<'_>, value: Value, text: &mut String) -> Result<(), AllocError> {
     let digits = format!(in names.alloc; "{value}")?;
     text.push_str(digits.as_str())
 }
 
 // The name of a value of an enumeration.
-fn value_name<'a>(program: &'a Program, kind: DataType, value: i64) -> Option<&'a str> {
+fn value_name<'a>(program: &'a Program, kind: DataType, value: Value) -> Option<&'a str> {
     let DataType::Enumeration(number) = kind else {
         return None;
     };
@@ -58,7 +58,7 @@ fn value_name<'a>(program: &'a Program, kind: DataType, value: i64) -> Option<&'
 pub fn add_value(
     names: &Names<'_>,
     number: usize,
-    value: i64,
+    value: Value,
     text: &mut String,
 ) -> Result<(), AllocError> {
     let Some((word, cell)) = cell_at(names, number) else {

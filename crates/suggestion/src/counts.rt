@@ -1,18 +1,19 @@
 // Counts of BOOL cells that are TRUE.
 use crate::cells::{Names, add_cell};
 use crate::sums::add_sum;
+use plc_types::Value;
 use std::alloc::AllocError;
 
 // How many terms have this factor.
-fn count_of(terms: &[(i64, usize)], factor: i64) -> usize {
+fn count_of(terms: &[(Value, usize)], factor: Value) -> usize {
     terms.iter().filter(|term| term.0 == factor).count()
 }
 
 // Adds the cells that have this factor, with a word between them.
 fn add_cells(
     names: &Names<'_>,
-    terms: &[(i64, usize)],
-    factor: i64,
+    terms: &[(Value, usize)],
+    factor: Value,
     text: &mut String,
 ) -> Result<(), AllocError> {
     let mut is_first = true;
@@ -32,8 +33,8 @@ fn add_cells(
 // Adds that the one cell with this factor is TRUE where one of the others is.
 fn add_one_of_others(
     names: &Names<'_>,
-    terms: &[(i64, usize)],
-    factor: i64,
+    terms: &[(Value, usize)],
+    factor: Value,
     text: &mut String,
 ) -> Result<(), AllocError> {
     add_cells(names, terms, factor, text)?;
@@ -45,8 +46,8 @@ fn add_one_of_others(
 /// Adds that a sum of BOOL cells as 0 and 1 is a constant; where that is said by OR, so.
 pub fn add_count(
     names: &Names<'_>,
-    terms: &[(i64, usize)],
-    constant: i64,
+    terms: &[(Value, usize)],
+    constant: Value,
     text: &mut String,
 ) -> Result<(), AllocError> {
     let (ones, others) = (count_of(terms, 1), count_of(terms, -1));

@@ -1,5 +1,5 @@
 // The numbers that stand in texts, and the bounds of cells.
-use plc_types::{DataType, Operator};
+use plc_types::{DataType, Operator, Value};
 use program_tree::Program;
 use scan_model::{InputLine, Relation};
 use source_tree::{Terminal, Tok};
@@ -9,7 +9,7 @@ use std::alloc::{AllocError, Global};
 const MOST_TOKENS: usize = 100_000;
 
 /// The numbers among the tokens of a text; with a minus sign before it a number counts as it is and as its negative.
-pub fn numbers_of(toks: &[Tok<'_>], numbers: &mut Vec<i64>) -> Result<(), AllocError> {
+pub fn numbers_of(toks: &[Tok<'_>], numbers: &mut Vec<Value>) -> Result<(), AllocError> {
     let mut is_behind_minus = false;
     for tok in toks.iter().take(MOST_TOKENS) {
         if let Terminal::Number(number) = tok.terminal
@@ -26,7 +26,7 @@ pub fn numbers_of(toks: &[Tok<'_>], numbers: &mut Vec<i64>) -> Result<(), AllocE
     Ok(())
 }
 
-fn add_bounds_of_cells(program: &Program, edges: &mut Vec<i64>) -> Result<(), AllocError> {
+fn add_bounds_of_cells(program: &Program, edges: &mut Vec<Value>) -> Result<(), AllocError> {
     for cell in &program.cells {
         if cell.is_subrange && matches!(cell.kind, DataType::Elementary(_)) {
             edges.push(cell.range.low)?;
@@ -36,7 +36,7 @@ fn add_bounds_of_cells(program: &Program, edges: &mut Vec<i64>) -> Result<(), Al
     Ok(())
 }
 
-fn add_bounds_of_inputs(relation: &Relation, edges: &mut Vec<i64>) -> Result<(), AllocError> {
+fn add_bounds_of_inputs(relation: &Relation, edges: &mut Vec<Value>) -> Result<(), AllocError> {
     for line in &relation.inputs {
         let range = match line {
             InputLine::Both { range, .. } => *range,
@@ -55,10 +55,10 @@ pub fn edges_of(
     old: &Program,
     new: &Program,
     relation: &Relation,
-    numbers: &[i64],
-) -> Result<Vec<i64>, AllocError> {
-    let mut edges = Vec::new(alloc);
-    edges.push(0i64)?;
+    numbers: &[Value],
+) -> Result<Vec<Value>, AllocError> {
+    let mut edges: Vec<Value> = Vec::new(alloc);
+    edges.push(0)?;
     for number in numbers {
         edges.push(*number)?;
     }

@@ -13,6 +13,7 @@ ghost use Rattle.line_trials.specs.Suggested.{HasHeld, IsSuggestion};
 use crate::dropping::{drop_failed, drop_refused};
 use crate::proposing::propose;
 use line_trials::{InvariantLine, Trial, read_given, try_lines};
+use plc_types::Value;
 use program_tree::Program;
 use rules::Fault;
 use scan_model::Relation;
@@ -24,7 +25,7 @@ use std::alloc::{AllocError, Global};
 pub struct Suggestion {
     pub text: Vec<u8>,
     pub lines: Vec<InvariantLine>,
-    pub runs: Vec<Vec<Vec<i64>>>,
+    pub runs: Vec<Vec<Vec<Value>>>,
     pub pairs: usize,
     pub unrelated: Option<usize>,
 }
@@ -44,7 +45,7 @@ fn settle(
     given: usize,
     text: &[u8],
     lines: Vec<InvariantLine>,
-    runs: &[Vec<Vec<i64>>],
+    runs: &[Vec<Vec<Value>>],
 ) -> Result<Option<Settled>, AllocError>
     requires old { IsFitToRun (program_view old.now) }
     requires new { IsFitToRun (program_view new.now) }
@@ -70,7 +71,7 @@ fn suggest_for(
     new: &Program,
     relation: &Relation,
     text: &[u8],
-    numbers: &[i64],
+    numbers: &[Value],
     seed: u64,
 ) -> Result<Suggestion, AllocError>
     requires comparable { AreComparable old.now new.now relation.now }
@@ -115,7 +116,7 @@ pub fn suggest(
     old: &Program,
     new: &Program,
     text: &[u8],
-    numbers: &[i64],
+    numbers: &[Value],
     seed: u64,
 ) -> Result<Suggestion, Fault>
     requires old { IsFitToRun (program_view old.now) }

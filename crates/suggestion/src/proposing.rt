@@ -5,6 +5,7 @@ use crate::edges::edges_of;
 use crate::standing::new_lines;
 use crate::stated_line::lines_of;
 use line_trials::{InvariantLine, Plan, try_runs};
+use plc_types::Value;
 use program_tree::Program;
 use proposals::{proposals, subjects_of};
 use scan_model::Relation;
@@ -19,7 +20,7 @@ const MOST_CANDIDATES: usize = 4_096;
 #[derive(Drop)]
 pub struct Proposed {
     pub lines: Vec<InvariantLine>,
-    pub runs: Vec<Vec<Vec<i64>>>,
+    pub runs: Vec<Vec<Vec<Value>>>,
     pub pairs: usize,
     pub unrelated: Option<usize>,
 }
@@ -32,7 +33,7 @@ pub fn propose(
     new: &Program,
     relation: &Relation,
     text: &[u8],
-    numbers: &[i64],
+    numbers: &[Value],
     seed: u64,
 ) -> Result<Proposed, AllocError>
     requires { AreComparable old.now new.now relation.now }

@@ -3,6 +3,7 @@ use crate::cells::{Names, add_cell, add_number, add_value};
 use crate::counts::add_count;
 use crate::sums::add_sum;
 use line_trials::InvariantLine;
+use plc_types::Value;
 use program_tree::Program;
 use proposals::{Junction, Proposal};
 use std::alloc::{AllocError, Global};
@@ -11,7 +12,7 @@ fn add_has_value(
     names: &Names<'_>,
     flag: usize,
     cell: usize,
-    value: i64,
+    value: Value,
     negated: bool,
     text: &mut String,
 ) -> Result<(), AllocError> {
@@ -64,7 +65,7 @@ fn add_bound(
     names: &Names<'_>,
     cell: usize,
     word: &str,
-    bound: i64,
+    bound: Value,
     text: &mut String,
 ) -> Result<(), AllocError> {
     add_cell(names, cell, text)?;

@@ -1,5 +1,6 @@
 // Sums of multiples of cells.
 use crate::cells::{Names, add_cell, add_number};
+use plc_types::Value;
 use std::alloc::AllocError;
 
 // Adds a sign before all but the first part of a sum.
@@ -14,9 +15,9 @@ fn add_sign(is_first: bool, text: &mut String) -> Result<(), AllocError> {
 // Adds the terms whose factors have this sign, with a word around each cell, and a number where it is above 0; or 0.
 fn add_side(
     names: &Names<'_>,
-    terms: &[(i64, usize)],
-    sign: i64,
-    constant: i64,
+    terms: &[(Value, usize)],
+    sign: Value,
+    constant: Value,
     around: (&str, &str),
     text: &mut String,
 ) -> Result<(), AllocError> {
@@ -46,8 +47,8 @@ fn add_side(
 /// Adds that a sum is a constant, with what has a factor below 0 on the other side; a word stands around each cell.
 pub fn add_sum(
     names: &Names<'_>,
-    terms: &[(i64, usize)],
-    constant: i64,
+    terms: &[(Value, usize)],
+    constant: Value,
     around: (&str, &str),
     text: &mut String,
 ) -> Result<(), AllocError> {

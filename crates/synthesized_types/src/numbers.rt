@@ -3,7 +3,7 @@ ghost use Rattle.std.specs.Prelude.{◌≡◌};
 ghost use Rattle.plc_types.specs.Types.{width_of, is_signed, least_of, greatest_of, range_of, in_range, wrap_to};
 
 use num_core::{IntType, wrap};
-use plc_types::{Elementary, Range};
+use plc_types::{Elementary, Range, Value};
 
 // The numbers of a type.
 fn numbers_of(kind: Elementary) -> IntType
@@ -21,8 +21,8 @@ pub fn range(kind: Elementary) -> Range
 {
     let numbers = numbers_of(kind);
     Range {
-        low: numbers.lo as i64,
-        high: numbers.hi as i64,
+        low: numbers.lo as Value,
+        high: numbers.hi as Value,
     }
 }
 
@@ -35,8 +35,8 @@ pub fn is_value_of(value: i128, kind: Elementary) -> bool
 }
 
 /// What is left of a number when it is kept in a type.
-pub fn wrapped(value: i128, kind: Elementary) -> i64
+pub fn wrapped(value: i128, kind: Elementary) -> Value
     ensures { result ≡ wrap_to kind value }
 {
-    wrap(value, numbers_of(kind)) as i64
+    wrap(value, numbers_of(kind)) as Value
 }

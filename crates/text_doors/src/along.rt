@@ -5,6 +5,7 @@ use crate::relation::Comparison;
 use case_files::{
     CaseFault, Mismatch, Section, compare_words, expected_text_of, malformed, numbers_of,
 };
+use plc_types::Value;
 use program_printing::add_name;
 use scan_model::Candidate;
 use scan_replay::Duo;
@@ -48,7 +49,7 @@ pub(crate) fn compare_run(
 // A row of numbers.
 #[derive(Drop)]
 struct Row {
-    numbers: Vec<i64>,
+    numbers: Vec<Value>,
 }
 
 // The rows of a text, each of which stands in front of a colon. The first line is that of the start.

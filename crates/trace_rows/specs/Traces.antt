@@ -1,5 +1,6 @@
--- A trace: a JSON text (RFC 8259) of an array of arrays of whole numbers.
-use Rattle.std.specs.Prelude.{◌≡◌, ℕ, List, [], ◌∷◌, length, ◌==◌, ℤ, Option, Some, None, option_map, option_and_then, if◌then◌else◌, IsUtf8}
+-- A trace: a JSON text (RFC 8259) of an array of arrays of whole numbers. A UTF-8 mark may stand before it, as before a program.
+use Rattle.std.specs.Prelude.{◌≡◌, ℕ, List, [], ◌∷◌, length, drop, ◌==◌, ℤ, Option, Some, None, option_map, option_and_then, if◌then◌else◌, IsUtf8}
+use Rattle.source_tree.specs.Tokens.{mark_len}
 use Rattle.serde_json.specs.Data.{Data, Items, no_items, item}
 use Rattle.serde_json.specs.Read.{read}
 use Rattle.serde_json.specs.Find.{as_array, as_number, as_i64}
@@ -26,6 +27,10 @@ rows_in width (item d ds) = option_and_then (λ row. option_map (λ rows. row �
 abbrev pub trace_in : ℕ → Data → Option (List (List ℤ))
 trace_in width d = option_and_then (rows_in width) (as_array d)
 
+-- a text behind its mark
+abbrev pub unmarked : List ℕ → List ℕ
+unmarked text = drop (mark_len text) text
+
 -- a text is a trace of these rows
 unfoldable pub IsTrace : ℕ → List ℕ → List (List ℤ) → Type 0
-IsTrace width text rows = IsUtf8 text × (option_and_then (trace_in width) (read text) ≡ Some rows)
+IsTrace width text rows = IsUtf8 (unmarked text) × (option_and_then (trace_in width) (read (unmarked text)) ≡ Some rows)

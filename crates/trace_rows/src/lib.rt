@@ -1,6 +1,7 @@
-// The rows of a trace: a JSON text of an array of arrays of whole numbers, read to one list of numbers.
+// The rows of a trace: a JSON text of an array of arrays of whole numbers, read to one list of numbers. A UTF-8 mark may stand before it.
 #![tactic(auto)]
 
+mod marks;
 mod number;
 mod read;
 mod rows;

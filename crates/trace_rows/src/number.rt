@@ -4,6 +4,7 @@ ghost use Rattle.serde_json.specs.Find.{as_i64};
 ghost use Rattle.serde_json.specs.Read.{number_of, number_from};
 
 use fast_float::Numeral;
+use plc_types::Value;
 
 fn has_minus(bytes: &[u8]) -> bool
     ensures value { result ≡ (slice_index bytes.now 0 == 45) }
@@ -12,14 +13,14 @@ fn has_minus(bytes: &[u8]) -> bool
     !bytes.is_empty() && bytes[0] == b'-'
 }
 
-fn unsigned(numeral: &Numeral<'_>) -> Option<i64>
+fn unsigned(numeral: &Numeral<'_>) -> Option<Value>
     ensures { result ≡ option_and_then as_i64 (number_from false numeral.now) }
 {
     numeral.to_i64(false)
 }
 
 // `-0` is no whole number.
-fn negative(numeral: &Numeral<'_>) -> Option<i64>
+fn negative(numeral: &Numeral<'_>) -> Option<Value>
     ensures { result ≡ option_and_then as_i64 (number_from true numeral.now) }
 {
     match numeral.to_i64(true) {
@@ -29,7 +30,7 @@ fn negative(numeral: &Numeral<'_>) -> Option<i64>
 }
 
 /// The number that a token of JSON writes, where it is whole and fits.
-pub(crate) fn whole_number(text: &str) -> Option<i64>
+pub(crate) fn whole_number(text: &str) -> Option<Value>
     ensures { result ≡ option_and_then as_i64 (number_of text.now) }
 {
     let bytes = text.as_bytes();

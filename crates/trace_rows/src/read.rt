@@ -5,9 +5,11 @@ ghost use Rattle.serde_json.specs.Read.{read};
 ghost use Rattle.trace_rows.specs.Reading.{after_begin_array, number_read, numbers_read, row_read, rows_read, IsAdded};
 ghost use Rattle.trace_rows.specs.Traces.{trace_in, IsTrace};
 
+use crate::marks::unmarked;
 use crate::number::whole_number;
 use crate::rows::TraceRows;
 use json::{Reader, Scratch, Token};
+use plc_types::Value;
 use std::alloc::{AllocError, Global};
 
 // Takes the bracket that opens an array.
@@ -21,7 +23,7 @@ fn begin_array(reader: &mut Reader<'_>) -> bool
 }
 
 // Takes a number that is whole and fits.
-fn read_number(reader: &mut Reader<'_>) -> Option<i64>
+fn read_number(reader: &mut Reader<'_>) -> Option<Value>
     ensures value { MatchOption result (number_read reader.old ≡ None) (λ z. number_read reader.old ≡ Some (z, reader.new)) }
     ensures shorter { IfSome result (λ _. length reader.new < length reader.old) }
 {
@@ -35,7 +37,7 @@ fn read_number(reader: &mut Reader<'_>) -> Option<i64>
 }
 
 // Reads the numbers of a row up to its closing bracket, and puts them behind the others.
-fn read_numbers(reader: &mut Reader<'_>, numbers: &mut Vec<i64>) -> Result<bool, AllocError>
+fn read_numbers(reader: &mut Reader<'_>, numbers: &mut Vec<Value>) -> Result<bool, AllocError>
     ensures value { IfOk result (λ read. MatchBool read (IsAdded (numbers_read (length reader.old) reader.old) numbers.old.items numbers.new.items reader.new) (numbers_read (length reader.old) reader.old ≡ None)) }
     ensures shorter { IfOk result (λ read. MatchBool read (length reader.new < length reader.old) ⊤) }
 {
@@ -52,7 +54,7 @@ fn read_numbers(reader: &mut Reader<'_>, numbers: &mut Vec<i64>) -> Result<bool,
 fn read_row(
     width: usize,
     reader: &mut Reader<'_>,
-    numbers: &mut Vec<i64>,
+    numbers: &mut Vec<Value>,
 ) -> Result<bool, AllocError>
     ensures value { IfOk result (λ read. MatchBool read (IsAdded (row_read width reader.old) numbers.old.items numbers.new.items reader.new) (row_read width reader.old ≡ None)) }
     ensures shorter { IfOk result (λ read. MatchBool read (length reader.new < length reader.old) ⊤) }
@@ -117,12 +119,12 @@ fn read_text(alloc: Global, width: usize, text: &str) -> Result<Option<TraceRows
     read_tokens(alloc, width, text, &mut scratch)
 }
 
-/// The rows of a trace, or none where the text is no trace.
+/// The rows of a trace, or none where the text is no trace. A UTF-8 mark may stand before it.
 #[tactic(auto, unfolding(crate::specs::Traces::IsTrace))]
 pub fn read_trace(alloc: Global, width: usize, text: &[u8]) -> Result<Option<TraceRows>, AllocError>
     ensures { IfOk result (λ o. MatchOption o ((rows : List (List ℤ)) → ¬ IsTrace width text.now rows) (λ rows. IsTrace width text.now rows)) }
 {
-    match simdutf8::compat::from_utf8(text) {
+    match simdutf8::compat::from_utf8(unmarked(text)) {
         Ok(text) => read_text(alloc, width, text),
         Err(_) => Ok(None),
     }

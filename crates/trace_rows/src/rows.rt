@@ -1,12 +1,13 @@
 // Rows of one width in one list of numbers.
 ghost use Rattle.std.specs.Prelude.{◌≡◌, ◌+◌, ◌<◌, ◌≤◌, length, take, drop, slice_get, Some};
 
+use plc_types::Value;
 use std::marker::Model;
 
 /// The rows of a trace. They are of one width, and stand one behind the other.
 #[derive(Drop)]
 pub struct TraceRows {
-    numbers: Vec<i64>,
+    numbers: Vec<Value>,
     width: usize,
     count: usize,
 }
@@ -23,7 +24,7 @@ impl Model for TraceRows {
 }
 
 // So many numbers from a place on.
-fn part(numbers: &[i64], start: usize, len: usize) -> &[i64]
+fn part(numbers: &[Value], start: usize, len: usize) -> &[Value]
     requires { start + len ≤ length numbers.now }
     ensures { result.now ≡ take len (drop start numbers.now) }
 {
@@ -35,7 +36,7 @@ impl TraceRows {
     ghost use Rattle.trace_rows.specs.Rows.{rows_of};
 
     /// So many rows, of which the numbers are given.
-    pub(crate) fn new(width: usize, count: usize, numbers: Vec<i64>) -> TraceRows
+    pub(crate) fn new(width: usize, count: usize, numbers: Vec<Value>) -> TraceRows
         requires { length numbers.items ≡ count * width }
         ensures { result ≡ rows_of width count numbers.items }
     {
@@ -54,7 +55,7 @@ impl TraceRows {
     }
 
     /// The row at a place.
-    pub fn row(&self, place: usize) -> &[i64]
+    pub fn row(&self, place: usize) -> &[Value]
         requires { place < length self.now }
         ensures { slice_get self.now place ≡ Some result.now }
     {

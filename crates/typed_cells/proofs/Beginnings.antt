@@ -4,21 +4,21 @@ use Rattle.std.specs.List.{AllByRecursion}
 use Rattle.std.proofs.lemmas.Bool.{both_ways, or_right}
 use Rattle.plc_types.specs.DataTypes.{carrier}
 use Rattle.plc_types.specs.Types.{range_of, in_range}
+use Rattle.plc_types.proofs.InRange.{covers_in}
 use Rattle.source_tree.specs.Syntax.{PouData, FileData}
 use Rattle.program_tree.specs.Tree.{number, assign, Statements, statement}
+use Rattle.program_tree.specs.declared.scratch.Scratch.{Scratch}
+use Rattle.program_tree.specs.Places.{place_at}
 use Rattle.naming.specs.FileScope.{pou_at}
 use Rattle.naming.specs.Scopes.{Variable, block_of, names_in_body, variables_in_pou}
 use Rattle.typing.specs.declared.next.Next.{Next}
 use Rattle.typing.specs.Variables.{domain_of_variable, judged_variable, initial_of}
 use Rattle.typing.specs.Places.{is_front, cells_taken, sizes_of, variables_at, first_places, first_place, places_behind}
 use Rattle.typing.specs.TypedPrograms.{is_temporary, begun}
-use Rattle.flat_core.specs.declared.flat_tree.Scratch.{Scratch}
-use Rattle.node_core.specs.Stores.{place_at}
 use Rattle.typed_programs.specs.Scopes.{Pous, BodyScope}
 use Rattle.typed_programs.specs.Expressions.{Takes}
 use Rattle.typed_programs.specs.Statements.{AreTypedParts}
 use Rattle.typed_scopes.specs.Types.{range_of_type}
-use Rattle.typed_scopes.proofs.Numbers.{covers-in}
 use Rattle.typed_cells.specs.Places.{last, declared_names, scope_over, pous}
 use Rattle.typed_cells.specs.Variables.{place_for, variable_places}
 use Rattle.typed_cells.specs.Premises.{UsesItsBlocks, IsOrdered, AreWhole}
@@ -30,7 +30,8 @@ use Rattle.typed_cells.proofs.Names.{IsPlain, IsOfChart, declared_plain, body_of
 use Rattle.typed_cells.proofs.Bounds.{IsAbove, above_behind, above_here, above_first, IsBelow, below_by, below_of}
 use Rattle.typed_cells.proofs.Domains.{variable_sound, initial_in}
 use Rattle.typed_cells.proofs.Cells.{first_cell}
-use Rattle.typed_cells.proofs.TypedCells.{carrier_covers, kind_known, each_whole}
+use Rattle.typed_scopes.proofs.TypedValues.{carrier-covers}
+use Rattle.typed_cells.proofs.TypedCells.{kind_known, each_whole}
 use Rattle.typed_cells.proofs.Owners.{same_variables, sizes_known, begins}
 use Rattle.typed_cells.proofs.Roles.{chart_lasts, temporary_cell, temporary_not_local}
 
@@ -54,9 +55,9 @@ module _ (f : FileData) (ps : Pous) (b : BodyScope) where
       let d = domain_of_variable f v in
       let sound = (variable_sound f v).place (kind_known f v none whole) in
       let inside = initial_in f v in
-      let in_type = covers-in (range_of_type (last f) d.kind) d.range (initial_of f v) sound.within inside in
+      let in_type = covers_in (range_of_type (last f) d.kind) d.range (initial_of f v) sound.within inside in
       subst (λ (q : Scratch). Takes ps b q (number (initial_of f v))) (sym is)
-      (covers-in (range_of (carrier d.kind)) (range_of_type (last f) d.kind) (initial_of f v) (carrier_covers (last f) d.kind sound.known) in_type, or_right d.is_subrange (in_range (initial_of f v) d.range) inside)
+      (covers_in (range_of (carrier d.kind)) (range_of_type (last f) d.kind) (initial_of f v) (carrier-covers (last f) d.kind sound.known) in_type, or_right d.is_subrange (in_range (initial_of f v) d.range) inside)
 
   module _ (ns : List Variable) (chart : AllByRecursion IsOfChart ns) (ss : Statements) (typed : AreTypedParts ps b ss) where
     begun_by : (t : Bool) (next : Next) (v : Variable) (ds : List Variable) → is_temporary v.role ≡ t → HasSize f v → IsPlain v → (judged_variable f v).whole ≡ true → Occurs (variable_places f v) b.places (first_place next v)

@@ -8,13 +8,13 @@ use Rattle.call_order.proofs.Members.{is_among-left, is_among-cases, is_among-ei
 use Rattle.call_order.proofs.Orders.{behind_uses, each_in}
 use Rattle.source_tree.specs.Syntax.{FileData}
 use Rattle.program_tree.specs.Tree.{CellData}
+use Rattle.program_tree.specs.declared.scratch.Scratch.{Scratch}
+use Rattle.program_tree.specs.Places.{of_cell}
 use Rattle.naming.specs.Circles.{uses_in, uses_of}
 use Rattle.naming.specs.FileScope.{pous_of}
 use Rattle.naming.specs.Scopes.{Variable, is_step, block_of}
 use Rattle.typing.specs.Places.{has_cell, is_stored_action, in_order, size_among, sizes_of, variables_at}
 use Rattle.typing.specs.TypedPrograms.{cells_for, cells_of_variable, cells_of, block_cells, cells_in, path_behind}
-use Rattle.flat_core.specs.declared.flat_tree.Scratch.{Scratch}
-use Rattle.node_core.specs.Stores.{of_cell}
 use Rattle.typed_cells.specs.Places.{block_places}
 use Rattle.typed_cells.specs.Variables.{plain_places, own_places, variable_places, variables_places}
 use Rattle.typed_cells.specs.Premises.{IsUsedBlock, UsesItsBlocks, IsOrdered}

@@ -4,6 +4,8 @@ use Rattle.std.proofs.lemmas.Bool.{both_ways}
 use Rattle.plc_types.specs.declared.elementary.Elementary.TheVariants as types
 use Rattle.plc_types.specs.declared.data_type.DataType.TheVariants as kinds
 use Rattle.source_tree.specs.Syntax.{TypeData, of_elementary, of_subrange, of_name, FileData}
+use Rattle.program_tree.specs.declared.scratch.Scratch.{Scratch}
+use Rattle.program_tree.specs.Places.{whole_cell, place_at}
 use Rattle.naming.specs.declared.standing.Standing.{Standing}
 use Rattle.naming.specs.declared.standing.Standing.TheVariants as standings
 use Rattle.naming.specs.FileScope.{standing, block_number}
@@ -12,9 +14,6 @@ use Rattle.typing.specs.Typing.{is_unknown}
 use Rattle.typing.specs.Domains.{named_domain, domain_of}
 use Rattle.typing.specs.Variables.{domain_if, domain_of_variable}
 use Rattle.typing.specs.Places.{has_cell, is_stored_action}
-use Rattle.flat_core.specs.declared.flat_tree.Scratch.{Scratch}
-use Rattle.flat_form.specs.Frames.{whole_cell}
-use Rattle.node_core.specs.Stores.{place_at}
 use Rattle.typed_cells.specs.Variables.{place_for, plain_places, variable_places}
 use Rattle.typed_cells.proofs.Occurrences.{Occurs, occurs_first, occurs_same}
 use Rattle.typed_cells.proofs.Names.{HasKind}

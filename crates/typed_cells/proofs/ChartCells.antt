@@ -6,6 +6,8 @@ use Rattle.std.proofs.lemmas.List.Elements.{All-from_recursion}
 use Rattle.plc_types.specs.declared.elementary.Elementary.TheVariants as types
 use Rattle.source_tree.specs.Syntax.{Named, BodyData, chart, PouData, PartData, step_part, transition_part, action_part, ChartActionData, FileData}
 use Rattle.program_tree.specs.View.{actions_of as actions_from}
+use Rattle.program_tree.specs.Places.{whole_cell}
+use Rattle.program_tree.specs.ChartPlaces.{latch_places, AreRisingFrom}
 use Rattle.sfc_shape.specs.Shapes.{steps_of, actions_of}
 use Rattle.naming.specs.declared.role.Role.TheVariants as roles
 use Rattle.naming.specs.Broken.{alone, variables_twice}
@@ -19,8 +21,6 @@ use Rattle.typing.specs.TypedStatements.{cell_of}
 use Rattle.typing.specs.TypedCharts.{step_cells, latch_of, typed_action}
 use Rattle.typing.specs.Places.{is_stored_action, is_front, sizes_of, first_places, first_place}
 use Rattle.typing.specs.Members.{meaning_of, member_of, member_among, member_at, variable_or_value, scope_of, is_function}
-use Rattle.flat_form.specs.Frames.{whole_cell}
-use Rattle.flat_form.specs.WellTyped.{latch_places, AreRisingFrom}
 use Rattle.typed_programs.specs.Scopes.{BodyScope}
 use Rattle.typed_programs.specs.Statements.{IsFlagOf}
 use Rattle.typed_scopes.specs.Charts.{cells_of_chart}

@@ -4,11 +4,11 @@ use Rattle.std.specs.List.{AllByRecursion}
 use Rattle.source_tree.specs.Syntax.{Named, PouTypeData, function, function_block, program, PartData, step_part, transition_part, action_part, FileData}
 use Rattle.program_tree.specs.declared.typed.StepCells.{StepCells}
 use Rattle.program_tree.specs.Tree.{Actions}
+use Rattle.program_tree.specs.ChartPlaces.{latch_places, chart_places, AreRisingFrom}
 use Rattle.naming.specs.Scopes.{Variable, of_chart, step_role, action_role, transition_named, declared_by_parts}
 use Rattle.typing.specs.declared.next.Next.{Next}
 use Rattle.typing.specs.Places.{count_of_cells, in_front, sizes_of, places_from, first_places, places_behind}
 use Rattle.typing.specs.Members.{is_function}
-use Rattle.flat_form.specs.WellTyped.{latch_places, chart_places, AreRisingFrom}
 use Rattle.typed_cells.specs.Places.{first_of}
 use Rattle.typed_cells.proofs.Walks.{front_first}
 use Rattle.typed_cells.proofs.Names.{IsPlain}

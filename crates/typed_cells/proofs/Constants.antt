@@ -3,7 +3,6 @@ use Rattle.std.proofs.Common.{◌≡◌, ◌<◌, ℕ, ℤ, Bool, true, false, i
 use Rattle.std.specs.Prelude.{◌≤ℤ◌}
 use Rattle.std.proofs.lemmas.Int.{ints}
 use Rattle.std.proofs.lemmas.Bool.{false≢true}
-use Rattle.num_core.proofs.Wrapped.{wraps_defined}
 use Rattle.plc_types.specs.declared.elementary.Elementary.{Elementary}
 use Rattle.plc_types.specs.declared.elementary.Elementary.TheVariants as types
 use Rattle.plc_types.specs.declared.data_type.DataType.{DataType}
@@ -11,7 +10,9 @@ use Rattle.plc_types.specs.declared.data_type.DataType.TheVariants as kinds
 use Rattle.plc_types.specs.declared.function.StandardFunction.{StandardFunction}
 use Rattle.plc_types.specs.declared.operator.UnaryOperator.{UnaryOperator}
 use Rattle.plc_types.specs.DataTypes.{carrier, is_same_type}
-use Rattle.plc_types.specs.Types.{width_of, is_signed, range_of, in_range, wrap_to}
+use Rattle.plc_types.specs.Types.{range_of, in_range, wrap_to}
+use Rattle.plc_types.proofs.TypeRanges.{zero_in}
+use Rattle.plc_types.proofs.SameTypes.{wrapped_to}
 use Rattle.source_tree.specs.declared.syntax.Literal.{Literal}
 use Rattle.source_tree.specs.Syntax.{Tree, literal, path, enumerator, paren, unary, chain, call, Arguments, FileData}
 use Rattle.program_tree.specs.Tree.{Expression, Expressions}
@@ -25,30 +26,7 @@ use Rattle.typing.specs.Typing.{kind_at, or_else, or_dint, type_of, literal_valu
 use Rattle.typing.specs.Judged.{negative_literal}
 use Rattle.typing.specs.Typed.{typed, typed_signed, typed_result, meaning_read, PlacedData, value_of_number, constant_of}
 use Rattle.typing.specs.Domains.{is_few, value_at, values_scope}
-use Rattle.typed_scopes.proofs.Numbers.{zero-in}
-use Rattle.typed_scopes.proofs.SameTypes.{same_type}
 use Rattle.std.specs.Prelude.{List}
-
-some_bits : (t : Elementary) → 0 < width_of t
-some_bits types.Bool = omega arith
-some_bits types.Sint = omega arith
-some_bits types.Int = omega arith
-some_bits types.Dint = omega arith
-some_bits types.Usint = omega arith
-some_bits types.Uint = omega arith
-some_bits types.Udint = omega arith
-some_bits types.Byte = omega arith
-some_bits types.Word = omega arith
-some_bits types.Dword = omega arith
-
-pub within : (v low high : ℤ) → low ≤ℤ v → v ≤ℤ high → in_range v (record { low = low; high = high }) ≡ true
-within v low high p q = search (rules, tests, ints)
-
-wrapped : (k : Elementary) (v : ℤ) → in_range (wrap_to k v) (range_of k) ≡ true
-wrapped k v = let w = wraps_defined (width_of k) (is_signed k) v (some_bits k) in within (wrap_to k v) (range_of k).low (range_of k).high w.in_range.0 w.in_range.1
-
-wrapped_to : (t : DataType) (k : Elementary) (v : ℤ) → is_same_type t (kinds.Elementary k) ≡ true → in_range (wrap_to (carrier t) v) (range_of k) ≡ true
-wrapped_to t k v same = subst (λ (s : DataType). in_range (wrap_to (carrier s) v) (range_of k) ≡ true) (sym (same_type t (kinds.Elementary k) same)) (wrapped k v)
 
 -- the value of an enumeration is of no elementary type
 no_value : (w : Bool) (t : ℕ) (k : Elementary) → is_same_type (if w then kinds.Enumeration t else kinds.Unknown) (kinds.Elementary k) ≡ true → ⊥
@@ -57,19 +35,19 @@ no_value false t k same = false≢true same
 
 named_in : (f : FileData) (k : Elementary) (s : Option Standing) → is_same_type (or_dint (or_else (kind_at (value_at f s)) (Some (kinds.Elementary k)))) (kinds.Elementary k) ≡ true
     → in_range (value_of_number (meaning_read (value_at f s))) (range_of k) ≡ true
-named_in f k None same = zero-in k
-named_in f k (Some (standings.Type t)) same = zero-in k
+named_in f k None same = zero_in k
+named_in f k (Some (standings.Type t)) same = zero_in k
 named_in f k (Some (standings.Value t n)) same = absurd (no_value (is_few (specification_at f t)) t k same)
-named_in f k (Some (standings.Pou p)) same = zero-in k
+named_in f k (Some (standings.Pou p)) same = zero_in k
 
 signed_in : (t : DataType) (k : Elementary) (o : UnaryOperator) (l : Option Literal) (e : Expression) → is_same_type t (kinds.Elementary k) ≡ true → in_range (value_of_number (typed_signed t o l e)) (range_of k) ≡ true
-signed_in t k o None e same = zero-in k
+signed_in t k o None e same = zero_in k
 signed_in t k o (Some l) e same = wrapped_to t k (negated true (literal_value l)) same
 
 called_in : (f : FileData) (k : Elementary) (s : Option StandardFunction) (args : Arguments) (operands : StandardFunction → DataType → Expressions) (given : Signature → List PlacedData)
     → in_range (value_of_number (typed_result (values_scope f) (Some (kinds.Elementary k)) s None args operands given)) (range_of k) ≡ true
-called_in f k None args operands given = zero-in k
-called_in f k (Some s) args operands given = zero-in k
+called_in f k None args operands given = zero_in k
+called_in f k (Some s) args operands given = zero_in k
 
 pub constant_in : (f : FileData) (k : Elementary) (e : Tree) → is_same_type (type_of (values_scope f) (Some (kinds.Elementary k)) e) (kinds.Elementary k) ≡ true
     → in_range (constant_of (values_scope f) (kinds.Elementary k) e) (range_of k) ≡ true
@@ -80,5 +58,5 @@ constant_in f k (paren at e) same = constant_in f k e same
 constant_in f k (unary o at e) same =
     let t = type_of (values_scope f) (Some (kinds.Elementary k)) (unary o at e) in
     signed_in t k o (negative_literal o e) (typed (values_scope f) (Some t) e) same
-constant_in f k (chain e ls) same = zero-in k
+constant_in f k (chain e ls) same = zero_in k
 constant_in f k (call n at args) same = called_in f k (standard_function n.text) args _ _

@@ -10,6 +10,8 @@ use Rattle.plc_types.specs.declared.data_type.DataType.TheVariants as kinds
 use Rattle.plc_types.specs.declared.range.Range.{Range}
 use Rattle.plc_types.specs.DataTypes.{is_same_type}
 use Rattle.plc_types.specs.Types.{is_integer, range_of, in_range}
+use Rattle.plc_types.proofs.InRange.{covers_self, covers_both, low_in}
+use Rattle.plc_types.proofs.TypeRanges.{zero_in, first_in, few_in}
 use Rattle.rules.specs.declared.rule.Rule.TheVariants.{ValueType, OutsideType, OperandType}
 use Rattle.rules.specs.Judgements.{and, require}
 use Rattle.source_tree.specs.Syntax.{Named, Tree, BoundsData, TypeData, of_elementary, of_subrange, of_name, SpecificationData, of_type, of_values, FileData}
@@ -18,19 +20,18 @@ use Rattle.naming.specs.declared.standing.Standing.TheVariants as standings
 use Rattle.naming.specs.FileScope.{standing}
 use Rattle.naming.specs.Types.{end_of, specification_at, end_specification}
 use Rattle.naming.specs.Scopes.{Variable}
+use Rattle.meaning.specs.StaysIn.{covers}
 use Rattle.typing.specs.declared.domain.Domain.{Domain}
 use Rattle.typing.specs.Typing.{type_of, place_of, is_unknown}
 use Rattle.typing.specs.Judged.{judged}
 use Rattle.typing.specs.Typed.{constant_of}
 use Rattle.typing.specs.Domains.{has_few, values_scope, bounds_of, judged_bound_of, judged_subrange, no_domain, elementary_domain, subrange_domain, enumeration_domain, end_domain, named_domain, domain_of}
 use Rattle.typing.specs.Variables.{domain_if, domain_of_variable, judged_initial, given_value, start_of, initial_of}
-use Rattle.node_core.specs.TypedFlats.{covers}
 use Rattle.typed_scopes.specs.Types.{range_of_type, IsKnown, IsPlaceOf}
-use Rattle.typed_scopes.proofs.Numbers.{covers-self, zero-in}
 use Rattle.typed_scopes.proofs.Wholes.{whole_require, whole_and}
 use Rattle.typed_cells.specs.Places.{last_value, last}
 use Rattle.typed_cells.specs.Variables.{place_for}
-use Rattle.typed_cells.proofs.Constants.{within, constant_in}
+use Rattle.typed_cells.proofs.Constants.{constant_in}
 
 -- an enumeration is no subrange
 abbrev pub IsOpen : DataType → Bool → Type 0
@@ -48,18 +49,12 @@ true≢false : {P : Type 0} → true ≡ false → P
 true≢false h = absurd (let e : ⊥ = cc in e)
 
 none_sound : (f : FileData) → IsSoundDomain f no_domain
-none_sound f = record { place = λ known. true≢false known; start = zero-in types.Bool; known = λ whole. absurd (false≢true whole); whole = tt }
+none_sound f = record { place = λ known. true≢false known; start = zero_in types.Bool; known = λ whole. absurd (false≢true whole); whole = tt }
 
 elementary_sound : (f : FileData) (k : Elementary) → IsSoundDomain f (elementary_domain k)
-elementary_sound f k = record { place = λ known. record { known = tt; kind = refl; within = covers-self (range_of k); whole = λ all. refl }; start = zero-in k; known = λ whole. refl; whole = tt }
+elementary_sound f k = record { place = λ known. record { known = tt; kind = refl; within = covers_self (range_of k); whole = λ all. refl }; start = zero_in k; known = λ whole. refl; whole = tt }
 
 -- ---- subranges
-
-ordered_in : (low high : ℤ) → int_le low high ≡ true → in_range low (record { low = low; high = high }) ≡ true
-ordered_in low high test = let h : low ≤ℤ high = search (rules, tests, ints) in within low low high (omega (arith, ints)) h
-
-covers_both : (r : Range) (low high : ℤ) → in_range low r ≡ true → in_range high r ≡ true → covers r (record { low = low; high = high }) ≡ true
-covers_both r low high p q = and_from (int_le r.low low) (int_le high r.high) (and_parts (int_le r.low low) (int_le low r.high) p).0 (and_parts (int_le r.low high) (int_le high r.high) q).1
 
 bound_in : (f : FileData) (k : Elementary) (e : Tree) → (judged_bound_of f k e).whole ≡ true → in_range (constant_of (values_scope f) (kinds.Elementary k) e) (range_of k) ≡ true
 bound_in f k e whole =
@@ -76,8 +71,8 @@ subrange_by true f k at b is =
     let high = bound_in f k b.high each.1 in
     rw is
     (record {
-      place = λ known. record { known = tt; kind = refl; within = covers_both (range_of k) r.low r.high low high; whole = λ all. true≢false all };
-      start = ordered_in r.low r.high ends.1;
+      place = λ known. record { known = tt; kind = refl; within = covers_both (range_of k) r low high; whole = λ all. true≢false all };
+      start = low_in r.low r.high ends.1;
       known = λ whole. refl;
       whole = tt;
     })
@@ -87,12 +82,6 @@ subrange_sound : (f : FileData) (k : Elementary) (at : ℕ) (b : BoundsData) →
 subrange_sound f k at b = subrange_by (judged_subrange f k at b).whole f k at b refl
 
 -- ---- enumerations
-
-few_in : (n : ℕ) → nat_lt n 256 ≡ true → in_range (pos n) (range_of types.Usint) ≡ true
-few_in n test = let h : n < 256 = search (rules, tests, arith) in within (pos n) (pos 0) (pos 255) (omega (arith, ints)) (omega (arith, ints))
-
-low_in : (n : ℕ) → in_range (pos 0) (record { low = pos 0; high = pos n }) ≡ true
-low_in n = within (pos 0) (pos 0) (pos n) (omega (arith, ints)) (omega (arith, ints))
 
 pub last_is : (f : FileData) (t : ℕ) (at : ℕ) (first : Named) (others : List Named) → specification_at f t ≡ Some (of_values at first others) → last f t ≡ pos (length others)
 last_is f t at first others is = ap last_value is
@@ -109,10 +98,10 @@ enumeration_by true f t at first others there is =
       place = λ known. record {
         known = known_values f t at first others there is;
         kind = refl;
-        within = subst (λ (r : Range). covers r (let s : Range = record { low = pos 0; high = pos (length others) } in s) ≡ true) same (covers-self (record { low = pos 0; high = pos (length others) }));
+        within = subst (λ (r : Range). covers r (let s : Range = record { low = pos 0; high = pos (length others) } in s) ≡ true) same (covers_self (record { low = pos 0; high = pos (length others) }));
         whole = λ all. same;
       };
-      start = low_in (length others);
+      start = first_in (length others);
       known = λ whole. refl;
       whole = refl;
     })

@@ -4,15 +4,15 @@ use Rattle.std.specs.Prelude.{Option, Some, None}
 use Rattle.std.proofs.lemmas.List.{length-append, length-map, map-append, get_or_append_left}
 use Rattle.source_tree.specs.Syntax.{TypeData, PouTypeData, function, PouData, FileData}
 use Rattle.program_tree.specs.Tree.{CellData}
+use Rattle.program_tree.specs.declared.scratch.Scratch.{Scratch}
+use Rattle.program_tree.specs.Places.{of_cell, place_at}
 use Rattle.naming.specs.FileScope.{pous_of, pou_at}
 use Rattle.naming.specs.Scopes.{Variable, block_of, variables_in_pou}
+use Rattle.meaning.specs.Frames.{frame_of, frames_of, scratch_at}
 use Rattle.typing.specs.Places.{has_cell, in_front, behind_front}
 use Rattle.typing.specs.Members.{called_number}
 use Rattle.typing.specs.TypedPrograms.{fault_cell, cells_of_variable, cells_of, block_cells, frame_cells, called_of, called_if}
 use Rattle.running_pous.specs.Stated.{front_cells, unused_of, unused_if, stated_if, stated_by}
-use Rattle.flat_core.specs.declared.flat_tree.Scratch.{Scratch}
-use Rattle.flat_form.specs.Frames.{frame_of, frames_of, scratch_at}
-use Rattle.node_core.specs.Stores.{of_cell, place_at}
 use Rattle.typed_cells.specs.Places.{frame_for}
 use Rattle.typed_cells.specs.Premises.{IsOrdered}
 use Rattle.typed_cells.proofs.Numbers.{IsCalled}

@@ -6,6 +6,7 @@ use Rattle.std.proofs.lemmas.Bool.{eqb-true}
 use Rattle.call_order.specs.Marks.{is_marked}
 use Rattle.call_order.specs.Uses.{uses_at, is_among}
 use Rattle.source_tree.specs.Syntax.{TypeData, of_elementary, of_subrange, of_name, PouTypeData, function, function_block, program, PouData, FileData}
+use Rattle.program_tree.specs.declared.scratch.Scratch.{Scratch}
 use Rattle.naming.specs.Circles.{uses_of}
 use Rattle.naming.specs.FileScope.{pous_of, pou_at, pou_type_at, standing, is_block, pou_number, number_if}
 use Rattle.naming.specs.Scopes.{Variable, variables_in_pou, variable_named, is_local, block_of, block_of_type}
@@ -14,7 +15,6 @@ use Rattle.typing.specs.declared.scope.Instance.{Instance}
 use Rattle.typing.specs.Reached.{reached}
 use Rattle.typing.specs.Places.{has_cell, size_among, cells_taken, sizes_of}
 use Rattle.typing.specs.Members.{may_be_called, called_order, called_number, member_at, instance_of, scope_of, is_function}
-use Rattle.flat_core.specs.declared.flat_tree.Scratch.{Scratch}
 use Rattle.typed_programs.specs.Statements.{StandAt}
 use Rattle.typed_scopes.specs.Fitting.{InstanceFits}
 use Rattle.typed_cells.specs.Places.{block_places, pou_places, before_pou, scope_over, pous}

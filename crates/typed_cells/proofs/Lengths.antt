@@ -9,6 +9,8 @@ use Rattle.call_order.specs.Uses.{uses_at, is_among, order_of}
 use Rattle.call_order.proofs.Members.{is_among-left, is_among-parts}
 use Rattle.call_order.proofs.Orders.{behind_uses, below_length, each_in}
 use Rattle.source_tree.specs.Syntax.{FileData}
+use Rattle.program_tree.specs.declared.scratch.Scratch.{Scratch}
+use Rattle.program_tree.specs.Places.{of_cell}
 use Rattle.naming.specs.Circles.{uses_in, uses_of}
 use Rattle.naming.specs.FileScope.{pous_of}
 use Rattle.naming.specs.Scopes.{Variable, is_local, is_step, block_of}
@@ -16,8 +18,6 @@ use Rattle.typing.specs.Reached.{reached}
 use Rattle.typing.specs.Places.{has_cell, is_stored_action, size_among, cells_taken, count_of_cells, variables_at, sizes_of}
 use Rattle.typing.specs.TypedPrograms.{cells_in}
 use Rattle.typing_laws.proofs.CellCounts.{length-cells_in}
-use Rattle.flat_core.specs.declared.flat_tree.Scratch.{Scratch}
-use Rattle.node_core.specs.Stores.{of_cell}
 use Rattle.typed_cells.specs.Places.{block_places}
 use Rattle.typed_cells.specs.Variables.{plain_places, own_places, variable_places, variables_places}
 use Rattle.typed_cells.specs.Premises.{IsUsedBlock, UsesItsBlocks, IsOrdered}

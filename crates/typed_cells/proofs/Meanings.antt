@@ -2,8 +2,11 @@
 use Rattle.std.proofs.Common.{◌≡◌, ℕ, ◌+◌, ◌≤◌, ◌<◌, Bool, true, false, if◌then◌else◌, List, [], ◌∷◌, length, Option, Some, None, option_map, refl, sym, ap, ◌∙◌, arith, subst}
 use Rattle.std.specs.Prelude.{unwrap_or}
 use Rattle.std.proofs.lemmas.Bool.{false≢true}
+use Rattle.plc_types.proofs.InRange.{covers_in}
 use Rattle.call_order.specs.Marks.{is_marked}
 use Rattle.source_tree.specs.Syntax.{Named, PouTypeData, function, function_block, program, PouData, FileData}
+use Rattle.program_tree.specs.declared.scratch.Scratch.{Scratch}
+use Rattle.program_tree.specs.Places.{place_at}
 use Rattle.naming.specs.FileScope.{pou_at, is_block}
 use Rattle.naming.specs.Scopes.{Variable, variables_in_pou, variable_named, is_seen, is_step, block_of}
 use Rattle.typing.specs.declared.member.Member.{Member}
@@ -15,12 +18,9 @@ use Rattle.typing.specs.Typing.{Reference, by_path, by_value, is_unknown}
 use Rattle.typing.specs.Variables.{domain_of_variable, initial_of}
 use Rattle.typing.specs.Places.{has_cell, cells_taken, sizes_of, variables_at}
 use Rattle.typing.specs.Members.{place_at as place_of_name, meaning_of, member_of, member_at, seen_from, in_instance, variable_or_value, named_in}
-use Rattle.flat_core.specs.declared.flat_tree.Scratch.{Scratch}
-use Rattle.node_core.specs.Stores.{place_at}
 use Rattle.typed_programs.specs.Scopes.{BodyScope}
 use Rattle.typed_scopes.specs.Types.{range_of_type, IsPlaceOf}
 use Rattle.typed_scopes.specs.Fitting.{IsAt, MeaningFits}
-use Rattle.typed_scopes.proofs.Numbers.{covers-in}
 use Rattle.typed_cells.specs.Uses.{is_seen_variable, is_seen_member, are_seen_behind, is_seen_by}
 use Rattle.typed_cells.specs.Places.{last, block_places, pou_places, first_of, chart_place, scope_over}
 use Rattle.typed_cells.specs.Variables.{variable_places}
@@ -59,7 +59,7 @@ module _ (f : FileData) (b : BodyScope) where
   value_at_name v c none known =
       let d = domain_of_variable f v in
       let sound = (variable_sound f v).place known in
-      (sound.known, covers-in (range_of_type (last f) d.kind) d.range (initial_of f v) sound.within (initial_in f v), no_cell_kept v.role none)
+      (sound.known, covers_in (range_of_type (last f) d.kind) d.range (initial_of f v) sound.within (initial_in f v), no_cell_kept v.role none)
 
 module _ (f : FileData) (used : UsesItsBlocks f) (ordered : IsOrdered f) (k : ℕ) (p : PouData) (there : pou_at f k ≡ Some p) (is : is_marked (reached f) k ≡ true) where
   abbrev scope : BodyScope

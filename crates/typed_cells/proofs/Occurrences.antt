@@ -1,8 +1,8 @@
 -- Lists that stand in a list from a place on.
 use Rattle.std.proofs.Common.{◌≡◌, ℕ, ◌+◌, ◌≤◌, List, ◌∷◌, ◌++◌, length, sym, ap, ◌∙◌, arith, append_assoc, subst}
 use Rattle.std.proofs.lemmas.List.{length-append, get_or_append_left, get_or-append-add}
-use Rattle.flat_core.specs.declared.flat_tree.Scratch.{Scratch}
-use Rattle.node_core.specs.Stores.{place_at}
+use Rattle.program_tree.specs.declared.scratch.Scratch.{Scratch}
+use Rattle.program_tree.specs.Places.{place_at}
 use Rattle.typed_programs.specs.Statements.{StandAt}
 
 pub record Occurs (xs owner : List Scratch) (place : ℕ) : Type 0 where

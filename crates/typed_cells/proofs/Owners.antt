@@ -5,15 +5,14 @@ use Rattle.std.proofs.lemmas.List.{length-append, append-nil}
 use Rattle.std.proofs.lemmas.Option.{slice_get_within}
 use Rattle.plc_types.specs.declared.elementary.Elementary.TheVariants as types
 use Rattle.source_tree.specs.Syntax.{PouTypeData, function, function_block, program, PouData, FileData}
+use Rattle.program_tree.specs.declared.scratch.Scratch.{Scratch}
+use Rattle.program_tree.specs.Places.{whole_cell, of_cell}
 use Rattle.naming.specs.FileScope.{pous_of, pou_at}
 use Rattle.naming.specs.Scopes.{Variable, variables_in_pou}
 use Rattle.typing.specs.declared.member.Member.{Member}
 use Rattle.typing.specs.Places.{is_front, in_front, behind_front, in_order, sizes_of, variables_in, variables_at, places_from, first_places}
 use Rattle.typing.specs.Members.{member_in, member_among, member_at, is_function}
 use Rattle.typing.specs.TypedPrograms.{cells_in}
-use Rattle.flat_core.specs.declared.flat_tree.Scratch.{Scratch}
-use Rattle.flat_form.specs.Frames.{whole_cell}
-use Rattle.node_core.specs.Stores.{of_cell}
 use Rattle.typed_cells.specs.Places.{pou_places, first_of}
 use Rattle.typed_cells.specs.Variables.{variable_places, variables_places}
 use Rattle.typed_cells.specs.Premises.{UsesItsBlocks, IsOrdered}

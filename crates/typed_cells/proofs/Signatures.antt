@@ -8,11 +8,14 @@ use Rattle.call_order.specs.Marks.{is_marked}
 use Rattle.call_order.specs.Uses.{uses_at, is_among}
 use Rattle.source_tree.specs.Syntax.{TypeData, PouTypeData, function, function_block, program, PouData, FileData}
 use Rattle.program_tree.specs.Tree.{CellData}
+use Rattle.program_tree.specs.declared.scratch.Scratch.{Scratch}
+use Rattle.program_tree.specs.Places.{of_cell, place_at}
 use Rattle.naming.specs.declared.role.Role.{Role}
 use Rattle.naming.specs.declared.role.Role.TheVariants as roles
 use Rattle.naming.specs.Circles.{uses_of}
 use Rattle.naming.specs.FileScope.{pous_of, pou_at, pou_type_at, standing, pou_number}
 use Rattle.naming.specs.Scopes.{Variable, result_of as result_variable, variables_of, names_in_body, variables_in_pou, is_local, is_input, is_result, is_step, block_of}
+use Rattle.meaning.specs.Frames.{FrameData, frames_of, scratch_at}
 use Rattle.typing.specs.declared.next.Next.{Next}
 use Rattle.typing.specs.declared.member.Member.{Member}
 use Rattle.typing.specs.declared.scope.Port.{Port}
@@ -24,9 +27,6 @@ use Rattle.typing.specs.Places.{has_cell, is_front, in_front, size_among, cells_
 use Rattle.typing.specs.Members.{member_of, members_of, members_if, members_at, port_of, ports_of, result_of, called_number, is_function, function_number, signature_of, signature_at, scope_of}
 use Rattle.typing.specs.TypedPrograms.{fault_cell, cell_for, cells_of_variable, cells_of, block_cells, frame_cells}
 use Rattle.running_pous.specs.Stated.{front_cells, stated_by}
-use Rattle.flat_core.specs.declared.flat_tree.Scratch.{Scratch}
-use Rattle.flat_form.specs.Frames.{FrameData, frames_of, scratch_at}
-use Rattle.node_core.specs.Stores.{of_cell, place_at}
 use Rattle.typed_scopes.specs.Types.{IsPlaceOf}
 use Rattle.typed_scopes.specs.Fitting.{InputFits, SignatureFits}
 use Rattle.typed_cells.specs.Uses.{is_called_by}

@@ -10,28 +10,28 @@ use Rattle.plc_types.specs.declared.data_type.DataType.TheVariants as kinds
 use Rattle.plc_types.specs.declared.range.Range.{Range}
 use Rattle.plc_types.specs.DataTypes.{carrier}
 use Rattle.plc_types.specs.Types.{range_of, in_range}
+use Rattle.plc_types.proofs.InRange.{bounds, in_range_from, covers_in}
 use Rattle.source_tree.specs.Syntax.{Named, FileData}
 use Rattle.program_tree.specs.Tree.{CellData}
+use Rattle.program_tree.specs.Places.{of_cell, IsTypedPlace}
 use Rattle.naming.specs.declared.role.Role.{Role}
 use Rattle.naming.specs.declared.role.Role.TheVariants as roles
 use Rattle.naming.specs.FileScope.{pous_of}
 use Rattle.naming.specs.Scopes.{Variable, is_step, block_of}
+use Rattle.meaning.specs.StaysIn.{covers}
 use Rattle.typing.specs.declared.domain.Domain.{Domain}
 use Rattle.typing.specs.Typing.{is_unknown}
 use Rattle.typing.specs.Variables.{domain_of_variable, judged_type_if, judged_value, judged_by_block, judged_variable, judged_variables}
 use Rattle.typing.specs.Places.{has_cell, is_stored_action, is_front, in_front, in_order, size_among, sizes_of, variables_at}
 use Rattle.typing.specs.TypedPrograms.{path_behind, cell_for, fault_cell, flag_cell, active_first, cells_for, cells_of_variable, cells_of, block_cells, cells_in}
-use Rattle.node_core.specs.Stores.{of_cell}
-use Rattle.node_core.specs.TypedFlats.{covers, IsTypedPlace}
 use Rattle.typed_programs.specs.Programs.{HasWholeRange, IsTypedCell}
 use Rattle.typed_scopes.specs.Types.{range_of_type, IsKnown, IsPlaceOf}
-use Rattle.typed_scopes.proofs.Numbers.{bounds, covers-in, covers-self, usint-covers}
+use Rattle.typed_scopes.proofs.TypedValues.{carrier-covers}
 use Rattle.typed_scopes.proofs.Wholes.{whole_and}
 use Rattle.typed_cells.specs.Places.{last}
 use Rattle.typed_cells.specs.Variables.{place_for}
 use Rattle.typed_cells.specs.Premises.{AreWhole}
 use Rattle.typed_cells.proofs.Lists.{all-filter, all-in_order}
-use Rattle.typed_cells.proofs.Constants.{within}
 use Rattle.typed_cells.proofs.Domains.{IsOpen, IsSoundDomain, variable_sound, initial_in}
 
 -- a cell of a range of its type, which begins in its range
@@ -41,33 +41,28 @@ pub record IsReadyCell (c : CellData) : Type 0 where
 
 -- ---- a cell of a variable
 
-pub carrier_covers : (last : ℕ → ℤ) (t : DataType) → IsKnown last t → covers (range_of (carrier t)) (range_of_type last t) ≡ true
-carrier_covers last (kinds.Elementary k) known = covers-self (range_of k)
-carrier_covers last (kinds.Enumeration n) known = usint-covers (last n) known
-carrier_covers last kinds.Unknown known = absurd known
-
 whole_by : (last : ℕ → ℤ) (c : CellData) (t : DataType) → IsPlaceOf last t (of_cell c) → IsOpen t c.is_subrange → HasWholeRange c t
 whole_by last c (kinds.Elementary k) place open_range = place.whole
 whole_by last c (kinds.Enumeration n) place open_range = open_range
 whole_by last c kinds.Unknown place open_range = absurd place.known
 
 low_in : (s : Range) (v : ℤ) → in_range v s ≡ true → in_range s.low s ≡ true
-low_in s v inside = let b = bounds v s inside in within s.low s.low s.high (omega (arith, ints)) (omega (arith, ints))
+low_in s v inside = let b = bounds v s inside in in_range_from s.low s (omega (arith, ints)) (omega (arith, ints))
 
 high_in : (s : Range) (v : ℤ) → in_range v s ≡ true → in_range s.high s ≡ true
-high_in s v inside = let b = bounds v s inside in within s.high s.low s.high (omega (arith, ints)) (omega (arith, ints))
+high_in s v inside = let b = bounds v s inside in in_range_from s.high s (omega (arith, ints)) (omega (arith, ints))
 
 -- the ends of a range that is not empty
 ends_in : (r s : Range) (v : ℤ) → covers r s ≡ true → in_range v s ≡ true → (in_range s.low r ≡ true) × (in_range s.high r ≡ true)
-ends_in r s v covered inside = (covers-in r s s.low covered (low_in s v inside), covers-in r s s.high covered (high_in s v inside))
+ends_in r s v covered inside = (covers_in r s s.low covered (low_in s v inside), covers_in r s s.high covered (high_in s v inside))
 
 place_typed : (f : FileData) (d : Domain) → IsSoundDomain f d → is_unknown d.kind ≡ false → IsTypedPlace (place_for d)
 place_typed f d sound known =
     let place = sound.place known in
     let ends = ends_in (range_of_type (last f) d.kind) d.range d.start place.within sound.start in
-    let outer = carrier_covers (last f) d.kind place.known in (
-      covers-in (range_of (carrier d.kind)) (range_of_type (last f) d.kind) d.range.low outer ends.0,
-      covers-in (range_of (carrier d.kind)) (range_of_type (last f) d.kind) d.range.high outer ends.1,
+    let outer = carrier-covers (last f) d.kind place.known in (
+      covers_in (range_of (carrier d.kind)) (range_of_type (last f) d.kind) d.range.low outer ends.0,
+      covers_in (range_of (carrier d.kind)) (range_of_type (last f) d.kind) d.range.high outer ends.1,
     )
 
 -- of a variable that breaks no rule and is no instance

@@ -5,19 +5,18 @@ use Rattle.std.specs.List.{AllByRecursion}
 use Rattle.std.proofs.lemmas.List.{length-append, length-map, map-append}
 use Rattle.std.proofs.lemmas.List.Elements.{All-from_recursion}
 use Rattle.std.proofs.Math.Seq.{get_or-append_seam}
+use Rattle.plc_types.proofs.InRange.{bounds}
 use Rattle.source_tree.specs.Syntax.{PouData, FileData}
 use Rattle.program_tree.specs.Tree.{CellData}
+use Rattle.program_tree.specs.declared.scratch.Scratch.{Scratch}
+use Rattle.program_tree.specs.Places.{of_cell, place_at, IsTypedPlace}
 use Rattle.naming.specs.FileScope.{pous_of, pou_at}
 use Rattle.naming.specs.Scopes.{Variable, variables_in_pou}
+use Rattle.meaning.specs.Frames.{scratch_at, counted_from}
 use Rattle.typing.specs.Places.{in_front, variables_in}
 use Rattle.typing.specs.TypedPrograms.{fault_cell, cells_of, block_cells, cells_in, type_of_cell}
 use Rattle.scan_model.specs.InRange.{IsInRange}
-use Rattle.flat_core.specs.declared.flat_tree.Scratch.{Scratch}
-use Rattle.flat_form.specs.Frames.{scratch_at, counted_from}
-use Rattle.node_core.specs.Stores.{of_cell, place_at}
-use Rattle.node_core.specs.TypedFlats.{IsTypedPlace}
 use Rattle.typed_programs.specs.Programs.{IsTypedCell, frame_places, IsTypedFrame}
-use Rattle.typed_scopes.proofs.Numbers.{bounds}
 use Rattle.typed_cells.specs.Places.{block_places, frame_for}
 use Rattle.typed_cells.specs.Premises.{AreWhole}
 use Rattle.typed_cells.proofs.TypedCells.{IsReadyCell, fault_ready, block_ready, cells_ready, fronts_ready}

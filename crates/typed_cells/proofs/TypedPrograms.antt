@@ -6,19 +6,18 @@ use Rattle.std.proofs.lemmas.Bool.{false≢true}
 use Rattle.call_order.specs.Marks.{is_marked}
 use Rattle.source_tree.specs.Syntax.{TypeData, PouTypeData, function, function_block, program, PouData, FileData}
 use Rattle.program_tree.specs.Tree.{Statements, no_statements, CalledData}
+use Rattle.program_tree.specs.declared.scratch.Scratch.{Scratch}
+use Rattle.program_tree.specs.Places.{of_cell, IsTypedPlace}
 use Rattle.naming.specs.FileScope.{pou_at}
 use Rattle.naming.specs.Scopes.{names_in_body, variables_in_pou}
 use Rattle.meaning.specs.Calls.{nothing}
+use Rattle.meaning.specs.Frames.{FrameData, frames_of}
 use Rattle.typing.specs.Reached.{reached}
 use Rattle.typing.specs.Places.{in_order, count_of_cells, sizes_of}
 use Rattle.typing.specs.Members.{may_be_called, called_order, is_function}
 use Rattle.typing.specs.TypedPrograms.{frame_cells, pou_body, called_of, called_if}
 use Rattle.running_pous.specs.Stated.{unused_of, unused_if, stated_if, stated_by, shortened}
 use Rattle.typing_laws.proofs.CellCounts.{count-in_order}
-use Rattle.flat_core.specs.declared.flat_tree.Scratch.{Scratch}
-use Rattle.flat_form.specs.Frames.{FrameData, frames_of}
-use Rattle.node_core.specs.Stores.{of_cell}
-use Rattle.node_core.specs.TypedFlats.{IsTypedPlace}
 use Rattle.typed_programs.specs.Scopes.{Pous, BodyScope}
 use Rattle.typed_programs.specs.Statements.{AreTypedParts}
 use Rattle.typed_programs.specs.Programs.{frame_places, IsTypedFrame, IsTypedBody, IsTypedPou, IsTypedProgram}

@@ -6,6 +6,7 @@ use Rattle.std.proofs.lemmas.Bool.{false≢true}
 use Rattle.std.proofs.lemmas.Int.{ints}
 use Rattle.plc_types.specs.declared.data_type.DataType.TheVariants as kinds
 use Rattle.plc_types.specs.Types.{in_range}
+use Rattle.plc_types.proofs.TypeRanges.{value_in}
 use Rattle.source_tree.specs.Syntax.{Named, SpecificationData, of_type, of_values, TypeDeclarationData, types, pou, FileData}
 use Rattle.naming.specs.declared.standing.Standing.{Standing}
 use Rattle.naming.specs.declared.standing.Standing.TheVariants as standings
@@ -18,7 +19,6 @@ use Rattle.typed_programs.specs.Scopes.{BodyScope}
 use Rattle.typed_scopes.specs.Types.{range_of_type, IsKnown}
 use Rattle.typed_scopes.specs.Fitting.{MeaningFits}
 use Rattle.typed_cells.specs.Places.{last}
-use Rattle.typed_cells.proofs.Constants.{within}
 use Rattle.typed_cells.proofs.Domains.{last_is, known_values}
 
 count_at : Option TypeDeclarationData → ℕ
@@ -111,7 +111,7 @@ one_by f t n (Some (of_values at first others)) is low few =
     let below : n < length (first ∷ others) = omega (arith, low, count) in
     record {
       known = known_values f t at first others is few;
-      inside = subst (λ (v : ℤ). in_range (pos n) (record { low = pos 0; high = v }) ≡ true) (sym (last_is f t at first others is)) (within (pos n) (pos 0) (pos (length others)) (omega (arith, ints)) (omega (arith, ints, below)));
+      inside = subst (λ (v : ℤ). in_range (pos n) (record { low = pos 0; high = v }) ≡ true) (sym (last_is f t at first others is)) (value_in n (length others) (omega (arith, below)));
     }
 
 one_of : (f : FileData) (text : List ℕ) (t n : ℕ) → standing f text ≡ Some (standings.Value t n) → is_few (specification_at f t) ≡ true → IsOneOf f t n

@@ -2,12 +2,12 @@
 use Rattle.std.proofs.Common.{◌≡◌, ℕ, ◌+◌, Bool, true, false, if◌then◌else◌, List, [], ◌∷◌, ◌++◌, Option, Some, refl, sym, ap, ◌∙◌, subst}
 use Rattle.std.specs.List.{AllByRecursion}
 use Rattle.source_tree.specs.Syntax.{FileData}
+use Rattle.program_tree.specs.declared.scratch.Scratch.{Scratch}
 use Rattle.naming.specs.Scopes.{Variable, is_of_name, variable_named}
 use Rattle.typing.specs.declared.next.Next.{Next}
 use Rattle.typing.specs.declared.member.Member.{Member}
 use Rattle.typing.specs.Places.{is_front, in_front, behind_front, cells_taken, sizes_of, first_place, places_behind}
 use Rattle.typing.specs.Members.{member_of, member_among}
-use Rattle.flat_core.specs.declared.flat_tree.Scratch.{Scratch}
 use Rattle.typed_cells.specs.Variables.{variable_places, variables_places}
 use Rattle.typed_cells.proofs.Occurrences.{Occurs, occurs_left, occurs_right, occurs_same, occurs_at}
 use Rattle.typed_cells.proofs.Lengths.{HasSize}

@@ -2,16 +2,16 @@
 use Rattle.std.specs.Prelude.{ℕ, ℤ, pos, ◌+◌, List, [], ◌∷◌, ◌++◌, length, map, Bool, false, Option, Some, None, slice_index_or}
 use Rattle.source_tree.specs.Syntax.{SpecificationData, of_type, of_values, PouTypeData, function, function_block, program, PouData, FileData}
 use Rattle.program_tree.specs.Tree.{CellData}
+use Rattle.program_tree.specs.declared.scratch.Scratch.{Scratch}
+use Rattle.program_tree.specs.Places.{of_cell}
 use Rattle.naming.specs.FileScope.{pous_of}
 use Rattle.naming.specs.Types.{specification_at}
 use Rattle.naming.specs.Scopes.{Variable, result_of, variables_of, variables_in_pou}
+use Rattle.meaning.specs.Frames.{FrameData, frames_of}
 use Rattle.typing.specs.Places.{sizes_of, count_of_cells}
 use Rattle.typing.specs.Members.{called_order, called_number}
 use Rattle.typing.specs.TypedPrograms.{fault_cell, cells_in, block_cells, frame_cells, type_of_cell}
 use Rattle.running_pous.specs.Stated.{stated_by}
-use Rattle.flat_core.specs.declared.flat_tree.Scratch.{Scratch}
-use Rattle.flat_form.specs.Frames.{FrameData, frames_of}
-use Rattle.node_core.specs.Stores.{of_cell}
 use Rattle.typed_programs.specs.Scopes.{Pous, BodyScope}
 
 -- the number of the last value of an enumeration

@@ -3,12 +3,12 @@ use Rattle.std.specs.Prelude.{ℕ, ◌==◌, List, [], ◌∷◌, ◌++◌, Opti
 use Rattle.plc_types.specs.declared.elementary.Elementary.TheVariants as types
 use Rattle.plc_types.specs.DataTypes.{carrier}
 use Rattle.source_tree.specs.Syntax.{FileData}
+use Rattle.program_tree.specs.declared.scratch.Scratch.{Scratch}
+use Rattle.program_tree.specs.Places.{whole_cell}
 use Rattle.naming.specs.Scopes.{Variable, is_step, block_of}
 use Rattle.typing.specs.declared.domain.Domain.{Domain}
 use Rattle.typing.specs.Variables.{domain_of_variable}
 use Rattle.typing.specs.Places.{has_cell, is_stored_action, size_among, sizes_of}
-use Rattle.flat_core.specs.declared.flat_tree.Scratch.{Scratch}
-use Rattle.flat_form.specs.Frames.{whole_cell}
 use Rattle.typed_cells.specs.Places.{block_places}
 
 abbrev pub place_for : Domain → Scratch

@@ -4,6 +4,7 @@ ghost use Rattle.std.specs.Prelude.{◌≡◌, ℕ, Bool, true, false, List, [],
 ghost use Rattle.call_order.specs.Marks.{is_marked};
 ghost use Rattle.source_tree.specs.Syntax.{PartData, chart, program, PouData, FileData};
 ghost use Rattle.source_tree.specs.Levels.{MayDo};
+ghost use Rattle.program_tree.specs.ChartPlaces.{AreRisingFrom};
 ghost use Rattle.naming.specs.Broken.{variables_twice};
 ghost use Rattle.naming.specs.FileScope.{pou_at, is_program};
 ghost use Rattle.naming.specs.Scopes.{variables_in_pou};
@@ -12,7 +13,6 @@ ghost use Rattle.typing.specs.Reached.{reached};
 ghost use Rattle.typing.specs.Places.{sizes_of};
 ghost use Rattle.typing.specs.Members.{member_at, scope_of, is_function};
 ghost use Rattle.running_pous.specs.Stated.{shortened};
-ghost use Rattle.flat_form.specs.WellTyped.{AreRisingFrom};
 ghost use Rattle.typed_programs.specs.Statements.{IsFlagOf};
 ghost use Rattle.typed_programs.specs.Programs.{IsTypedProgram};
 ghost use Rattle.typed_scopes.specs.Charts.{cells_of_chart};

@@ -5,18 +5,20 @@ use Rattle.std.proofs.lemmas.Bool.{or_right}
 use Rattle.std.proofs.lemmas.List.{length-append}
 use Rattle.plc_types.specs.declared.elementary.Elementary.{Elementary}
 use Rattle.plc_types.specs.Types.{range_of, in_range}
+use Rattle.plc_types.proofs.InRange.{between_in}
 use Rattle.program_tree.specs.Tree.{Expression, number, cell, unary, chain, call_standard, call_function, Operands, no_operands, operand, Expressions, no_expressions, expression}
+use Rattle.program_tree.specs.declared.scratch.Scratch.{Scratch}
+use Rattle.program_tree.specs.OperandTypes.{arity, first_operand_kind, first_kind}
+use Rattle.program_tree.specs.Places.{place_at}
 use Rattle.meaning.specs.Values.{result_type}
-use Rattle.flat_core.specs.declared.flat_tree.Scratch.{Scratch}
+use Rattle.meaning.specs.Frames.{FrameData, type_at, scratch_at, initial_at, counted_from}
 use Rattle.flat_core.specs.FlatTree.{FlatStatement, set}
-use Rattle.flat_form.specs.Frames.{FrameData, type_at, scratch_at, initial_at, input_start, others_behind, other_scratch, other_starts, counted_from, places_of}
-use Rattle.flat_form.specs.Calls.{arity, rest_scratch, rest_list, scratch_in, operand_scratch, all_scratch, input_scratch, input_places, before, operands_before, all_before, inputs_before}
-use Rattle.node_core.specs.Words.{first_operand_kind, first_kind}
-use Rattle.node_core.specs.Stores.{place_at}
+use Rattle.flat_form.specs.Frames.{input_start, others_behind, other_scratch, other_starts, places_of}
+use Rattle.flat_form.specs.Calls.{rest_scratch, rest_list, scratch_in, operand_scratch, all_scratch, input_scratch, input_places, before, operands_before, all_before, inputs_before}
 use Rattle.node_core.specs.TypedFlats as flats
 use Rattle.typed_programs.specs.Expressions.{Join, AreOf, AreInputs}
 use Rattle.typed_flat_laws.proofs.TypedLists.{Typed, typed_both, takes_at, stand_front, stand_back}
-use Rattle.typed_flat_laws.proofs.FramePlaces.{counted-length, Begins, between_in}
+use Rattle.typed_flat_laws.proofs.FramePlaces.{counted-length, Begins}
 use Rattle.typed_flat_laws.proofs.Standing.{Standing, pous_of, PlacesStand, places_both, others-stand, inputs-stand, inputs-length, others-length}
 use Rattle.typed_flat_laws.proofs.Moved.{Stand, Is, left, moved-taken}
 

@@ -6,13 +6,12 @@ use Rattle.plc_types.specs.declared.elementary.Elementary.TheVariants as types
 use Rattle.program_tree.specs.declared.typed.StepCells.{StepCells}
 use Rattle.program_tree.specs.declared.typed.Association.{Association}
 use Rattle.program_tree.specs.Tree.{Expression, cell, Statements, Actions, action}
-use Rattle.flat_core.specs.declared.flat_tree.Scratch.{Scratch}
+use Rattle.program_tree.specs.declared.scratch.Scratch.{Scratch}
+use Rattle.program_tree.specs.Places.{whole_cell, place_at, IsTypedPlace}
+use Rattle.program_tree.specs.ChartPlaces.{chart_places, latch_places}
 use Rattle.flat_core.specs.FlatTree.{set}
-use Rattle.flat_form.specs.Frames.{whole_cell}
 use Rattle.flat_form.specs.FlatCharts.{no_step, latch_start, flags_of, exited_flag, entered_flag}
-use Rattle.flat_form.specs.WellTyped.{chart_places, latch_places}
-use Rattle.node_core.specs.Stores.{place_at}
-use Rattle.node_core.specs.TypedFlats.{IsTypedPlace, IsTypedFlatOver}
+use Rattle.node_core.specs.TypedFlats.{IsTypedFlatOver}
 use Rattle.typed_programs.specs.Statements.{IsFlagOf}
 use Rattle.typed_flat_laws.proofs.TypedLists.{takes_at, whole_takes, StandFrom}
 use Rattle.typed_flat_laws.proofs.Standing.{Standing}

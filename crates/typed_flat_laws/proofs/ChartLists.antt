@@ -5,10 +5,10 @@ use Rattle.plc_types.specs.declared.elementary.Elementary.TheVariants as types
 use Rattle.plc_types.specs.declared.operator.Operator.TheVariants.{Or}
 use Rattle.program_tree.specs.declared.typed.StepCells.{StepCells}
 use Rattle.program_tree.specs.Tree.{number, cell, chain, no_operands, operand, TransitionData, Actions, no_actions, action, chart}
+use Rattle.program_tree.specs.ChartPlaces.{chart_places, latch_places, AreSteps}
 use Rattle.flat_form.specs.Calls.{scratch_in, before}
 use Rattle.flat_form.specs.FlatCharts.{negated, both, latch_test, latch_list, flags_of, exited_flag, entered_flag, clear_flags, ready_term, ready_test, entered_set, fired_list, scratch_of_transitions, flat_transitions, mark_list, scratch_of_moves, flat_moves}
 use Rattle.flat_form.specs.FlatLists.{scratch_of, scratch_of_all, scratch_of_actions, flat_of, flat_actions}
-use Rattle.flat_form.specs.WellTyped.{chart_places, latch_places, AreSteps}
 use Rattle.typed_programs.specs.Statements.{AreTypedTransitions, AreTypedActions, IsTypedChart}
 use Rattle.typed_flat_laws.proofs.TypedLists.{typed_both, stand_front, stand_back}
 use Rattle.typed_flat_laws.proofs.Standing.{Standing, pous_of}

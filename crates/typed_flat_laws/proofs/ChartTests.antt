@@ -10,13 +10,13 @@ use Rattle.program_tree.specs.declared.typed.Association.{Association}
 use Rattle.program_tree.specs.declared.typed.Qualifier.{Qualifier}
 use Rattle.program_tree.specs.declared.typed.Qualifier.TheVariants.{NonStored, Set, Reset, Pulse, FallingPulse}
 use Rattle.program_tree.specs.Tree.{Expression}
+use Rattle.program_tree.specs.declared.scratch.Scratch.{Scratch}
+use Rattle.program_tree.specs.ChartPlaces.{AreSteps, NameSteps}
+use Rattle.program_tree.specs.OperandTypes.{is_for}
 use Rattle.meaning.specs.Values.{result_type}
 use Rattle.meaning.specs.Charts.{is_set, is_reset}
-use Rattle.flat_core.specs.declared.flat_tree.Scratch.{Scratch}
 use Rattle.flat_form.specs.Owners.{OwnerData}
 use Rattle.flat_form.specs.FlatCharts.{operands_by, joined_by, active_at, before_at, steps_that, unless_reset, latch_test, asking, terms, latch_start, runs_test}
-use Rattle.flat_form.specs.WellTyped.{AreSteps, NameSteps}
-use Rattle.node_core.specs.NodeTypes.{is_for}
 use Rattle.node_core.specs.TypedFlats.{IsOf, Join}
 
 pub steps_that-named : (n : ℕ) (test : Qualifier → Bool) (associations : List Association) → NameSteps n associations → AreSteps n (steps_that test associations)

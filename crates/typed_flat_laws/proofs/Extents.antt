@@ -5,7 +5,8 @@ use Rattle.std.proofs.lemmas.List.Elements.{All-head, All-tail}
 use Rattle.plc_types.specs.declared.elementary.Elementary.{Elementary}
 use Rattle.program_tree.specs.declared.typed.StepCells.{StepCells}
 use Rattle.program_tree.specs.Tree.{Statement, assign, call_block, choice, cases, repeat, chart, Statements, no_statements, statement, Choices, no_choices, choose, Entries, no_entries, entry, Actions, no_actions, action}
-use Rattle.flat_form.specs.WellTyped.{extent_of_steps, extent_of, extent_of_all, extent_of_choices, extent_of_entries, extent_of_actions, chart_places, latch_places, AreRisingFrom, extent_of_bodies}
+use Rattle.program_tree.specs.ChartPlaces.{chart_places, latch_places, AreRisingFrom}
+use Rattle.flat_form.specs.WellTyped.{extent_of_steps, extent_of, extent_of_all, extent_of_choices, extent_of_entries, extent_of_actions, extent_of_bodies}
 use Rattle.typed_programs.specs.Scopes.{Pous, BodyScope}
 use Rattle.typed_programs.specs.Statements.{IsFlagOf, IsTyped, AreTyped, AreTypedChoices, AreTypedEntries, AreTypedActions, IsTypedPart, AreTypedParts}
 

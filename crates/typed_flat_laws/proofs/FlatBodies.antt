@@ -2,15 +2,14 @@
 use Rattle.std.proofs.Common.{◌≡◌, ℕ, suc, zero, ◌+◌, ◌<◌, ◌≤◌, Bool, true, false, List, ◌∷◌, length, refl, sym, ap, subst, ◌∙◌, arith, rules, tests}
 use Rattle.std.specs.Prelude.{◌==◌, slice_index_or, All, if◌then◌else◌}
 use Rattle.program_tree.specs.Tree.{Statement, assign, call_block, choice, cases, repeat, chart, Statements, no_statements, statement, CalledData, block, function}
+use Rattle.program_tree.specs.declared.scratch.Scratch.{Scratch}
+use Rattle.program_tree.specs.Places.{place_at, IsTypedPlace}
 use Rattle.meaning.specs.Calls.{nothing}
-use Rattle.flat_core.specs.declared.flat_tree.Scratch.{Scratch}
-use Rattle.flat_form.specs.Frames.{FrameData, frame_of, frames_of, function_body, scratch_at}
+use Rattle.meaning.specs.Frames.{FrameData, frame_of, frames_of, function_body, scratch_at}
 use Rattle.flat_form.specs.Owners.{OwnerData, call_owner}
 use Rattle.flat_form.specs.FlatLists.{scratch_of, scratch_of_all, flat_of, flat_of_all}
 use Rattle.flat_form.specs.Pous.{block_body, bodies_of}
 use Rattle.flat_form.proofs.FrameLemmas.{frames-here}
-use Rattle.node_core.specs.Stores.{place_at}
-use Rattle.node_core.specs.TypedFlats.{IsTypedPlace}
 use Rattle.typed_programs.specs.Scopes.{Pous}
 use Rattle.typed_programs.specs.Statements.{IsTypedPart, AreTypedParts}
 use Rattle.typed_programs.specs.Programs.{frame_places, IsTypedBody, IsTypedPou}

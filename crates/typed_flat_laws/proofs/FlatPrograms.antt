@@ -7,14 +7,14 @@ use Rattle.plc_types.specs.declared.elementary.Elementary.TheVariants as types
 use Rattle.plc_types.specs.declared.range.Range.{Range}
 use Rattle.plc_types.specs.Types.{range_of, in_range}
 use Rattle.program_tree.specs.Tree.{CellData, ProgramData}
+use Rattle.program_tree.specs.declared.scratch.Scratch.{Scratch}
+use Rattle.program_tree.specs.Places.{of_cell, place_at, IsTypedPlace}
 use Rattle.scan_model.specs.InRange.{BeginsWithFault}
-use Rattle.flat_core.specs.declared.flat_tree.Scratch.{Scratch}
 use Rattle.flat_core.specs.FlatRules.{IsFlat}
 use Rattle.flat_form.specs.Owners.{program_owner}
 use Rattle.flat_form.specs.FlatLists.{scratch_of_all}
 use Rattle.flat_form.specs.FlatPrograms.{bodies_in, flat_program}
-use Rattle.node_core.specs.Stores.{of_cell, place_at}
-use Rattle.node_core.specs.TypedFlats.{IsTypedPlace, IsTypedFlat}
+use Rattle.node_core.specs.TypedFlats.{IsTypedFlat}
 use Rattle.typed_programs.specs.Programs.{IsTypedCell, IsTypedProgram}
 use Rattle.typed_flat_laws.proofs.TypedLists.{StandFrom}
 use Rattle.typed_flat_laws.proofs.Turns.{number_taken}

@@ -5,13 +5,13 @@ use Rattle.std.proofs.lemmas.Int.{ints}
 use Rattle.std.proofs.lemmas.List.{length-map}
 use Rattle.plc_types.specs.declared.range.Range.{Range}
 use Rattle.plc_types.specs.Types.{in_range}
+use Rattle.plc_types.proofs.InRange.{in_range_from}
+use Rattle.program_tree.specs.declared.scratch.Scratch.{Scratch}
+use Rattle.program_tree.specs.Places.{place_at, IsTypedPlace}
 use Rattle.meaning.specs.Values.{State}
 use Rattle.meaning.specs.Effects.{range_at}
+use Rattle.meaning.specs.Frames.{FrameData, scratch_at, initial_at, counted_from}
 use Rattle.scan_model.specs.InRange.{IsInRange}
-use Rattle.flat_core.specs.declared.flat_tree.Scratch.{Scratch}
-use Rattle.flat_form.specs.Frames.{FrameData, scratch_at, initial_at, counted_from}
-use Rattle.node_core.specs.Stores.{place_at}
-use Rattle.node_core.specs.TypedFlats.{IsTypedPlace}
 use Rattle.typed_programs.specs.Programs.{frame_places, IsTypedFrame}
 use Rattle.typed_flat_laws.proofs.TypedLists.{typed_at}
 
@@ -37,24 +37,10 @@ frame-typed frame typed i low = subst IsTypedPlace (frame-place frame i low) (ty
 
 -- ---- the values that cells begin with
 
-bounds : (v : ℤ) (r : Range) → in_range v r ≡ true → (r.low ≤ℤ v) × (v ≤ℤ r.high)
-bounds v r h = search (rules, tests, ints)
-
-within : (v : ℤ) (r : Range) → r.low ≤ℤ v → v ≤ℤ r.high → in_range v r ≡ true
-within v r p q = search (rules, tests, ints)
-
--- a number between two that lie in a range
-pub between_in : (r t : Range) (v : ℤ) → in_range t.low r ≡ true → in_range t.high r ≡ true → in_range v t ≡ true → in_range v r ≡ true
-between_in r t v low high is =
-    let a = bounds t.low r low in
-    let b = bounds t.high r high in
-    let c = bounds v t is in
-    within v r (omega (arith, ints)) (omega (arith, ints))
-
 starts_within : (rs : List Range) (s : State) (i : ℕ) → IsInRange rs s → i < length rs → in_range (slice_index_or s i (pos 0)) (range_at rs i) ≡ true
 starts_within [] s i is low = absurd (omega arith)
 starts_within (r ∷ rs) [] i is low = absurd is
-starts_within (r ∷ rs) (v ∷ s) zero is low = within v r is.0 is.1
+starts_within (r ∷ rs) (v ∷ s) zero is low = in_range_from v r is.0 is.1
 starts_within (r ∷ rs) (v ∷ s) (suc i) is low = starts_within rs s i is.2 (omega arith)
 
 -- Each cell begins in its range, which is one of numbers of its type.

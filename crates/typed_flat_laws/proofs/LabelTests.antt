@@ -7,9 +7,9 @@ use Rattle.plc_types.specs.declared.elementary.Elementary.TheVariants as types
 use Rattle.program_tree.specs.declared.typed.TypedLabel.{TypedLabel}
 use Rattle.program_tree.specs.declared.typed.TypedLabel.TheVariants.{Single, Span}
 use Rattle.program_tree.specs.View.{operands_of}
-use Rattle.flat_core.specs.declared.flat_tree.Scratch.{Scratch}
+use Rattle.program_tree.specs.declared.scratch.Scratch.{Scratch}
+use Rattle.program_tree.specs.Places.{place_at}
 use Rattle.flat_form.specs.FlatLists.{label_test, or_test, labels_test}
-use Rattle.node_core.specs.Stores.{place_at}
 use Rattle.node_core.specs.TypedFlats.{IsOf, Join}
 use Rattle.typed_programs.specs.Statements.{IsLabelOf}
 

@@ -4,14 +4,15 @@ use Rattle.plc_types.specs.declared.elementary.Elementary.{Elementary}
 use Rattle.plc_types.specs.declared.range.Range.{Range}
 use Rattle.plc_types.specs.Types.{range_of}
 use Rattle.program_tree.specs.Tree.{Expression, number, cell, unary, chain, call_standard, call_function, Operands, no_operands, operand, Expressions, no_expressions, expression}
+use Rattle.program_tree.specs.declared.scratch.Scratch.{Scratch}
+use Rattle.program_tree.specs.OperandTypes.{arity, first_operand_kind, first_kind}
+use Rattle.program_tree.specs.Places.{place_at}
 use Rattle.meaning.specs.Values.{result_type}
-use Rattle.flat_core.specs.declared.flat_tree.Scratch.{Scratch}
-use Rattle.flat_form.specs.Frames.{scratch_at, others_behind, other_scratch}
-use Rattle.flat_form.specs.Calls.{arity, rest_scratch, scratch_in, operand_scratch, all_scratch, input_scratch, moved, moved_operands, all_moved}
-use Rattle.node_core.specs.Words.{first_operand_kind, first_kind}
-use Rattle.node_core.specs.Stores.{place_at}
+use Rattle.meaning.specs.Frames.{scratch_at}
+use Rattle.meaning.specs.StaysIn.{covers, last_stays, chosen_stay}
+use Rattle.flat_form.specs.Frames.{others_behind, other_scratch}
+use Rattle.flat_form.specs.Calls.{rest_scratch, scratch_in, operand_scratch, all_scratch, input_scratch, moved, moved_operands, all_moved}
 use Rattle.node_core.specs.TypedFlats as flats
-use Rattle.node_core.specs.TypedFlats.{covers, last_stays, chosen_stay}
 use Rattle.typed_programs.specs.Expressions.{IsOf, Join, AreOf, stays_in, each_stays, Takes}
 use Rattle.typed_flat_laws.proofs.TypedLists.{StandFrom, stand_front, stand_back}
 use Rattle.typed_flat_laws.proofs.Standing.{Standing, pous_of, others-length}

@@ -3,14 +3,14 @@ use Rattle.std.proofs.Common.{◌≡◌, ℕ, suc, zero, ◌+◌, ◌<◌, ◌�
 use Rattle.std.specs.Prelude.{◌==◌, slice_index_or, if◌then◌else◌}
 use Rattle.plc_types.specs.declared.range.Range.{Range}
 use Rattle.program_tree.specs.Tree.{Statements, CalledData, block, function}
+use Rattle.program_tree.specs.declared.scratch.Scratch.{Scratch}
+use Rattle.program_tree.specs.Places.{place_at}
 use Rattle.meaning.specs.Calls.{nothing}
-use Rattle.flat_core.specs.declared.flat_tree.Scratch.{Scratch}
-use Rattle.flat_form.specs.Frames.{FrameData, frame_of, frames_of, function_body, scratch_at}
+use Rattle.meaning.specs.Frames.{FrameData, frame_of, frames_of, function_body, scratch_at}
 use Rattle.flat_form.specs.Pous.{block_body}
 use Rattle.flat_form.specs.Idle.{is_idle_all, idle_of}
 use Rattle.flat_form.specs.WellTyped.{AreTyped, extent_of_all, extents_of, Choice, tested_in, FrameFits, MayRunOf, MayCallOf}
 use Rattle.flat_form.proofs.Owed.{owes}
-use Rattle.node_core.specs.Stores.{place_at}
 use Rattle.typed_programs.specs.Programs.{frame_places, IsTypedFrame, IsTypedBody, IsTypedPou}
 use Rattle.typed_flat_laws.proofs.FramePlaces.{frame-length, frame-place}
 use Rattle.typed_flat_laws.proofs.FlatBodies.{same_or_below, pous_in, ArePous}

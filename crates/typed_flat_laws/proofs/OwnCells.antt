@@ -1,19 +1,16 @@
 -- Where the cells of a body stand among those of an owner, and the ranges that its expressions stay in.
-use Rattle.std.proofs.Common.{◌≡◌, ℕ, ◌+◌, ◌<◌, ◌≤◌, Bool, true, ◌&&◌, ◌||◌, List, [], ◌∷◌, length, refl, ap, ◌∙◌}
+use Rattle.std.proofs.Common.{◌≡◌, ℕ, ◌+◌, ◌<◌, ◌≤◌, Bool, true, ◌&&◌, ◌||◌, List, ◌∷◌, length, refl, ap, ◌∙◌}
 use Rattle.plc_types.specs.declared.elementary.Elementary.{Elementary}
-use Rattle.plc_types.specs.declared.function.Function.{Function}
-use Rattle.plc_types.specs.declared.function.Function.TheVariants as functions
 use Rattle.plc_types.specs.declared.range.Range.{Range}
 use Rattle.plc_types.specs.Types.{range_of}
 use Rattle.program_tree.specs.Tree.{Expression, number, cell, unary, chain, call_standard, call_function, Operands, no_operands, operand, Expressions, no_expressions, expression}
-use Rattle.meaning.specs.Values.{result_type}
+use Rattle.program_tree.specs.declared.scratch.Scratch.{Scratch}
+use Rattle.program_tree.specs.OperandTypes.{first_operand_kind, first_kind}
+use Rattle.program_tree.specs.Places.{place_at}
 use Rattle.meaning.specs.Effects.{range_at}
-use Rattle.flat_core.specs.declared.flat_tree.Scratch.{Scratch}
-use Rattle.flat_form.specs.Frames.{FrameData}
+use Rattle.meaning.specs.Frames.{FrameData}
+use Rattle.meaning.specs.StaysIn.{covers, last_stays, chosen_stay}
 use Rattle.flat_form.specs.WellTyped as well
-use Rattle.node_core.specs.Words.{first_operand_kind, first_kind}
-use Rattle.node_core.specs.Stores.{place_at}
-use Rattle.node_core.specs.TypedFlats.{covers, last_stays, chosen_stay}
 use Rattle.typed_programs.specs.Scopes.{Pous, BodyScope}
 use Rattle.typed_programs.specs.Expressions.{IsOf, AreOf, stays_in, each_stays}
 
@@ -40,33 +37,15 @@ pous_for w = record { frames = w.frames; instances = w.instances }
 
 -- ---- ranges
 
-last-same : (os : Operands) (r : Range) (a b : Bool) → a ≡ b → well.last_stays a os r ≡ last_stays b os r
-last-same no_operands r a b e = e
-last-same (operand o q f os) r a b e = last-same os r (covers r (range_of (result_type o q))) (covers r (range_of (result_type o q))) refl
-
-chosen-same : (f : Function) (l : List Bool) → well.chosen_stay f l ≡ chosen_stay f l
-chosen-same functions.Select [] = refl
-chosen-same functions.Select (a ∷ []) = refl
-chosen-same functions.Select (a ∷ b ∷ []) = refl
-chosen-same functions.Select (a ∷ b ∷ c ∷ []) = refl
-chosen-same functions.Select (a ∷ b ∷ c ∷ d ∷ l) = refl
-chosen-same (functions.Convert from) l = refl
-chosen-same functions.Absolute l = refl
-chosen-same functions.Minimum l = refl
-chosen-same functions.Maximum l = refl
-chosen-same functions.Limit l = refl
-chosen-same (functions.Shift s k) l = refl
-
 module _ (w : OwnCells) where
   mutual
     pub stays-same : (t : Elementary) (e : Expression) (r : Range) → IsOf (pous_for w) w.scope t e → well.stays_in w.frames w.ranges w.base e r ≡ stays_in (pous_for w) w.scope.places e r
     stays-same t (number v) r h = refl
     stays-same t (cell place) r h = ap (λ (x : Range). covers r x) (w.owns place h.0.0 h.0.1).range
     stays-same t (unary o q e) r h = refl
-    stays-same t (chain e os) r h = last-same os r _ _ (stays-same (first_kind t os) e r h.0)
+    stays-same t (chain e os) r h = ap (λ (x : Bool). last_stays x os r) (stays-same (first_kind t os) e r h.0)
     stays-same t (call_standard f q es) r h =
-        ap (λ (x : Bool). covers r (range_of q) || (covers (range_of q) r && x))
-        (chosen-same f (well.each_stays w.frames w.ranges w.base es r) ∙ ap (λ (l : List Bool). chosen_stay f l) (each-same (first_operand_kind f q) q es r h.2))
+        ap (λ (l : List Bool). covers r (range_of q) || (covers (range_of q) r && chosen_stay f l)) (each-same (first_operand_kind f q) q es r h.2)
     stays-same t (call_function f es) r h = refl
 
     each-same : (first others : Elementary) (es : Expressions) (r : Range) → AreOf (pous_for w) w.scope first others es → well.each_stays w.frames w.ranges w.base es r ≡ each_stays (pous_for w) w.scope.places es r

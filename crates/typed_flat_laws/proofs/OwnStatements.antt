@@ -8,12 +8,14 @@ use Rattle.plc_types.specs.declared.elementary.Elementary.TheVariants as types
 use Rattle.plc_types.specs.declared.range.Range.{Range}
 use Rattle.program_tree.specs.declared.typed.Association.{Association}
 use Rattle.program_tree.specs.Tree.{Expression, TransitionData, Statement, assign, call_block, choice, cases, repeat, chart, Statements, no_statements, statement, Choices, no_choices, choose, Entries, no_entries, entry, Actions, no_actions, action}
+use Rattle.program_tree.specs.declared.scratch.Scratch.{Scratch}
+use Rattle.program_tree.specs.ChartPlaces.{chart_places, AreRisingFrom}
+use Rattle.program_tree.specs.Places.{place_at}
 use Rattle.meaning.specs.Effects.{range_at}
-use Rattle.flat_core.specs.declared.flat_tree.Scratch.{Scratch}
+use Rattle.meaning.specs.StaysIn.{turns_stay}
 use Rattle.flat_form.specs.WellTyped as well
-use Rattle.flat_form.specs.WellTyped.{turns_stay, chart_places, AreRisingFrom, AreFlags, OfAssociated, extent_of_bodies}
+use Rattle.flat_form.specs.WellTyped.{AreFlags, OfAssociated, extent_of_bodies}
 use Rattle.flat_form.proofs.Owed.{owes}
-use Rattle.node_core.specs.Stores.{place_at}
 use Rattle.typed_programs.specs.Scopes.{IsSettable}
 use Rattle.typed_programs.specs.Expressions.{stays_in}
 use Rattle.typed_programs.specs.Statements.{IsFlagOf, IsTyped, AreTyped, AreTypedChoices, AreTypedEntries, AreTypedActions, AreTypedTransitions, IsTypedPart, AreTypedParts}

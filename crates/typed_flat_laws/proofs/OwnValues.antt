@@ -2,11 +2,10 @@
 use Rattle.std.proofs.Common.{ℕ, ◌+◌, ◌<◌, ◌≤◌, Bool, ◌||◌, length, ap, ◌∙◌, arith}
 use Rattle.plc_types.specs.declared.elementary.Elementary.{Elementary}
 use Rattle.program_tree.specs.Tree.{Expression, number, cell, unary, chain, call_standard, call_function, Operands, no_operands, operand, Expressions, no_expressions, expression}
+use Rattle.program_tree.specs.OperandTypes.{arity, first_operand_kind, first_kind}
 use Rattle.meaning.specs.Values.{result_type}
-use Rattle.flat_form.specs.Frames.{FrameData, scratch_at}
-use Rattle.flat_form.specs.Calls.{arity}
+use Rattle.meaning.specs.Frames.{FrameData, scratch_at}
 use Rattle.flat_form.specs.WellTyped.{IsOwnPlace, IsTypedValue, AreTypedOperands, AreTypedValues, AreTypedInputs}
-use Rattle.node_core.specs.Words.{first_operand_kind, first_kind}
 use Rattle.typed_programs.specs.Expressions.{IsOf, Join, AreOf, AreInputs}
 use Rattle.typed_flat_laws.proofs.OwnCells.{OwnCells, pous_for, stays-same}
 

@@ -4,19 +4,20 @@ use Rattle.std.specs.Prelude.{All}
 use Rattle.std.proofs.lemmas.List.Elements.{All-nil, All-cons, All-append}
 use Rattle.plc_types.specs.declared.elementary.Elementary.{Elementary}
 use Rattle.plc_types.specs.declared.elementary.Elementary.TheVariants as types
+use Rattle.plc_types.proofs.TypeRanges.{least_in, greatest_in}
 use Rattle.program_tree.specs.declared.typed.StepCells.{StepCells}
 use Rattle.program_tree.specs.declared.typed.Association.{Association}
 use Rattle.program_tree.specs.Tree.{Expression, number, cell, unary, chain, call_standard, call_function, Operands, no_operands, operand, Expressions, no_expressions, expression, TransitionData, Statement, assign, call_block, choice, cases, repeat, chart, Statements, no_statements, statement, Choices, no_choices, choose, Entries, no_entries, entry, Actions, no_actions, action}
+use Rattle.program_tree.specs.declared.scratch.Scratch.{Scratch}
+use Rattle.program_tree.specs.Places.{whole_cell, place_at, IsTypedPlace}
+use Rattle.program_tree.specs.OperandTypes.{arity, first_operand_kind, first_kind}
 use Rattle.meaning.specs.Values.{result_type}
-use Rattle.flat_core.specs.declared.flat_tree.Scratch.{Scratch}
-use Rattle.flat_form.specs.Frames.{FrameData, whole_cell, scratch_at, others_behind, other_scratch}
+use Rattle.meaning.specs.Frames.{FrameData, scratch_at}
+use Rattle.flat_form.specs.Frames.{others_behind, other_scratch}
 use Rattle.flat_form.specs.Bodies.{Bodies}
-use Rattle.flat_form.specs.Calls.{arity, rest_scratch, scratch_in, operand_scratch, all_scratch, input_scratch}
+use Rattle.flat_form.specs.Calls.{rest_scratch, scratch_in, operand_scratch, all_scratch, input_scratch}
 use Rattle.flat_form.specs.FlatCharts.{of_associated, flag_cell, flags_of, scratch_of_transitions, scratch_of_moves}
 use Rattle.flat_form.specs.FlatLists.{repeated, scratch_of, scratch_of_all, scratch_of_choices, scratch_of_entries, scratch_of_actions}
-use Rattle.node_core.specs.Words.{first_operand_kind, first_kind}
-use Rattle.node_core.specs.Stores.{place_at}
-use Rattle.node_core.specs.TypedFlats.{IsTypedPlace}
 use Rattle.typed_programs.specs.Scopes.{Pous, BodyScope}
 use Rattle.typed_programs.specs.Expressions.{IsOf, Join, AreOf, AreInputs}
 use Rattle.typed_programs.specs.Statements.{AreTypedTransitions, IsTyped, AreTyped, AreTypedChoices, AreTypedEntries, AreTypedActions, IsTypedPart, AreTypedParts}
@@ -34,16 +35,7 @@ both : (a b : List Scratch) → Whole a → Whole b → Whole (a ++ b)
 both a b h g = All-append IsTypedPlace a b h g
 
 whole-typed : (t : Elementary) → IsTypedPlace (whole_cell t)
-whole-typed types.Bool = (refl, refl)
-whole-typed types.Sint = (refl, refl)
-whole-typed types.Int = (refl, refl)
-whole-typed types.Dint = (refl, refl)
-whole-typed types.Usint = (refl, refl)
-whole-typed types.Uint = (refl, refl)
-whole-typed types.Udint = (refl, refl)
-whole-typed types.Byte = (refl, refl)
-whole-typed types.Word = (refl, refl)
-whole-typed types.Dword = (refl, refl)
+whole-typed t = (least_in t, greatest_in t)
 
 turns-whole : (n : ℕ) (made : List Scratch) → Whole made → Whole (repeated n made)
 turns-whole zero made h = none

@@ -2,13 +2,14 @@
 use Rattle.std.proofs.Common.{◌≡◌, ℕ, suc, zero, ◌+◌, ◌<◌, ◌≤◌, List, [], ◌∷◌, ◌++◌, length, refl, ap, subst, ◌∙◌, arith}
 use Rattle.std.specs.Prelude.{slice_index_or, All}
 use Rattle.program_tree.specs.Tree.{Expressions, no_expressions, expression}
-use Rattle.flat_core.specs.declared.flat_tree.Scratch.{Scratch}
-use Rattle.flat_form.specs.Frames.{FrameData, scratch_at, other_scratch, counted_from}
+use Rattle.program_tree.specs.declared.scratch.Scratch.{Scratch}
+use Rattle.program_tree.specs.OperandTypes.{arity}
+use Rattle.program_tree.specs.Places.{place_at, IsTypedPlace}
+use Rattle.meaning.specs.Frames.{FrameData, scratch_at, counted_from}
+use Rattle.flat_form.specs.Frames.{other_scratch}
 use Rattle.flat_form.specs.Owners.{OwnerData}
 use Rattle.flat_form.specs.Bodies.{Bodies}
-use Rattle.flat_form.specs.Calls.{arity, scratch_in, input_scratch, input_places}
-use Rattle.node_core.specs.Stores.{place_at}
-use Rattle.node_core.specs.TypedFlats.{IsTypedPlace}
+use Rattle.flat_form.specs.Calls.{scratch_in, input_scratch, input_places}
 use Rattle.typed_programs.specs.Scopes.{Pous, BodyScope}
 use Rattle.typed_flat_laws.proofs.TypedLists.{Typed, StandFrom, stand_back}
 use Rattle.typed_flat_laws.proofs.FramePlaces.{Begins}

@@ -3,14 +3,13 @@ use Rattle.std.proofs.Common.{◌≡◌, ℕ, ◌+◌, ◌<◌, List, ◌∷◌,
 use Rattle.plc_types.specs.declared.elementary.Elementary.{Elementary}
 use Rattle.plc_types.specs.declared.elementary.Elementary.TheVariants as types
 use Rattle.program_tree.specs.Tree.{Expression, Statement, assign, call_block, choice, cases, repeat, chart, Statements, no_statements, statement, Choices, no_choices, choose, Entries, no_entries, entry}
-use Rattle.flat_core.specs.declared.flat_tree.Scratch.{Scratch}
+use Rattle.program_tree.specs.declared.scratch.Scratch.{Scratch}
+use Rattle.program_tree.specs.Places.{whole_cell, place_at}
+use Rattle.meaning.specs.StaysIn.{turns_stay}
 use Rattle.flat_core.specs.FlatTree.{FlatStatement}
 use Rattle.flat_core.specs.FlatView.{nested}
-use Rattle.flat_form.specs.Frames.{whole_cell}
 use Rattle.flat_form.specs.Calls.{scratch_in, before}
 use Rattle.flat_form.specs.FlatLists.{scratch_of, scratch_of_all, scratch_of_choices, scratch_of_entries, flat_of, flat_of_all, flat_choices, flat_entries}
-use Rattle.flat_form.specs.WellTyped.{turns_stay}
-use Rattle.node_core.specs.Stores.{place_at}
 use Rattle.typed_programs.specs.Scopes.{IsSettable}
 use Rattle.typed_programs.specs.Expressions.{Takes}
 use Rattle.typed_programs.specs.Statements.{IsTyped, AreTyped, AreTypedChoices, AreTypedEntries}

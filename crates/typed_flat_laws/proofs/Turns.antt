@@ -3,15 +3,15 @@ use Rattle.std.proofs.Common.{◌≡◌, ℕ, suc, zero, ◌+◌, true, false, L
 use Rattle.std.specs.Prelude.{All}
 use Rattle.std.proofs.lemmas.Bool.{and_parts, or_right}
 use Rattle.plc_types.specs.Types.{range_of, in_range}
+use Rattle.plc_types.proofs.InRange.{between_in}
 use Rattle.program_tree.specs.Tree.{number}
-use Rattle.flat_core.specs.declared.flat_tree.Scratch.{Scratch}
+use Rattle.program_tree.specs.declared.scratch.Scratch.{Scratch}
+use Rattle.program_tree.specs.Places.{place_at, IsTypedPlace}
 use Rattle.flat_core.specs.FlatTree.{FlatStatement}
 use Rattle.flat_form.specs.FlatLists.{repeated, unrolled}
 use Rattle.flat_laws.proofs.TurnValues.{stay_from, later-fit}
-use Rattle.node_core.specs.Stores.{place_at}
-use Rattle.node_core.specs.TypedFlats.{Takes, IsTypedPlace}
+use Rattle.node_core.specs.TypedFlats.{Takes}
 use Rattle.typed_flat_laws.proofs.TypedLists.{typed_at, Typed, typed_both, StandFrom, stand_front, stand_back}
-use Rattle.typed_flat_laws.proofs.FramePlaces.{between_in}
 
 module _ (ps : List Scratch) (typed : All IsTypedPlace ps) where
   -- a place takes a number of its range

@@ -9,13 +9,14 @@ use Rattle.plc_types.specs.declared.elementary.Elementary.{Elementary}
 use Rattle.plc_types.specs.declared.range.Range.{Range}
 use Rattle.plc_types.specs.Types.{range_of, in_range}
 use Rattle.program_tree.specs.Tree.{Expression, number, cell, unary, chain, call_standard, call_function, Operands, no_operands, operand}
+use Rattle.program_tree.specs.declared.scratch.Scratch.{Scratch}
+use Rattle.program_tree.specs.OperandTypes.{first_kind}
+use Rattle.program_tree.specs.Places.{place_at, IsTypedPlace}
 use Rattle.meaning.specs.Values.{result_type}
-use Rattle.flat_core.specs.declared.flat_tree.Scratch.{Scratch}
+use Rattle.meaning.specs.StaysIn.{covers, last_stays, chosen_stay}
 use Rattle.flat_core.specs.FlatTree.{FlatStatement}
 use Rattle.flat_core.specs.FlatView.{flats_of}
-use Rattle.node_core.specs.Words.{first_kind}
-use Rattle.node_core.specs.Stores.{place_at}
-use Rattle.node_core.specs.TypedFlats.{IsOf, Join, covers, last_stays, chosen_stay, stays_in, each_stays, Takes, AreTypedFlatOver, IsTypedPlace}
+use Rattle.node_core.specs.TypedFlats.{IsOf, Join, stays_in, each_stays, Takes, AreTypedFlatOver}
 
 -- ---- ranges
 

@@ -1,9 +1,9 @@
 -- A typed program is well typed, as far as its flat form asks for it.
 use Rattle.std.proofs.Common.{◌≡◌, ℕ, suc, zero, ◌+◌, ◌<◌, List, [], ◌∷◌, length, map, refl, subst, arith}
 use Rattle.program_tree.specs.Tree.{CellData, ProgramData}
+use Rattle.program_tree.specs.Places.{of_cell, place_at}
 use Rattle.scan_model.specs.Scans.{ranges_of}
 use Rattle.flat_form.specs.WellTyped.{each_tested, IsWellTyped}
-use Rattle.node_core.specs.Stores.{of_cell, place_at}
 use Rattle.typed_programs.specs.Programs.{IsTypedProgram}
 use Rattle.typed_flat_laws.proofs.FlatBodies.{ArePous}
 use Rattle.typed_flat_laws.proofs.OwnCells.{IsCellFor}

@@ -3,13 +3,13 @@ use Rattle.std.proofs.Common.{◌≡◌, ℕ, suc, zero, ◌<◌, ◌≤◌, Boo
 use Rattle.std.specs.Prelude.{◌==◌, slice_index_or, if◌then◌else◌}
 use Rattle.std.proofs.lemmas.List.Elements.{All-nil}
 use Rattle.program_tree.specs.Tree.{Statements, CalledData, block, function}
+use Rattle.program_tree.specs.declared.scratch.Scratch.{Scratch}
+use Rattle.program_tree.specs.Places.{IsTypedPlace}
 use Rattle.meaning.specs.Calls.{nothing}
-use Rattle.flat_core.specs.declared.flat_tree.Scratch.{Scratch}
-use Rattle.flat_form.specs.Frames.{FrameData, frame_of, frames_of, function_body}
+use Rattle.meaning.specs.Frames.{FrameData, frame_of, frames_of, function_body}
 use Rattle.flat_form.specs.FlatLists.{scratch_of_all}
 use Rattle.flat_form.specs.Pous.{block_body, bodies_of}
 use Rattle.flat_form.proofs.FrameLemmas.{frames-here}
-use Rattle.node_core.specs.TypedFlats.{IsTypedPlace}
 use Rattle.typed_programs.specs.Statements.{AreTypedParts}
 use Rattle.typed_programs.specs.Programs.{frame_places, IsTypedBody, IsTypedPou}
 use Rattle.typed_flat_laws.proofs.FramePlaces.{frame-typed}

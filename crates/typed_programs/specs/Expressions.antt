@@ -5,14 +5,12 @@ use Rattle.plc_types.specs.declared.elementary.Elementary.{Elementary}
 use Rattle.plc_types.specs.declared.range.Range.{Range}
 use Rattle.plc_types.specs.Types.{range_of, in_range}
 use Rattle.program_tree.specs.Tree.{Expression, number, cell, unary, chain, call_standard, call_function, Operands, no_operands, operand, Expressions, no_expressions, expression}
+use Rattle.program_tree.specs.declared.scratch.Scratch.{Scratch}
+use Rattle.program_tree.specs.OperandTypes.{arity, is_for, first_operand_kind, first_kind, is_function_for}
+use Rattle.program_tree.specs.Places.{place_at}
 use Rattle.meaning.specs.Values.{result_type}
-use Rattle.flat_core.specs.declared.flat_tree.Scratch.{Scratch}
-use Rattle.flat_form.specs.Frames.{FrameData, scratch_at}
-use Rattle.flat_form.specs.Calls.{arity}
-use Rattle.node_core.specs.NodeTypes.{is_for}
-use Rattle.node_core.specs.Words.{first_operand_kind, first_kind}
-use Rattle.node_core.specs.Stores.{place_at}
-use Rattle.node_core.specs.TypedFlats.{is_function_for, covers, last_stays, chosen_stay}
+use Rattle.meaning.specs.Frames.{FrameData, scratch_at}
+use Rattle.meaning.specs.StaysIn.{covers, last_stays, chosen_stay}
 use Rattle.typed_programs.specs.Scopes.{Pous, BodyScope, IsNamed}
 
 -- whether the types of an expression and the ranges of its places say that its values lie in a range

@@ -4,13 +4,12 @@ use Rattle.plc_types.specs.declared.data_type.DataType.{DataType}
 use Rattle.plc_types.specs.declared.data_type.DataType.TheVariants as kinds
 use Rattle.plc_types.specs.Types.{range_of}
 use Rattle.program_tree.specs.Tree.{CellData, CalledData, block, function, Statements, ProgramData}
+use Rattle.program_tree.specs.declared.scratch.Scratch.{Scratch}
+use Rattle.program_tree.specs.Places.{of_cell, place_at, IsTypedPlace}
 use Rattle.meaning.specs.Effects.{range_at}
 use Rattle.meaning.specs.Calls.{nothing}
+use Rattle.meaning.specs.Frames.{FrameData, frames_of, scratch_at, counted_from}
 use Rattle.scan_model.specs.InRange.{IsInRange, BeginsWithFault}
-use Rattle.flat_core.specs.declared.flat_tree.Scratch.{Scratch}
-use Rattle.flat_form.specs.Frames.{FrameData, frames_of, scratch_at, counted_from}
-use Rattle.node_core.specs.Stores.{of_cell, place_at}
-use Rattle.node_core.specs.TypedFlats.{IsTypedPlace}
 use Rattle.typed_programs.specs.Scopes.{Pous}
 use Rattle.typed_programs.specs.Statements.{AreTypedParts}
 

@@ -1,7 +1,7 @@
 -- What a body is typed over.
 use Rattle.std.specs.Prelude.{◌≤◌, ◌<◌, ℕ, List, length}
-use Rattle.flat_core.specs.declared.flat_tree.Scratch.{Scratch}
-use Rattle.flat_form.specs.Frames.{FrameData}
+use Rattle.program_tree.specs.declared.scratch.Scratch.{Scratch}
+use Rattle.meaning.specs.Frames.{FrameData}
 
 -- The POUs that a program may run and call, by their numbers: the frame of each FUNCTION, and what each cell of an instance of a
 -- FUNCTION_BLOCK takes.

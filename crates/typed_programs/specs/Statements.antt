@@ -8,10 +8,10 @@ use Rattle.program_tree.specs.declared.typed.TypedLabel.{TypedLabel}
 use Rattle.program_tree.specs.declared.typed.TypedLabel.TheVariants.{Single, Span}
 use Rattle.program_tree.specs.declared.typed.StepCells.{StepCells}
 use Rattle.program_tree.specs.Tree.{TransitionData, Statement, assign, call_block, choice, cases, repeat, chart, Statements, no_statements, statement, Choices, no_choices, choose, Entries, no_entries, entry, Actions, no_actions, action}
-use Rattle.flat_core.specs.declared.flat_tree.Scratch.{Scratch}
-use Rattle.flat_form.specs.Frames.{whole_cell}
-use Rattle.flat_form.specs.WellTyped.{turns_stay, chart_places, AreRisingFrom, AreSteps, NameSteps, IsAssociated}
-use Rattle.node_core.specs.Stores.{place_at}
+use Rattle.program_tree.specs.declared.scratch.Scratch.{Scratch}
+use Rattle.program_tree.specs.Places.{whole_cell, place_at}
+use Rattle.program_tree.specs.ChartPlaces.{chart_places, AreRisingFrom, AreSteps, NameSteps, IsAssociated}
+use Rattle.meaning.specs.StaysIn.{turns_stay}
 use Rattle.typed_programs.specs.Scopes.{Pous, BodyScope, IsNamed, IsSettable}
 use Rattle.typed_programs.specs.Expressions.{IsOf, Takes}
 

@@ -15,7 +15,7 @@ use Rattle.program_tree.specs.Tree.{CellData, ProgramData}
 use Rattle.scan_model.specs.declared.relation.InputLine.{InputLine}
 use Rattle.scan_model.specs.declared.relation.InputLine.TheVariants.{Both, Old, New}
 use Rattle.queries.specs.Comparisons.{Comparison, IsComparison}
-use Rattle.query_formulas.specs.PairWords.{cell_at}
+use Rattle.query_formulas.specs.CellShapes.{cell_at}
 use Rattle.query_formula_laws.specs.TypedComparisons.{NamesAlike}
 use Rattle.relation_file.specs.Inputs.{is_same_flag, is_same_range}
 use Rattle.relation_file.specs.WellFormed.{IsAlike}

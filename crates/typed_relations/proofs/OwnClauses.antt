@@ -5,25 +5,25 @@ use Rattle.plc_types.specs.declared.elementary.Elementary.{Elementary}
 use Rattle.plc_types.specs.declared.elementary.Elementary.TheVariants as types
 use Rattle.plc_types.specs.declared.data_type.DataType.{DataType}
 use Rattle.plc_types.specs.DataTypes.{is_same_type}
+use Rattle.plc_types.proofs.SameTypes.{same_type}
 use Rattle.rules.specs.declared.rule.Rule.TheVariants.{NotBool}
 use Rattle.source_tree.specs.Syntax.{Tree}
 use Rattle.source_tree.specs.Levels.{IsLevelled}
 use Rattle.program_tree.specs.Tree.{Expression, number, cell, unary, chain, call_standard, call_function, Operands, no_operands, operand, Expressions, no_expressions, expression}
+use Rattle.program_tree.specs.declared.scratch.Scratch.{Scratch}
+use Rattle.program_tree.specs.OperandTypes.{first_operand_kind, first_kind}
+use Rattle.program_tree.specs.Places.{of_cell}
 use Rattle.meaning.specs.Values.{result_type}
 use Rattle.queries.specs.Comparisons.{Comparison}
 use Rattle.typing.specs.Typing.{bool_type, type_of, place_of}
 use Rattle.typing.specs.Judged.{judged, judged_clause}
 use Rattle.typing.specs.Typed.{typed}
 use Rattle.typing.specs.Programs.{pair_scope}
-use Rattle.flat_core.specs.declared.flat_tree.Scratch.{Scratch}
 use Rattle.flat_core.specs.FlatRules.{Reads, AllRead, EachReads}
-use Rattle.node_core.specs.Words.{first_operand_kind, first_kind}
-use Rattle.node_core.specs.Stores.{of_cell}
 use Rattle.node_core.specs.TypedFlats as flats
 use Rattle.typed_programs.specs.Expressions.{IsOf, Join, AreOf}
 use Rattle.stated_cells.specs.typed_scopes.Types.{IsOfType}
 use Rattle.stated_cells.proofs.typed_scopes.Expressions.{value_is}
-use Rattle.stated_cells.proofs.typed_scopes.SameTypes.{same_type}
 use Rattle.stated_cells.proofs.typed_scopes.TypedValues.{of_type}
 use Rattle.stated_cells.proofs.typed_scopes.Wholes.{whole_require}
 use Rattle.stated_cells.proofs.whole_files.KnownTypes.{type_known}

@@ -7,11 +7,11 @@ use Rattle.std.proofs.lemmas.List.{length-map, append-nil, map-append}
 use Rattle.plc_types.specs.Enumerations.{paired_type}
 use Rattle.source_tree.specs.Syntax.{PathData}
 use Rattle.program_tree.specs.Tree.{ProgramData}
+use Rattle.program_tree.specs.declared.scratch.Scratch.{Scratch}
+use Rattle.program_tree.specs.Places.{of_cell}
 use Rattle.typing.specs.declared.scope.Meaning.{Meaning}
 use Rattle.typing.specs.Typing.{Reference, by_path, by_value}
 use Rattle.typing.specs.Programs.{own_type, member_of, pair_means, pair_scope}
-use Rattle.flat_core.specs.declared.flat_tree.Scratch.{Scratch}
-use Rattle.node_core.specs.Stores.{of_cell}
 use Rattle.typed_programs.specs.Scopes.{Pous}
 use Rattle.stated_cells.specs.typed_scopes.Uses.{Usable}
 use Rattle.stated_cells.specs.typed_scopes.Fitting.{ScopeFits}

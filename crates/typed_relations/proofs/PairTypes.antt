@@ -9,9 +9,9 @@ use Rattle.plc_types.specs.declared.data_type.DataType.TheVariants as kinds
 use Rattle.plc_types.specs.DataTypes.{carrier}
 use Rattle.plc_types.specs.Types.{range_of, in_range}
 use Rattle.plc_types.specs.Enumerations.{value_named, are_same_names, names_at, if_same, old_type_of, paired_number, paired_type}
-use Rattle.flat_core.specs.declared.flat_tree.Scratch.{Scratch}
-use Rattle.node_core.specs.TypedFlats.{covers}
 use Rattle.plc_types.specs.declared.range.Range.{Range}
+use Rattle.program_tree.specs.declared.scratch.Scratch.{Scratch}
+use Rattle.meaning.specs.StaysIn.{covers}
 use Rattle.typing.specs.Typing.{is_unknown}
 use Rattle.typing.specs.Programs.{own_type}
 use Rattle.stated_cells.specs.typed_scopes.Types.{range_of_type, IsKnown, IsPlaceOf}

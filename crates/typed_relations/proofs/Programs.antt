@@ -10,9 +10,9 @@ use Rattle.plc_types.specs.DataTypes.{carrier}
 use Rattle.plc_types.specs.Types.{range_of}
 use Rattle.program_tree.specs.declared.typed.ChartCells.{ChartCells}
 use Rattle.program_tree.specs.Tree.{CellData}
-use Rattle.flat_core.specs.declared.flat_tree.Scratch.{Scratch}
-use Rattle.node_core.specs.Stores.{of_cell}
-use Rattle.query_formulas.specs.Literals.{is_enumeration}
+use Rattle.program_tree.specs.declared.scratch.Scratch.{Scratch}
+use Rattle.program_tree.specs.Places.{of_cell}
+use Rattle.query_formulas.specs.CellShapes.{is_enumeration}
 use Rattle.query_formula_laws.specs.TypedComparisons as compared
 use Rattle.typed_programs.specs.Programs.{HasWholeRange, IsTypedCell}
 use Rattle.stated_cells.proofs.typed_cells.Occurrences.{Occurs, occurs_stands, occurs_within}

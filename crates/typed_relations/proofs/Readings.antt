@@ -9,13 +9,13 @@ use Rattle.program_tree.specs.Tree.{Expression, CellData}
 use Rattle.scan_model.specs.InRange.{BeginsWithFault}
 use Rattle.scan_model.specs.Pairs.{RelationData}
 use Rattle.queries.specs.Comparisons.{Comparison}
-use Rattle.flat_core.specs.declared.flat_tree.Scratch.{Scratch}
-use Rattle.node_core.specs.Stores.{of_cell, place_at}
 use Rattle.query_formula_laws.specs.TypedComparisons.{IsClauseOf, HasTypedClauses, IsTypedComparison}
 use Rattle.query_formula_laws.proofs.TypedCandidates.{candidates_are_typed}
 use Rattle.relation_lines.specs.declared.line.Condition.{Condition}
 use Rattle.relation_lines.specs.declared.line.Condition.TheVariants as conditions
 use Rattle.source_tree.specs.declared.token.Tok.{Tok}
+use Rattle.program_tree.specs.declared.scratch.Scratch.{Scratch}
+use Rattle.program_tree.specs.Places.{of_cell, place_at}
 use Rattle.relation_file.specs.Stated.{IsRelation}
 use Rattle.relation_file.specs.Relations.{faults_are_equal, equal_faults, faults_clause, clauses_in}
 use Rattle.stated_cells.proofs.typed_cells.Occurrences.{Occurs, occurs_first, occurs_within}

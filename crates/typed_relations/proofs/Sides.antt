@@ -10,17 +10,17 @@ use Rattle.plc_types.specs.declared.data_type.DataType.TheVariants as kinds
 use Rattle.plc_types.specs.declared.range.Range.{Range}
 use Rattle.plc_types.specs.Types.{in_range}
 use Rattle.plc_types.specs.Enumerations.{place_of_name, or_in_later, value_named, names_at}
+use Rattle.plc_types.proofs.TypeRanges.{value_in}
 use Rattle.source_tree.specs.Syntax.{Named}
 use Rattle.program_tree.specs.Tree.{CellData, ProgramData}
+use Rattle.program_tree.specs.declared.scratch.Scratch.{Scratch}
+use Rattle.program_tree.specs.Places.{of_cell, place_at}
 use Rattle.typing.specs.declared.scope.Meaning.{Meaning}
 use Rattle.typing.specs.Typing.{is_unknown}
 use Rattle.typing.specs.Programs.{or_meaning, joined, cell_meaning, cell_among, value_member, value_among, member_of}
-use Rattle.flat_core.specs.declared.flat_tree.Scratch.{Scratch}
-use Rattle.node_core.specs.Stores.{of_cell, place_at}
 use Rattle.typed_programs.specs.Scopes.{BodyScope}
 use Rattle.stated_cells.specs.typed_scopes.Types.{IsPlaceOf}
 use Rattle.stated_cells.specs.typed_scopes.Fitting.{MeaningFits}
-use Rattle.stated_cells.proofs.typed_cells.Constants.{within}
 use Rattle.stated_cells.proofs.typed_cells.Occurrences.{Occurs, occurs_first, occurs_right, occurs_within}
 use Rattle.stated_cells.specs.whole_files.WholeScopes.{is_whole_meaning}
 use Rattle.stated_cells.specs.StatedCells.{last_number, last_of, has_values, IsOfTypes, IsStatedCell, HasStatedCells}
@@ -75,7 +75,7 @@ value_there text number (ns ∷ rest) v h =
 
 inside : (ns : List (List ℕ)) (k : ℕ) → k < length ns → in_range (pos k) (record { low = pos 0; high = last_number ns }) ≡ true
 inside [] k low = absurd (omega (arith, low))
-inside (n ∷ ns) k low = within (pos k) (pos 0) (pos (length ns)) (omega (arith, ints)) (omega (arith, ints, low))
+inside (n ∷ ns) k low = value_in k (length ns) (omega (arith, low))
 
 some_values : (ns : List (List ℕ)) (k : ℕ) → k < length ns → has_values ns ≡ true
 some_values [] k low = absurd (omega (arith, low))

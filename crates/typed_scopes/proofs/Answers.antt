@@ -10,10 +10,10 @@ use Rattle.plc_types.specs.declared.data_type.DataType.{DataType}
 use Rattle.program_tree.specs.Tree.{Expression, number, call_function}
 use Rattle.program_tree.specs.View.{expressions_of}
 use Rattle.source_tree.specs.Syntax.{Arguments}
-use Rattle.flat_form.specs.Frames.{FrameData, scratch_at}
-use Rattle.flat_form.specs.Calls.{arity}
 use Rattle.rules.specs.declared.rule.Rule.TheVariants.{ArgumentCount, OperandType}
 use Rattle.rules.specs.Judgements.{require}
+use Rattle.program_tree.specs.OperandTypes.{arity}
+use Rattle.meaning.specs.Frames.{FrameData, scratch_at}
 use Rattle.typing.specs.declared.scope.Signature.{Signature}
 use Rattle.typing.specs.Typing.{Scope, port_type, count_of}
 use Rattle.typing.specs.Judged.{places_for, has_all_below, gives_all, fit_placed, judged_port, judged_given, judged_answer}

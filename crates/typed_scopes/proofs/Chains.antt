@@ -6,17 +6,17 @@ use Rattle.plc_types.specs.DataTypes.{carrier}
 use Rattle.plc_types.specs.Types.{range_of}
 use Rattle.plc_types.specs.declared.operator.Operator.{Operator}
 use Rattle.plc_types.specs.declared.operator.Operator.TheVariants as ops
+use Rattle.plc_types.proofs.InRange.{covers_self}
 use Rattle.source_tree.specs.Syntax.{Tree, chain, Links, no_links, link}
 use Rattle.source_tree.specs.Levels.{level_of, AreOfLevel}
 use Rattle.program_tree.specs.Tree.{chain as typed_chain, Operands, no_operands, operand}
+use Rattle.program_tree.specs.OperandTypes.{is_for}
 use Rattle.meaning.specs.Values.{result_type}
-use Rattle.node_core.specs.NodeTypes.{is_for}
-use Rattle.node_core.specs.TypedFlats.{covers, last_stays}
+use Rattle.meaning.specs.StaysIn.{covers, last_stays}
 use Rattle.typing.specs.Typing.{Scope, synthesized, synthesized_of_links, synthesized_of_first, bool_type, type_of, or_else, or_dint, is_comparison, operand_type, next_type, takes}
 use Rattle.typing.specs.Typed.{typed, typed_links}
 use Rattle.typed_programs.specs.Scopes.{Pous, BodyScope}
 use Rattle.typed_programs.specs.Expressions.{Join}
-use Rattle.typed_scopes.proofs.Numbers.{covers-self}
 use Rattle.typed_scopes.proofs.SameTypes.{IsElementary, of_integers, of_bits, bits_unsigned}
 use Rattle.typed_scopes.proofs.TypedValues.{IsValueOf, IsValueIf, known_type, elementary_value}
 
@@ -124,7 +124,7 @@ first_type false None first links expected = refl
 module _ (pous : Pous) (b : BodyScope) where
   -- the last operator tells the range
   join_stays : (left t : Elementary) (os : Operands) → Join pous b left t os → last_stays (covers (range_of t) (range_of left)) os (range_of t) ≡ true
-  join_stays left t no_operands j = subst (λ (k : Elementary). covers (range_of t) (range_of k) ≡ true) (sym j) (covers-self (range_of t))
+  join_stays left t no_operands j = subst (λ (k : Elementary). covers (range_of t) (range_of k) ≡ true) (sym j) (covers_self (range_of t))
   join_stays left t (operand o k e os) j = join_stays (result_type o k) t os j.3
 
 module _ (pous : Pous) (b : BodyScope) (last : ℕ → ℤ) (scope : Scope) where

@@ -6,13 +6,14 @@ use Rattle.std.proofs.lemmas.List.Elements.{All-nil, All-cons, All-head, All-tai
 use Rattle.plc_types.specs.declared.elementary.Elementary.TheVariants as types
 use Rattle.source_tree.specs.Syntax.{PartData, step_part, transition_part, action_part, ChartTransitionData, ChartActionData}
 use Rattle.source_tree.specs.Levels.{ArePartsLevelled}
+use Rattle.source_tree.specs.StatementItems.{every, folded_parts}
 use Rattle.program_tree.specs.View.{actions_of as actions_from}
 use Rattle.sfc_shape.specs.Shapes.{steps_of, transitions_of, actions_of, comes_first, placed, in_firing_order}
 use Rattle.rules.specs.declared.rule.Rule.TheVariants.{OperandType}
 use Rattle.typing.specs.Typing.{Scope}
 use Rattle.typing.specs.Typed.{typed}
 use Rattle.typing.specs.TypedStatements.{typed_stmts}
-use Rattle.typing.specs.JudgedCharts.{judged_part, judged_parts}
+use Rattle.typing.specs.JudgedCharts.{judged_parts}
 use Rattle.typing.specs.TypedCharts.{step_cells, typed_action, typed_transition, typed_chart}
 use Rattle.typed_programs.specs.Scopes.{Pous, BodyScope}
 use Rattle.typed_programs.specs.Expressions.{IsOf}
@@ -20,8 +21,8 @@ use Rattle.typed_programs.specs.Statements.{IsTypedPart, AreTyped, AreTypedTrans
 use Rattle.typed_scopes.specs.Uses.{Usable, ArePartsWithin}
 use Rattle.typed_scopes.specs.Fitting.{ScopeFits}
 use Rattle.typed_scopes.specs.Charts.{NamesSteps, IsNamedBySteps, ChartFits}
-use Rattle.typed_scopes.proofs.Wholes.{whole_and}
-use Rattle.typed_scopes.proofs.Statements.{condition_is, stmts_are}
+use Rattle.typed_scopes.proofs.SoundItems.{IsSoundWithSelector, sound_parts}
+use Rattle.typed_scopes.proofs.Statements.{condition_is, sound_are}
 
 -- ---- transitions in firing order
 
@@ -44,23 +45,21 @@ module _ (pous : Pous) (b : BodyScope) (last : ℕ → ℤ) (scope : Scope) (use
   HasBody : ChartActionData → Type 0
   HasBody a = AreTyped pous b (typed_stmts scope a.body)
 
-  conditions_are : (ps : List PartData) → ArePartsWithin uses ps → ArePartsLevelled ps → (judged_parts scope ps).whole ≡ true → All HasCondition (transitions_of ps)
+  conditions_are : (ps : List PartData) → folded_parts (every (IsSoundWithSelector scope uses [])) ps → All HasCondition (transitions_of ps)
   unfolding HasCondition
-  conditions_are [] within levels whole = All-nil HasCondition
-  conditions_are (step_part s ∷ ps) within levels whole = conditions_are ps within levels.1 (whole_and (judged_part scope (step_part s)) (judged_parts scope ps) whole).1
-  conditions_are (transition_part t ∷ ps) within levels whole =
-      let both = whole_and (judged_part scope (transition_part t)) (judged_parts scope ps) whole in
-      All-cons HasCondition t (transitions_of ps) (condition_is pous b last scope uses fits OperandType t.condition within.0 levels.0 both.0) (conditions_are ps within.1 levels.1 both.1)
-  conditions_are (action_part a ∷ ps) within levels whole = conditions_are ps within.1 levels.1 (whole_and (judged_part scope (action_part a)) (judged_parts scope ps) whole).1
+  conditions_are [] sound = All-nil HasCondition
+  conditions_are (step_part s ∷ ps) sound = conditions_are ps sound
+  conditions_are (transition_part t ∷ ps) sound =
+      let own = sound.0 in
+      All-cons HasCondition t (transitions_of ps) (condition_is pous b last scope uses fits OperandType t.condition own.0.0 own.0.1 own.1) (conditions_are ps sound.1)
+  conditions_are (action_part a ∷ ps) sound = conditions_are ps sound.1
 
-  bodies_are : (ps : List PartData) → ArePartsWithin uses ps → ArePartsLevelled ps → (judged_parts scope ps).whole ≡ true → All HasBody (actions_of ps)
+  bodies_are : (ps : List PartData) → folded_parts (every (IsSoundWithSelector scope uses [])) ps → All HasBody (actions_of ps)
   unfolding HasBody
-  bodies_are [] within levels whole = All-nil HasBody
-  bodies_are (step_part s ∷ ps) within levels whole = bodies_are ps within levels.1 (whole_and (judged_part scope (step_part s)) (judged_parts scope ps) whole).1
-  bodies_are (transition_part t ∷ ps) within levels whole = bodies_are ps within.1 levels.1 (whole_and (judged_part scope (transition_part t)) (judged_parts scope ps) whole).1
-  bodies_are (action_part a ∷ ps) within levels whole =
-      let both = whole_and (judged_part scope (action_part a)) (judged_parts scope ps) whole in
-      All-cons HasBody a (actions_of ps) (stmts_are pous b last scope uses fits [] a.body within.0 levels.0 both.0) (bodies_are ps within.1 levels.1 both.1)
+  bodies_are [] sound = All-nil HasBody
+  bodies_are (step_part s ∷ ps) sound = bodies_are ps sound
+  bodies_are (transition_part t ∷ ps) sound = bodies_are ps sound.1
+  bodies_are (action_part a ∷ ps) sound = All-cons HasBody a (actions_of ps) (sound_are pous b last scope uses fits [] a.body sound.0) (bodies_are ps sound.1)
 
   transitions_are : (ps : List PartData) (ts : List ChartTransitionData) → All HasCondition ts → All (NamesSteps ps) ts
       → AreTypedTransitions pous b (length (steps_of ps)) (map (typed_transition scope ps) ts)
@@ -80,11 +79,12 @@ module _ (pous : Pous) (b : BodyScope) (last : ℕ → ℤ) (scope : Scope) (use
 
   pub chart_is : (ps : List PartData) → ChartFits b scope ps → ArePartsWithin uses ps → ArePartsLevelled ps → (judged_parts scope ps).whole ≡ true → IsTypedPart pous b (typed_chart scope ps)
   chart_is ps chart_fits within levels whole =
+      let sound = sound_parts scope uses ps within levels whole in
       let actions = actions_from (map (typed_action scope ps) (actions_of ps)) in
       let ts = map (typed_transition scope ps) (in_firing_order (transitions_of ps)) in
       let count = sym (length-map (steps_of ps) (step_cells scope)) in
-      let fire = transitions_are ps (in_firing_order (transitions_of ps)) (all_in_order HasCondition (transitions_of ps) (conditions_are ps within levels whole)) (all_in_order (NamesSteps ps) (transitions_of ps) chart_fits.transitions) in
-      let act = actions_are ps (actions_of ps) (bodies_are ps within levels whole) chart_fits.actions in (
+      let fire = transitions_are ps (in_firing_order (transitions_of ps)) (all_in_order HasCondition (transitions_of ps) (conditions_are ps sound)) (all_in_order (NamesSteps ps) (transitions_of ps) chart_fits.transitions) in
+      let act = actions_are ps (actions_of ps) (bodies_are ps sound) chart_fits.actions in (
         chart_fits.flags,
         chart_fits.rising,
         subst (λ (n : ℕ). AreTypedActions pous b n actions) count act,

@@ -32,7 +32,7 @@ module _ (pous : Pous) (b : BodyScope) (last : ℕ → ℤ) (scope : Scope) (use
       let parts = and (judged_meaning m) (judged scope (kind_at m) e) in
       let fitting = whole_require parts (is_same_type (type_of scope (kind_at m) e) (or_dint (kind_at m))) ValueType x.at wholes.0 in
       let both = whole_and (judged_meaning m) (judged scope (kind_at m) e) fitting.0 in
-      (assigned pous b last scope m (fits.names p within.0) both.0 tests.0 e (value_is pous b last scope uses fits (kind_at m) e within.1 levels.0 both.1) fitting.1, inputs_are controls n cs within.2 levels.1 wholes.1 tests.1)
+      ((λ around. assigned pous b last scope m (fits.names p within.0) both.0 tests.0 e (value_is pous b last scope uses fits (kind_at m) e within.1 levels.0 both.1) fitting.1), inputs_are controls n cs within.2 levels.1 wholes.1 tests.1)
   inputs_are controls n (output y p ∷ cs) within levels whole arrows =
       inputs_are controls n cs within.2 levels (whole_and (judged_connection scope controls n (output y p)) (judged_connections scope controls n cs) whole).1
       (and_parts (has_right_arrow scope n (output y p)) (list_all (has_right_arrow scope n) cs) arrows).1
@@ -49,11 +49,11 @@ module _ (pous : Pous) (b : BodyScope) (last : ℕ → ℤ) (scope : Scope) (use
       let fitting = whole_require parts (is_same_type (or_dint (kind_at target)) (or_dint (kind_at m))) ValueType p.first.at wholes.0 in
       let both = whole_and (judged_meaning m) (judged_target controls target p.first.at) fitting.0 in
       let settable = whole_require (judged_meaning target) (is_assignable controls target) NotAssignable p.first.at both.1 in
-      (copied pous b last scope m target (fits.names q within.0) (fits.names (by_path p) within.1) both.0 settable.0 (is_input controls target settable.1) fitting.1, outputs_are controls n cs within.2 wholes.1)
+      ((λ around. copied pous b last scope m target (fits.names q within.0) (fits.names (by_path p) within.1) both.0 settable.0 (is_input controls target settable.1) fitting.1), outputs_are controls n cs within.2 wholes.1)
 
   run_is : (found : Option Instance) → ((i : Instance) → found ≡ Some i → InstanceFits pous b i) → AllTyped pous b (typed_run found)
   run_is None stands = tt
-  run_is (Some i) stands = let f = stands i refl in ((f.before, f.named, f.within, f.stands), tt)
+  run_is (Some i) stands = let f = stands i refl in ((λ around. (f.before, f.named, f.within, f.stands)), tt)
 
   pub invoke_is : (controls : List ℕ) (n : Named) (cs : List ConnectionData) → AreConnectionsWithin uses n cs → AreConnectionsLevelled cs → (judged_invoke scope controls n cs).whole ≡ true → AllTyped pous b (typed_invoke scope n cs)
   invoke_is controls n cs within levels whole =

@@ -1,5 +1,4 @@
 pub mod Wholes
-pub mod Numbers
 pub mod SameTypes
 pub mod TypedValues
 pub mod Literals
@@ -15,6 +14,9 @@ pub mod Labels
 pub mod Turns
 pub mod Targets
 pub mod Lists
+pub mod EveryItem
+pub mod Selectors
+pub mod SoundItems
 pub mod Invocations
 pub mod Statements
 pub mod Charts

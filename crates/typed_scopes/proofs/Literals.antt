@@ -7,6 +7,8 @@ use Rattle.plc_types.specs.declared.data_type.DataType.{DataType}
 use Rattle.plc_types.specs.declared.data_type.DataType.TheVariants as kinds
 use Rattle.plc_types.specs.DataTypes.{carrier}
 use Rattle.plc_types.specs.Types.{range_of, in_range, wrap_to}
+use Rattle.plc_types.proofs.TypeRanges.{wrapped_same}
+use Rattle.plc_types.proofs.SameTypes.{same_type}
 use Rattle.source_tree.specs.declared.syntax.Literal.{Literal}
 use Rattle.source_tree.specs.declared.syntax.Literal.TheVariants as literals
 use Rattle.source_tree.specs.Syntax.{literal}
@@ -18,14 +20,12 @@ use Rattle.typing.specs.Judged.{judged_literal}
 use Rattle.typing.specs.Typed.{number_of}
 use Rattle.typed_programs.specs.Scopes.{Pous, BodyScope}
 use Rattle.typed_scopes.proofs.Wholes.{whole_test}
-use Rattle.typed_scopes.proofs.Numbers.{wrapped-same}
-use Rattle.typed_scopes.proofs.SameTypes.{same_type}
 use Rattle.typed_scopes.proofs.TypedValues.{IsValueOf, number_value}
 
 module _ (pous : Pous) (b : BodyScope) (last : ℕ → ℤ) where
   -- a number of its type stays as it is
   kept : (k : Elementary) (v : ℤ) → in_range v (range_of k) ≡ true → IsValueOf pous b last (kinds.Elementary k) (number (wrap_to k v))
-  kept k v h = subst (λ (w : ℤ). IsValueOf pous b last (kinds.Elementary k) (number w)) (sym (wrapped-same k v h)) (number_value pous b last (kinds.Elementary k) v tt h)
+  kept k v h = subst (λ (w : ℤ). IsValueOf pous b last (kinds.Elementary k) (number w)) (sym (wrapped_same k v h)) (number_value pous b last (kinds.Elementary k) v tt h)
 
   pub in_number : (t : DataType) (v : ℤ) (at : ℕ) → (if is_unknown t then suppressed else (if is_number_of t v then ok else breaks OutsideType at)).whole ≡ true
       → IsValueOf pous b last t (number (wrap_to (carrier t) v))

@@ -1,4 +1,4 @@
--- Data types that are the same, and those that are elementary.
+-- Which data types are known, and which are elementary.
 use Rattle.std.proofs.Common.{◌≡◌, ℕ, ◌==◌, true, not, refl, ap, arith, rules, false}
 use Rattle.std.proofs.lemmas.Bool.{false≢true}
 use Rattle.std.proofs.lemmas.Bool.Decides.{nat_tests}
@@ -10,19 +10,8 @@ use Rattle.plc_types.specs.declared.data_type.DataType.{DataType}
 use Rattle.plc_types.specs.declared.data_type.DataType.TheVariants as kinds
 use Rattle.plc_types.specs.DataTypes.{carrier, is_same_type, is_integer_type}
 use Rattle.plc_types.specs.Types.{is_signed, is_integer}
+use Rattle.plc_types.proofs.Widths.{bits_unsigned as unsigned}
 use Rattle.typing.specs.Typing.{has_bits, is_ordered, is_unknown}
-
-same_number : (m n : ℕ) → m == n ≡ true → m ≡ n
-same_number m n h = grind (arith, nat_tests)
-
-pub same_type : (a b : DataType) → is_same_type a b ≡ true → a ≡ b
-same_type (kinds.Elementary k) (kinds.Elementary l) h = ap kinds.Elementary (same_true the_type (search rules) k l h)
-same_type (kinds.Elementary k) (kinds.Enumeration n) h = absurd (false≢true h)
-same_type (kinds.Elementary k) kinds.Unknown h = absurd (false≢true h)
-same_type (kinds.Enumeration m) (kinds.Elementary l) h = absurd (false≢true h)
-same_type (kinds.Enumeration m) (kinds.Enumeration n) h = ap kinds.Enumeration (same_number m n h)
-same_type (kinds.Enumeration m) kinds.Unknown h = absurd (false≢true h)
-same_type kinds.Unknown b h = absurd (false≢true h)
 
 -- a type that is the same as another is known
 pub same_known : (u t : DataType) → is_same_type u t ≡ true → is_unknown t ≡ false
@@ -56,19 +45,6 @@ pub of_ordered : (t : DataType) → is_ordered t ≡ true → IsElementary t
 of_ordered (kinds.Elementary k) h = tt
 of_ordered (kinds.Enumeration n) h = absurd (false≢true h)
 of_ordered kinds.Unknown h = absurd (false≢true h)
-
--- BOOL and the bit strings have no sign
-unsigned : (k : Elementary) → not (is_integer k) ≡ true → not (is_signed k) ≡ true
-unsigned types.Bool h = refl
-unsigned types.Sint h = absurd (false≢true h)
-unsigned types.Int h = absurd (false≢true h)
-unsigned types.Dint h = absurd (false≢true h)
-unsigned types.Usint h = refl
-unsigned types.Uint h = refl
-unsigned types.Udint h = refl
-unsigned types.Byte h = refl
-unsigned types.Word h = refl
-unsigned types.Dword h = refl
 
 pub bits_unsigned : (t : DataType) → has_bits t ≡ true → not (is_signed (carrier t)) ≡ true
 bits_unsigned (kinds.Elementary k) h = unsigned k h

@@ -6,6 +6,7 @@ use Rattle.plc_types.specs.DataTypes.{carrier}
 use Rattle.plc_types.specs.Types.{range_of}
 use Rattle.plc_types.specs.declared.operator.UnaryOperator.{UnaryOperator}
 use Rattle.plc_types.specs.declared.operator.UnaryOperator.TheVariants as signs
+use Rattle.plc_types.proofs.InRange.{covers_self}
 use Rattle.source_tree.specs.declared.syntax.Literal.TheVariants as literals
 use Rattle.source_tree.specs.Syntax.{Tree, literal, unary}
 use Rattle.program_tree.specs.Tree.{unary as typed_unary}
@@ -16,7 +17,6 @@ use Rattle.typing.specs.Judged.{takes_sign, judged}
 use Rattle.typing.specs.Typed.{typed}
 use Rattle.typed_programs.specs.Scopes.{Pous, BodyScope}
 use Rattle.typed_scopes.proofs.Wholes.{whole_require}
-use Rattle.typed_scopes.proofs.Numbers.{covers-self}
 use Rattle.typed_scopes.proofs.SameTypes.{IsElementary, elementary_known, of_integers, of_bits}
 use Rattle.typed_scopes.proofs.TypedValues.{IsValueOf, IsValueIf, elementary_value}
 use Rattle.typed_scopes.proofs.Literals.{in_number}
@@ -42,7 +42,7 @@ module _ (pous : Pous) (b : BodyScope) (last : ℕ → ℤ) (scope : Scope) wher
       let t = type_of scope expected e in
       let w = whole_require (judged scope (Some t) e) (takes_sign o t) OperandType at whole in
       let v = subst (λ (x : DataType). IsValueIf pous b last x (typed scope (Some t) e)) (type_again (synthesized scope e) expected) (given w.0) (elementary_known t (signed_type o t w.1)) in
-      elementary_value pous b last t (typed_unary o (carrier t) (typed scope (Some t) e)) (signed_type o t w.1) (refl, v.typed) (covers-self (range_of (carrier t)))
+      elementary_value pous b last t (typed_unary o (carrier t) (typed scope (Some t) e)) (signed_type o t w.1) (refl, v.typed) (covers_self (range_of (carrier t)))
 
   pub unary_is : (expected : Option DataType) (o : UnaryOperator) (at : ℕ) (e : Tree) → IsJudgedValue (Some (type_of scope expected e)) e → IsJudgedValue expected (unary o at e)
   unary_is expected signs.Minus at (literal (literals.Number value here)) given whole known = in_number pous b last (or_dint expected) (negated true (pos value)) at whole

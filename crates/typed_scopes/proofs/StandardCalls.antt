@@ -13,16 +13,15 @@ use Rattle.plc_types.specs.declared.function.Function.TheVariants as typed_funct
 use Rattle.plc_types.specs.declared.function.Shift.{Shift}
 use Rattle.plc_types.specs.declared.function.StandardFunction.{StandardFunction}
 use Rattle.plc_types.specs.declared.function.StandardFunction.TheVariants as functions
+use Rattle.plc_types.proofs.InRange.{covers_self}
 use Rattle.source_tree.specs.Syntax.{Tree, Arguments, no_arguments, argument}
 use Rattle.program_tree.specs.Tree.{call_standard, Expressions}
-use Rattle.node_core.specs.TypedFlats.{is_function_for}
-use Rattle.node_core.specs.Words.{first_operand_kind}
+use Rattle.program_tree.specs.OperandTypes.{is_function_for, first_operand_kind}
 use Rattle.typing.specs.Typing.{Scope, type_of, or_else, or_dint, Parameter, fixed, common, amount, parameter_of, result_of, takes_operands, takes_count, count_of}
 use Rattle.typing.specs.Judged.{expected_at, fits_at, fit_from}
 use Rattle.typing.specs.Typed.{typed, with_operand, typed_operands, function_of}
 use Rattle.typed_programs.specs.Scopes.{Pous, BodyScope}
 use Rattle.typed_programs.specs.Expressions.{AreOf}
-use Rattle.typed_scopes.proofs.Numbers.{covers-self}
 use Rattle.typed_scopes.proofs.SameTypes.{IsElementary, of_integers, of_ordered, of_bits, bits_unsigned}
 use Rattle.typed_scopes.proofs.TypedValues.{IsValueOf, IsValueIf, carrier-covers, fitted, elementary_value}
 
@@ -66,7 +65,7 @@ module _ (pous : Pous) (b : BodyScope) (last : ℕ → ℤ) (scope : Scope) wher
   own_call : (f : Function) (t : DataType) (es : Expressions) → IsElementary t → is_function_for f (carrier t) ≡ true → AreOf pous b (first_operand_kind f (carrier t)) (carrier t) es
       → IsValueOf pous b last t (call_standard f (carrier t) es)
   own_call f t es elementary for operands =
-      elementary_value pous b last t (call_standard f (carrier t) es) elementary (refl, for, operands) (or_left _ _ (covers-self (range_of (carrier t))))
+      elementary_value pous b last t (call_standard f (carrier t) es) elementary (refl, for, operands) (or_left _ _ (covers_self (range_of (carrier t))))
 
   abbrev IsCallValue : StandardFunction → DataType → Arguments → Type 0
   IsCallValue f t args =

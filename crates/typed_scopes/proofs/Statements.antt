@@ -1,4 +1,4 @@
--- Statements that break no rule are typed: by induction over them.
+-- Statements that break no rule are typed, item by item.
 use Rattle.std.proofs.Common.{◌≡◌, List, [], ◌∷◌, ℕ, ℤ, Bool, true, false, ◌&&◌, Option, Some, None, refl}
 use Rattle.std.proofs.lemmas.Bool.{and_parts, false≢true}
 use Rattle.plc_types.specs.declared.elementary.Elementary.TheVariants as types
@@ -6,25 +6,32 @@ use Rattle.plc_types.specs.declared.data_type.DataType.{DataType}
 use Rattle.plc_types.specs.declared.data_type.DataType.TheVariants as kinds
 use Rattle.plc_types.specs.declared.range.Range.{Range}
 use Rattle.plc_types.specs.DataTypes.{carrier, is_same_type, is_integer_type}
-use Rattle.source_tree.specs.Syntax.{PathData, Tree, empty, assign, invoke, branch, cases, iterate, Stmts, no_stmts, stmt, Arms, no_arms, arm, Entries, no_entries, entry, Otherwise, no_else, else_stmts, LabelData, IterationData}
-use Rattle.source_tree.specs.Levels.{IsLevelled, AreLabels, AreLabelsFormed, IsStmtLevelled, AreStmtsLevelled, AreArmsLevelled, AreEntriesLevelled, IsElseLevelled}
+use Rattle.source_tree.specs.Syntax.{PathData, Tree, Stmts, LabelData, IterationData}
+use Rattle.source_tree.specs.StatementItems.{every, folded_stmts}
+use Rattle.source_tree.specs.Levels.{IsLevelled, AreLabels, AreLabelsFormed, AreStmtsLevelled}
 use Rattle.program_tree.specs.Tree.{assign as typed_assign}
-use Rattle.flat_form.specs.WellTyped.{turns_stay}
-use Rattle.node_core.specs.Stores.{place_at}
+use Rattle.program_tree.specs.StatementItems.{every as typed_every}
 use Rattle.rules.specs.declared.rule.Rule.{Rule}
 use Rattle.rules.specs.declared.rule.Rule.TheVariants.{OperandType, ValueType, NotAssignable}
 use Rattle.rules.specs.Judgements.{Judgement, and}
+use Rattle.program_tree.specs.Places.{place_at}
 use Rattle.naming.specs.Broken.{alone}
+use Rattle.meaning.specs.StaysIn.{turns_stay}
 use Rattle.typing.specs.Typing.{Scope, bool_type, by_path, kind_at, or_dint, type_of, place_of, is_unknown}
 use Rattle.typing.specs.Judged.{judged, judged_meaning, judged_condition}
 use Rattle.typing.specs.Typed.{typed}
-use Rattle.typing.specs.Labels.{judged_labels, seen_behind}
-use Rattle.typing.specs.JudgedStatements.{is_assignable, judged_target, judged_assign, is_control, may_control, judged_control, judged_bound, judged_step, is_typed, step_is_typed, judged_iteration, bound_value, step_value, turns_rule, broken_by, with_control, may_select, judged_selector, judged_labels_if, judged_stmt, judged_stmts, judged_arms, judged_entries, judged_else}
-use Rattle.typing.specs.TypedStatements.{cell_of, turns_of, typed_invoke, typed_stmts, typed_arms, typed_entries, typed_else}
+use Rattle.typing.specs.Labels.{judged_labels}
+use Rattle.typing.specs.JudgedStatements.{is_assignable, judged_target, judged_assign, is_control, may_control, judged_control, judged_bound, judged_step, is_typed, step_is_typed, judged_iteration, bound_value, step_value, turns_rule, may_select, judged_selector, judged_labels_if, judged_stmts}
+use Rattle.typing.specs.JudgedItems.{controls_in, seen_in}
+use Rattle.typing.proofs.JudgedItems.{whole_broken_by}
+use Rattle.typing.proofs.TypedItems.{turns_in, AreTypedAlike, typed_alike}
+use Rattle.typing.specs.TypedStatements.{cell_of, turns_of, typed_invoke, typed_stmts}
 use Rattle.typed_programs.specs.Scopes.{Pous, BodyScope, IsSettable}
 use Rattle.typed_programs.specs.Expressions.{IsOf}
-use Rattle.typed_programs.specs.Statements.{IsTyped, AreTyped, AreTypedChoices, AreTypedEntries}
-use Rattle.typed_scopes.specs.Uses.{Usable, IsWithin, AreStmtsWithin, AreArmsWithin, AreEntriesWithin, IsElseWithin}
+use Rattle.typed_programs.specs.Statements.{IsTyped, AreTyped}
+use Rattle.typed_programs.specs.TypedItems.{IsTypedItem}
+use Rattle.typed_programs.proofs.TypedItems.{typed_statements}
+use Rattle.typed_scopes.specs.Uses.{Usable, IsWithin, AreStmtsWithin}
 use Rattle.typed_scopes.specs.Fitting.{ScopeFits}
 use Rattle.typed_scopes.proofs.Wholes.{whole_require, whole_and}
 use Rattle.typed_scopes.proofs.TypedValues.{fitted}
@@ -33,27 +40,16 @@ use Rattle.typed_scopes.proofs.Labels.{labels_are}
 use Rattle.typed_scopes.proofs.Targets.{is_input, assigned, controlled}
 use Rattle.typed_scopes.proofs.Lists.{typed-before}
 use Rattle.typed_scopes.proofs.Invocations.{invoke_is}
+use Rattle.typed_scopes.proofs.SoundItems.{IsSoundWithSelector, sound_items}
 
 selector_known : (t : DataType) → may_select t ≡ true → is_unknown t ≡ false
 selector_known (kinds.Elementary k) h = refl
 selector_known (kinds.Enumeration n) h = refl
 selector_known kinds.Unknown h = absurd (false≢true h)
 
-whole_rule : (j : Judgement) (rule : Option Rule) (at : ℕ) → (broken_by j rule at).whole ≡ true → (j.whole ≡ true) × (rule ≡ None)
-whole_rule j None at whole = (whole, refl)
-whole_rule j (Some rule) at whole = absurd (false≢true (whole_require j false rule at whole).1)
-
 labels_if_whole : (scope : Scope) (w : Bool) → w ≡ true → (t : DataType) (seen : List Range) (ls : List LabelData) → (judged_labels_if scope w t seen ls).whole ≡ true → (judged_labels scope t seen ls).whole ≡ true
 labels_if_whole scope true is t seen ls whole = whole
 labels_if_whole scope false is t seen ls whole = absurd (false≢true is)
-
-arms_levelled : (arms : Arms) (other : Otherwise) → IsStmtLevelled (branch arms other) → AreArmsLevelled arms × IsElseLevelled other
-arms_levelled no_arms other h = absurd h
-arms_levelled (arm e ss arms) other h = ((h.0, h.1, h.2), h.3)
-
-entries_levelled : (e : Tree) (es : Entries) (other : Otherwise) → IsStmtLevelled (cases e es other) → IsLevelled e × AreEntriesLevelled es × IsElseLevelled other
-entries_levelled e no_entries other h = absurd h
-entries_levelled e (entry ls ss es) other h = (h.0, (h.1, h.2, h.3), h.4)
 
 labels_formed : (ls : List LabelData) → AreLabels ls → AreLabelsFormed ls
 labels_formed [] h = absurd h
@@ -75,6 +71,12 @@ module _ (pous : Pous) (b : BodyScope) (last : ℕ → ℤ) (scope : Scope) (use
       let target = whole_require (judged_meaning m) (is_assignable controls m) NotAssignable at both.0 in
       assigned pous b last scope m (fits.names (by_path p) named) target.0 (is_input controls m target.1) e (value_is pous b last scope uses fits (kind_at m) e within levels both.1) fitting.1
 
+  selector_is : (e : Tree) → IsWithin uses e → IsLevelled e → (judged_selector scope e).whole ≡ true → IsOf pous b (carrier (type_of scope None e)) (typed scope None e)
+  selector_is e within levels whole =
+      let t = type_of scope None e in
+      let selected = whole_require (judged scope None e) (may_select t) OperandType (place_of e) whole in
+      (value_is pous b last scope uses fits None e within levels selected.0 (selector_known t selected.1)).typed
+
   turns_are : (controls : List ℕ) (i : IterationData) → uses.names (by_path (alone i.control)) ≡ true → (judged_iteration scope controls i).whole ≡ true → turns_rule scope i ≡ None
       → IsSettable b (turns_of scope i).control × (turns_stay (turns_of scope i) (place_at b.places (turns_of scope i).control).range ≡ true)
   turns_are controls i named whole rule =
@@ -88,59 +90,29 @@ module _ (pous : Pous) (b : BodyScope) (last : ℕ → ℤ) (scope : Scope) (use
       let integer = tests.1 in
       controlled pous b last scope m (fits.names (by_path (alone i.control)) named) control.0 (is_input controls m assignable) integer (bound_value scope t i.first) (bound_value scope t i.last) (step_value scope t i.step) rule
 
-  mutual
-    pub stmts_are : (controls : List ℕ) (ss : Stmts) → AreStmtsWithin uses ss → AreStmtsLevelled ss → (judged_stmts scope controls ss).whole ≡ true → AreTyped pous b (typed_stmts scope ss)
-    stmts_are controls no_stmts within levels whole = tt
-    stmts_are controls (stmt empty ss) within levels whole = stmts_are controls ss within.1 levels.1 (whole_and (judged_stmt scope controls empty) (judged_stmts scope controls ss) whole).1
-    stmts_are controls (stmt (assign p e) ss) within levels whole =
-        let both = whole_and (judged_stmt scope controls (assign p e)) (judged_stmts scope controls ss) whole in
-        (assign_is controls p e within.0.0 within.0.1 levels.0 both.0, stmts_are controls ss within.1 levels.1 both.1)
-    stmts_are controls (stmt (invoke n at cs) ss) within levels whole =
-        let both = whole_and (judged_stmt scope controls (invoke n at cs)) (judged_stmts scope controls ss) whole in
-        typed-before pous b (typed_invoke scope n cs) (typed_stmts scope ss) (invoke_is pous b last scope uses fits controls n cs within.0 levels.0 both.0) (stmts_are controls ss within.1 levels.1 both.1)
-    stmts_are controls (stmt (branch arms other) ss) within levels whole =
-        let both = whole_and (judged_stmt scope controls (branch arms other)) (judged_stmts scope controls ss) whole in
-        let parts = whole_and (judged_arms scope controls arms) (judged_else scope controls other) both.0 in
-        let l = arms_levelled arms other levels.0 in
-        ((arms_are controls arms within.0.0 l.0 parts.0, else_is controls other within.0.1 l.1 parts.1), stmts_are controls ss within.1 levels.1 both.1)
-    stmts_are controls (stmt (cases e es other) ss) within levels whole =
+  item_is : (outer : List ℕ) → AreTypedAlike scope (every (IsSoundWithSelector scope uses outer)) (typed_every (IsTypedItem pous b)) (λ around A B. A → B)
+  item_is outer = record {
+    none = λ around h. tt;
+    both = λ around A A' B B' f g h. (f h.0, g h.1);
+    left_out = λ around A B f h. f h.1;
+    assigned = λ around p e h. assign_is (controls_in scope outer around) p e h.0.0.0 h.0.0.1 h.0.1 h.1;
+    invoked = λ around n at cs A rest f h.
+        typed-before pous b (turns_in scope around) (typed_invoke scope n cs) rest (invoke_is pous b last scope uses fits (controls_in scope outer around) n cs h.0.0.0 h.0.0.1 h.0.1) (f h.1);
+    tested = λ around e h. condition_is OperandType e h.0.0 h.0.1 h.1;
+    selected = λ around e h. selector_is e h.0.0 h.0.1 h.1;
+    labelled = λ around e before ls h.
         let t = type_of scope None e in
-        let selector = judged_selector scope e in
-        let entries = judged_entries scope controls selector.whole t [] es in
-        let both = whole_and (judged_stmt scope controls (cases e es other)) (judged_stmts scope controls ss) whole in
-        let parts = whole_and selector (and entries (judged_else scope controls other)) both.0 in
-        let more = whole_and entries (judged_else scope controls other) parts.1 in
-        let l = entries_levelled e es other levels.0 in
-        let selected = whole_require (judged scope None e) (may_select t) OperandType (place_of e) parts.0 in
-        let value = value_is pous b last scope uses fits None e within.0.0 l.0 selected.0 (selector_known t selected.1) in
-        ((value.typed, entries_are controls selector.whole parts.0 t [] es within.0.1 l.1 more.0, else_is controls other within.0.2 l.2 more.1), stmts_are controls ss within.1 levels.1 both.1)
-    stmts_are controls (stmt (iterate i body) ss) within levels whole =
-        let inner = with_control controls (scope.means (by_path (alone i.control))) in
-        let both = whole_and (judged_stmt scope controls (iterate i body)) (judged_stmts scope controls ss) whole in
-        let rule = whole_rule (and (judged_iteration scope controls i) (judged_stmts scope inner body)) (turns_rule scope i) i.at both.0 in
-        let parts = whole_and (judged_iteration scope controls i) (judged_stmts scope inner body) rule.0 in
-        let turns = turns_are controls i within.0.0.0 parts.0 rule.1 in
-        ((turns.0, turns.1, stmts_are inner body within.0.1 levels.0.1 parts.1), stmts_are controls ss within.1 levels.1 both.1)
+        let seen = seen_in scope t before in
+        labels_are pous b last scope uses fits t seen ls h.1.0.0 (labels_formed ls h.1.0.1) (labels_if_whole scope (judged_selector scope e).whole h.0.1 t seen ls h.1.1);
+    inside = λ around i A B f h.
+        let own = whole_broken_by (judged_iteration scope (controls_in scope outer around) i) (turns_rule scope i) i.at h.0.1 in
+        let turns = turns_are (controls_in scope outer around) i h.0.0.0.0 own.0 own.1 in
+        ((turns.0, turns.1, tt), f h.1);
+  }
 
-    arms_are : (controls : List ℕ) (arms : Arms) → AreArmsWithin uses arms → AreArmsLevelled arms → (judged_arms scope controls arms).whole ≡ true → AreTypedChoices pous b (typed_arms scope arms)
-    arms_are controls no_arms within levels whole = tt
-    arms_are controls (arm e ss arms) within levels whole =
-        let parts = whole_and (judged_condition scope OperandType e) (and (judged_stmts scope controls ss) (judged_arms scope controls arms)) whole in
-        let more = whole_and (judged_stmts scope controls ss) (judged_arms scope controls arms) parts.1 in
-        (condition_is OperandType e within.0 levels.0 parts.0, stmts_are controls ss within.1 levels.1 more.0, arms_are controls arms within.2 levels.2 more.1)
+  pub sound_are : (outer : List ℕ) (ss : Stmts) → folded_stmts (every (IsSoundWithSelector scope uses outer)) [] ss → AreTyped pous b (typed_stmts scope ss)
+  sound_are outer ss sound =
+      typed_statements pous b [] (typed_stmts scope ss) (typed_alike scope (every (IsSoundWithSelector scope uses outer)) (typed_every (IsTypedItem pous b)) (λ around A B. A → B) (item_is outer) [] ss sound)
 
-    entries_are : (controls : List ℕ) (w : Bool) → w ≡ true → (t : DataType) (seen : List Range) (es : Entries) → AreEntriesWithin uses es → AreEntriesLevelled es → (judged_entries scope controls w t seen es).whole ≡ true
-        → AreTypedEntries pous b (carrier t) (typed_entries scope t es)
-    entries_are controls w is t seen no_entries within levels whole = tt
-    entries_are controls w is t seen (entry ls ss es) within levels whole =
-        let rest = judged_entries scope controls w t (seen_behind scope t seen ls) es in
-        let parts = whole_and (judged_labels_if scope w t seen ls) (and (judged_stmts scope controls ss) rest) whole in
-        let more = whole_and (judged_stmts scope controls ss) rest parts.1 in (
-          labels_are pous b last scope uses fits t seen ls within.0 (labels_formed ls levels.0) (labels_if_whole scope w is t seen ls parts.0),
-          stmts_are controls ss within.1 levels.1 more.0,
-          entries_are controls w is t (seen_behind scope t seen ls) es within.2 levels.2 more.1,
-        )
-
-    else_is : (controls : List ℕ) (other : Otherwise) → IsElseWithin uses other → IsElseLevelled other → (judged_else scope controls other).whole ≡ true → AreTyped pous b (typed_else scope other)
-    else_is controls no_else within levels whole = tt
-    else_is controls (else_stmts ss) within levels whole = stmts_are controls ss within levels whole
+  pub stmts_are : (controls : List ℕ) (ss : Stmts) → AreStmtsWithin uses ss → AreStmtsLevelled ss → (judged_stmts scope controls ss).whole ≡ true → AreTyped pous b (typed_stmts scope ss)
+  stmts_are controls ss within levels whole = sound_are controls ss (sound_items scope uses controls ss within levels whole)

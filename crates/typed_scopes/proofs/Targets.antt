@@ -5,9 +5,10 @@ use Rattle.plc_types.specs.declared.data_type.DataType.{DataType}
 use Rattle.plc_types.specs.declared.range.Range.{Range}
 use Rattle.plc_types.specs.DataTypes.{is_same_type, is_integer_type}
 use Rattle.plc_types.specs.Types.{in_range}
+use Rattle.plc_types.proofs.SameTypes.{same_type}
 use Rattle.source_tree.specs.Syntax.{Tree}
 use Rattle.program_tree.specs.Tree.{Expression, assign}
-use Rattle.node_core.specs.Stores.{place_at}
+use Rattle.program_tree.specs.Places.{place_at}
 use Rattle.typing.specs.declared.scope.Place.{Place}
 use Rattle.typing.specs.declared.scope.Place.TheVariants as places
 use Rattle.typing.specs.declared.scope.Meaning.{Meaning}
@@ -22,7 +23,7 @@ use Rattle.typed_programs.specs.Statements.{IsTyped}
 use Rattle.typed_scopes.specs.Types.{IsPlaceOf}
 use Rattle.typed_scopes.specs.Fitting.{IsAt, MeaningFits}
 use Rattle.typed_scopes.proofs.Wholes.{whole_said}
-use Rattle.typed_scopes.proofs.SameTypes.{same_type, same_known, elementary_known, of_integers}
+use Rattle.typed_scopes.proofs.SameTypes.{same_known, elementary_known, of_integers}
 use Rattle.typed_scopes.proofs.TypedValues.{IsValueOf, IsValueIf, known_type, fitted, taken}
 use Rattle.typed_scopes.proofs.Names.{kind_of_whole, meaning_is}
 use Rattle.typed_scopes.proofs.Turns.{turns_in}

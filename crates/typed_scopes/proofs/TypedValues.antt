@@ -6,17 +6,19 @@ use Rattle.plc_types.specs.declared.data_type.DataType.{DataType}
 use Rattle.plc_types.specs.declared.data_type.DataType.TheVariants as kinds
 use Rattle.plc_types.specs.DataTypes.{carrier, is_same_type}
 use Rattle.plc_types.specs.Types.{range_of, in_range}
+use Rattle.plc_types.proofs.InRange.{covers_in, covers_self}
+use Rattle.plc_types.proofs.TypeRanges.{usint_covers, zero_in}
+use Rattle.plc_types.proofs.SameTypes.{same_type}
 use Rattle.program_tree.specs.Tree.{Expression, number, cell, unary, chain, call_standard, call_function}
-use Rattle.flat_core.specs.declared.flat_tree.Scratch.{Scratch}
-use Rattle.node_core.specs.Stores.{place_at}
-use Rattle.node_core.specs.TypedFlats.{covers}
+use Rattle.program_tree.specs.declared.scratch.Scratch.{Scratch}
+use Rattle.program_tree.specs.Places.{place_at}
+use Rattle.meaning.specs.StaysIn.{covers}
 use Rattle.typing.specs.Typing.{is_unknown}
 use Rattle.typing.specs.Typed.{value_of_number}
 use Rattle.typed_programs.specs.Scopes.{Pous, BodyScope, IsNamed}
 use Rattle.typed_programs.specs.Expressions.{IsOf, stays_in, Takes}
 use Rattle.typed_scopes.specs.Types.{range_of_type, IsKnown, IsOfType, IsPlaceOf}
-use Rattle.typed_scopes.proofs.Numbers.{covers-in, covers-self, usint-covers, zero-in}
-use Rattle.typed_scopes.proofs.SameTypes.{same_type, same_known, IsElementary}
+use Rattle.typed_scopes.proofs.SameTypes.{same_known, IsElementary}
 
 pub record IsValueOf (pous : Pous) (b : BodyScope) (last : ℕ → ℤ) (t : DataType) (e : Expression) : Type 0 where
   pub known : IsKnown last t
@@ -33,8 +35,8 @@ known_type last (kinds.Enumeration n) known = refl
 known_type last kinds.Unknown known = absurd known
 
 pub carrier-covers : (last : ℕ → ℤ) (t : DataType) → IsKnown last t → covers (range_of (carrier t)) (range_of_type last t) ≡ true
-carrier-covers last (kinds.Elementary k) known = covers-self (range_of k)
-carrier-covers last (kinds.Enumeration n) known = usint-covers (last n) known
+carrier-covers last (kinds.Elementary k) known = covers_self (range_of k)
+carrier-covers last (kinds.Enumeration n) known = usint_covers (last n) known
 carrier-covers last kinds.Unknown known = absurd known
 
 module _ (pous : Pous) (b : BodyScope) (last : ℕ → ℤ) where
@@ -56,7 +58,7 @@ module _ (pous : Pous) (b : BodyScope) (last : ℕ → ℤ) where
       by false whole = or_right p.is_subrange _ (subst (λ r. stays_in pous b.places e r ≡ true) (sym (place.whole whole)) v.stays)
 
   pub number_value : (t : DataType) (v : ℤ) → IsKnown last t → in_range v (range_of_type last t) ≡ true → IsValueOf pous b last t (number v)
-  number_value t v known h = record { known = known; typed = covers-in (range_of (carrier t)) (range_of_type last t) v (carrier-covers last t known) h; stays = h }
+  number_value t v known h = record { known = known; typed = covers_in (range_of (carrier t)) (range_of_type last t) v (carrier-covers last t known) h; stays = h }
 
   pub cell_value : (t : DataType) (place : ℕ) → IsNamed b place → IsPlaceOf last t (place_at b.places place) → IsValueOf pous b last t (cell place)
   cell_value t place named p = record { known = p.known; typed = (named, p.kind); stays = p.within }
@@ -69,8 +71,8 @@ module _ (pous : Pous) (b : BodyScope) (last : ℕ → ℤ) where
   -- the number of a constant lies in the range of its type
   pub number_in : (k : Elementary) (e : Expression) → IsOf pous b k e → in_range (value_of_number e) (range_of k) ≡ true
   number_in k (number v) is = is
-  number_in k (cell place) is = zero-in k
-  number_in k (unary o t e) is = zero-in k
-  number_in k (chain e os) is = zero-in k
-  number_in k (call_standard f t es) is = zero-in k
-  number_in k (call_function f es) is = zero-in k
+  number_in k (cell place) is = zero_in k
+  number_in k (unary o t e) is = zero_in k
+  number_in k (chain e os) is = zero_in k
+  number_in k (call_standard f t es) is = zero_in k
+  number_in k (call_function f es) is = zero_in k

@@ -3,9 +3,9 @@
 use Rattle.std.specs.Prelude.{ℕ, List, length, map, All}
 use Rattle.source_tree.specs.Syntax.{PartData, ChartTransitionData, ChartActionData}
 use Rattle.program_tree.specs.View.{actions_of as actions_from}
+use Rattle.program_tree.specs.ChartPlaces.{chart_places, AreRisingFrom, AreSteps, NameSteps, IsAssociated}
 use Rattle.naming.specs.Broken.{alone}
 use Rattle.sfc_shape.specs.Shapes.{steps_of, transitions_of, actions_of, step_numbers, associations_of}
-use Rattle.flat_form.specs.WellTyped.{chart_places, AreRisingFrom, AreSteps, NameSteps, IsAssociated}
 use Rattle.typing.specs.Typing.{Scope, by_path}
 use Rattle.typing.specs.TypedCharts.{step_cells, latch_of, typed_action}
 use Rattle.typed_programs.specs.Scopes.{BodyScope}

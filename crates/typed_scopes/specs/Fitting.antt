@@ -2,6 +2,8 @@
 -- unknown, as that of an instance, nothing is said.
 use Rattle.std.specs.Prelude.{◌≡◌, ◌≤◌, ◌<◌, ◌+◌, ℕ, ℤ, List, length, true, false, Some}
 use Rattle.plc_types.specs.Types.{in_range}
+use Rattle.program_tree.specs.Places.{place_at}
+use Rattle.meaning.specs.Frames.{scratch_at}
 use Rattle.typing.specs.declared.scope.Place.{Place}
 use Rattle.typing.specs.declared.scope.Place.TheVariants as places
 use Rattle.typing.specs.declared.scope.Meaning.{Meaning}
@@ -9,8 +11,6 @@ use Rattle.typing.specs.declared.scope.Port.{Port}
 use Rattle.typing.specs.declared.scope.Signature.{Signature}
 use Rattle.typing.specs.declared.scope.Instance.{Instance}
 use Rattle.typing.specs.Typing.{Scope, Reference, is_unknown}
-use Rattle.flat_form.specs.Frames.{scratch_at}
-use Rattle.node_core.specs.Stores.{place_at}
 use Rattle.typed_programs.specs.Scopes.{Pous, BodyScope, IsNamed}
 use Rattle.typed_programs.specs.Statements.{StandAt}
 use Rattle.typed_scopes.specs.Uses.{Usable}

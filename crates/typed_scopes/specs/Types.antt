@@ -7,8 +7,8 @@ use Rattle.plc_types.specs.declared.range.Range.{Range}
 use Rattle.plc_types.specs.DataTypes.{carrier}
 use Rattle.plc_types.specs.Types.{range_of, in_range}
 use Rattle.program_tree.specs.Tree.{Expression}
-use Rattle.flat_core.specs.declared.flat_tree.Scratch.{Scratch}
-use Rattle.node_core.specs.TypedFlats.{covers}
+use Rattle.program_tree.specs.declared.scratch.Scratch.{Scratch}
+use Rattle.meaning.specs.StaysIn.{covers}
 use Rattle.typed_programs.specs.Scopes.{Pous, BodyScope}
 use Rattle.typed_programs.specs.Expressions.{IsOf, stays_in}
 

@@ -1,7 +1,8 @@
 -- Trees, statements and charts whose names may all be used. A scope says more than its body may use: of a block's members those that are not
 -- seen from outside, and FUNCTIONs that stand behind their caller.
 use Rattle.std.specs.Prelude.{◌≡◌, ℕ, Bool, true, List, [], ◌∷◌, Option, Some, None}
-use Rattle.source_tree.specs.Syntax.{Tree, literal, path, enumerator, paren, unary, chain, call, Links, no_links, link, Arguments, no_arguments, argument, Named, ConnectionData, input, output, Stmt, empty, assign, invoke, branch, cases, iterate, Stmts, no_stmts, stmt, Arms, no_arms, arm, Entries, no_entries, entry, Otherwise, no_else, else_stmts, LabelData, IterationData, PartData, step_part, transition_part, action_part}
+use Rattle.source_tree.specs.Syntax.{Tree, literal, path, enumerator, paren, unary, chain, call, Links, no_links, link, Arguments, no_arguments, argument, Named, ConnectionData, input, output, Stmts, LabelData, IterationData, PartData}
+use Rattle.source_tree.specs.StatementItems.{StatementItem, assignment, invocation, condition, selector, labels, iteration, every, folded_stmts, folded_parts}
 use Rattle.naming.specs.Broken.{alone}
 use Rattle.naming.specs.Library.{standard_function}
 use Rattle.typing.specs.Typing.{Reference, by_path, by_value}
@@ -48,33 +49,17 @@ module _ (uses : Usable) where
   abbrev pub IsIterationWithin : IterationData → Type 0
   IsIterationWithin i = (uses.names (by_path (alone i.control)) ≡ true) × IsWithin i.first × IsWithin i.last × IsOptionWithin i.step
 
-  abbrev mutual
-    pub IsStmtWithin : Stmt → Type 0
-    IsStmtWithin empty = Unit {0}
-    IsStmtWithin (assign p e) = (uses.names (by_path p) ≡ true) × IsWithin e
-    IsStmtWithin (invoke n at cs) = AreConnectionsWithin n cs
-    IsStmtWithin (branch arms other) = AreArmsWithin arms × IsElseWithin other
-    IsStmtWithin (cases e es other) = IsWithin e × AreEntriesWithin es × IsElseWithin other
-    IsStmtWithin (iterate i ss) = IsIterationWithin i × AreStmtsWithin ss
+  -- an item of statements
+  abbrev pub IsItemWithin : List IterationData → StatementItem → Type 0
+  IsItemWithin around (assignment p e) = (uses.names (by_path p) ≡ true) × IsWithin e
+  IsItemWithin around (invocation n at cs) = AreConnectionsWithin n cs
+  IsItemWithin around (condition e) = IsWithin e
+  IsItemWithin around (selector e) = IsWithin e
+  IsItemWithin around (labels e before ls) = AreLabelsWithin ls
+  IsItemWithin around (iteration i) = IsIterationWithin i
 
-    pub AreStmtsWithin : Stmts → Type 0
-    AreStmtsWithin no_stmts = Unit {0}
-    AreStmtsWithin (stmt s ss) = IsStmtWithin s × AreStmtsWithin ss
-
-    pub AreArmsWithin : Arms → Type 0
-    AreArmsWithin no_arms = Unit {0}
-    AreArmsWithin (arm e ss arms) = IsWithin e × AreStmtsWithin ss × AreArmsWithin arms
-
-    pub AreEntriesWithin : Entries → Type 0
-    AreEntriesWithin no_entries = Unit {0}
-    AreEntriesWithin (entry ls ss es) = AreLabelsWithin ls × AreStmtsWithin ss × AreEntriesWithin es
-
-    pub IsElseWithin : Otherwise → Type 0
-    IsElseWithin no_else = Unit {0}
-    IsElseWithin (else_stmts ss) = AreStmtsWithin ss
+  abbrev pub AreStmtsWithin : Stmts → Type 0
+  AreStmtsWithin ss = folded_stmts (every IsItemWithin) [] ss
 
   abbrev pub ArePartsWithin : List PartData → Type 0
-  ArePartsWithin [] = Unit {0}
-  ArePartsWithin (step_part s ∷ ps) = ArePartsWithin ps
-  ArePartsWithin (transition_part t ∷ ps) = IsWithin t.condition × ArePartsWithin ps
-  ArePartsWithin (action_part a ∷ ps) = AreStmtsWithin a.body × ArePartsWithin ps
+  ArePartsWithin ps = folded_parts (every IsItemWithin) ps

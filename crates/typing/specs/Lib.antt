@@ -24,3 +24,4 @@ pub mod Seen
 pub mod OwnDomains
 pub mod Faults
 pub mod Beginnings
+pub mod JudgedItems

@@ -1,12 +1,12 @@
 // What the names of a body stand for.
-use plc_types::{DataType, Range};
+use plc_types::{DataType, Range, Value};
 use source_tree::{Name, Path};
 
 /// Where a value is: in a cell, by its place, or fixed, as that of a constant or of a name of an enumeration.
 #[derive(Clone, Copy)]
 pub enum Place {
     Cell(usize),
-    Value(i64),
+    Value(Value),
 }
 
 /// What a path or a value stands for: where its value is, its type, the values that it may have, whether its declaration

@@ -13,6 +13,7 @@ use Rattle.std.specs.BTreeMap.{BTreeMap, Updates}
 use Rattle.std.specs.BTreeMap.Range.{IsRangeOf}
 use Rattle.std.proofs.lemmas.Bool.{and_parts, and_from, or_left, or_right, or_from, false_from_ne_true}
 use Rattle.plc_types.specs.declared.range.Range.{Range}
+use Rattle.plc_types.proofs.InRange.{le_from, le_to}
 use Rattle.typing.specs.Labels.{meets, overlaps}
 use Rattle.typing.specs.Seen.{high_at, AreApart, Keeps}
 
@@ -42,14 +43,8 @@ ge_by x y = ge_of (int_cmp x y) x y (int_ranked x y (int_cmp x y) refl)
 gt_not : (x y : ℤ) → x ≤ℤ y → is_gt (int_cmp x y) ≡ false
 gt_not x y = not_gt (int_cmp x y) x y (int_ranked x y (int_cmp x y) refl)
 
-pub le_true : (x y : ℤ) → int_le x y ≡ true → x ≤ℤ y
-le_true x y h = grind (arith, ints)
-
 le_false : (x y : ℤ) → int_le x y ≡ false → y <ℤ x
 le_false x y h = grind (arith, ints)
-
-true_le : (x y : ℤ) → x ≤ℤ y → int_le x y ≡ true
-true_le x y h = grind (arith, ints)
 
 -- ---- ranges of a list
 
@@ -67,11 +62,11 @@ meets_Meet : (r s : Range) → meets r s ≡ true → Meet r s
 unfolding Meet
 meets_Meet r s h =
     let two = and_parts (int_le r.low s.high) (int_le s.low r.high) h in
-    (le_true r.low s.high two.0, le_true s.low r.high two.1)
+    (le_from r.low s.high two.0, le_from s.low r.high two.1)
 
 Meet_meets : (r s : Range) → Meet r s → meets r s ≡ true
 unfolding Meet
-Meet_meets r s h = and_from (int_le r.low s.high) (int_le s.low r.high) (true_le r.low s.high h.0) (true_le s.low r.high h.1)
+Meet_meets r s h = and_from (int_le r.low s.high) (int_le s.low r.high) (le_to r.low s.high h.0) (le_to s.low r.high h.1)
 
 here_or_found : (b : Bool) (k v : ℤ) (r : Range) (rs : List Range) (rest : Option ℤ) → int_eq r.low k ≡ b → (rest ≡ Some v → IsIn (span k v) rs) → (if b then Some r.high else rest) ≡ Some v → IsIn (span k v) (r ∷ rs)
 unfolding IsIn span
@@ -150,7 +145,7 @@ decided : (b : Bool) (r : Range) (k v : ℤ) (rs : List Range) → int_le r.low 
     → b ≡ overlaps rs r
 unfolding Meet span
 decided true r k v rs test apart at within greatest =
-    sym (meets_one r (span k v) rs (found k v rs at) (le_true r.low v test, within))
+    sym (meets_one r (span k v) rs (found k v rs at) (le_from r.low v test, within))
 decided false r k v rs test apart at within greatest =
     sym (meets_none r rs (λ s i h. none_behind r s k v rs apart (found k v rs at) (le_false r.low v test) i (greatest s.low h.1 (known s rs i)) h))
 

@@ -12,6 +12,8 @@ use Rattle.rules.specs.declared.rule.Rule.{Rule}
 use Rattle.rules.specs.declared.rule.Rule.TheVariants.{ValueType, OutsideType, OperandType}
 use Rattle.plc_types.specs.DataTypes.{is_same_type}
 use Rattle.plc_types.specs.Types.{is_integer, least_of, greatest_of, in_range}
+use Rattle.plc_types.proofs.InRange.{le_from, bounds}
+use Rattle.plc_types.proofs.TypeRanges.{zero_fits_type}
 use Rattle.source_tree.specs.Syntax.{Named, Tree, BoundsData, TypeData, of_elementary, of_subrange, of_name, SpecificationData, of_type, of_values, PouData, FileData}
 use Rattle.naming.specs.declared.standing.Standing.{Standing}
 use Rattle.naming.specs.declared.standing.Standing.TheVariants as standings
@@ -32,19 +34,6 @@ use Rattle.typing.specs.Places.{has_cell, is_stored_action, in_order, size_among
 use Rattle.typing.specs.TypedPrograms.{path_behind, cell_for, flag_cell, active_first, cells_for, cells_of_variable, cells_of, block_cells, cells_in, fault_cell, typed_program}
 use Rattle.scan_model.specs.Scans.{ranges_of, initial}
 use Rattle.scan_model.specs.InRange.{IsInRange, IsFitToRun}
-use Rattle.typing_laws.proofs.Apart.{le_true}
-
-zero_fits : (t : ElementaryType) → Fits (least_of t) (greatest_of t) (pos 0)
-zero_fits types.Bool = (omega (arith, ints), omega (arith, ints))
-zero_fits types.Sint = (omega (arith, ints), omega (arith, ints))
-zero_fits types.Int = (omega (arith, ints), omega (arith, ints))
-zero_fits types.Dint = (omega (arith, ints), omega (arith, ints))
-zero_fits types.Usint = (omega (arith, ints), omega (arith, ints))
-zero_fits types.Uint = (omega (arith, ints), omega (arith, ints))
-zero_fits types.Udint = (omega (arith, ints), omega (arith, ints))
-zero_fits types.Byte = (omega (arith, ints), omega (arith, ints))
-zero_fits types.Word = (omega (arith, ints), omega (arith, ints))
-zero_fits types.Dword = (omega (arith, ints), omega (arith, ints))
 
 -- what is whole passes its test
 by_parts : (w b : Bool) (j k : Judgement) → j.whole ≡ w → k.whole ≡ false → (if w then (if b then j else k) else j).whole ≡ true → b ≡ true
@@ -62,26 +51,26 @@ StartFits d = Fits d.range.low d.range.high d.start
 
 no_domain-fits : StartFits no_domain
 unfolding StartFits
-no_domain-fits = zero_fits types.Bool
+no_domain-fits = zero_fits_type types.Bool
 
 elementary-fits : (f : FileData) (k : ElementaryType) (at : ℕ) → StartFits (domain_of f (of_elementary k at))
 unfolding StartFits
-elementary-fits f k at = zero_fits k
+elementary-fits f k at = zero_fits_type k
 
 in_order-fits : (low high : ℤ) → int_le low high ≡ true → Fits low high low
-in_order-fits low high e = let h = le_true low high e in (omega (arith, ints), omega (arith, ints, h))
+in_order-fits low high e = let h = le_from low high e in (omega (arith, ints), omega (arith, ints, h))
 
 subrange_by : (b : Bool) (f : FileData) (k : ElementaryType) (at : ℕ) (bounds : BoundsData) → (judged_subrange f k at bounds).whole ≡ b → StartFits (domain_of f (of_subrange k at bounds))
 unfolding StartFits
 subrange_by true f k at bounds e =
     rw e (in_order-fits (bounds_of f k bounds).low (bounds_of f k bounds).high
     (test_of (require (and (judged_bound_of f k bounds.low) (judged_bound_of f k bounds.high)) (is_integer k) OperandType at) (int_le (bounds_of f k bounds).low (bounds_of f k bounds).high) OutsideType (place_of bounds.low) e))
-subrange_by false f k at bounds e = rw e (zero_fits types.Bool)
+subrange_by false f k at bounds e = rw e (zero_fits_type types.Bool)
 
 enumeration_by : (b : Bool) (t : ℕ) (others : List Named) → has_few others ≡ b → StartFits (enumeration_domain t others)
 unfolding StartFits
 enumeration_by true t others e = rw e (omega (arith, ints), omega (arith, ints))
-enumeration_by false t others e = rw e (zero_fits types.Bool)
+enumeration_by false t others e = rw e (zero_fits_type types.Bool)
 
 end-fits : (f : FileData) (t : ℕ) (s : Option SpecificationData) → StartFits (end_domain f t s)
 end-fits f t None = no_domain-fits
@@ -103,20 +92,17 @@ domain-fits f (of_name n) = named-fits f (standing f n.text)
 
 domain_if-fits : (f : FileData) (t : Option TypeData) → StartFits (domain_if f t)
 unfolding StartFits
-domain_if-fits f None = zero_fits types.Bool
+domain_if-fits f None = zero_fits_type types.Bool
 domain_if-fits f (Some t) = domain-fits f t
 
 -- ---- what a variable begins with
-
-in_range-fits : (v low high : ℤ) → (int_le low v && int_le v high) ≡ true → Fits low high v
-in_range-fits v low high e = let h = and_parts (int_le low v) (int_le v high) e in (le_true low v h.0, le_true v high h.1)
 
 -- an initial value that breaks no rule is in range
 given-fits : (f : FileData) (d : Domain) (at : ℕ) (initial : Option Tree) → StartFits d → (judged_initial f d at initial).whole ≡ true → Fits d.range.low d.range.high (given_value f d initial)
 unfolding StartFits
 given-fits f d at None fits e = fits
 given-fits f d at (Some v) fits e =
-    in_range-fits (constant_of (values_scope f) d.kind v) d.range.low d.range.high
+    bounds (constant_of (values_scope f) d.kind v) d.range
     (test_of (require (judged (values_scope f) (Some d.kind) v) (is_same_type (type_of (values_scope f) (Some d.kind) v) d.kind) ValueType at) (in_range (constant_of (values_scope f) d.kind v) d.range) OutsideType (place_of v) e)
 
 start_by : (b : Bool) (f : FileData) (d : Domain) (at : ℕ) (initial : Option Tree) → (judged_initial f d at initial).whole ≡ b → StartFits d → Fits d.range.low d.range.high (start_of f d at initial)
@@ -190,8 +176,8 @@ cells_for-fit f inside before v =
     let active = flag_cell before v.name (codes "X") (active_first v.role) in
     let latest = flag_cell before v.name (codes "L") (pos 0) in
     let stored = flag_cell before v.name (codes "S") (pos 0) in
-    let latest_fits = flag-fits before v.name (codes "L") (pos 0) (zero_fits types.Bool) in
-    let stored_fits = flag-fits before v.name (codes "S") (pos 0) (zero_fits types.Bool) in
+    let latest_fits = flag-fits before v.name (codes "L") (pos 0) (zero_fits_type types.Bool) in
+    let stored_fits = flag-fits before v.name (codes "S") (pos 0) (zero_fits_type types.Bool) in
     else_fit (is_step v.role) (active ∷ latest ∷ []) (if is_stored_action v.role then stored ∷ [] else cell_for f inside before v ∷ [])
     (one_more_fits active (latest ∷ []) (flag-fits before v.name (codes "X") (active_first v.role) (active_first-fits v.role)) (one_fits latest latest_fits))
     (else_fit (is_stored_action v.role) (stored ∷ []) (cell_for f inside before v ∷ []) (one_fits stored stored_fits) (one_fits (cell_for f inside before v) (cell-fits f inside before v)))
@@ -224,6 +210,6 @@ pub typed_program-fit : (f : FileData) (k : ℕ) (p : PouData) → IsFitToRun (t
 unfolding AllFit StartsInRange
 typed_program-fit f k p = record {
   begins_with_fault = (refl, refl, refl);
-  start_in_range = one_more_fits fault_cell (cells_in f (Some []) false (variables_in_pou p)) (zero_fits types.Bool)
+  start_in_range = one_more_fits fault_cell (cells_in f (Some []) false (variables_in_pou p)) (zero_fits_type types.Bool)
       (all_fit f (block_cells f (length (pous_of f))) false (Some []) (in_order false (variables_in_pou p)) (blocks_fit f (length (pous_of f))));
 }

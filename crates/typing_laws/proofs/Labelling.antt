@@ -9,6 +9,7 @@ use Rattle.plc_types.specs.declared.data_type.DataType.{DataType}
 use Rattle.rules.specs.declared.rule.Rule.{Rule}
 use Rattle.rules.specs.declared.rule.Rule.TheVariants.{OperandType, OutsideType, Overlap}
 use Rattle.plc_types.specs.declared.range.Range.{Range}
+use Rattle.plc_types.proofs.InRange.{le_from}
 use Rattle.source_tree.specs.declared.syntax.Entry.{Entry as EntryTree, out-Entry}
 use Rattle.source_tree.specs.declared.syntax.Stmt.TheFolds.{fold_out-Entry}
 use Rattle.source_tree.specs.SyntaxView.{ArmData, EntryData, stmt_step, arm_step, entry_step, labels_view, stmts_view, entry_view}
@@ -22,7 +23,7 @@ use Rattle.rules.specs.Outcomes.{outcome_of, both, tried}
 use Rattle.typing.specs.Outcomes.{labels_outcome, all_labels}
 use Rattle.typing.specs.Seen.{Keeps}
 use Rattle.typing_laws.proofs.Judging.{outcome_of-require}
-use Rattle.typing_laws.proofs.Apart.{keeps_one_more, le_true}
+use Rattle.typing_laws.proofs.Apart.{keeps_one_more}
 
 -- the parts of a label
 parts : Scope → DataType → LabelData → Judgement
@@ -73,7 +74,7 @@ label_seen scope t seen l r low high o old new is low_is high_is told whole upda
     let u : Updates int_cmp old new (label_range scope t l).low (Some (label_range scope t l).high) =
     subst (λ (y : ℤ). Updates int_cmp old new (label_range scope t l).low (Some y)) high_at (subst (λ (x : ℤ). Updates int_cmp old new x (Some high)) low_at updates) in
     subst (λ (b : Bool). Keeps new (if b then label_range scope t l ∷ seen else seen)) (sym w)
-    (keeps_one_more old new seen (label_range scope t l) u (le_true (label_range scope t l).low (label_range scope t l).high facts.0) facts.1 keeps)
+    (keeps_one_more old new seen (label_range scope t l) u (le_from (label_range scope t l).low (label_range scope t l).high facts.0) facts.1 keeps)
 
 pub label_left : (scope : Scope) (t : DataType) (seen : List Range) (l : LabelData) (o : Outcome) (m : BTreeMap ℤ ℤ) → o ≡ outcome_of (judged_label scope t seen l) → o.whole ≡ false → Keeps m seen → Keeps m (seen_with scope t seen l)
 unfolding outcome_of

@@ -1,4 +1,3 @@
-pub mod Ranges
 pub mod Judging
 pub mod Marks
 pub mod Connecting

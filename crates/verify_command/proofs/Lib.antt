@@ -1,4 +1,3 @@
-pub mod Lines
 pub mod Saved
 pub mod Answering
 pub mod Once

@@ -1,6 +1,7 @@
 -- What is left of a finding, and what is reported on it.
 use Rattle.std.proofs.Common.{◌≡◌, ◌≢◌, ◌∙◌, ℕ, List, [], Option, Some, None, IfSome, IfOk, OnErr, Result, Ok, Err, ◌⊎◌, inl, inr, refl, ap, append-nil}
 use Rattle.outside.specs.Contents.{emptied, OthersStay}
+use Rattle.outside.specs.States.{Change}
 use Rattle.clause_core.specs.Formula.{Formula}
 use Rattle.finding_lines.specs.declared.line.Conclusion.{Conclusion}
 use Rattle.finding_file.specs.Writing.{all_written}
@@ -18,9 +19,8 @@ use Rattle.command_answers.specs.declared.status.Status.{Status}
 use Rattle.command_answers.specs.declared.status.Status.TheVariants.{WriteFault}
 use Rattle.command_answers.specs.Reports.{Report}
 use Rattle.command_answers.specs.Answers.{Answers, AnswersSoFar, Extent, part_put, fault_told, all_put, extent_of, HasPut, a_report}
-use Rattle.finding_answers.specs.Lines.{most_bytes}
-use Rattle.verify_command.specs.Lines.{write_fault_report}
-use Rattle.verify_command.specs.Reports.{Saving, HasFailed, IsSaved, ReportsVerdict, decided, too_long, not_written, LeavesPart, untouched, a_part, ReportsSaved}
+use Rattle.finding_answers.specs.Lines.{most_bytes, write_fault_report}
+use Rattle.verify_command.specs.Reports.{HasFailed, IsSaved, ReportsVerdict, decided, too_long, not_written, LeavesPart, untouched, a_part, ReportsSaved}
 
 -- ---- files
 
@@ -43,25 +43,25 @@ valid_part : (s : Setting) (formula : QueryData → Formula) (limit : ℕ) (verd
 valid_part s formula limit verdict None h = tt
 valid_part s formula limit verdict (Some file) (lines, stands) = inl (lines, finished verdict, stands.leads, stands.whole ∙ append-nil (all_written lines))
 
-module _ (c : Comparison) (formula : QueryData → Formula) (s : Saving) where
+module _ (c : Comparison) (formula : QueryData → Formula) (k : Change) (name : List ℕ) where
   -- a create that failed left the file as it was or empty
-  pub after_create : (s.after s.name ≡ s.before s.name) ⊎ (s.after s.name ≡ emptied (s.before s.name)) → LeavesPart c formula s
+  pub after_create : (k.after.file name ≡ k.before.file name) ⊎ (k.after.file name ≡ emptied (k.before.file name)) → LeavesPart c formula k name
   after_create (inl h) = untouched h
-  after_create (inr h) = a_part (empty_part (setting_of c) formula (s.after s.name) (is_empty (s.before s.name) (s.after s.name) h))
+  after_create (inr h) = a_part (empty_part (setting_of c) formula (k.after.file name) (is_empty (k.before.file name) (k.after.file name) h))
 
   -- what an attempt that failed left is a part of a finding
-  pub part_left : (result : Result Conclusion WriteErr) → OnErr result (IfSome (s.after s.name) (IsPartOfFinding (setting_of c) formula)) → OnErr result (LeavesPart c formula s)
+  pub part_left : (result : Result Conclusion WriteErr) → OnErr result (IfSome (k.after.file name) (IsPartOfFinding (setting_of c) formula)) → OnErr result (LeavesPart c formula k name)
   part_left (Ok verdict) h = tt
   part_left (Err e) h = a_part h
 
-  pub left_of : (saved : Result Conclusion WriteErr) → IfOk saved (IsSaved c formula s) → OnErr saved (LeavesPart c formula s) → LeavesPart c formula s
-  left_of (Ok verdict) is left = a_part (valid_part (setting_of c) formula most_bytes verdict (s.after s.name) is)
+  pub left_of : (saved : Result Conclusion WriteErr) → IfOk saved (IsSaved c formula k name) → OnErr saved (LeavesPart c formula k name) → LeavesPart c formula k name
+  left_of (Ok verdict) is left = a_part (valid_part (setting_of c) formula most_bytes verdict (k.after.file name) is)
   left_of (Err e) is left = left
 
   -- ---- what is reported
 
-  pub reported : (saved : Result Conclusion WriteErr) → IfOk saved (IsSaved c formula s) → IfOk saved (IsShown c formula)
-      → (saved ≡ Err M8 → IsFull (setting_of c) formula (s.after s.name) most_bytes) → (saved ≡ Err Fault → HasFailed s) → (r : Report) → ReportsSaved saved r → ReportsVerdict c formula s r
+  pub reported : (saved : Result Conclusion WriteErr) → IfOk saved (IsSaved c formula k name) → IfOk saved (IsShown c formula)
+      → (saved ≡ Err M8 → IsFull (setting_of c) formula (k.after.file name) most_bytes) → (saved ≡ Err Fault → HasFailed k name) → (r : Report) → ReportsSaved saved r → ReportsVerdict c formula k name r
   reported (Ok verdict) is shown full failed r e = decided verdict is shown e
   reported (Err Fault) is shown full failed r e = not_written (failed refl) e
   reported (Err M8) is shown full failed r e = too_long (full refl) e

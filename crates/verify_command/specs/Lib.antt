@@ -1,3 +1,2 @@
-pub mod Lines
 pub mod Reports
 pub use Rattle.comparison_files.specs as comparison_files

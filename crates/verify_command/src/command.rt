@@ -2,14 +2,16 @@
 ghost use Rattle.std.specs.Prelude.{false, ◌≡◌, ◌≢◌, ◌≤◌, ◌⊎◌};
 ghost use Rattle.outside.specs.Causes.{Rose, NoneFell};
 ghost use Rattle.outside.specs.Contents.{OthersStay};
-ghost use Rattle.command_answers.specs.Answers.{Answers, IsExact};
+ghost use Rattle.outside.specs.States.{change};
+ghost use Rattle.command_answers.specs.Answers.{Answers};
+ghost use Rattle.command_answers.specs.Ends.{Ends, IsComplete};
 ghost use Rattle.comparison_files.specs.Texts.{Texts, AreThreeTold, OneOfThreeRose};
 ghost use Rattle.comparison_files.specs.KeptTexts.{AreKept};
 ghost use Rattle.comparison_files.specs.Accepting.{AreStated};
 ghost use Rattle.comparison_files.specs.Held.{comparison_in};
 ghost use Rattle.comparison_files.specs.Scans.{AreScansOf};
-ghost use Rattle.verify_command.specs.Lines.{IsOfVerdict};
-ghost use Rattle.verify_command.specs.Reports.{saving, HasFailed, IsLeft, VerifyReports, ShowsSaved};
+ghost use Rattle.finding_answers.specs.Verdicts.{IsOfVerdict};
+ghost use Rattle.verify_command.specs.Reports.{asking_to_verify, HasFailed, IsLeft, VerifyReports, ShowsSaved};
 
 use crate::finding::answer_finding;
 use clause_core::Decider;
@@ -32,17 +34,17 @@ fn answer_compared<D: Decider, S: Shelf, K: Sink>(
     out: &mut K,
 ) -> Status
     requires scans { AreScansOf (comparison_in compared.now) scans }
-    requires unfailed { K.put_failed out.old ≡ false }
-    ensures others { OthersStay (S.file shelf.old) (S.file shelf.new) finding.now }
-    ensures left { (t : Texts) → AreStated t (comparison_in compared.now) → IsLeft t (saving (S.file shelf.old) (S.file shelf.new) (S.write_faults shelf.old) (S.write_faults shelf.new) finding.now) }
+    requires unfailed { (K.state out.old).put_failed ≡ false }
+    ensures others { OthersStay (S.state shelf.old).file (S.state shelf.new).file finding.now }
+    ensures left { (t : Texts) → AreStated t (comparison_in compared.now) → IsLeft t (change (S.state shelf.old) (S.state shelf.new)) finding.now }
     ensures answer { (t : Texts) → AreStated t (comparison_in compared.now)
-        → Answers (VerifyReports t (saving (S.file shelf.old) (S.file shelf.new) (S.write_faults shelf.old) (S.write_faults shelf.new) finding.now)) ⊥ result (K.taken out.old) (K.taken out.new) }
+        → Answers (VerifyReports t (change (S.state shelf.old) (S.state shelf.new)) finding.now) ⊥ result (K.state out.old).taken (K.state out.new).taken }
     ensures usage { result ≢ Status.Usage }
     ensures read_fault { result ≢ Status.ReadFault }
-    ensures write_fault { result ≡ Status.WriteFault → HasFailed (saving (S.file shelf.old) (S.file shelf.new) (S.write_faults shelf.old) (S.write_faults shelf.new) finding.now) ⊎ Rose (K.faults out.old) (K.faults out.new) }
-    ensures reads { NoneFell (S.read_faults shelf.old) (S.read_faults shelf.new) }
-    ensures writes { NoneFell (S.write_faults shelf.old) (S.write_faults shelf.new) }
-    ensures faults { K.faults out.old ≤ K.faults out.new }
+    ensures write_fault { result ≡ Status.WriteFault → HasFailed (change (S.state shelf.old) (S.state shelf.new)) finding.now ⊎ Rose (K.state out.old).faults (K.state out.new).faults }
+    ensures reads { NoneFell (S.state shelf.old).read_faults (S.state shelf.new).read_faults }
+    ensures writes { NoneFell (S.state shelf.old).write_faults (S.state shelf.new).write_faults }
+    ensures faults { (K.state out.old).faults ≤ (K.state out.new).faults }
 {
     match circuits_of(alloc, compared, scans) {
         Ok(circuits) => {
@@ -64,17 +66,17 @@ fn answer_texts<D: Decider, S: Shelf, K: Sink>(
     shelf: &mut S,
     out: &mut K,
 ) -> Status
-    requires unfailed { K.put_failed out.old ≡ false }
-    ensures others { OthersStay (S.file shelf.old) (S.file shelf.new) finding.now }
-    ensures left { (t : Texts) → AreKept texts.now t → IsLeft t (saving (S.file shelf.old) (S.file shelf.new) (S.write_faults shelf.old) (S.write_faults shelf.new) finding.now) }
+    requires unfailed { (K.state out.old).put_failed ≡ false }
+    ensures others { OthersStay (S.state shelf.old).file (S.state shelf.new).file finding.now }
+    ensures left { (t : Texts) → AreKept texts.now t → IsLeft t (change (S.state shelf.old) (S.state shelf.new)) finding.now }
     ensures answer { (t : Texts) → AreKept texts.now t
-        → Answers (VerifyReports t (saving (S.file shelf.old) (S.file shelf.new) (S.write_faults shelf.old) (S.write_faults shelf.new) finding.now)) ⊥ result (K.taken out.old) (K.taken out.new) }
+        → Answers (VerifyReports t (change (S.state shelf.old) (S.state shelf.new)) finding.now) ⊥ result (K.state out.old).taken (K.state out.new).taken }
     ensures usage { result ≢ Status.Usage }
     ensures read_fault { result ≢ Status.ReadFault }
-    ensures write_fault { result ≡ Status.WriteFault → HasFailed (saving (S.file shelf.old) (S.file shelf.new) (S.write_faults shelf.old) (S.write_faults shelf.new) finding.now) ⊎ Rose (K.faults out.old) (K.faults out.new) }
-    ensures reads { NoneFell (S.read_faults shelf.old) (S.read_faults shelf.new) }
-    ensures writes { NoneFell (S.write_faults shelf.old) (S.write_faults shelf.new) }
-    ensures faults { K.faults out.old ≤ K.faults out.new }
+    ensures write_fault { result ≡ Status.WriteFault → HasFailed (change (S.state shelf.old) (S.state shelf.new)) finding.now ⊎ Rose (K.state out.old).faults (K.state out.new).faults }
+    ensures reads { NoneFell (S.state shelf.old).read_faults (S.state shelf.new).read_faults }
+    ensures writes { NoneFell (S.state shelf.old).write_faults (S.state shelf.new).write_faults }
+    ensures faults { (K.state out.old).faults ≤ (K.state out.new).faults }
 {
     match accept_texts(alloc, texts) {
         Ok(stated) => {
@@ -96,19 +98,19 @@ fn answer_files<D: Decider, S: Shelf, K: Sink>(
     shelf: &mut S,
     out: &mut K,
 ) -> Status
-    requires reads { S.read_failed shelf.old ≡ false }
-    requires puts { K.put_failed out.old ≡ false }
-    ensures others { OthersStay (S.file shelf.old) (S.file shelf.new) finding.now }
-    ensures unread { result ≡ Status.ReadFault → S.file shelf.new ≡ S.file shelf.old }
-    ensures left { (t : Texts) → AreThreeTold (S.file shelf.old) old.now new.now relation.now t → IsLeft t (saving (S.file shelf.old) (S.file shelf.new) (S.write_faults shelf.old) (S.write_faults shelf.new) finding.now) }
-    ensures answer { (t : Texts) → AreThreeTold (S.file shelf.old) old.now new.now relation.now t
-        → Answers (VerifyReports t (saving (S.file shelf.old) (S.file shelf.new) (S.write_faults shelf.old) (S.write_faults shelf.new) finding.now)) (OneOfThreeRose (S.read_faults shelf.old) (S.read_faults shelf.new) old.now new.now relation.now) result (K.taken out.old) (K.taken out.new) }
+    requires reads { (S.state shelf.old).read_failed ≡ false }
+    requires puts { (K.state out.old).put_failed ≡ false }
+    ensures others { OthersStay (S.state shelf.old).file (S.state shelf.new).file finding.now }
+    ensures unread { result ≡ Status.ReadFault → (S.state shelf.new).file ≡ (S.state shelf.old).file }
+    ensures left { (t : Texts) → AreThreeTold (S.state shelf.old).file old.now new.now relation.now t → IsLeft t (change (S.state shelf.old) (S.state shelf.new)) finding.now }
+    ensures answer { (t : Texts) → AreThreeTold (S.state shelf.old).file old.now new.now relation.now t
+        → Answers (VerifyReports t (change (S.state shelf.old) (S.state shelf.new)) finding.now) (OneOfThreeRose (S.state shelf.old).read_faults (S.state shelf.new).read_faults old.now new.now relation.now) result (K.state out.old).taken (K.state out.new).taken }
     ensures usage { result ≢ Status.Usage }
-    ensures read_fault { result ≡ Status.ReadFault → OneOfThreeRose (S.read_faults shelf.old) (S.read_faults shelf.new) old.now new.now relation.now }
-    ensures write_fault { result ≡ Status.WriteFault → HasFailed (saving (S.file shelf.old) (S.file shelf.new) (S.write_faults shelf.old) (S.write_faults shelf.new) finding.now) ⊎ Rose (K.faults out.old) (K.faults out.new) }
-    ensures reads { NoneFell (S.read_faults shelf.old) (S.read_faults shelf.new) }
-    ensures writes { NoneFell (S.write_faults shelf.old) (S.write_faults shelf.new) }
-    ensures faults { K.faults out.old ≤ K.faults out.new }
+    ensures read_fault { result ≡ Status.ReadFault → OneOfThreeRose (S.state shelf.old).read_faults (S.state shelf.new).read_faults old.now new.now relation.now }
+    ensures write_fault { result ≡ Status.WriteFault → HasFailed (change (S.state shelf.old) (S.state shelf.new)) finding.now ⊎ Rose (K.state out.old).faults (K.state out.new).faults }
+    ensures reads { NoneFell (S.state shelf.old).read_faults (S.state shelf.new).read_faults }
+    ensures writes { NoneFell (S.state shelf.old).write_faults (S.state shelf.new).write_faults }
+    ensures faults { (K.state out.old).faults ≤ (K.state out.new).faults }
 {
     match read_texts(alloc, old, new, relation, shelf) {
         Ok(texts) => answer_texts(alloc, decider, &texts, finding, shelf, out),
@@ -130,38 +132,22 @@ pub fn answer_verify<D: Decider, S: Shelf, K: Sink>(
     out: &mut K,
 ) -> Status
     // No read and no put has failed before, and none follows one that failed.
-    requires reads { S.read_failed shelf.old ≡ false }
-    requires puts { K.put_failed out.old ≡ false }
+    requires reads { (S.state shelf.old).read_failed ≡ false }
+    requires puts { (K.state out.old).put_failed ≡ false }
 
-    // No file but the finding changes, and none where a read failed.
-    ensures others { OthersStay (S.file shelf.old) (S.file shelf.new) finding.now }
-    ensures unread { result ≡ Status.ReadFault → S.file shelf.new ≡ S.file shelf.old }
-
-    // Whatever the answer, the finding is as at entry, or what is told of it is a part of a finding on what the texts state.
-    ensures left { (t : Texts) → AreThreeTold (S.file shelf.old) old.now new.now relation.now t → IsLeft t (saving (S.file shelf.old) (S.file shelf.new) (S.write_faults shelf.old) (S.write_faults shelf.new) finding.now) }
-
-    // The bytes on the sink and the status are those of a report on the three texts, where these are told.
-    ensures answer { (t : Texts) → AreThreeTold (S.file shelf.old) old.now new.now relation.now t
-        → Answers (VerifyReports t (saving (S.file shelf.old) (S.file shelf.new) (S.write_faults shelf.old) (S.write_faults shelf.new) finding.now)) (OneOfThreeRose (S.read_faults shelf.old) (S.read_faults shelf.new) old.now new.now relation.now) result (K.taken out.old) (K.taken out.new) }
+    // No file but the finding changes, and none where a read failed. Whatever the answer, the finding is as at entry, or what is told of it is a
+    // part of a finding on what the texts state. The bytes on the sink and the status are those of a report on the three texts, where these are
+    // told. A fault comes only where a count rose, and no count falls.
+    ensures ends { Ends (asking_to_verify old.now new.now relation.now finding.now) result (change (S.state shelf.old) (S.state shelf.new)) (K.state out.old) (K.state out.new) }
+    ensures usage { result ≢ Status.Usage }
 
     // Where the status is that of a verdict, the finding was saved and is judged valid with it, and it is the verdict of the model on
     // what the texts state, or SPENT with its log.
-    ensures saved { (t : Texts) → AreThreeTold (S.file shelf.old) old.now new.now relation.now t → IsOfVerdict result
-        → ShowsSaved t (saving (S.file shelf.old) (S.file shelf.new) (S.write_faults shelf.old) (S.write_faults shelf.new) finding.now) result (K.taken out.old) (K.taken out.new) }
-    ensures usage { result ≢ Status.Usage }
-
-    // A fault comes only where a count rose, and no count falls.
-    ensures read_fault { result ≡ Status.ReadFault → OneOfThreeRose (S.read_faults shelf.old) (S.read_faults shelf.new) old.now new.now relation.now }
-    ensures write_fault { result ≡ Status.WriteFault → HasFailed (saving (S.file shelf.old) (S.file shelf.new) (S.write_faults shelf.old) (S.write_faults shelf.new) finding.now) ⊎ Rose (K.faults out.old) (K.faults out.new) }
-    ensures reads { NoneFell (S.read_faults shelf.old) (S.read_faults shelf.new) }
-    ensures writes { NoneFell (S.write_faults shelf.old) (S.write_faults shelf.new) }
-    ensures faults { K.faults out.old ≤ K.faults out.new }
+    ensures saved { (t : Texts) → (asking_to_verify old.now new.now relation.now finding.now).Tells (S.state shelf.old) t → IsOfVerdict result
+        → ShowsSaved t (change (S.state shelf.old) (S.state shelf.new)) finding.now result (K.state out.old).taken (K.state out.new).taken }
 
     // Where no count rose, the answer is a whole report, or memory was wanting.
-    ensures complete { (t : Texts) → AreThreeTold (S.file shelf.old) old.now new.now relation.now t
-        → ¬ (OneOfThreeRose (S.read_faults shelf.old) (S.read_faults shelf.new) old.now new.now relation.now)
-        → ¬ HasFailed (saving (S.file shelf.old) (S.file shelf.new) (S.write_faults shelf.old) (S.write_faults shelf.new) finding.now) → ¬ Rose (K.faults out.old) (K.faults out.new)
-        → result ≢ Status.Memory → IsExact (VerifyReports t (saving (S.file shelf.old) (S.file shelf.new) (S.write_faults shelf.old) (S.write_faults shelf.new) finding.now)) result (K.taken out.old) (K.taken out.new) }
+    ensures complete { IsComplete (asking_to_verify old.now new.now relation.now finding.now) result (change (S.state shelf.old) (S.state shelf.new)) (K.state out.old) (K.state out.new) }
 {
     answer_files(alloc, decider, old, new, relation, finding, shelf, out)
 }

@@ -4,7 +4,6 @@
 mod command;
 mod finding;
 mod laws;
-mod show;
 
 pub use command::answer_verify;
 pub use comparison_files::{

@@ -13,13 +13,13 @@ use Rattle.rules.specs.Judgements.{ok, suppressed, and, breaks}
 use Rattle.source_tree.specs.declared.syntax.Section.{Section}
 use Rattle.source_tree.specs.declared.syntax.Section.TheVariants as sections
 use Rattle.source_tree.specs.Syntax.{Named, DeclarationData, VariablesData, StepActionData, ChartStepData, PartData, step_part, transition_part, action_part, BodyData, statements, chart as chart_body, PouTypeData, function, function_block, program, PouData, FileData}
+use Rattle.program_tree.specs.ChartPlaces.{AreSteps, NameSteps, IsAssociated}
 use Rattle.naming.specs.declared.role.Role.TheVariants as roles
 use Rattle.naming.specs.ChartWords.{qualifier_of, is_storing, stores, is_stored}
 use Rattle.naming.specs.FileScope.{pou_at}
 use Rattle.naming.specs.Scopes.{Variable, role_of, declared_by, declared_in, variables_of, result_of, of_chart, step_role, action_role, transition_named, declared_by_part, declared_by_parts, names_in_body, variables_in_pou, is_step, is_of_name, variable_named, is_doubled, seen, seen_named, scope_of as names_of}
 use Rattle.naming.specs.Broken.{alone, in_tree, in_own_name, in_own_name_if, in_stmts, step_by, in_listed, in_listed_from, steps_in, in_steps, in_part, in_chart_parts, is_initial_part, place_of_chart, in_chart, in_body}
 use Rattle.sfc_shape.specs.Shapes.{steps_of, transitions_of, actions_of, step_number, association_with, associated, associated_from, associations_of}
-use Rattle.flat_form.specs.WellTyped.{AreSteps, NameSteps, IsAssociated}
 use Rattle.typing.specs.declared.scope.Place.{Place}
 use Rattle.typing.specs.declared.scope.Place.TheVariants as places
 use Rattle.typing.specs.declared.member.Member.{Member}

@@ -5,6 +5,7 @@ use Rattle.rules.specs.declared.rule.Rule.{Rule}
 use Rattle.rules.specs.declared.rule.Refusal.{Refusal}
 use Rattle.rules.specs.Judgements.{Judgement, ok, suppressed, and, breaks, require}
 use Rattle.typing.specs.JudgedStatements.{broken_by}
+use Rattle.typing.proofs.JudgedItems.{IsGiven}
 
 -- what breaks nothing is whole
 abbrev pub IsTold : Judgement → Type 0
@@ -47,3 +48,15 @@ told_require j h rule at told = required j rule at told j.whole h refl
 pub told_broken_by : (j : Judgement) (rule : Option Rule) (at : ℕ) → IsTold j → IsTold (broken_by j rule at)
 told_broken_by j None at told = told
 told_broken_by j (Some rule) at told = told_require j false rule at told
+
+unrequired : (j : Judgement) (rule : Rule) (at : ℕ) (w : Bool) → j.whole ≡ w → IsTold (if w then (if false then j else and j (breaks rule at)) else j) → IsTold j
+unrequired j rule at true e told none = e
+unrequired j rule at false e told none = told none
+
+told_unruled : (j : Judgement) (rule : Option Rule) (at : ℕ) → IsTold (broken_by j rule at) → IsTold j
+told_unruled j None at told = told
+told_unruled j (Some rule) at told = unrequired j rule at j.whole refl told
+
+-- a body has it from its parts
+pub told_given : IsGiven IsTold
+told_given = record { none = told_ok; both = told_and; behind = λ j k rule at a b. told_broken_by (and j k) rule at (told_and j k (told_unruled j rule at a) b) }

@@ -1,4 +1,4 @@
--- Statements and charts over whole names that break nothing are whole.
+-- Bodies over whole names that break nothing are whole, item by item.
 use Rattle.std.proofs.Common.{◌≡◌, ℕ, List, [], ◌∷◌, Bool, true, false, not, ◌&&◌, Option, Some, None}
 use Rattle.std.specs.List.{list_all}
 use Rattle.plc_types.specs.declared.data_type.DataType.{DataType}
@@ -6,19 +6,25 @@ use Rattle.plc_types.specs.declared.range.Range.{Range}
 use Rattle.plc_types.specs.DataTypes.{is_same_type}
 use Rattle.rules.specs.declared.rule.Rule.TheVariants.{OperandType, ValueType, ArgumentCount, NotAssignable, NotConstant, OutsideType, Overlap}
 use Rattle.rules.specs.Judgements.{and, require}
-use Rattle.source_tree.specs.Syntax.{Named, PathData, Tree, ConnectionData, input, output, Stmt, empty, assign, invoke, branch, cases, iterate, Stmts, no_stmts, stmt, Arms, no_arms, arm, Entries, no_entries, entry, Otherwise, no_else, else_stmts, LabelData, IterationData, PartData, step_part, transition_part, action_part}
+use Rattle.source_tree.specs.Syntax.{Named, PathData, Tree, ConnectionData, input, output, LabelData, IterationData, BodyData}
+use Rattle.source_tree.specs.StatementItems.{StatementItem, assignment, invocation, condition, selector, labels, iteration}
 use Rattle.naming.specs.Broken.{alone}
 use Rattle.typing.specs.declared.scope.Meaning.{Meaning}
 use Rattle.typing.specs.Typing.{Scope, by_path, kind_at, or_dint, type_of, place_of, is_unknown}
 use Rattle.typing.specs.Judged.{judged, judged_meaning, judged_condition}
 use Rattle.typing.specs.Constants.{constant_value}
 use Rattle.std.specs.Prelude.{is_some, int_le}
-use Rattle.typing.specs.Labels.{judged_high, is_of_type, high_is_of_type, label_range, overlaps, judged_label, judged_labels, seen_with, seen_behind}
-use Rattle.typing.specs.JudgedStatements.{is_assignable, judged_target, judged_assign, member, judged_input, judged_output, judged_connections, connects_twice, has_right_arrow, judged_invoke, may_control, judged_control, judged_bound, judged_step, is_typed, step_is_typed, judged_iteration, turns_rule, with_control, may_select, judged_selector, judged_labels_if, judged_stmt, judged_stmts, judged_arms, judged_entries, judged_else}
-use Rattle.typing.specs.JudgedCharts.{judged_part, judged_parts}
-use Rattle.alike_scopes.specs.typed_scopes.Uses.{Usable, IsWithin, IsOptionWithin, AreConnectionsWithin, AreLabelsWithin, IsIterationWithin, IsStmtWithin, AreStmtsWithin, AreArmsWithin, AreEntriesWithin, IsElseWithin, ArePartsWithin}
+use Rattle.typing.specs.Labels.{judged_high, is_of_type, high_is_of_type, label_range, overlaps, judged_label, judged_labels, seen_with}
+use Rattle.typing.specs.JudgedStatements.{is_assignable, judged_target, judged_assign, member, judged_input, judged_output, judged_connections, connects_twice, has_right_arrow, judged_invoke, may_control, judged_control, judged_bound, judged_step, is_typed, step_is_typed, judged_iteration, turns_rule, may_select, judged_selector, judged_labels_if}
+use Rattle.typing.specs.JudgedItems.{controls_in, seen_in, judged_item}
+use Rattle.typing.specs.Pous.{judged_body}
+use Rattle.typing.proofs.JudgedItems.{given_body}
+use Rattle.alike_scopes.specs.typed_scopes.Uses.{Usable, IsWithin, IsOptionWithin, AreConnectionsWithin, AreLabelsWithin, IsIterationWithin, IsItemWithin}
+use Rattle.alike_scopes.specs.bound_names.BoundNames.{IsBodyWithin}
+use Rattle.alike_scopes.proofs.typed_scopes.EveryItem.{body_mapped}
+use Rattle.alike_scopes.proofs.typed_scopes.Selectors.{WithSelector, body_with_selectors}
 use Rattle.whole_files.specs.WholeScopes.{is_whole_meaning, IsWholeScope}
-use Rattle.whole_files.proofs.Told.{IsTold, told_ok, told_and, told_require, told_broken_by}
+use Rattle.whole_files.proofs.Told.{IsTold, told_ok, told_and, told_require, told_broken_by, told_given}
 use Rattle.whole_files.proofs.KnownTypes.{kind_known, dint_known, type_known}
 use Rattle.whole_files.proofs.ToldTrees.{meaning_told, tree_told, condition_told}
 
@@ -115,48 +121,19 @@ module _ (scope : Scope) (uses : Usable) (whole : IsWholeScope scope uses) where
   labels_if_told true t known seen ls within = labels_told t known seen ls within
   labels_if_told false t known seen ls within = told_ok
 
-  mutual
-    stmt_told : (controls : List ℕ) (s : Stmt) → IsStmtWithin uses s → IsTold (judged_stmt scope controls s)
-    stmt_told controls empty within = told_ok
-    stmt_told controls (assign p e) within = assign_told controls p e within.0 within.1
-    stmt_told controls (invoke n at cs) within = invoke_told controls n cs within
-    stmt_told controls (branch arms other) within = told_and (judged_arms scope controls arms) (judged_else scope controls other) (arms_told controls arms within.0) (else_told controls other within.1)
-    stmt_told controls (cases e es other) within =
-        let selector = judged_selector scope e in
-        let t = type_of scope None e in
-        let entries = judged_entries scope controls selector.whole t [] es in
-        told_and selector (and entries (judged_else scope controls other)) (selector_told e within.0)
-        (told_and entries (judged_else scope controls other) (entries_told controls selector.whole t (type_known scope uses whole None tt e within.0) [] es within.1) (else_told controls other within.2))
-    stmt_told controls (iterate i ss) within =
-        let inner = with_control controls (scope.means (by_path (alone i.control))) in
-        let parts = and (judged_iteration scope controls i) (judged_stmts scope inner ss) in
-        told_broken_by parts (turns_rule scope i) i.at (told_and (judged_iteration scope controls i) (judged_stmts scope inner ss) (iteration_told controls i within.0) (stmts_told inner ss within.1))
+  item_told : (around : List IterationData) (i : StatementItem) → WithSelector (IsItemWithin uses) around i → IsTold (judged_item scope [] around i)
+  item_told around (assignment p e) within = assign_told (controls_in scope [] around) p e within.0 within.1
+  item_told around (invocation n at cs) within = invoke_told (controls_in scope [] around) n cs within
+  item_told around (condition e) within = condition_told scope uses whole OperandType e within
+  item_told around (selector e) within = selector_told e within
+  item_told around (labels e before ls) within =
+      let t = type_of scope None e in
+      labels_if_told (judged_selector scope e).whole t (type_known scope uses whole None tt e within.0) (seen_in scope t before) ls within.1
+  item_told around (iteration i) within =
+      let controls = controls_in scope [] around in
+      told_broken_by (judged_iteration scope controls i) (turns_rule scope i) i.at (iteration_told controls i within)
 
-    pub stmts_told : (controls : List ℕ) (ss : Stmts) → AreStmtsWithin uses ss → IsTold (judged_stmts scope controls ss)
-    stmts_told controls no_stmts within = told_ok
-    stmts_told controls (stmt s ss) within = told_and (judged_stmt scope controls s) (judged_stmts scope controls ss) (stmt_told controls s within.0) (stmts_told controls ss within.1)
-
-    arms_told : (controls : List ℕ) (arms : Arms) → AreArmsWithin uses arms → IsTold (judged_arms scope controls arms)
-    arms_told controls no_arms within = told_ok
-    arms_told controls (arm e ss arms) within =
-        let rest = and (judged_stmts scope controls ss) (judged_arms scope controls arms) in
-        told_and (judged_condition scope OperandType e) rest (condition_told scope uses whole OperandType e within.0)
-        (told_and (judged_stmts scope controls ss) (judged_arms scope controls arms) (stmts_told controls ss within.1) (arms_told controls arms within.2))
-
-    entries_told : (controls : List ℕ) (w : Bool) (t : DataType) → is_unknown t ≡ false → (seen : List Range) (es : Entries) → AreEntriesWithin uses es → IsTold (judged_entries scope controls w t seen es)
-    entries_told controls w t known seen no_entries within = told_ok
-    entries_told controls w t known seen (entry ls ss es) within =
-        let rest = judged_entries scope controls w t (seen_behind scope t seen ls) es in
-        told_and (judged_labels_if scope w t seen ls) (and (judged_stmts scope controls ss) rest) (labels_if_told w t known seen ls within.0)
-        (told_and (judged_stmts scope controls ss) rest (stmts_told controls ss within.1) (entries_told controls w t known (seen_behind scope t seen ls) es within.2))
-
-    else_told : (controls : List ℕ) (other : Otherwise) → IsElseWithin uses other → IsTold (judged_else scope controls other)
-    else_told controls no_else within = told_ok
-    else_told controls (else_stmts ss) within = stmts_told controls ss within
-
-  pub parts_told : (ps : List PartData) → ArePartsWithin uses ps → IsTold (judged_parts scope ps)
-  parts_told [] within = told_ok
-  parts_told (step_part s ∷ ps) within = told_and (judged_part scope (step_part s)) (judged_parts scope ps) told_ok (parts_told ps within)
-  parts_told (transition_part t ∷ ps) within =
-      told_and (judged_part scope (transition_part t)) (judged_parts scope ps) (condition_told scope uses whole OperandType t.condition within.0) (parts_told ps within.1)
-  parts_told (action_part a ∷ ps) within = told_and (judged_part scope (action_part a)) (judged_parts scope ps) (stmts_told [] a.body within.0) (parts_told ps within.1)
+  pub body_told : (b : BodyData) → IsBodyWithin uses b → IsTold (judged_body scope b)
+  body_told b within =
+      let told = body_mapped (WithSelector (IsItemWithin uses)) (λ around i. IsTold (judged_item scope [] around i)) item_told b (body_with_selectors (IsItemWithin uses) b within) in
+      given_body scope IsTold told_given b told

@@ -3,7 +3,7 @@ use Rattle.std.proofs.Common.{◌≡◌, ℕ, zero, suc, ◌+◌, List, [], ◌�
 use Rattle.std.specs.List.{slice_get}
 use Rattle.rules.specs.declared.rule.Refusal.{Refusal}
 use Rattle.rules.specs.Judgements.{and}
-use Rattle.source_tree.specs.Syntax.{BodyData, statements, chart as chart_body, PouData, FileData}
+use Rattle.source_tree.specs.Syntax.{PouData, FileData}
 use Rattle.source_tree.specs.Levels.{IsBodyLevelled, IsFileLevelled}
 use Rattle.naming.specs.FileScope.{types_of, pous_of, pou_at}
 use Rattle.naming.specs.Scopes.{variables_in_pou, scope_of as names_of}
@@ -11,17 +11,15 @@ use Rattle.naming.specs.Broken.{variables_twice, in_declarations, in_body, in_po
 use Rattle.naming.specs.Circles.{IsBroken}
 use Rattle.naming.proofs.CircleLemmas.{nothing_left}
 use Rattle.alike_scopes.proofs.st_names.Clean.{parts, no_doubles}
-use Rattle.typing.specs.Typing.{Scope}
 use Rattle.typing.specs.Domains.{judged_types}
 use Rattle.typing.specs.Variables.{judged_variables}
 use Rattle.typing.specs.Members.{scope_of}
 use Rattle.typing.specs.Pous.{judged_body, judged_pou, judged_pous, broken_types}
-use Rattle.alike_scopes.specs.typed_scopes.Uses.{Usable}
 use Rattle.alike_scopes.proofs.typed_scopes.Wholes.{whole_and}
 use Rattle.whole_files.specs.WholeScopes.{IsWholeScope}
 use Rattle.alike_scopes.specs.bound_names.BoundNames.{is_function_called, bound_uses, IsBodyWithin}
-use Rattle.whole_files.proofs.Told.{IsTold, nil_front, nil_behind}
-use Rattle.whole_files.proofs.ToldStatements.{stmts_told, parts_told}
+use Rattle.whole_files.proofs.Told.{nil_front, nil_behind}
+use Rattle.whole_files.proofs.ToldStatements.{body_told}
 use Rattle.alike_scopes.proofs.bound_names.Within.{body_within}
 use Rattle.alike_scopes.proofs.st_names.WholeNames.{pou_typed, pou_whole}
 use Rattle.whole_files.proofs.Formed.{pou_levelled, variables_formed}
@@ -41,10 +39,6 @@ pou_judged f number (x ∷ ps) zero p h at =
 pou_judged f number (x ∷ ps) (suc i) p h at =
     let more : number + 1 + i ≡ number + suc i = omega arith in
     subst (λ (n : ℕ). (judged_pou f n p).broken ≡ []) more (pou_judged f (number + 1) ps i p (nil_behind (judged_pou f number x).broken (judged_pous f (number + 1) ps).broken h) at)
-
-pub body_told : (scope : Scope) (uses : Usable) → IsWholeScope scope uses → (b : BodyData) → IsBodyWithin uses b → IsTold (judged_body scope b)
-body_told scope uses whole (statements ss) within = stmts_told scope uses whole [] ss within
-body_told scope uses whole (chart_body ps) within = parts_told scope uses whole ps within
 
 -- what is whole of the names of a POU
 names_declared : (f : FileData) (d : PouData) → (in_pou f d).whole ≡ true → (in_declarations f (names_of d) 0 (variables_in_pou d)).whole ≡ true

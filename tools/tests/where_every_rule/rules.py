@@ -2,9 +2,11 @@
 
 import importlib.machinery
 import importlib.util
+import os
 import sys
 
 sys.dont_write_bytecode = True
+sys.path.insert(0, os.path.dirname(sys.argv[1]))
 loader = importlib.machinery.SourceFileLoader("where", sys.argv[1])
 where = importlib.util.module_from_spec(importlib.util.spec_from_loader("where", loader))
 loader.exec_module(where)

@@ -3,13 +3,13 @@ use Rattle.plc_types.specs.declared.range.Range.{Range}
 use Rattle.program_tree.specs.View.{expr_view, operand_view, operands_view, arguments_view, stmt_view, stmts_view, arm_view, choices_view, entries_view, action_view, actions_view, transition_view, transitions_view}
 use Rattle.flat_core.specs.FlatView.{flats_view, flat_arms_view}
 use Rattle.meaning.proofs.Sizes.{nodes, operand_nodes, all_nodes, statement_nodes, body_nodes, choice_nodes, entry_nodes, action_nodes, transition_nodes}
+use Rattle.meaning.specs.StaysIn.{turns_stay}
 use Rattle.flat_charts.specs.Views.{frame_view}
 use Rattle.flat_charts.specs.Views.{owner_view}
 use Rattle.flat_form.specs.Calls.{operand_scratch, all_scratch, input_scratch, moved_operands, all_moved, operands_before, all_before, inputs_before, input_places}
 use Rattle.flat_form.specs.FlatCharts.{scratch_of_transitions, flat_transitions}
 use Rattle.flat_form.specs.FlatLists.{scratch_of_all, scratch_of_choices, scratch_of_entries, scratch_of_actions, repeated, flat_of_all, flat_choices, flat_entries, flat_actions, unrolled}
 use Rattle.flat_charts.specs.Views.{bodies_here}
-use Rattle.flat_form.specs.WellTyped.{turns_stay}
 use Rattle.flat_form.proofs.OperandLemmas.{with_operands, with_expressions}
 use Rattle.flat_laws.proofs.TurnValues.{stay_from}
 use Rattle.fb_inline.proofs.PouLemmas.{weight_here}

@@ -6,8 +6,8 @@ use Rattle.command_answers.proofs.answer.put_report.Goals as goal
 pub returns-in-Ok-clause-answer : goal.returns-in-Ok-clause-answer
 returns-in-Ok-clause-answer g c = λ r status told.
     let text = rw c.in-Ok.is at told in
-    let old = g.K.Sink.taken c.args.out.now in
-    let new = g.K.Sink.taken c.put_last.new.out in
+    let old = (g.K.Sink.state c.args.out.now).taken in
+    let new = (g.K.Sink.state c.put_last.new.out).taken in
     let line = subst (λ l. HasPut l c.args.status c.put_last.result old new) (c.as_str.ensures.value ∙ text) c.put_last.ensures.put in
     let put = subst (λ s. HasPut r.text s c.put_last.result old new) (sym status) line in
     answered (λ x. x ≡ r) ⊥ r c.put_last.result old new refl (ap extent_of status ∙ c.requires.extent) put

@@ -5,12 +5,12 @@ use Rattle.command_files.proofs.files.read_text.Given as goal
 
 abbrev pub invariant-parts : goal.invariant-parts
 invariant-parts g l = record {
-  kept : g.S.Shelf.file l.shelf ≡ g.S.Shelf.file l.initial.shelf;
-  read : IfSome (g.S.Shelf.file l.initial.shelf l.name) (λ bytes. l.text.items ≡ take (length l.text.items) bytes);
-  reads : NoneFell (g.S.Shelf.read_faults l.initial.shelf) (g.S.Shelf.read_faults l.shelf);
-  writes : NoneFell (g.S.Shelf.write_faults l.initial.shelf) (g.S.Shelf.write_faults l.shelf);
-  unfailed : g.S.Shelf.read_failed l.shelf ≡ false;
-  reach : ReachesAtMost 1048577 (g.S.Shelf.reach l.initial.shelf) (g.S.Shelf.reach l.shelf);
+  kept : (g.S.Shelf.state l.shelf).file ≡ (g.S.Shelf.state l.initial.shelf).file;
+  read : IfSome ((g.S.Shelf.state l.initial.shelf).file l.name) (λ bytes. l.text.items ≡ take (length l.text.items) bytes);
+  reads : NoneFell (g.S.Shelf.state l.initial.shelf).read_faults (g.S.Shelf.state l.shelf).read_faults;
+  writes : NoneFell (g.S.Shelf.state l.initial.shelf).write_faults (g.S.Shelf.state l.shelf).write_faults;
+  unfailed : (g.S.Shelf.state l.shelf).read_failed ≡ false;
+  reach : ReachesAtMost 1048577 (g.S.Shelf.state l.initial.shelf).reach (g.S.Shelf.state l.shelf).reach;
   room : length l.buffer ≡ 65536;
 }
 

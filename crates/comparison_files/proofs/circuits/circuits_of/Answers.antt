@@ -1,6 +1,7 @@
 use Rattle.std.proofs.Common.{◌≡◌, ◌∙◌, refl, ap, ap₂}
 use Rattle.product_build.specs.Limits.{HasFewGates, HasManyGates}
-use Rattle.product_build.specs.MadeCircuits.{comparison_between, formula_by, formula_of}
+use Rattle.query_formulas.specs.QueryClauses.{formula_by}
+use Rattle.product_build.specs.MadeCircuits.{comparison_between, formula_of}
 use Rattle.comparison_files.specs.Accepting.{gates}
 use Rattle.comparison_files.specs.Comparing.{formulas_by}
 use Rattle.comparison_files.specs.Held.{comparison_in}

@@ -1,5 +1,5 @@
 use Rattle.std.proofs.Common.{◌≡◌, ◌+◌, ◌<◌, ◌∷◌, [], length, length-append, ap, arith, ◌∙◌}
-use Rattle.flat_form.specs.Frames.{scratch_at}
+use Rattle.meaning.specs.Frames.{scratch_at}
 use Rattle.flat_charts.specs.Views.{frame_view}
 use Rattle.fb_inline.proofs.CallLemmas.{more-others, more-other-scratch, more-other-starts}
 use Rattle.fb_inline.proofs.frames.put_others.Goals as goal

@@ -1,6 +1,7 @@
 use Rattle.std.proofs.Common.{◌≡◌, ◌+◌, ◌-◌, ◌++◌, length}
+use Rattle.meaning.specs.Frames.{counted_from}
 use Rattle.flat_core.specs.FlatView.{flats_view}
-use Rattle.flat_form.specs.Frames.{others_behind, other_scratch, other_starts, counted_from}
+use Rattle.flat_form.specs.Frames.{others_behind, other_scratch, other_starts}
 use Rattle.flat_charts.specs.Views.{frame_view}
 use Rattle.fb_inline.proofs.frames.put_others.Given as goal
 

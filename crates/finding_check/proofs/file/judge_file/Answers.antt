@@ -3,4 +3,4 @@ use Rattle.finding_check.proofs.file.judge_file.Goals as goal
 
 pub judge-requires-clause-agrees : goal.judge-requires-clause-agrees
 judge-requires-clause-agrees g c =
-    agrees_at_start (g.S.Shelf.file c.args.shelf.now c.in_ok-reader.reader.name) c.in_ok-reader.reader c.args.finding.now.name.now c.args.finding.now.limit c.in_ok-reader.ensures
+    agrees_at_start ((g.S.Shelf.state c.args.shelf.now).file c.in_ok-reader.reader.name) c.in_ok-reader.reader c.args.finding.now.name.now c.args.finding.now.limit c.in_ok-reader.ensures

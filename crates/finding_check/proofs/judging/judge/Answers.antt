@@ -46,10 +46,10 @@ returns-in-Err-clause-exact g c =
     let s = setting_in c.args.trial.now in
     let f = g.Q.Queries.formula c.args.queries.now in
     let limit = c.args.reader.now.limit in
-    let told = g.S.Shelf.file c.args.shelf.now c.args.reader.now.name in
+    let told = (g.S.Shelf.state c.args.shelf.now).file c.args.reader.now.name in
     let place = place_of c.lines.stage c.lines.trial.pair in
-    let same_file : g.S.Shelf.file c.lines.shelf c.lines.reader.name ≡ told =
-    ap (λ files. files c.lines.reader.name) c.lines.invariant.files ∙ ap (g.S.Shelf.file c.args.shelf.now) c.lines.invariant.name
+    let same_file : (g.S.Shelf.state c.lines.shelf).file c.lines.reader.name ≡ told =
+    ap (λ files. files c.lines.reader.name) c.lines.invariant.files ∙ ap (g.S.Shelf.state c.args.shelf.now).file c.lines.invariant.name
     in
     let answered = subst (λ (o : Option (List ℕ)). IfSome o (λ file. IsAnswer c.lines.reader (ahead (rest_of c.lines.reader file)) c.next.result)) same_file c.next.ensures.answer in
     subst (λ r. IfSome told (λ file. IsJudged s f limit file r)) (sym (c.stopped.ensures c.lines.trial.pair))
@@ -68,12 +68,12 @@ returns-in-Err-clause-cause g c = record {
       let fault = stopped-fault (place_of c.lines.stage c.lines.trial.pair) (c.lines.before + 1) c.in-Err.error (sym (c.stopped.ensures c.lines.trial.pair) ∙ e) in
       let rose = c.next.ensures.cause.failed (c.in-Err.is ∙ ap Err fault) in
       Rose-before _ _ _ (c.lines.invariant.reads c.args.reader.now.name)
-      (subst (λ (name : List ℕ). Rose (g.S.Shelf.read_faults c.lines.shelf name) (g.S.Shelf.read_faults c.next.new.shelf name)) c.lines.invariant.name rose);
+      (subst (λ (name : List ℕ). Rose ((g.S.Shelf.state c.lines.shelf).read_faults name) ((g.S.Shelf.state c.next.new.shelf).read_faults name)) c.lines.invariant.name rose);
 }
 
 pub returns-in-Err-clause-unfailed : goal.returns-in-Err-clause-unfailed
 returns-in-Err-clause-unfailed g c =
-    subst (λ r. OnOk r (g.S.Shelf.read_failed c.next.new.shelf ≡ false)) (sym (c.stopped.ensures c.lines.trial.pair))
+    subst (λ r. OnOk r ((g.S.Shelf.state c.next.new.shelf).read_failed ≡ false)) (sym (c.stopped.ensures c.lines.trial.pair))
     (stopped-unfailed (place_of c.lines.stage c.lines.trial.pair) (c.lines.before + 1) c.in-Err.error
     (λ fault memory. c.next.ensures.unfailed
     (λ e. let both : Err c.in-Err.error ≡ Err Fault = sym c.in-Err.is ∙ e in let same : c.in-Err.error ≡ Fault = cc in fault same)
@@ -84,10 +84,10 @@ returns-in_default-clause-exact g c =
     let s = setting_in c.args.trial.now in
     let f = g.Q.Queries.formula c.args.queries.now in
     let limit = c.args.reader.now.limit in
-    let told = g.S.Shelf.file c.args.shelf.now c.args.reader.now.name in
+    let told = (g.S.Shelf.state c.args.shelf.now).file c.args.reader.now.name in
     let place = place_of c.lines.stage c.lines.trial.pair in
-    let same_file : g.S.Shelf.file c.lines.shelf c.lines.reader.name ≡ told =
-    ap (λ files. files c.lines.reader.name) c.lines.invariant.files ∙ ap (g.S.Shelf.file c.args.shelf.now) c.lines.invariant.name
+    let same_file : (g.S.Shelf.state c.lines.shelf).file c.lines.reader.name ≡ told =
+    ap (λ files. files c.lines.reader.name) c.lines.invariant.files ∙ ap (g.S.Shelf.state c.args.shelf.now).file c.lines.invariant.name
     in
     let answered = subst (λ (o : Option (List ℕ)). IfSome o (λ file. IsAnswer c.lines.reader (ahead (rest_of c.lines.reader file)) c.next.result)) same_file c.next.ensures.answer in
     subst (λ j. IfSome told (λ file. IsJudged s f limit file (Ok j))) (sym (c.end_of_file.ensures c.lines.trial.pair))
@@ -105,10 +105,10 @@ returns-in-Fails-clause-exact g c =
     let s = setting_in c.args.trial.now in
     let f = g.Q.Queries.formula c.args.queries.now in
     let limit = c.args.reader.now.limit in
-    let told = g.S.Shelf.file c.args.shelf.now c.args.reader.now.name in
+    let told = (g.S.Shelf.state c.args.shelf.now).file c.args.reader.now.name in
     let place = place_of c.lines.stage c.lines.trial.pair in
-    let same_file : g.S.Shelf.file c.lines.shelf c.lines.reader.name ≡ told =
-    ap (λ files. files c.lines.reader.name) c.lines.invariant.files ∙ ap (g.S.Shelf.file c.args.shelf.now) c.lines.invariant.name
+    let same_file : (g.S.Shelf.state c.lines.shelf).file c.lines.reader.name ≡ told =
+    ap (λ files. files c.lines.reader.name) c.lines.invariant.files ∙ ap (g.S.Shelf.state c.args.shelf.now).file c.lines.invariant.name
     in
     let answered = subst (λ (o : Option (List ℕ)). IfSome o (λ file. IsAnswer c.lines.reader (ahead (rest_of c.lines.reader file)) c.next.result)) same_file c.next.ensures.answer in
     let moves : Moves s f place c.in-Some.line (fails c.in-Fails.reason) =
@@ -123,7 +123,7 @@ returns-clause-exact g c =
     let s = setting_in c.args.trial.now in
     let f = g.Q.Queries.formula c.args.queries.now in
     let limit = c.args.reader.now.limit in
-    let told = g.S.Shelf.file c.args.shelf.now c.args.reader.now.name in
+    let told = (g.S.Shelf.state c.args.shelf.now).file c.args.reader.now.name in
     let place = place_of c.lines.stage c.lines.trial.pair in
     told_never s f limit told c.lines.reader c.lines.before place (Err Memory) c.lines.invariant.told (omega (arith, c.requires.limit)) (λ file. IsJudged s f limit file (Err M8))
 
@@ -133,12 +133,12 @@ lines-preserved g c =
     let s = setting_in c.args.trial.now in
     let f = g.Q.Queries.formula c.args.queries.now in
     let limit = c.args.reader.now.limit in
-    let told = g.S.Shelf.file c.args.shelf.now c.args.reader.now.name in
+    let told = (g.S.Shelf.state c.args.shelf.now).file c.args.reader.now.name in
     let place = place_of c.lines.stage c.lines.trial.pair in
     let after = place_of c.in-Goes.then c.judge_line.new.trial.pair in
     let line = c.in-Some.line in
-    let same_file : g.S.Shelf.file c.lines.shelf c.lines.reader.name ≡ told =
-    ap (λ files. files c.lines.reader.name) c.lines.invariant.files ∙ ap (g.S.Shelf.file c.args.shelf.now) c.lines.invariant.name
+    let same_file : (g.S.Shelf.state c.lines.shelf).file c.lines.reader.name ≡ told =
+    ap (λ files. files c.lines.reader.name) c.lines.invariant.files ∙ ap (g.S.Shelf.state c.args.shelf.now).file c.lines.invariant.name
     in
     let is : c.next.result ≡ Ok (Some line) = c.in-Ok.is ∙ ap Ok c.in-Some.is in
     let answered = subst (λ (o : Option (List ℕ)). IfSome o (λ file. IsAnswer c.lines.reader (ahead (rest_of c.lines.reader file)) c.next.result)) same_file c.next.ensures.answer in
@@ -163,7 +163,7 @@ lines-preserved g c =
       trial = c.in_ok-then.ensures.kept ∙ ap (with_pair c.judge_line.new.trial.pair) c.lines.invariant.trial;
       name = past.name ∙ c.lines.invariant.name;
       limit = past.limit ∙ c.lines.invariant.limit;
-      agrees = subst (λ (o : Option (List ℕ)). IfSome o (Agrees c.next.new.self)) (sym (ap (λ files. files c.next.new.self.name) c.next.ensures.kept ∙ ap (g.S.Shelf.file c.lines.shelf) past.name)) c.next.ensures.agrees;
+      agrees = subst (λ (o : Option (List ℕ)). IfSome o (Agrees c.next.new.self)) (sym (ap (λ files. files c.next.new.self.name) c.next.ensures.kept ∙ ap (g.S.Shelf.state c.lines.shelf).file past.name)) c.next.ensures.agrees;
       files = c.next.ensures.kept ∙ c.lines.invariant.files;
       reads = λ name. let first = c.lines.invariant.reads name in let more = c.next.ensures.cause.later name in omega (arith, first, more);
       writes = λ name. let first = c.lines.invariant.writes name in let more = c.next.ensures.writes name in omega (arith, first, more);

@@ -12,16 +12,16 @@ use Rattle.finding_check.proofs.judging.judge.Given as goal
 
 abbrev pub invariant-lines : goal.invariant-lines
 invariant-lines g l = record {
-  told : IfSome (g.S.Shelf.file l.initial.shelf l.initial.reader.name)
+  told : IfSome ((g.S.Shelf.state l.initial.shelf).file l.initial.reader.name)
       (λ file. IsReadTo (setting_in l.initial.trial) (g.Q.Queries.formula l.queries) l.initial.reader.limit file l.reader l.before (place_of l.stage l.trial.pair));
   known : Known (comparison_of l.initial.trial) (g.Q.Queries.formula l.queries) (place_of l.stage l.trial.pair);
   room : HasRoom (setting_in l.initial.trial) l.before (place_of l.stage l.trial.pair);
   trial : l.trial ≡ with_pair l.trial.pair l.initial.trial;
   name : l.reader.name ≡ l.initial.reader.name;
   limit : l.reader.limit ≡ l.initial.reader.limit;
-  agrees : IfSome (g.S.Shelf.file l.shelf l.reader.name) (Agrees l.reader);
-  files : g.S.Shelf.file l.shelf ≡ g.S.Shelf.file l.initial.shelf;
-  reads : NoneFell (g.S.Shelf.read_faults l.initial.shelf) (g.S.Shelf.read_faults l.shelf);
-  writes : NoneFell (g.S.Shelf.write_faults l.initial.shelf) (g.S.Shelf.write_faults l.shelf);
-  unfailed : g.S.Shelf.read_failed l.shelf ≡ false;
+  agrees : IfSome ((g.S.Shelf.state l.shelf).file l.reader.name) (Agrees l.reader);
+  files : (g.S.Shelf.state l.shelf).file ≡ (g.S.Shelf.state l.initial.shelf).file;
+  reads : NoneFell (g.S.Shelf.state l.initial.shelf).read_faults (g.S.Shelf.state l.shelf).read_faults;
+  writes : NoneFell (g.S.Shelf.state l.initial.shelf).write_faults (g.S.Shelf.state l.shelf).write_faults;
+  unfailed : (g.S.Shelf.state l.shelf).read_failed ≡ false;
 }

@@ -20,7 +20,7 @@ lines-init g c = record {
   told = IfSome-all
       {P = λ (file : List ℕ). (ls : List Line) → IsFileOf (setting_in c.args.trial.now) c.args.reader.now.limit file ls
       → IsNotedTo (setting_in c.args.trial.now) c.args.reader.now.limit file ls c.args.reader.now 0 c.in_ok-notes.notes}
-      (g.S.Shelf.file c.args.shelf.now c.args.reader.now.name)
+      ((g.S.Shelf.state c.args.shelf.now).file c.args.reader.now.name)
       (λ file ls f.
       noted_none (setting_in c.args.trial.now) c.args.reader.now.limit file ls c.args.reader.now c.in_ok-notes.notes f c.requires.first_byte
       (ap (λ x. left_behind (setting_in c.args.trial.now) x ls) c.in_ok-notes.ensures.set) c.in_ok-notes.ensures.pair c.in_ok-notes.ensures.scans);
@@ -38,9 +38,9 @@ pub returns-in-Err-clause-noted : goal.returns-in-Err-clause-noted
 returns-in-Err-clause-noted g c =
     let s = setting_in c.args.trial.now in
     let limit = c.args.reader.now.limit in
-    let told = g.S.Shelf.file c.args.shelf.now c.args.reader.now.name in
-    let same_file : g.S.Shelf.file c.lines.shelf c.lines.reader.name ≡ told =
-    ap (λ files. files c.lines.reader.name) c.lines.invariant.files ∙ ap (g.S.Shelf.file c.args.shelf.now) c.lines.invariant.name
+    let told = (g.S.Shelf.state c.args.shelf.now).file c.args.reader.now.name in
+    let same_file : (g.S.Shelf.state c.lines.shelf).file c.lines.reader.name ≡ told =
+    ap (λ files. files c.lines.reader.name) c.lines.invariant.files ∙ ap (g.S.Shelf.state c.args.shelf.now).file c.lines.invariant.name
     in
     let answered = subst (λ (o : Option (List ℕ)). IfSome o (λ file. IsAnswer c.lines.reader (ahead (rest_of c.lines.reader file)) c.next.result)) same_file c.next.ensures.answer in
     told_stopped s limit told c.lines.reader c.lines.before c.lines.notes c.next.result c.in-Err.error c.lines.invariant.told c.lines.invariant.limit answered c.in-Err.is
@@ -52,16 +52,16 @@ returns-in-Err-clause-cause g c = record {
       let fault : c.in-Err.error ≡ Fault = cc in
       let rose = c.next.ensures.cause.failed (c.in-Err.is ∙ ap Err fault) in
       Rose-before _ _ _ (c.lines.invariant.reads c.args.reader.now.name)
-      (subst (λ (name : List ℕ). Rose (g.S.Shelf.read_faults c.lines.shelf name) (g.S.Shelf.read_faults c.next.new.shelf name)) c.lines.invariant.name rose);
+      (subst (λ (name : List ℕ). Rose ((g.S.Shelf.state c.lines.shelf).read_faults name) ((g.S.Shelf.state c.next.new.shelf).read_faults name)) c.lines.invariant.name rose);
 }
 
 pub returns-in_default-clause-noted : goal.returns-in_default-clause-noted
 returns-in_default-clause-noted g c =
     let s = setting_in c.args.trial.now in
     let limit = c.args.reader.now.limit in
-    let told = g.S.Shelf.file c.args.shelf.now c.args.reader.now.name in
-    let same_file : g.S.Shelf.file c.lines.shelf c.lines.reader.name ≡ told =
-    ap (λ files. files c.lines.reader.name) c.lines.invariant.files ∙ ap (g.S.Shelf.file c.args.shelf.now) c.lines.invariant.name
+    let told = (g.S.Shelf.state c.args.shelf.now).file c.args.reader.now.name in
+    let same_file : (g.S.Shelf.state c.lines.shelf).file c.lines.reader.name ≡ told =
+    ap (λ files. files c.lines.reader.name) c.lines.invariant.files ∙ ap (g.S.Shelf.state c.args.shelf.now).file c.lines.invariant.name
     in
     let answered = subst (λ (o : Option (List ℕ)). IfSome o (λ file. IsAnswer c.lines.reader (ahead (rest_of c.lines.reader file)) c.next.result)) same_file c.next.ensures.answer in
     told_end s limit told c.lines.reader c.lines.before c.lines.notes c.next.result c.lines.invariant.told answered (c.in-Ok.is ∙ ap Ok c.in_default.is)
@@ -70,17 +70,17 @@ pub returns-clause-noted : goal.returns-clause-noted
 returns-clause-noted g c =
     let s = setting_in c.args.trial.now in
     let limit = c.args.reader.now.limit in
-    let told = g.S.Shelf.file c.args.shelf.now c.args.reader.now.name in
+    let told = (g.S.Shelf.state c.args.shelf.now).file c.args.reader.now.name in
     told_never s limit told c.lines.reader c.lines.before c.lines.notes (Err Memory) c.lines.invariant.told (omega (arith, c.requires.limit))
 
 pub lines-preserved : goal.lines-preserved
 lines-preserved g c =
     let s = setting_in c.args.trial.now in
     let limit = c.args.reader.now.limit in
-    let told = g.S.Shelf.file c.args.shelf.now c.args.reader.now.name in
+    let told = (g.S.Shelf.state c.args.shelf.now).file c.args.reader.now.name in
     let line = c.in-Some.line in
-    let same_file : g.S.Shelf.file c.lines.shelf c.lines.reader.name ≡ told =
-    ap (λ files. files c.lines.reader.name) c.lines.invariant.files ∙ ap (g.S.Shelf.file c.args.shelf.now) c.lines.invariant.name
+    let same_file : (g.S.Shelf.state c.lines.shelf).file c.lines.reader.name ≡ told =
+    ap (λ files. files c.lines.reader.name) c.lines.invariant.files ∙ ap (g.S.Shelf.state c.args.shelf.now).file c.lines.invariant.name
     in
     let is : c.next.result ≡ Ok (Some line) = c.in-Ok.is ∙ ap Ok c.in-Some.is in
     let answered = subst (λ (o : Option (List ℕ)). IfSome o (λ file. IsAnswer c.lines.reader (ahead (rest_of c.lines.reader file)) c.next.result)) same_file c.next.ensures.answer in
@@ -97,7 +97,7 @@ lines-preserved g c =
       trial = c.note.ensures.kept ∙ ap (with_pair c.note.new.trial.pair) c.lines.invariant.trial;
       name = past.name ∙ c.lines.invariant.name;
       limit = past.limit ∙ c.lines.invariant.limit;
-      agrees = subst (λ (o : Option (List ℕ)). IfSome o (Agrees c.next.new.self)) (sym (ap (λ files. files c.next.new.self.name) c.next.ensures.kept ∙ ap (g.S.Shelf.file c.lines.shelf) past.name)) c.next.ensures.agrees;
+      agrees = subst (λ (o : Option (List ℕ)). IfSome o (Agrees c.next.new.self)) (sym (ap (λ files. files c.next.new.self.name) c.next.ensures.kept ∙ ap (g.S.Shelf.state c.lines.shelf).file past.name)) c.next.ensures.agrees;
       files = c.next.ensures.kept ∙ c.lines.invariant.files;
       reads = λ name. let first = c.lines.invariant.reads name in let more = c.next.ensures.cause.later name in omega (arith, first, more);
       writes = λ name. let first = c.lines.invariant.writes name in let more = c.next.ensures.writes name in omega (arith, first, more);

@@ -11,6 +11,6 @@ use Rattle.finding_search.proofs.deepening.search.Given as goal
 abbrev pub invariant-depths : goal.invariant-depths
 invariant-depths g l =
     Writes (setting_in l.trial) (g.Q.Queries.formula l.queries)
-    (desk (g.S.Shelf.file l.initial.shelf) (g.S.Shelf.write_faults l.initial.shelf) (g.S.Shelf.read_faults l.initial.shelf) l.initial.writer) (at_deep (members l.set) 0)
-    (desk (g.S.Shelf.file l.shelf) (g.S.Shelf.write_faults l.shelf) (g.S.Shelf.read_faults l.shelf) l.writer) (λ (x : Unit {0}). after_deep (setting_in l.trial) (members l.set) l.none)
+    (desk (g.S.Shelf.state l.initial.shelf) l.initial.writer) (at_deep (members l.set) 0)
+    (desk (g.S.Shelf.state l.shelf) l.writer) (λ (x : Unit {0}). after_deep (setting_in l.trial) (members l.set) l.none)
     (let r : Result (Unit {0}) WriteErr = Ok tt in r)

@@ -15,8 +15,8 @@ use Rattle.finding_search.proofs.dropping.drop_guessed.Given as goal
 abbrev pub invariant-tries : goal.invariant-tries
 invariant-tries g l = record {
   writes : (formula : QueryData → Formula) → Writes (setting_in l.initial.trial) formula
-      (desk (g.S.Shelf.file l.initial.shelf) (g.S.Shelf.write_faults l.initial.shelf) (g.S.Shelf.read_faults l.initial.shelf) l.initial.writer) (at_drops (members l.initial.set))
-      (desk (g.S.Shelf.file l.shelf) (g.S.Shelf.write_faults l.shelf) (g.S.Shelf.read_faults l.shelf) l.writer) (λ (x : Unit {0}). at_drops (members l.set)) (let r : Result (Unit {0}) WriteErr = Ok tt in r);
+      (desk (g.S.Shelf.state l.initial.shelf) l.initial.writer) (at_drops (members l.initial.set))
+      (desk (g.S.Shelf.state l.shelf) l.writer) (λ (x : Unit {0}). at_drops (members l.set)) (let r : Result (Unit {0}) WriteErr = Ok tt in r);
   no_more : size_below (setting_in l.initial.trial).candidates (members l.set) ≤ size_below (setting_in l.initial.trial).candidates (members l.initial.set);
   trial : l.trial ≡ with_pair l.trial.pair l.initial.trial;
 }

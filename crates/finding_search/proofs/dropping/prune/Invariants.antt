@@ -14,8 +14,8 @@ use Rattle.finding_search.proofs.dropping.prune.Given as goal
 abbrev pub invariant-rows : goal.invariant-rows
 invariant-rows g l = record {
   writes : Writes (setting_in l.initial.trial) (g.Q.Queries.formula l.queries)
-      (desk (g.S.Shelf.file l.initial.shelf) (g.S.Shelf.write_faults l.initial.shelf) (g.S.Shelf.read_faults l.initial.shelf) l.initial.writer) (at_drops (members l.initial.set))
-      (desk (g.S.Shelf.file l.shelf) (g.S.Shelf.write_faults l.shelf) (g.S.Shelf.read_faults l.shelf) l.writer) (λ (x : Unit {0}). at_drops (members l.set)) (let r : Result (Unit {0}) WriteErr = Ok tt in r);
+      (desk (g.S.Shelf.state l.initial.shelf) l.initial.writer) (at_drops (members l.initial.set))
+      (desk (g.S.Shelf.state l.shelf) l.writer) (λ (x : Unit {0}). at_drops (members l.set)) (let r : Result (Unit {0}) WriteErr = Ok tt in r);
   kept : IsKept (g.Q.Queries.front l.queries) l.kept;
   trial : l.trial ≡ with_pair l.trial.pair l.initial.trial;
 }

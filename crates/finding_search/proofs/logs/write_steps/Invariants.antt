@@ -15,5 +15,5 @@ abbrev pub invariant-loop-entry : goal.invariant-loop-entry
 invariant-loop-entry g l =
     (s : Setting) (formula : QueryData → Formula) (from to : Place) → Runs s formula from (lines_of l.entries) to
     → (at : Place) × Runs s formula at (lines_of (drop l.entry-index l.entries)) to
-    × Writes s formula (desk (g.S.Shelf.file l.initial.shelf) (g.S.Shelf.write_faults l.initial.shelf) (g.S.Shelf.read_faults l.initial.shelf) l.initial.writer) from
-    (desk (g.S.Shelf.file l.shelf) (g.S.Shelf.write_faults l.shelf) (g.S.Shelf.read_faults l.shelf) l.writer) (λ (x : Unit {0}). at) (let r : Result (Unit {0}) WriteErr = Ok tt in r)
+    × Writes s formula (desk (g.S.Shelf.state l.initial.shelf) l.initial.writer) from
+    (desk (g.S.Shelf.state l.shelf) l.writer) (λ (x : Unit {0}). at) (let r : Result (Unit {0}) WriteErr = Ok tt in r)

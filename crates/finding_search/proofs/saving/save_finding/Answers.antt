@@ -11,16 +11,16 @@ pub returns-clause-valid : goal.returns-clause-valid
 returns-clause-valid g c =
     let s = setting_in c.args.trial.now in
     let f = g.Q.Queries.formula c.args.queries.now in
-    let old = desk (g.S.Shelf.file c.args.shelf.now) (g.S.Shelf.write_faults c.args.shelf.now) (g.S.Shelf.read_faults c.args.shelf.now) c.args.writer.now in
-    let new = desk (g.S.Shelf.file c.save_from_top.new.shelf) (g.S.Shelf.write_faults c.save_from_top.new.shelf) (g.S.Shelf.read_faults c.save_from_top.new.shelf) c.save_from_top.new.writer in
+    let old = desk (g.S.Shelf.state c.args.shelf.now) c.args.writer.now in
+    let new = desk (g.S.Shelf.state c.save_from_top.new.shelf) c.save_from_top.new.writer in
     is_valid s f old new c.requires.empty c.requires.unwritten c.save_from_top.result c.save_from_top.ensures
 
 pub returns-clause-shown : goal.returns-clause-shown
 returns-clause-shown g c =
     let s = setting_in c.args.trial.now in
     let f = g.Q.Queries.formula c.args.queries.now in
-    let old = desk (g.S.Shelf.file c.args.shelf.now) (g.S.Shelf.write_faults c.args.shelf.now) (g.S.Shelf.read_faults c.args.shelf.now) c.args.writer.now in
-    let new = desk (g.S.Shelf.file c.save_from_top.new.shelf) (g.S.Shelf.write_faults c.save_from_top.new.shelf) (g.S.Shelf.read_faults c.save_from_top.new.shelf) c.save_from_top.new.writer in
+    let old = desk (g.S.Shelf.state c.args.shelf.now) c.args.writer.now in
+    let new = desk (g.S.Shelf.state c.save_from_top.new.shelf) c.save_from_top.new.writer in
     let k = comparison_of c.args.trial.now in
     let means : (query : QueryData) → IsQueryOf k query → Means k query (f query) = λ query is_query.
     subst (λ (x : Comparison). Means x query (f query)) c.requires.compared (c.laws.ensures.means query (subst (λ (x : Comparison). IsQueryOf x query) (sym c.requires.compared) is_query))
@@ -31,14 +31,14 @@ pub returns-clause-part : goal.returns-clause-part
 returns-clause-part g c =
     let s = setting_in c.args.trial.now in
     let f = g.Q.Queries.formula c.args.queries.now in
-    let old = desk (g.S.Shelf.file c.args.shelf.now) (g.S.Shelf.write_faults c.args.shelf.now) (g.S.Shelf.read_faults c.args.shelf.now) c.args.writer.now in
-    let new = desk (g.S.Shelf.file c.save_from_top.new.shelf) (g.S.Shelf.write_faults c.save_from_top.new.shelf) (g.S.Shelf.read_faults c.save_from_top.new.shelf) c.save_from_top.new.writer in
+    let old = desk (g.S.Shelf.state c.args.shelf.now) c.args.writer.now in
+    let new = desk (g.S.Shelf.state c.save_from_top.new.shelf) c.save_from_top.new.writer in
     is_part s f old new c.requires.empty c.requires.unwritten c.save_from_top.result c.save_from_top.ensures
 
 pub returns-clause-past : goal.returns-clause-past
 returns-clause-past g c =
     let s = setting_in c.args.trial.now in
     let f = g.Q.Queries.formula c.args.queries.now in
-    let old = desk (g.S.Shelf.file c.args.shelf.now) (g.S.Shelf.write_faults c.args.shelf.now) (g.S.Shelf.read_faults c.args.shelf.now) c.args.writer.now in
-    let new = desk (g.S.Shelf.file c.save_from_top.new.shelf) (g.S.Shelf.write_faults c.save_from_top.new.shelf) (g.S.Shelf.read_faults c.save_from_top.new.shelf) c.save_from_top.new.writer in
+    let old = desk (g.S.Shelf.state c.args.shelf.now) c.args.writer.now in
+    let new = desk (g.S.Shelf.state c.save_from_top.new.shelf) c.save_from_top.new.writer in
     is_full s f old new c.requires.empty c.requires.unwritten c.save_from_top.result c.save_from_top.ensures

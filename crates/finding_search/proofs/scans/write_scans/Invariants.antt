@@ -15,5 +15,5 @@ abbrev pub invariant-loop-row : goal.invariant-loop-row
 invariant-loop-row g l =
     (s : Setting) (formula : QueryData → Formula) (from to : Place) → Runs s formula from (scans_of l.rows) to
     → (at : Place) × Runs s formula at (scans_of (drop l.row-index l.rows)) to
-    × Writes s formula (desk (g.S.Shelf.file l.initial.shelf) (g.S.Shelf.write_faults l.initial.shelf) (g.S.Shelf.read_faults l.initial.shelf) l.initial.writer) from
-    (desk (g.S.Shelf.file l.shelf) (g.S.Shelf.write_faults l.shelf) (g.S.Shelf.read_faults l.shelf) l.writer) (λ (x : Unit {0}). at) (let r : Result (Unit {0}) WriteErr = Ok tt in r)
+    × Writes s formula (desk (g.S.Shelf.state l.initial.shelf) l.initial.writer) from
+    (desk (g.S.Shelf.state l.shelf) l.writer) (λ (x : Unit {0}). at) (let r : Result (Unit {0}) WriteErr = Ok tt in r)

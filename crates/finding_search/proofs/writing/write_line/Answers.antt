@@ -5,7 +5,7 @@ use Rattle.finding_search.proofs.writing.write_line.Goals as goal
 
 pub returns : goal.returns
 returns g c s formula from to passes =
-    Writes-line s formula (desk (g.S.Shelf.file c.args.shelf.now) (g.S.Shelf.write_faults c.args.shelf.now) (g.S.Shelf.read_faults c.args.shelf.now) c.args.writer.now)
-    (desk (g.S.Shelf.file c.line.new.shelf) (g.S.Shelf.write_faults c.line.new.shelf) (g.S.Shelf.read_faults c.line.new.shelf) c.line.new.self) from to c.args.line.now
+    Writes-line s formula (desk (g.S.Shelf.state c.args.shelf.now) c.args.writer.now)
+    (desk (g.S.Shelf.state c.line.new.shelf) c.line.new.self) from to c.args.line.now
     c.line.result c.requires passes c.line.ensures.all c.line.ensures.part c.line.ensures.others c.line.ensures.counted c.line.ensures.stays c.line.ensures.within c.line.ensures.past
-    (λ e. ap g.S.Shelf.file (c.line.ensures.untouched e)) c.line.ensures.cause c.line.ensures.reads
+    (λ e. ap (λ shelf. (g.S.Shelf.state shelf).file) (c.line.ensures.untouched e)) c.line.ensures.cause c.line.ensures.reads

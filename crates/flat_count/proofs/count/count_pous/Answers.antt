@@ -2,7 +2,7 @@ use Rattle.std.proofs.Common.{◌∷◌, [], length, length-append, slice_index_
 use Rattle.program_tree.specs.View.{called_view, all_called_view}
 use Rattle.meaning.specs.Calls.{nothing}
 use Rattle.meaning.proofs.Callees.{at-number}
-use Rattle.flat_form.specs.Frames.{function_body}
+use Rattle.meaning.specs.Frames.{function_body}
 use Rattle.flat_form.specs.Pous.{block_body}
 use Rattle.flat_count.specs.Counts.{counting}
 use Rattle.flat_count.proofs.CountLemmas.{counts-more, counts-all, body-counted, counting-same}

@@ -1,7 +1,8 @@
 use Rattle.std.proofs.Common.{ℕ, length, ap, sym}
 use Rattle.program_tree.specs.View.{arguments_view, all_called_view}
-use Rattle.flat_form.specs.Frames.{frames_of, others_behind}
-use Rattle.flat_form.specs.Calls.{arity}
+use Rattle.program_tree.specs.OperandTypes.{arity}
+use Rattle.meaning.specs.Frames.{frames_of}
+use Rattle.flat_form.specs.Frames.{others_behind}
 use Rattle.flat_count.specs.Counts.{count_in_inputs, counting_here, counted}
 use Rattle.flat_form.proofs.FrameLemmas.{arity-length}
 use Rattle.flat_count.proofs.CountLemmas.{answer-counted}

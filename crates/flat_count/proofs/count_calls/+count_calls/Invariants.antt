@@ -1,6 +1,6 @@
 use Rattle.std.proofs.Common.{◌≡◌, ◌+◌, ◌≤◌, drop}
 use Rattle.program_tree.specs.View.{operands_view, arguments_view, all_called_view}
-use Rattle.flat_form.specs.Frames.{frames_of}
+use Rattle.meaning.specs.Frames.{frames_of}
 use Rattle.flat_count.specs.Counts.{count_in_operands, count_in_all, count_in_inputs, counting_here, capped}
 use Rattle.flat_count.proofs.count_calls.+count_calls.Given as goal
 

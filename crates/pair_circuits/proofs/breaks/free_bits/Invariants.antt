@@ -1,5 +1,5 @@
 use Rattle.std.proofs.Common.{◌≡◌, ◌*◌}
-use Rattle.pair_circuits.specs.CellShapes.{bits_of}
+use Rattle.query_formulas.specs.CellShapes.{bits_of}
 use Rattle.pair_circuits.proofs.breaks.free_bits.Given as goal
 
 abbrev pub invariant-loop-scan : goal.invariant-loop-scan

@@ -4,10 +4,9 @@ use Rattle.std.proofs.lemmas.Result.{err_from_is_err_and}
 use Rattle.gates.proofs.Growth.{extends_then}
 use Rattle.word_circuits.proofs.Growth.{handed_on}
 use Rattle.pair_circuits.specs.declared.breaks.ScanLits.{ScanLits}
-use Rattle.pair_circuits.specs.CellShapes.{bits_of}
-use Rattle.pair_circuits.specs.Parts.{parts_view}
-use Rattle.pair_circuits.specs.PairWords.{pair_view}
-use Rattle.pair_circuits.specs.Breaks.{ScanLiterals, scans_from, scan_lits_view}
+use Rattle.query_formulas.specs.CellShapes.{bits_of}
+use Rattle.pair_circuits.specs.Views.{parts_view, pair_view, scan_lits_view}
+use Rattle.query_formulas.specs.Breaks.{ScanLiterals, scans_from}
 use Rattle.pair_circuits.proofs.BreakTurns.{room_step, scans_turn, scans_step, scans_step_net}
 use Rattle.pair_circuits.proofs.breaks.scans_from.Goals as goal
 

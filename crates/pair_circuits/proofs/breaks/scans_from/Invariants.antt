@@ -1,9 +1,8 @@
 use Rattle.std.proofs.Common.{◌≡◌, ◌+◌, ◌-◌, ◌*◌, ◌++◌, map}
 use Rattle.gates.specs.Netlists.{IsExtensionOf}
-use Rattle.pair_circuits.specs.CellShapes.{bits_of}
-use Rattle.pair_circuits.specs.Parts.{parts_view}
-use Rattle.pair_circuits.specs.PairWords.{pair_view}
-use Rattle.pair_circuits.specs.Breaks.{scans_from, scan_lits_view}
+use Rattle.query_formulas.specs.CellShapes.{bits_of}
+use Rattle.pair_circuits.specs.Views.{parts_view, pair_view, scan_lits_view}
+use Rattle.query_formulas.specs.Breaks.{scans_from}
 use Rattle.pair_circuits.proofs.breaks.scans_from.Given as goal
 
 abbrev pub invariant-loop-scan : goal.invariant-loop-scan

@@ -4,7 +4,7 @@ use Rattle.node_core.specs.Scans.{clause_view}
 use Rattle.node_circuits.specs.NodeWords.{words_view}
 use Rattle.word_circuits.proofs.Growth.{handed_on}
 use Rattle.pair_circuits.proofs.Front.{starts_back}
-use Rattle.pair_circuits.proofs.Growth.{after_words}
+use Rattle.query_formulas.proofs.Growth.{after_words}
 use Rattle.pair_circuits.proofs.clauses.clause_literal.Goals as goal
 
 pub returns-in_err-words-clause-too_many : goal.returns-in_err-words-clause-too_many

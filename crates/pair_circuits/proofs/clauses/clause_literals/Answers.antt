@@ -1,7 +1,7 @@
 use Rattle.std.proofs.Common.{arith}
 use Rattle.std.proofs.lemmas.Result.{err_from_is_err_and}
 use Rattle.word_circuits.proofs.Growth.{handed_on}
-use Rattle.pair_circuits.proofs.Growth.{clauses_turn}
+use Rattle.pair_circuits.proofs.Turns.{clauses_turn}
 use Rattle.pair_circuits.proofs.clauses.clause_literals.Goals as goal
 
 pub returns-in_err-held-clause-too_many : goal.returns-in_err-held-clause-too_many

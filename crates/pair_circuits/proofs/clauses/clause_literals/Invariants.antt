@@ -1,8 +1,8 @@
 use Rattle.std.proofs.Common.{◌≡◌, ◌++◌, drop}
 use Rattle.gates.specs.Netlists.{IsExtensionOf}
 use Rattle.node_circuits.specs.NodeWords.{words_view}
-use Rattle.pair_circuits.specs.Literals.{clause_literals}
-use Rattle.pair_circuits.specs.Parts.{clauses_view}
+use Rattle.query_formulas.specs.Literals.{clause_literals}
+use Rattle.pair_circuits.specs.Views.{clauses_view}
 use Rattle.pair_circuits.proofs.clauses.clause_literals.Given as goal
 
 abbrev pub invariant-loop-clause : goal.invariant-loop-clause

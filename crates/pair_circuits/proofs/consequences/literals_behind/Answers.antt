@@ -1,7 +1,6 @@
 use Rattle.std.proofs.lemmas.Result.{err_from_is_err_and}
 use Rattle.word_circuits.proofs.Growth.{handed_on}
-use Rattle.pair_circuits.specs.Parts.{parts_view}
-use Rattle.pair_circuits.specs.PairWords.{pair_view}
+use Rattle.pair_circuits.specs.Views.{parts_view, pair_view}
 use Rattle.pair_circuits.proofs.Composed.{after_scans, after_candidates, after_relates}
 use Rattle.pair_circuits.proofs.consequences.literals_behind.Goals as goal
 

@@ -1,6 +1,6 @@
 use Rattle.std.proofs.Common.{◌∙◌, sym, subst, List}
 use Rattle.clause_core.specs.declared.literal.Lit.{Lit}
-use Rattle.pair_circuits.specs.QueryClauses.{AreInside}
+use Rattle.query_formulas.specs.QueryClauses.{AreInside}
 use Rattle.pair_circuits.proofs.Inside.{inside_negations}
 use Rattle.pair_circuits.proofs.formula.add_some_fails.Goals as goal
 

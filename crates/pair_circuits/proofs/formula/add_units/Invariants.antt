@@ -1,7 +1,7 @@
 use Rattle.std.proofs.Common.{◌≡◌, drop}
 use Rattle.clause_core.specs.Formula.{BeginsWith}
 use Rattle.gates.specs.Clauses.{with_clauses}
-use Rattle.pair_circuits.specs.QueryClauses.{AreInside, units}
+use Rattle.query_formulas.specs.QueryClauses.{AreInside, units}
 use Rattle.pair_circuits.proofs.formula.add_units.Given as goal
 
 abbrev pub invariant-loop-lit : goal.invariant-loop-lit

@@ -1,5 +1,5 @@
 use Rattle.std.proofs.Common.{◌≡◌, ◌+◌, drop}
-use Rattle.pair_circuits.specs.CellShapes.{bits_of}
+use Rattle.query_formulas.specs.CellShapes.{bits_of}
 use Rattle.pair_circuits.proofs.free.count_bits.Given as goal
 
 abbrev pub invariant-loop-cell : goal.invariant-loop-cell

@@ -1,7 +1,7 @@
 use Rattle.std.proofs.Common.{◌≡◌, ◌<◌, ◌-◌, ◌+◌, suc, ℕ, List, [], ◌∷◌, ◌++◌, append_assoc, ◌∙◌, ap, arith}
 use Rattle.clause_core.specs.declared.literal.Lit.{Lit}
 use Rattle.gates.specs.Literals.{plain}
-use Rattle.pair_circuits.specs.PairWords.{free_word}
+use Rattle.query_formulas.specs.PairWords.{free_word}
 use Rattle.pair_circuits.proofs.free.free_word.Goals as goal
 
 free_turn : (w all : List Lit) (width i v : ℕ) → i < width → w ++ free_word v (width - i) ≡ all → (w ++ plain v ∷ []) ++ free_word (v + 1) (width - (i + 1)) ≡ all

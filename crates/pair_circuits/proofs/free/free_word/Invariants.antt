@@ -1,5 +1,5 @@
 use Rattle.std.proofs.Common.{◌≡◌, ◌+◌, ◌-◌, ◌++◌}
-use Rattle.pair_circuits.specs.PairWords.{free_word}
+use Rattle.query_formulas.specs.PairWords.{free_word}
 use Rattle.pair_circuits.proofs.free.free_word.Given as goal
 
 abbrev pub invariant-loop-bit : goal.invariant-loop-bit

@@ -1,7 +1,7 @@
 use Rattle.std.proofs.Common.{◌≡◌, ◌+◌, ◌++◌, drop}
 use Rattle.node_circuits.specs.NodeWords.{words_view}
-use Rattle.pair_circuits.specs.CellShapes.{bits_of}
-use Rattle.pair_circuits.specs.PairWords.{free_words}
+use Rattle.query_formulas.specs.CellShapes.{bits_of}
+use Rattle.query_formulas.specs.PairWords.{free_words}
 use Rattle.pair_circuits.proofs.free.free_words.Given as goal
 
 abbrev pub invariant-loop-cell : goal.invariant-loop-cell

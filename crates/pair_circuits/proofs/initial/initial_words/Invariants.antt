@@ -1,6 +1,6 @@
 use Rattle.std.proofs.Common.{◌≡◌, ◌++◌, drop}
 use Rattle.node_circuits.specs.NodeWords.{words_view}
-use Rattle.pair_circuits.specs.PairWords.{initial_words}
+use Rattle.query_formulas.specs.PairWords.{initial_words}
 use Rattle.pair_circuits.proofs.initial.initial_words.Given as goal
 
 abbrev pub invariant-loop-cell : goal.invariant-loop-cell

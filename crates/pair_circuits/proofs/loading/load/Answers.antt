@@ -1,5 +1,5 @@
 use Rattle.std.proofs.Common.{sym, ◌∙◌}
-use Rattle.pair_circuits.proofs.Growth.{loaded_end}
+use Rattle.pair_circuits.proofs.Turns.{loaded_end}
 use Rattle.pair_circuits.proofs.loading.load.Goals as goal
 
 pub returns-then-i-words : goal.returns-then-i-words

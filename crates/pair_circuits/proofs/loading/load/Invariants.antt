@@ -1,6 +1,7 @@
 use Rattle.std.proofs.Common.{◌≡◌, drop}
 use Rattle.node_circuits.specs.NodeWords.{words_view}
-use Rattle.pair_circuits.specs.PairWords.{pair_view, loaded_words}
+use Rattle.pair_circuits.specs.Views.{pair_view}
+use Rattle.query_formulas.specs.PairWords.{loaded_words}
 use Rattle.pair_circuits.proofs.loading.load.Given as goal
 
 abbrev pub invariant-loop-i : goal.invariant-loop-i

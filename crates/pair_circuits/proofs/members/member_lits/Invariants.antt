@@ -1,6 +1,6 @@
 use Rattle.std.proofs.Common.{◌≡◌, ◌++◌, drop}
 use Rattle.queries.specs.Sets.{members}
-use Rattle.pair_circuits.specs.QueryClauses.{members_from, members_of}
+use Rattle.query_formulas.specs.QueryClauses.{members_from, members_of}
 use Rattle.pair_circuits.proofs.members.member_lits.Given as goal
 
 abbrev pub invariant-loop-i : goal.invariant-loop-i

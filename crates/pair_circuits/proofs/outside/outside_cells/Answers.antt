@@ -2,8 +2,8 @@ use Rattle.std.proofs.Common.{◌∙◌, ap, sym, ◌++◌, arith}
 use Rattle.std.proofs.lemmas.List.{append-nil}
 use Rattle.std.proofs.lemmas.Result.{err_from_is_err_and}
 use Rattle.word_circuits.proofs.Growth.{handed_on}
-use Rattle.pair_circuits.specs.Literals.{MadeLiterals}
-use Rattle.pair_circuits.proofs.Growth.{outside_turn, outside_end}
+use Rattle.query_formulas.specs.Literals.{MadeLiterals}
+use Rattle.pair_circuits.proofs.Turns.{outside_turn, outside_end}
 use Rattle.pair_circuits.proofs.outside.outside_cells.Goals as goal
 
 pub returns-clause-lits : goal.returns-clause-lits

@@ -1,7 +1,7 @@
 use Rattle.std.proofs.Common.{◌≡◌, ◌++◌, drop}
 use Rattle.gates.specs.Netlists.{IsExtensionOf}
 use Rattle.node_circuits.specs.NodeWords.{words_view}
-use Rattle.pair_circuits.specs.Literals.{outside_cells}
+use Rattle.query_formulas.specs.Literals.{outside_cells}
 use Rattle.pair_circuits.proofs.outside.outside_cells.Given as goal
 
 abbrev pub invariant-loop-i : goal.invariant-loop-i

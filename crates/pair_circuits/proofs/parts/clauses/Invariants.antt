@@ -1,6 +1,7 @@
 use Rattle.std.proofs.Common.{◌≡◌, ◌++◌, drop}
 use Rattle.program_tree.specs.View.{exprs_view}
-use Rattle.pair_circuits.specs.Parts.{clauses_view, clauses_of}
+use Rattle.pair_circuits.specs.Views.{clauses_view}
+use Rattle.query_formulas.specs.Parts.{clauses_of}
 use Rattle.pair_circuits.proofs.parts.clauses.Given as goal
 
 abbrev pub invariant-loop-expr : goal.invariant-loop-expr

@@ -1,8 +1,7 @@
 use Rattle.std.proofs.lemmas.Result.{err_from_is_err_and}
 use Rattle.word_circuits.proofs.Growth.{handed_on}
 use Rattle.node_circuits.specs.NodeWords.{words_view}
-use Rattle.pair_circuits.specs.Parts.{parts_view}
-use Rattle.pair_circuits.specs.PairWords.{pair_view}
+use Rattle.pair_circuits.specs.Views.{parts_view, pair_view}
 use Rattle.pair_circuits.proofs.Composed.{after_outside, after_before}
 use Rattle.pair_circuits.proofs.premises.literals_before.Goals as goal
 

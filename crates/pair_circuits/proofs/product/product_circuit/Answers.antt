@@ -1,5 +1,5 @@
 use Rattle.std.proofs.lemmas.Result.{err_from_is_err_and}
-use Rattle.pair_circuits.specs.Parts.{parts_view}
+use Rattle.pair_circuits.specs.Views.{parts_view}
 use Rattle.word_circuits.proofs.Growth.{handed_on}
 use Rattle.pair_circuits.proofs.Composed.{product_whole}
 use Rattle.pair_circuits.proofs.product.product_circuit.Goals as goal

@@ -2,9 +2,8 @@ use Rattle.std.proofs.Common.{◌∙◌, ap}
 use Rattle.std.proofs.lemmas.Result.{err_from_is_err_and}
 use Rattle.word_circuits.proofs.Growth.{handed_on}
 use Rattle.node_circuits.specs.NodeWords.{words_view}
-use Rattle.pair_circuits.specs.Parts.{parts_view}
-use Rattle.pair_circuits.specs.PairWords.{pair_view}
-use Rattle.pair_circuits.specs.Products.{Consequences}
+use Rattle.pair_circuits.specs.Views.{parts_view, pair_view}
+use Rattle.query_formulas.specs.Products.{Consequences}
 use Rattle.pair_circuits.proofs.Composed.{after_premises, after_row, after_consequences, product_behind}
 use Rattle.pair_circuits.proofs.product.product_from.Goals as goal
 

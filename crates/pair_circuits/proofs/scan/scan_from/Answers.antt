@@ -1,10 +1,9 @@
 use Rattle.std.proofs.Common.{◌∙◌, ap}
 use Rattle.std.proofs.lemmas.Result.{err_from_is_err_and}
 use Rattle.node_circuits.specs.NodeWords.{words_view}
-use Rattle.pair_circuits.specs.Parts.{parts_view}
-use Rattle.pair_circuits.specs.PairWords.{pair_view}
+use Rattle.pair_circuits.specs.Views.{parts_view, pair_view}
 use Rattle.word_circuits.proofs.Growth.{handed_on}
-use Rattle.pair_circuits.specs.PairScans.{MadePair}
+use Rattle.query_formulas.specs.PairScans.{MadePair}
 use Rattle.pair_circuits.proofs.BreakTurns.{after_ranges, after_loaded, after_both, after_all, scanned_same, relates_same}
 use Rattle.pair_circuits.proofs.scan.scan_from.Goals as goal
 

@@ -1,7 +1,7 @@
 use Rattle.std.proofs.lemmas.Result.{err_from_is_err_and}
 use Rattle.word_circuits.proofs.Growth.{handed_on}
 use Rattle.node_core.specs.Scans.{scan_view}
-use Rattle.pair_circuits.specs.PairWords.{pair_view}
+use Rattle.pair_circuits.specs.Views.{pair_view}
 use Rattle.pair_circuits.proofs.Composed.{after_old_scan}
 use Rattle.pair_circuits.proofs.scans.scanned_pair.Goals as goal
 

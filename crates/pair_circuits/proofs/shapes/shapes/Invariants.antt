@@ -1,6 +1,6 @@
 use Rattle.std.proofs.Common.{◌≡◌, ◌++◌, drop}
 use Rattle.program_tree.specs.View.{cells_view}
-use Rattle.pair_circuits.specs.CellShapes.{shapes_of}
+use Rattle.query_formulas.specs.CellShapes.{shapes_of}
 use Rattle.pair_circuits.proofs.shapes.shapes.Given as goal
 
 abbrev pub invariant-loop-cell : goal.invariant-loop-cell

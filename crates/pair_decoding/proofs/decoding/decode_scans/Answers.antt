@@ -1,10 +1,10 @@
 use Rattle.std.proofs.Common.{◌≡◌, ◌∙◌, sym, ap, subst, List, map, take}
 use Rattle.clause_core.specs.Satisfaction.{assigned}
 use Rattle.pair_circuits.specs.declared.breaks.ScanLits.{ScanLits}
-use Rattle.pair_circuits.specs.declared.shapes.CellShape.{CellShape}
-use Rattle.pair_circuits.specs.Parts.{parts_view}
-use Rattle.pair_circuits.specs.Breaks.{scan_lits_view}
-use Rattle.pair_decoding.specs.Decoded.{AreWideRows, first_state}
+use Rattle.query_formulas.specs.declared.shapes.CellShape.{CellShape}
+use Rattle.pair_circuits.specs.Views.{parts_view, scan_lits_view}
+use Rattle.pair_decoding.specs.Widths.{AreWideRows}
+use Rattle.query_formulas.specs.Decoded.{first_state}
 use Rattle.pair_decoding.proofs.Fronts.{rows_of, wide_front, run_decoded}
 use Rattle.pair_decoding.proofs.decoding.decode_scans.Goals as goal
 

@@ -1,6 +1,6 @@
 use Rattle.std.proofs.Common.{sym, subst}
 use Rattle.node_circuits.specs.NodeWords.{words_view}
-use Rattle.pair_decoding.specs.Decoded.{AreWide}
+use Rattle.pair_decoding.specs.Widths.{AreWide}
 use Rattle.pair_decoding.proofs.Fronts.{wide_at}
 use Rattle.pair_decoding.proofs.rows.rows.Goals as goal
 

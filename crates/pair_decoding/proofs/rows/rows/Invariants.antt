@@ -1,7 +1,7 @@
 use Rattle.std.proofs.Common.{◌≡◌, ◌++◌, drop, map}
 use Rattle.clause_core.specs.Satisfaction.{assigned}
-use Rattle.pair_circuits.specs.Breaks.{scan_lits_view}
-use Rattle.pair_decoding.specs.Decoded.{decoded_state}
+use Rattle.pair_circuits.specs.Views.{scan_lits_view}
+use Rattle.query_formulas.specs.Decoded.{decoded_state}
 use Rattle.pair_decoding.proofs.rows.rows.Given as goal
 
 abbrev pub invariant-loop-scan : goal.invariant-loop-scan

@@ -1,5 +1,5 @@
 use Rattle.std.proofs.Common.{◌≡◌, ◌++◌, drop}
-use Rattle.pair_decoding.specs.Decoded.{first_state}
+use Rattle.query_formulas.specs.Decoded.{first_state}
 use Rattle.pair_decoding.proofs.states.first_state.Given as goal
 
 abbrev pub invariant-loop-cell : goal.invariant-loop-cell

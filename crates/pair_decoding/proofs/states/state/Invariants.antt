@@ -1,7 +1,8 @@
 use Rattle.std.proofs.Common.{◌≡◌, ◌++◌, drop}
 use Rattle.clause_core.specs.Satisfaction.{assigned}
 use Rattle.node_circuits.specs.NodeWords.{words_view}
-use Rattle.pair_decoding.specs.Decoded.{AreWide, decoded_state}
+use Rattle.pair_decoding.specs.Widths.{AreWide}
+use Rattle.query_formulas.specs.Decoded.{decoded_state}
 use Rattle.pair_decoding.proofs.states.state.Given as goal
 
 abbrev pub invariant-loop-i : goal.invariant-loop-i

@@ -4,9 +4,10 @@ use Rattle.std.proofs.lemmas.Result.{err_from_is_err_and}
 use Rattle.gates.specs.Netlists.{IsOverfull}
 use Rattle.program_tree.specs.View.{cell_view}
 use Rattle.node_core.specs.Scans.{scan_view}
-use Rattle.pair_circuits.specs.Parts.{Parts, parts_view}
-use Rattle.pair_circuits.specs.Products.{product_bits, product_of, product_view}
-use Rattle.pair_circuits.specs.Breaks.{breaks_bits, breaks_of, breaks_view}
+use Rattle.query_formulas.specs.Parts.{Parts}
+use Rattle.pair_circuits.specs.Views.{parts_view, product_view, breaks_view}
+use Rattle.query_formulas.specs.Products.{product_bits, product_of}
+use Rattle.query_formulas.specs.Breaks.{breaks_bits, breaks_of}
 use Rattle.product_build.specs.Limits.{most_gates, HasManyGates}
 use Rattle.product_build.specs.MadeCircuits.{comparison_between}
 use Rattle.product_build.proofs.Few.{few_words, product_few, breaks_few}

@@ -1,7 +1,7 @@
 use Rattle.std.proofs.Common.{ℕ, ◌+◌, ◌-◌, length, ap, ◌∙◌}
 use Rattle.clause_core.specs.Formula.{Formula}
 use Rattle.queries.specs.Sets.{members}
-use Rattle.pair_circuits.specs.QueryClauses.{members_of}
+use Rattle.query_formulas.specs.QueryClauses.{members_of}
 use Rattle.product_build.proofs.Inside.{inside_at, inside_members}
 use Rattle.product_build.proofs.one_scan.complete_step.Goals as goal
 

@@ -1,4 +1,4 @@
-use Rattle.pair_circuits.specs.Breaks.{scan_lits_view}
+use Rattle.pair_circuits.specs.Views.{scan_lits_view}
 use Rattle.product_build.proofs.Turns.{next_view, inside_next, inside_rest, break_turn}
 use Rattle.product_build.proofs.scans.add_break.Goals as goal
 

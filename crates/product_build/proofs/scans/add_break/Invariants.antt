@@ -1,8 +1,8 @@
 use Rattle.std.proofs.Common.{◌≡◌, drop, map}
 use Rattle.std.specs.Prelude.{All}
 use Rattle.gates.specs.Clauses.{with_clauses}
-use Rattle.pair_circuits.specs.Breaks.{scan_lits_view}
-use Rattle.pair_circuits.specs.QueryClauses.{break_units}
+use Rattle.pair_circuits.specs.Views.{scan_lits_view}
+use Rattle.query_formulas.specs.QueryClauses.{break_units}
 use Rattle.product_build.specs.Counts.{AreLitsInside}
 use Rattle.product_build.proofs.scans.add_break.Given as goal
 

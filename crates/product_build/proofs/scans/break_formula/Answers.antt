@@ -3,8 +3,9 @@ use Rattle.std.specs.Prelude.{All, min}
 use Rattle.clause_core.specs.Formula.{Formula}
 use Rattle.gates.specs.Clauses.{with_clauses}
 use Rattle.pair_circuits.specs.declared.breaks.ScanLits.{ScanLits}
-use Rattle.pair_circuits.specs.Breaks.{ScanLiterals, breaks_view, scan_lits_view}
-use Rattle.pair_circuits.specs.QueryClauses.{with_gates, break_units, listed_formula}
+use Rattle.query_formulas.specs.Breaks.{ScanLiterals}
+use Rattle.pair_circuits.specs.Views.{breaks_view, scan_lits_view}
+use Rattle.query_formulas.specs.QueryClauses.{with_gates, break_units, listed_formula}
 use Rattle.product_build.specs.Counts.{AreLitsInside}
 use Rattle.product_build.proofs.Turns.{taken_view, ended_within, here_inside, rest_inside}
 use Rattle.product_build.proofs.scans.break_formula.Goals as goal

@@ -1,7 +1,7 @@
 use Rattle.std.proofs.Common.{◌+◌, ◌-◌, List, [], take, map, refl, sym, ap, ◌∙◌}
 use Rattle.clause_core.specs.Formula.{Formula}
 use Rattle.pair_circuits.specs.declared.breaks.ScanLits.{ScanLits}
-use Rattle.pair_circuits.specs.Breaks.{breaks_view, scan_lits_view}
+use Rattle.pair_circuits.specs.Views.{breaks_view, scan_lits_view}
 use Rattle.product_build.proofs.Inside.{inside_at}
 use Rattle.product_build.proofs.Turns.{begun_within, begun_inside}
 use Rattle.product_build.proofs.scans.first_formula.Goals as goal

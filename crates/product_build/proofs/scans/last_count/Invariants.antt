@@ -1,6 +1,6 @@
 use Rattle.std.proofs.Common.{◌≡◌, drop, map}
-use Rattle.pair_circuits.specs.Breaks.{scan_lits_view}
-use Rattle.pair_circuits.specs.QueryClauses.{last_count}
+use Rattle.pair_circuits.specs.Views.{scan_lits_view}
+use Rattle.query_formulas.specs.QueryClauses.{last_count}
 use Rattle.product_build.proofs.scans.last_count.Given as goal
 
 abbrev pub invariant-loop-next : goal.invariant-loop-next

@@ -11,7 +11,7 @@ use Rattle.replay_command.proofs.answer.put_replay.Goals as goal
 pub returns-in-Ok-clause-answer : goal.returns-in-Ok-clause-answer
 returns-in-Ok-clause-answer g c =
     let all = outcome_of (program_view c.args.replay.now.old) (program_view c.args.replay.now.new) (relation_view c.args.replay.now.relation) c.args.replay.now.rows in
-    c.put_ending.ensures.answer (g.K.Sink.taken c.args.out.now) all c.in-Ok.ensures.whole.0 c.in-Ok.ensures.whole.1
+    c.put_ending.ensures.answer (g.K.Sink.state c.args.out.now).taken all c.in-Ok.ensures.whole.0 c.in-Ok.ensures.whole.1
 
 pub returns-in-Err-Sink-Fault-clause-answer : goal.returns-in-Err-Sink-Fault-clause-answer
 returns-in-Err-Sink-Fault-clause-answer g c =

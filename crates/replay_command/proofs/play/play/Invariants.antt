@@ -8,9 +8,9 @@ use Rattle.replay_command.proofs.play.play.Given as goal
 abbrev pub invariant-loop-done : goal.invariant-loop-done
 invariant-loop-done g l = record {
   same : AreOf l.old l.new l.relation l.duo;
-  played : HasPlayed (g.K.Sink.taken l.initial.out) (g.K.Sink.taken l.out)
+  played : HasPlayed (g.K.Sink.state l.initial.out).taken (g.K.Sink.state l.out).taken
       (outcome_of (program_view l.old) (program_view l.new) (relation_view l.relation) l.rows)
       (outcome_from (program_view l.old) (program_view l.new) (relation_view l.relation) l.done l.duo.pair (drop l.done l.rows));
-  later : g.K.Sink.faults l.initial.out ≤ g.K.Sink.faults l.out;
-  unfailed : g.K.Sink.put_failed l.out ≡ false;
+  later : (g.K.Sink.state l.initial.out).faults ≤ (g.K.Sink.state l.out).faults;
+  unfailed : (g.K.Sink.state l.out).put_failed ≡ false;
 }

@@ -1,7 +1,8 @@
 use Rattle.std.proofs.Common.{suc, subst, drop, arith, None}
 use Rattle.std.specs.Prelude.{slice_index_or}
 use Rattle.std.proofs.lemmas.Result.{err_from_is_err_and}
-use Rattle.node_core.specs.Stores.{MadeStore, place_at, merged_word}
+use Rattle.program_tree.specs.Places.{place_at}
+use Rattle.node_core.specs.Stores.{MadeStore, merged_word}
 use Rattle.node_core.proofs.Growth.{Grows}
 use Rattle.scan_ssa.specs.Making.{list_view}
 use Rattle.scan_ssa.specs.Merging.{merge_all}

@@ -1,6 +1,6 @@
 use Rattle.std.proofs.Common.{◌≡◌, ◌++◌, drop, map}
 use Rattle.program_tree.specs.View.{cells_view}
-use Rattle.node_core.specs.Stores.{of_cell}
+use Rattle.program_tree.specs.Places.{of_cell}
 use Rattle.scan_ssa.proofs.places.places_of.Given as goal
 
 abbrev pub invariant-loop-cell : goal.invariant-loop-cell

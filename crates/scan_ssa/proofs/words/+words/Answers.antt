@@ -6,7 +6,8 @@ use Rattle.program_tree.specs.declared.typed.TypedExpr.TheVariants.{rolls-Unary,
 use Rattle.program_tree.specs.declared.typed.TypedExpr.{TypedExpr}
 use Rattle.program_tree.specs.Tree.{Expression, unary, chain}
 use Rattle.program_tree.specs.View.{OperandData, expr_step, operand_step, expr_view, operands_of, operand_view, operands_view, arguments_view}
-use Rattle.node_core.specs.Words.{NodeList, Made, first_kind, word_of, word_on, words_of}
+use Rattle.program_tree.specs.OperandTypes.{first_kind}
+use Rattle.node_core.specs.Words.{NodeList, Made, word_of, word_on, words_of}
 use Rattle.node_core.proofs.Growth.{Grows}
 use Rattle.scan_ssa.specs.Making.{list_view}
 use Rattle.scan_ssa.specs.Held.{held_store}

@@ -19,16 +19,16 @@ use Rattle.pou_cells.proofs.ToldLemmas.{told_first_places-is}
 use Rattle.st_types.proofs.bodies.pou_body.Goals as goal
 
 pub invariant_of-scope : goal.invariant_of-scope
-invariant_of-scope c = record { fits = sym c.is_placed.ensures ∙ c.if-not-is_placed.false }
+invariant_of-scope c = record { fits = c.requires.placed }
 
 pub begin_body-requires-clause-placed : goal.begin_body-requires-clause-placed
-begin_body-requires-clause-placed c = sym c.is_placed.ensures ∙ c.if-not-is_placed.false
+begin_body-requires-clause-placed c = c.requires.placed
 
 pub first_places-first-requires : goal.first_places-first-requires
 first_places-first-requires c =
     let f = file_in c.args.placed.now.pous.domains in
     let k = c.args.number in
-    let placed : is_placed f k ≡ true = sym c.is_placed.ensures ∙ c.if-not-is_placed.false in
+    let placed : is_placed f k ≡ true = c.requires.placed in
     let same : told_count c.deref.result.now (map told_view c.told_at.result.now) ≡ told_count (map capped (sizes_of f)) (told_at f k) =
     ap (told_count c.deref.result.now) c.told_at.ensures ∙ ap (λ (s : List ℕ). told_count s (told_at f k)) (c.deref.ensures.value ∙ c.args.placed.now.sized) in
     let few = few_capped f k placed in
@@ -41,7 +41,7 @@ begin_body-requires-clause-room c =
     let pou_type = (pou_view c.args.pou.now).pou_type in
     let sizes = c.args.placed.now.sizes.items in
     let ts = told_at f k in
-    let placed : is_placed f k ≡ true = sym c.is_placed.ensures ∙ c.if-not-is_placed.false in
+    let placed : is_placed f k ≡ true = c.requires.placed in
     let same : told_count sizes ts ≡ told_count (map capped (sizes_of f)) ts = ap (λ (s : List ℕ). told_count s ts) c.args.placed.now.sized in
     let few = few_capped f k placed in
     let first : told_first_places sizes pou_type ts ≡ c.first_places-first.result =
@@ -52,7 +52,7 @@ pub begin_body-requires-clause-low : goal.begin_body-requires-clause-low
 begin_body-requires-clause-low c = λ n.
     let f = file_in c.args.placed.now.pous.domains in
     let low = low_alone f (sizes_of f) c.args.number n in
-    let few = placed_few f c.args.number (has_places f c.args.number (sym c.is_placed.ensures ∙ c.if-not-is_placed.false)) in
+    let few = placed_few f c.args.number (has_places f c.args.number c.requires.placed) in
     omega (arith, low, few)
 
 begun_body : (f : FileData) (number : ℕ) (p : PouData) (vs : List Variable) (first : Next) → vs ≡ variables_in_pou p → first ≡ first_places f (sizes_of f) p.pou_type vs
@@ -68,8 +68,8 @@ returns c =
     let p = pou_view c.args.pou.now in
     let vs = variables_at f k in
     let sizes : c.deref.result.now ≡ map capped (sizes_of f) = c.deref.ensures.value ∙ c.args.placed.now.sized in
-    let placed : is_placed f k ≡ true = sym c.is_placed.ensures ∙ c.if-not-is_placed.false in
+    let placed : is_placed f k ≡ true = c.requires.placed in
     let first : c.first_places-first.result ≡ first_places f (sizes_of f) p.pou_type vs =
     c.first_places-first.ensures ∙ ap (told_first_places c.deref.result.now p.pou_type) c.told_at.ensures ∙ ap (λ (s : List ℕ). told_first_places s p.pou_type (told_at f k)) sizes
     ∙ first_exact (sizes_of f) p.pou_type (told_at f k) (few_exact f k placed) ∙ told_first_places-is f (sizes_of f) p.pou_type vs in
-    subst (λ (ss : Statements). IfOk c.begin_body.result (λ list. stmts_view list.items ≡ ss)) (begun_body f k p vs c.first_places-first.result (ap variables_in c.requires) first) c.begin_body.ensures
+    subst (λ (ss : Statements). IfOk c.begin_body.result (λ list. stmts_view list.items ≡ ss)) (begun_body f k p vs c.first_places-first.result (ap variables_in c.requires.there) first) c.begin_body.ensures

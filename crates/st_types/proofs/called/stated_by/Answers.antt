@@ -16,8 +16,8 @@ stated_from-requires c =
     c.in_ok-running.ensures.bodies ∙ ap (λ (ks : List ℕ). bodies_from f (is_marked c.in_ok-running.running.runs.items) 0 ks) (sym c.args.placed.now.pous.ordered)
     ∙ ap (λ (ms : List Bool). bodies_from f (is_marked ms) 0 c.args.placed.now.pous.called.items) (sym c.deref.ensures.value)
 
-pub returns : goal.returns
-returns c =
+pub returns-clause-list : goal.returns-clause-list
+returns-clause-list c =
     let f = file_in c.args.placed.now.pous.domains in
     let runs = may_run (called_by f) (stmts_view c.args.body.now) in
     let marks = c.in_ok-running.running.runs.items in

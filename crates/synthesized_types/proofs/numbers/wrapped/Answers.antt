@@ -1,5 +1,5 @@
 use Rattle.std.proofs.Common.{arith, to_z-of_z}
-use Rattle.typing_laws.proofs.Ranges.{least_bound, greatest_bound}
+use Rattle.plc_types.proofs.Widths.{least_bound, greatest_bound}
 use Rattle.synthesized_types.proofs.numbers.wrapped.Goals as goal
 
 pub returns : goal.returns

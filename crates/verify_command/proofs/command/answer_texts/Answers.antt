@@ -1,7 +1,8 @@
 use Rattle.std.proofs.Common.{refl}
+use Rattle.outside.specs.States.{change}
 use Rattle.command_answers.proofs.AnswerLemmas.{answers-wider}
 use Rattle.comparison_files.specs.Refusals.{ReportsRefusal}
-use Rattle.verify_command.specs.Reports.{saving, VerifyReports, not_compared}
+use Rattle.verify_command.specs.Reports.{VerifyReports, not_compared}
 use Rattle.verify_command.proofs.command.answer_texts.Goals as goal
 
 pub returns-in-Ok-clause-left : goal.returns-in-Ok-clause-left
@@ -9,6 +10,6 @@ returns-in-Ok-clause-left g c = λ t kept. c.answer_compared.ensures.left t (c.i
 
 pub returns-in-Err-clause-answer : goal.returns-in-Err-clause-answer
 returns-in-Err-clause-answer g c = λ t kept.
-    let s = saving (g.S.Shelf.file c.args.shelf.now) (g.S.Shelf.file c.args.shelf.now) (g.S.Shelf.write_faults c.args.shelf.now) (g.S.Shelf.write_faults c.args.shelf.now) c.args.finding.now in
-    answers-wider (ReportsRefusal t) (VerifyReports t s) ⊥ ⊥ c.put_fault.result _ _ (λ r h. not_compared h refl) (λ x. x)
+    let k = change (g.S.Shelf.state c.args.shelf.now) (g.S.Shelf.state c.args.shelf.now) in
+    answers-wider (ReportsRefusal t) (VerifyReports t k c.args.finding.now) ⊥ ⊥ c.put_fault.result _ _ (λ r h. not_compared h refl) (λ x. x)
     (c.put_fault.ensures.answer t (c.in-Err.ensures.refused t kept))

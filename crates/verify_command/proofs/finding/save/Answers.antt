@@ -1,5 +1,5 @@
+use Rattle.outside.specs.States.{change}
 use Rattle.comparison_files.specs.Held.{comparison_in}
-use Rattle.verify_command.specs.Reports.{saving}
 use Rattle.verify_command.proofs.Saved.{after_create, part_left}
 use Rattle.verify_command.proofs.finding.save.Goals as goal
 
@@ -14,16 +14,16 @@ returns-in-Ok-create-clause-past g c = rw (c.in-Ok.ensures.old, c.in-Ok.ensures.
 
 pub returns-in-Ok-create-clause-left : goal.returns-in-Ok-create-clause-left
 returns-in-Ok-create-clause-left g c =
-    let s = saving (g.S.Shelf.file c.args.shelf.now) (g.S.Shelf.file c.save_finding.new.shelf) (g.S.Shelf.write_faults c.args.shelf.now) (g.S.Shelf.write_faults c.save_finding.new.shelf) c.args.finding.now in
-    part_left (comparison_in c.args.compared.now) (g.Q.Queries.formula c.args.queries.now) s c.save_finding.result
+    let k = change (g.S.Shelf.state c.args.shelf.now) (g.S.Shelf.state c.save_finding.new.shelf) in
+    part_left (comparison_in c.args.compared.now) (g.Q.Queries.formula c.args.queries.now) k c.args.finding.now c.save_finding.result
     (rw (c.in-Ok.ensures.old, c.in-Ok.ensures.new, c.in-Ok.ensures.relation, c.in-Ok-new.ensures) at c.save_finding.ensures.part)
 
 pub returns-in-Err-Fault-clause-left : goal.returns-in-Err-Fault-clause-left
 returns-in-Err-Fault-clause-left g c =
-    let s = saving (g.S.Shelf.file c.args.shelf.now) (g.S.Shelf.file c.create.new.self) (g.S.Shelf.write_faults c.args.shelf.now) (g.S.Shelf.write_faults c.create.new.self) c.args.finding.now in
-    after_create (comparison_in c.args.compared.now) (g.Q.Queries.formula c.args.queries.now) s c.in-Err-Fault.ensures.emptied.part
+    let k = change (g.S.Shelf.state c.args.shelf.now) (g.S.Shelf.state c.create.new.self) in
+    after_create (comparison_in c.args.compared.now) (g.Q.Queries.formula c.args.queries.now) k c.args.finding.now c.in-Err-Fault.ensures.emptied.part
 
 pub returns-clause-left : goal.returns-clause-left
 returns-clause-left g c =
-    let s = saving (g.S.Shelf.file c.args.shelf.now) (g.S.Shelf.file c.create.new.self) (g.S.Shelf.write_faults c.args.shelf.now) (g.S.Shelf.write_faults c.create.new.self) c.args.finding.now in
-    after_create (comparison_in c.args.compared.now) (g.Q.Queries.formula c.args.queries.now) s c.in-Err-Memory.ensures.emptied.part
+    let k = change (g.S.Shelf.state c.args.shelf.now) (g.S.Shelf.state c.create.new.self) in
+    after_create (comparison_in c.args.compared.now) (g.Q.Queries.formula c.args.queries.now) k c.args.finding.now c.in-Err-Memory.ensures.emptied.part

@@ -6,11 +6,11 @@ use Rattle.finding_file.proofs.reader.FindingReader.find_line.Given as goal
 abbrev pub invariant-pieces : goal.invariant-pieces
 invariant-pieces g l = record {
   place : IsSamePlace l.initial.self l.self;
-  agrees : IfSome (g.S.Shelf.file l.initial.shelf l.initial.self.name) (Agrees l.self);
-  kept : g.S.Shelf.file l.shelf ≡ g.S.Shelf.file l.initial.shelf;
-  reads : NoneFell (g.S.Shelf.read_faults l.initial.shelf) (g.S.Shelf.read_faults l.shelf);
-  writes : NoneFell (g.S.Shelf.write_faults l.initial.shelf) (g.S.Shelf.write_faults l.shelf);
-  unfailed : g.S.Shelf.read_failed l.shelf ≡ false;
+  agrees : IfSome ((g.S.Shelf.state l.initial.shelf).file l.initial.self.name) (Agrees l.self);
+  kept : (g.S.Shelf.state l.shelf).file ≡ (g.S.Shelf.state l.initial.shelf).file;
+  reads : NoneFell (g.S.Shelf.state l.initial.shelf).read_faults (g.S.Shelf.state l.shelf).read_faults;
+  writes : NoneFell (g.S.Shelf.state l.initial.shelf).write_faults (g.S.Shelf.state l.shelf).write_faults;
+  unfailed : (g.S.Shelf.state l.shelf).read_failed ≡ false;
 }
 
 abbrev pub decreases-pieces : goal.decreases-pieces

@@ -19,7 +19,7 @@ returns-in-Past-clause-answer g c =
     let found = c.in_ok-find_line.ensures in
     let old = c.args.self.now in
     let mid = c.find_line.new.self in
-    let file = g.S.Shelf.file c.args.shelf.now c.args.self.now.name in
+    let file = (g.S.Shelf.state c.args.shelf.now).file c.args.self.now.name in
     let held = subst (IsFound mid) c.in-Past.is found.found in
     let met = subst (λ (f : Found). IfSome file (λ bytes. MeetsFound mid bytes f)) c.in-Past.is found.met in
     told-both file (Agrees mid) (λ bytes. length mid.held < length (rest_of mid bytes)) (λ bytes. IsAnswer old (ahead (rest_of old bytes)) (Err M8)) found.agrees met
@@ -30,7 +30,7 @@ returns-else-holds_nothing-clause-answer g c =
     let found = c.in_ok-find_line.ensures in
     let old = c.args.self.now in
     let mid = c.find_line.new.self in
-    let file = g.S.Shelf.file c.args.shelf.now c.args.self.now.name in
+    let file = (g.S.Shelf.state c.args.shelf.now).file c.args.self.now.name in
     let lacks = subst (IsFound mid) c.in-End.is found.found in
     let met = subst (λ (f : Found). IfSome file (λ bytes. MeetsFound mid bytes f)) c.in-End.is found.met in
     let apart = eqb-false (length mid.held) 0 (sym c.holds_nothing.ensures ∙ c.if-holds_nothing.false) in
@@ -44,7 +44,7 @@ returns-in-Some-clause-answer g c =
     let old = c.args.self.now in
     let mid = c.find_line.new.self in
     let new = c.take_line.new.self in
-    let file = g.S.Shelf.file c.args.shelf.now c.args.self.now.name in
+    let file = (g.S.Shelf.state c.args.shelf.now).file c.args.self.now.name in
     let first = subst (IsFound mid) c.in-Feed.is found.found in
     let read = subst (ReadsLine (take c.in-Feed.end mid.held)) c.in-Some.is c.in_ok-line-in-Feed.ensures.read in
     told-one file (Agrees mid) (λ bytes. IsAnswer old (ahead (rest_of old bytes)) (Ok (Some c.in-Some.line))) found.agrees
@@ -56,7 +56,7 @@ returns-in-Some-clause-rest g c =
     let old = c.args.self.now in
     let mid = c.find_line.new.self in
     let new = c.take_line.new.self in
-    let file = g.S.Shelf.file c.args.shelf.now c.args.self.now.name in
+    let file = (g.S.Shelf.state c.args.shelf.now).file c.args.self.now.name in
     let skipped = subst (λ (o : Option Line). MatchOption o (new ≡ mid) (λ line. IsSkipped mid new line)) c.in-Some.is c.in_ok-line-in-Feed.ensures.stays in
     told-one file (Agrees mid) (λ bytes. rest_of old bytes ≡ written c.in-Some.line ++ rest_of new bytes) found.agrees
     (λ bytes a. rest-past old mid new bytes c.in-Some.line found.place a skipped)
@@ -66,7 +66,7 @@ returns-in-Some-clause-agrees g c =
     let found = c.in_ok-find_line.ensures in
     let mid = c.find_line.new.self in
     let new = c.take_line.new.self in
-    let file = g.S.Shelf.file c.args.shelf.now c.args.self.now.name in
+    let file = (g.S.Shelf.state c.args.shelf.now).file c.args.self.now.name in
     let skipped = subst (λ (o : Option Line). MatchOption o (new ≡ mid) (λ line. IsSkipped mid new line)) c.in-Some.is c.in_ok-line-in-Feed.ensures.stays in
     told-one file (Agrees mid) (Agrees new) found.agrees (λ bytes a. agrees-past mid new bytes c.in-Some.line a skipped)
 
@@ -76,7 +76,7 @@ returns-in-None-clause-answer g c =
     let old = c.args.self.now in
     let mid = c.find_line.new.self in
     let new = c.take_line.new.self in
-    let file = g.S.Shelf.file c.args.shelf.now c.args.self.now.name in
+    let file = (g.S.Shelf.state c.args.shelf.now).file c.args.self.now.name in
     let first = subst (IsFound mid) c.in-Feed.is found.found in
     let none = subst (ReadsLine (take c.in-Feed.end mid.held)) c.in-None.is c.in_ok-line-in-Feed.ensures.read in
     let stays = subst (λ (o : Option Line). MatchOption o (new ≡ mid) (λ line. IsSkipped mid new line)) c.in-None.is c.in_ok-line-in-Feed.ensures.stays in

@@ -3,11 +3,8 @@ use Rattle.std.proofs.lemmas.Result.{IfOk-weaker}
 use Rattle.clause_core.specs.Satisfaction.{assigned, Satisfies}
 use Rattle.queries.specs.declared.decoded.Decoded.{Decoded}
 use Rattle.queries.specs.Questions.{query_view, IsQueryOf}
-use Rattle.query_formulas.specs.Decoded.{DecodedData, decoded_view, IsAnswer}
-use Rattle.pair_circuits.specs.Parts.{parts_view}
-use Rattle.pair_circuits.specs.Products.{product_view}
-use Rattle.pair_circuits.specs.Breaks.{breaks_view}
-use Rattle.pair_decoding.specs.Decoded.{decoded}
+use Rattle.query_formulas.specs.Decoded.{DecodedData, decoded_view, IsAnswer, decoded}
+use Rattle.pair_circuits.specs.Views.{parts_view, product_view, breaks_view}
 use Rattle.product_build.specs.MadeCircuits.{MadeCircuits, comparison_between, comparison_of, formula_of}
 use Rattle.product_build.proofs.Meanings.{product_wide, rows_wide, query_decoded}
 use Rattle.product_build.proofs.asking.CircuitsQueries.decode.Goals as goal

@@ -1,0 +1,34 @@
+-- What is said of a verdict: a line, which has the words of the END line behind its first, and a status of its own.
+use Rattle.std.specs.Prelude.{ℕ, List, ◌++◌, codes, drop}
+use Rattle.finding_lines.specs.declared.line.Conclusion.{Conclusion}
+use Rattle.finding_lines.specs.declared.line.Conclusion.TheVariants as conclusions
+use Rattle.finding_lines.specs.Spelling.{concluded}
+use Rattle.command_answers.specs.declared.status.Status.{Status}
+use Rattle.command_answers.specs.declared.status.Status.TheVariants.{Vacuous, Related, Different, Open, Spent}
+use Rattle.command_answers.specs.Reports.{Report}
+
+abbrev pub verdict_line : Conclusion → List ℕ
+verdict_line verdict = drop 1 (concluded verdict) ++ codes "\n"
+
+abbrev pub verdict_status : Conclusion → Status
+verdict_status conclusions.Vacuous = Vacuous
+verdict_status (conclusions.Related kept candidates) = Related
+verdict_status (conclusions.Different scans) = Different
+verdict_status (conclusions.Open kept candidates depth) = Open
+verdict_status (conclusions.Spent asked count) = Spent
+
+abbrev pub verdict_report : Conclusion → Report
+verdict_report verdict = record { text = verdict_line verdict; status = verdict_status verdict }
+
+-- the line on a finding that is valid with this verdict
+abbrev pub valid_line : Conclusion → List ℕ
+valid_line verdict = codes "VALID " ++ verdict_line verdict
+
+-- the statuses of verdicts
+abbrev pub IsOfVerdict : Status → Type 0
+IsOfVerdict Vacuous = Unit {0}
+IsOfVerdict Related = Unit {0}
+IsOfVerdict Different = Unit {0}
+IsOfVerdict Open = Unit {0}
+IsOfVerdict Spent = Unit {0}
+IsOfVerdict _ = ⊥

@@ -1,0 +1,4 @@
+pub mod Widths
+pub mod InRange
+pub mod TypeRanges
+pub mod SameTypes

@@ -1,0 +1,2 @@
+pub mod StatementInduction
+pub mod EveryItem
