@@ -128,7 +128,7 @@ def of_byte(spot):
     if spot.bytes[:2] in (b"\xff\xfe", b"\xfe\xff") or b"\0" in spot.bytes[:200]:
         return "The file is saved as UTF-16: save it as UTF-8."
     if re.match(r"\s*<\?xml|\s*<[A-Za-z]", spot.text):
-        return "This is an XML file: take the Structured Text out of it; a program begins with TYPE, FUNCTION, FUNCTION_BLOCK or PROGRAM."
+        return "This is an XML file: tools/st-from takes the Structured Text out of PLCopen XML and of TwinCAT files; a program begins with TYPE, FUNCTION, FUNCTION_BLOCK or PROGRAM."
     character = spot.text[spot.place:spot.place + 1]
     if character == "!" and spot.text[spot.place + 1:spot.place + 2] == "=":
         return "`!=` is not read: write <>."
@@ -234,7 +234,7 @@ def of_sign(spot):
 def of_grammar(spot):
     token, before = spot.token, last(spot.before)
     if not spot.before and re.match(r"\s*<", spot.text):
-        return "This is an XML file: take the Structured Text out of it; a program begins with TYPE, FUNCTION, FUNCTION_BLOCK or PROGRAM."
+        return "This is an XML file: tools/st-from takes the Structured Text out of PLCopen XML and of TwinCAT files; a program begins with TYPE, FUNCTION, FUNCTION_BLOCK or PROGRAM."
     if token.form == "end":
         return of_end(spot)
     if token.upper in ("ELSEIF", "ELIF"):

@@ -177,20 +177,26 @@ class Program:
         return [Variable(name, self.type_of(kind)) for name, kind in self.sections[section]]
 
     def start_of(self, variable):
-        """The number that a variable has at the start: its initial value where that is written as a number or a value of an
-        enumeration, else 0 or the least bound above it."""
+        """The number that a variable has at the start."""
         words = [token.upper for token in self.initials.get(variable.name.upper(), [])]
-        base, bounds = variable.type.base, variable.type.bounds
-        if words and isinstance(base, tuple):
+        return self.start_by(variable.type, words)
+
+    @staticmethod
+    def start_by(kind, words):
+        """The number that a variable of this type begins with: its initial value where that is written as a number or a value of
+        an enumeration, else its lower bound, or 0 where it has none."""
+        base, bounds = kind.base, kind.bounds
+        if not words:
+            return bounds[0] if bounds else 0
+        if isinstance(base, tuple):
             return base.index(words[-1]) if words[-1] in base else 0
         if words[-1:] in (["TRUE"], ["FALSE"]):
             return int(words[-1] == "TRUE")
         try:
-            number = value_of(words[-1], 0) if words else 0
+            number = value_of(words[-1], 0)
         except Unreadable:
             number = 0
-        number = -number if "-" in words[:-1] else number
-        return number if words or not bounds or bounds[0] <= number <= bounds[1] else bounds[0]
+        return -number if "-" in words[:-1] else number
 
     def type_of(self, kind):
         """The type that a name stands for, at the end of its way of other names."""

@@ -195,7 +195,9 @@ class Programs:
             raise Over(f"{' '.join([*self.commands[which], *words])}, cut off after {time.monotonic() - start:.0f} s") from None
         if done.returncode in (-signal.SIGKILL, -signal.SIGXCPU):
             return b"TIMEOUT", None, time.monotonic() - start
-        return done.stdout, done.returncode, time.monotonic() - start
+        # The program that suggests puts a relation on standard output, and what else it answers on standard error.
+        printed = done.stderr if which == 2 and done.returncode not in (0, 1) else done.stdout
+        return printed, done.returncode, time.monotonic() - start
 
     def finding(self):
         path = os.path.join(self.folder, "finding")

@@ -12,14 +12,14 @@ import tempfile
 PROGRAM = b"PROGRAM M VAR_INPUT a : BOOL; END_VAR VAR_OUTPUT q : BOOL; END_VAR q := a; END_PROGRAM\n"
 OTHER = PROGRAM.replace(b"q := a", b"q := NOT a")
 RELATION = b"RELATION 1; FAULTS EQUAL; DEPTH 3; CONFLICTS 1000; INPUT a = a; RELATE old.q = new.q;\n"
-BEFORE = b"as before\n"
 MEMORY = 9
 LAST = str(2**64 - 1)
 SECONDS = 60
 
 # The files at the start of each run, and what the runs of a command are called with. A finding is the one that `verify` saves.
 INPUTS = {"old": PROGRAM, "new": PROGRAM, "other": OTHER, "relation": RELATION, "trace": b"[[0],[1]]\n"}
-GENERATED = ("gen1.old", "gen1.new", "gen1.rel", "gen1.fnd")
+# What stands at the start in the files that are written: a front of what the program writes there, since it writes over nothing else.
+BEFORE = {"finding": b"REGVER FIND", "gen1.old": b"PROGRAM M\n", "gen1.new": b"PROGRAM", "gen1.rel": b"RELATION 1;\n", "gen1.fnd": b"REGVER"}
 RUNS = (
     ("verify", "old", "new", "relation", "finding"),
     ("verify", "old", "other", "relation", "finding"),
@@ -123,12 +123,11 @@ def refused_in_turn(runner, words, whole, last):
 
 
 def prepare(runner):
-    """Saves the findings of both pairs, and gives the files that are written a content of their own."""
+    """Saves the findings of both pairs, and gives the files that are written what stands in them before."""
     for name, other in (("related", "new"), ("different", "other")):
         _, files, _ = runner.run(("verify", "old", other, "relation", name))
         runner.files[name] = files[name]
-    for name in ("finding", *GENERATED):
-        runner.files[name] = BEFORE
+    runner.files.update(BEFORE)
 
 
 def main(program, library):

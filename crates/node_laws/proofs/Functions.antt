@@ -14,7 +14,7 @@ use Rattle.node_core.specs.declared.node.Node.{Node}
 use Rattle.node_core.specs.declared.node.Node.TheVariants.{Constant, Convert, Absolute, Minimum, Maximum, Shift, Mux}
 use Rattle.node_core.specs.Nodes.{node_value}
 use Rattle.node_core.specs.Words as words
-use Rattle.node_core.specs.Words.{NodeList, Made, made, taken, folded, nothing, limited_word, selected_word, called_word}
+use Rattle.node_core.specs.Words.{NodeList, Made, made, folded, nothing, limited_word, selected_word, called_word}
 use Rattle.node_core.proofs.Growth.{grows_made, grows_folded}
 use Rattle.node_laws.proofs.Held.{Hold, hold_before, Gives, gives_made}
 

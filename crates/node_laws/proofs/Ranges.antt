@@ -1,16 +1,10 @@
 -- Truth values as numbers.
-use Rattle.std.proofs.Common.{◌⊎◌, inl, inr, ◌≡◌, suc, ◌^◌, ◌<◌, Bool, true, false, ◌||◌, ℤ, pos, negsuc, zero, ◌+ℤ◌, ◌*ℤ◌, refl, sym, arith, rules, tests}
-use Rattle.std.specs.Prelude.{◌≤ℤ◌}
-use Rattle.std.proofs.lemmas.Int.{ints}
-use Rattle.num_core.proofs.Wrapped.{wraps_defined, wrap_is}
-use Rattle.plc_types.specs.declared.elementary.Elementary.{Elementary}
+use Rattle.std.proofs.Common.{◌⊎◌, inl, inr, ◌≡◌, Bool, true, false, ◌||◌, ℤ, pos, refl}
 use Rattle.plc_types.specs.declared.elementary.Elementary.TheVariants as types
-use Rattle.plc_types.specs.declared.range.Range.{Range}
 use Rattle.plc_types.specs.declared.operator.Operator.TheVariants as ops
-use Rattle.plc_types.specs.Types.{width_of, is_signed, range_of, in_range, wrap_to}
+use Rattle.plc_types.specs.Types.{range_of, in_range}
 use Rattle.plc_types.proofs.TypeRanges.{zero_or_one as one_of_bool}
 use Rattle.meaning.specs.Values.{number_of, is_truth, applied}
-use Rattle.meaning.specs.StaysIn.{covers}
 
 pub is_truth-number_of : (b : Bool) → is_truth (number_of b) ≡ b
 is_truth-number_of true = refl

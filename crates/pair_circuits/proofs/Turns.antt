@@ -1,23 +1,17 @@
 -- What one turn of a loop makes is a front of what is made of all that is left.
-use Rattle.std.proofs.Common.{◌≡◌, ℕ, zero, suc, ◌+◌, ◌<◌, ◌≤◌, arith, Bool, true, false, refl, sym, ◌∙◌, ap, subst, List, [], ◌∷◌, length, drop, get_or}
-use Rattle.std.specs.Prelude.{Vec, min, if◌then◌else◌}
+use Rattle.std.proofs.Common.{◌≡◌, ℕ, zero, suc, ◌+◌, ◌<◌, ◌≤◌, arith, refl, sym, ◌∙◌, ap, subst, List, [], ◌∷◌, length, drop, get_or}
+use Rattle.std.specs.Prelude.{Vec, min}
 use Rattle.std.specs.declared.alloc.Global.{Global}
 use Rattle.std.proofs.lemmas.List.{at_drop_more, at_drop_all}
 use Rattle.clause_core.specs.declared.literal.Lit.{Lit}
-use Rattle.clause_core.specs.Values.{negation}
-use Rattle.plc_types.specs.Types.{is_signed}
 use Rattle.gates.specs.Netlists.{Netlist, IsExtensionOf}
-use Rattle.gates.proofs.Growth.{extends_self, extends_then, extends_and}
-use Rattle.word_circuits.proofs.Growth.{extends_outside}
 use Rattle.node_core.specs.declared.scan.ClauseNodes.{ClauseNodes}
-use Rattle.node_core.specs.Scans.{ScanData, ClauseData, clause_view}
-use Rattle.node_circuits.specs.NodeWords.{Words, words_view, words_of_nodes}
-use Rattle.node_circuits.proofs.Growth.{extends_nodes}
+use Rattle.node_core.specs.Scans.{clause_view}
+use Rattle.node_circuits.specs.NodeWords.{Words, words_view}
 use Rattle.scan_model.specs.declared.relation.InputLine.{InputLine}
 use Rattle.query_formulas.specs.declared.shapes.CellShape.{CellShape}
-use Rattle.query_formulas.specs.PairWords.{PairWords, clause_words, loaded_words}
-use Rattle.query_formulas.specs.Literals.{MadeLiterals, none_made, outside_cell, outside_one, outside_cells, bit_of, clause_literal, clause_literals, pair_literals}
-use Rattle.query_formulas.specs.PairScans.{scanned_words, scanned_pair}
+use Rattle.query_formulas.specs.PairWords.{PairWords, loaded_words}
+use Rattle.query_formulas.specs.Literals.{none_made, outside_one, outside_cells, clause_literal, clause_literals}
 use Rattle.query_formulas.proofs.Growth.{extends_outside_cells, extends_clauses}
 use Rattle.pair_circuits.specs.Views.{clauses_view}
 

@@ -1,16 +1,10 @@
 -- Free words are as wide as the types of their cells.
-use Rattle.std.proofs.Common.{◌≡◌, ℕ, zero, suc, ◌+◌, refl, ap, List, [], ◌∷◌, length}
+use Rattle.std.proofs.Common.{ℕ, zero, suc, ◌+◌, []}
 use Rattle.std.proofs.lemmas.List.Elements.{All-nil, All-cons}
-use Rattle.clause_core.specs.declared.literal.Lit.{Lit}
-use Rattle.plc_types.specs.declared.elementary.Elementary.{Elementary}
-use Rattle.plc_types.specs.Types.{width_of}
 use Rattle.gates.specs.Netlists.{Netlist}
-use Rattle.node_circuits.specs.NodeWords.{Words}
-use Rattle.node_circuit_laws.specs.WordValues.{HaveWidths}
-use Rattle.query_formulas.specs.declared.shapes.CellShape.{CellShape}
-use Rattle.query_formulas.specs.CellShapes.{bits_of, width_of_cell}
+use Rattle.query_formulas.specs.CellShapes.{bits_of}
 use Rattle.query_formulas.specs.Parts.{Parts}
-use Rattle.query_formulas.specs.PairWords.{PairWords, free_word, free_words}
+use Rattle.query_formulas.specs.PairWords.{PairWords, free_words}
 use Rattle.query_formulas.specs.Products.{product_of}
 use Rattle.query_formulas.specs.Breaks.{ScanLiterals, scan_from, scans_from, start_words, breaks_bits, breaks_of}
 use Rattle.query_formulas.proofs.Widths.{widths-free}

@@ -1,5 +1,5 @@
 -- The counts of scans from the start rise to that of all gates.
-use Rattle.std.proofs.Common.{◌≡◌, ℕ, zero, suc, ◌+◌, ◌≤◌, refl, ap, ◌∙◌, List, [], length, length-append, arith}
+use Rattle.std.proofs.Common.{◌≡◌, ℕ, zero, suc, ◌+◌, ◌≤◌, ap, ◌∙◌, List, [], length, length-append, arith}
 use Rattle.clause_core.specs.declared.gate.Gate.{Gate}
 use Rattle.gates.specs.Netlists.{Netlist, IsExtensionOf}
 use Rattle.query_formulas.specs.CellShapes.{bits_of}

@@ -17,7 +17,7 @@ use Rattle.scan_model.specs.Verdicts.{CandidateSet}
 use Rattle.queries.specs.Comparisons.{Comparison, IsComparison}
 use Rattle.queries.specs.Questions.{QueryData, first, step, goal, deep}
 use Rattle.query_formulas.specs.declared.shapes.CellShape.{CellShape}
-use Rattle.query_formulas.specs.CellShapes.{bits_of, shape_of, shapes_of}
+use Rattle.query_formulas.specs.CellShapes.{bits_of, shape_of}
 use Rattle.query_formulas.specs.Parts.{Parts, parts_of}
 use Rattle.query_formulas.specs.PairWords.{PairWords, free_words, loaded_words, clause_words}
 use Rattle.query_formulas.specs.Literals.{MadeLiterals, none_made, outside_cell, outside_one, outside_cells, clause_literal, clause_literals, pair_literals}

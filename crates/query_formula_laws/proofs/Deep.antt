@@ -1,5 +1,5 @@
 -- Runs of scans: the clauses of a break are true exactly where the rows that the words spell are one.
-use Rattle.std.proofs.Common.{◌≡◌, ℕ, zero, suc, ◌+◌, ◌-◌, ◌*◌, ◌<◌, ◌≤◌, Bool, true, false, refl, sym, ◌∙◌, ap, subst, List, [], ◌∷◌, ◌++◌, length, map, take, arith, append_assoc, length-append}
+use Rattle.std.proofs.Common.{◌≡◌, ℕ, zero, suc, ◌+◌, ◌-◌, ◌*◌, ◌≤◌, Bool, true, refl, sym, ◌∙◌, ap, List, [], ◌∷◌, ◌++◌, length, map, arith, append_assoc, length-append}
 use Rattle.std.proofs.lemmas.Bool.{and_parts, and_from}
 use Rattle.clause_core.specs.Satisfaction.{assigned, formula_true}
 use Rattle.scan_model.specs.InRange.{Row}
@@ -26,7 +26,7 @@ use Rattle.query_formula_laws.proofs.FreeWords.{length-bits}
 use Rattle.query_formula_laws.proofs.Spelled.{Spells, SpellsPair}
 use Rattle.query_formula_laws.proofs.FormulaTruth.{all_of, truths, units-true, some_fails-true, formula-append}
 use Rattle.query_formula_laws.proofs.OneScan.{from_not, to_not}
-use Rattle.query_formula_laws.proofs.Given.{row_types, allowed_fits, free_read, free_given, free_agree}
+use Rattle.query_formula_laws.proofs.Given.{allowed_fits, free_read, free_given, free_agree}
 use Rattle.query_formula_laws.proofs.ScanTruth.{row_true, spells_behind, inside_behind, relates_true}
 use Rattle.query_formula_laws.proofs.Begun.{line_bits}
 use Rattle.query_formula_laws.proofs.Runs.{scan_at, begun_at, behind, extends_last}

@@ -1,5 +1,5 @@
 -- Settings of free bits that spell a pair and a row, and assignments that agree with them.
-use Rattle.std.proofs.Common.{◌≡◌, ℕ, zero, suc, ◌+◌, ◌≤◌, Bool, true, refl, sym, ◌∙◌, ap, subst, List, [], ◌∷◌, ◌++◌, length, map, arith, ℤ}
+use Rattle.std.proofs.Common.{◌≡◌, ℕ, zero, suc, ◌+◌, ◌≤◌, Bool, true, refl, sym, ◌∙◌, ap, List, [], ◌∷◌, ◌++◌, length, map, arith, ℤ}
 use Rattle.std.specs.Prelude.{All}
 use Rattle.std.proofs.lemmas.List.Elements.{All-head, All-tail}
 use Rattle.clause_core.specs.Satisfaction.{literal_true, assigned}
@@ -19,10 +19,10 @@ use Rattle.query_formulas.specs.Parts.{lines_cells}
 use Rattle.gates.specs.Models.{Agrees}
 use Rattle.word_laws.specs.Numbers.{value}
 use Rattle.node_core.specs.NodeLaws.{kinds_of}
-use Rattle.node_circuit_laws.specs.WordValues.{HaveWidths, values_of}
+use Rattle.node_circuit_laws.specs.WordValues.{values_of}
 use Rattle.query_formulas.specs.CellShapes.{bits_of, shapes_of}
 use Rattle.query_formulas.specs.PairWords.{free_word, free_words}
-use Rattle.query_formulas.specs.Decoded.{types_of, decoded_state}
+use Rattle.query_formulas.specs.Decoded.{decoded_state}
 use Rattle.query_formula_laws.specs.TypedComparisons.{IsTypedCell, IsTypedComparison}
 use Rattle.query_formula_laws.proofs.TypedValues.{AreOfTypes}
 use Rattle.query_formula_laws.proofs.FreeBits.{value_bits, joined}

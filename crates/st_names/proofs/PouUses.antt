@@ -1,5 +1,5 @@
 -- Each POU that a POU of a file uses is one of the file, and where nothing is broken, the order has all of them.
-use Rattle.std.proofs.Common.{◌≡◌, ⊎_elim, ℕ, zero, suc, ◌<◌, List, [], ◌∷◌, ◌++◌, length, Bool, true, false, Option, Some, None, refl, ap, ◌∙◌, subst, if◌then◌else◌, arith}
+use Rattle.std.proofs.Common.{◌≡◌, ⊎_elim, ℕ, zero, suc, ◌<◌, List, [], ◌∷◌, ◌++◌, length, Bool, true, false, Option, Some, None, refl, sym, ap, ◌∙◌, subst, if◌then◌else◌, arith}
 use Rattle.std.specs.List.{slice_get}
 use Rattle.std.proofs.lemmas.List.{length-map}
 use Rattle.std.proofs.lemmas.Option.{slice_get_within}
@@ -8,11 +8,15 @@ use Rattle.call_order.proofs.Members.{below-from_use, is_among-cases, is_among-e
 use Rattle.call_order.proofs.Orders.{begins}
 use Rattle.rules.specs.declared.rule.Refusal.{Refusal}
 use Rattle.rules.specs.declared.rule.Rule.TheVariants.{InTermsOfItself}
-use Rattle.source_tree.specs.Syntax.{Tree, literal, path, enumerator, paren, unary, chain, call, Links, no_links, link, Arguments, no_arguments, argument, ConnectionData, input, output, Stmt, empty, assign, invoke, branch, cases, iterate, Stmts, no_stmts, stmt, Arms, no_arms, arm, Entries, no_entries, entry, Otherwise, no_else, else_stmts, PartData, step_part, transition_part, action_part, BodyData, statements, chart as chart_body, PouData, FileData}
+use Rattle.source_tree.specs.Syntax.{Tree, literal, path, enumerator, paren, unary, chain, call, Links, no_links, link, Arguments, no_arguments, argument, ConnectionData, input, output, IterationData, BodyData, PouData, FileData}
+use Rattle.source_tree.specs.StatementItems.{StatementItem, assignment, invocation, condition, selector, labels, iteration, listed}
+use Rattle.source_tree.proofs.StatementInduction.{AreRelated, related_body}
 use Rattle.naming.specs.declared.callee.Callee.{Callee}
 use Rattle.naming.specs.declared.callee.Callee.TheVariants as callees
 use Rattle.naming.specs.Broken.{callee_of, broken_names}
-use Rattle.naming.specs.Circles.{block_used, blocks_used, called, calls_in, calls_in_links, calls_in_arguments, calls_in_step, calls_in_iteration, calls_in_connections, calls_in_stmt, calls_in_stmts, calls_in_arms, calls_in_entries, calls_in_else, calls_in_parts, calls_in_body, uses_in, uses_of, IsInCircle}
+use Rattle.naming.specs.Circles.{block_used, blocks_used, called, calls_in, calls_in_links, calls_in_arguments, calls_in_step, calls_in_iteration, calls_in_connections, calls_in_body, uses_in, uses_of, IsInCircle}
+use Rattle.naming.specs.NamedItems.{calls_in_item}
+use Rattle.naming.proofs.NamedItems.{given_calls, calls_of_body}
 use Rattle.naming.specs.DeclarationUses.{numbers_in}
 use Rattle.naming.specs.FileScope.{pous_of, pou_at}
 use Rattle.naming.specs.Scopes.{Variable, PouScope, scope_of, is_whole, block_of}
@@ -77,43 +81,34 @@ module _ (f : FileData) (u : ℕ) where
   connections_below (input n e ∷ cs) m = either (calls_in f e) (calls_in_connections f cs) (tree_below e) (connections_below cs) m
   connections_below (output n q ∷ cs) m = connections_below cs m
 
-  mutual
-    stmt_below : (s : Stmt) → is_among u (calls_in_stmt f s) ≡ true → u < length (pous_of f)
-    stmt_below empty m = nowhere m
-    stmt_below (assign q e) m = tree_below e m
-    stmt_below (invoke n at cs) m = connections_below cs m
-    stmt_below (branch arms other) m = either (calls_in_arms f arms) (calls_in_else f other) (arms_below arms) (else_below other) m
-    stmt_below (cases e es other) m =
-        either (calls_in f e ++ calls_in_entries f es) (calls_in_else f other) (either (calls_in f e) (calls_in_entries f es) (tree_below e) (entries_below es)) (else_below other) m
-    stmt_below (iterate i ss) m =
-        either (calls_in_iteration f i) (calls_in_stmts f ss)
-        (either (calls_in f i.first ++ calls_in f i.last) (calls_in_step f i.step) (either (calls_in f i.first) (calls_in f i.last) (tree_below i.first) (tree_below i.last)) (step_below i.step)) (stmts_below ss) m
+  iteration_below : (i : IterationData) → is_among u (calls_in_iteration f i) ≡ true → u < length (pous_of f)
+  iteration_below i m =
+      either (calls_in f i.first ++ calls_in f i.last) (calls_in_step f i.step) (either (calls_in f i.first) (calls_in f i.last) (tree_below i.first) (tree_below i.last)) (step_below i.step) m
 
-    stmts_below : (ss : Stmts) → is_among u (calls_in_stmts f ss) ≡ true → u < length (pous_of f)
-    stmts_below no_stmts m = nowhere m
-    stmts_below (stmt s ss) m = either (calls_in_stmt f s) (calls_in_stmts f ss) (stmt_below s) (stmts_below ss) m
+  item_below : (i : StatementItem) → is_among u (calls_in_item f i) ≡ true → u < length (pous_of f)
+  item_below (assignment q e) m = tree_below e m
+  item_below (invocation n at cs) m = connections_below cs m
+  item_below (condition e) m = tree_below e m
+  item_below (selector e) m = tree_below e m
+  item_below (labels e before ls) m = nowhere m
+  item_below (iteration i) m = iteration_below i m
 
-    arms_below : (arms : Arms) → is_among u (calls_in_arms f arms) ≡ true → u < length (pous_of f)
-    arms_below no_arms m = nowhere m
-    arms_below (arm e ss arms) m = either (calls_in f e ++ calls_in_stmts f ss) (calls_in_arms f arms) (either (calls_in f e) (calls_in_stmts f ss) (tree_below e) (stmts_below ss)) (arms_below arms) m
+  -- what items call is there, so what all of them call is
+  abbrev IsThere : List IterationData → List ℕ → List ℕ → List ℕ → Type 0
+  IsThere around xs ys zs = is_among u xs ≡ true → u < length (pous_of f)
 
-    entries_below : (es : Entries) → is_among u (calls_in_entries f es) ≡ true → u < length (pous_of f)
-    entries_below no_entries m = nowhere m
-    entries_below (entry ls ss es) m = either (calls_in_stmts f ss) (calls_in_entries f es) (stmts_below ss) (entries_below es) m
-
-    else_below : (other : Otherwise) → is_among u (calls_in_else f other) ≡ true → u < length (pous_of f)
-    else_below no_else m = nowhere m
-    else_below (else_stmts ss) m = stmts_below ss m
-
-  parts_below : (qs : List PartData) → is_among u (calls_in_parts f qs) ≡ true → u < length (pous_of f)
-  parts_below [] m = nowhere m
-  parts_below (step_part s ∷ qs) m = parts_below qs m
-  parts_below (transition_part t ∷ qs) m = either (calls_in f t.condition) (calls_in_parts f qs) (tree_below t.condition) (parts_below qs) m
-  parts_below (action_part a ∷ qs) m = either (calls_in_stmts f a.body) (calls_in_parts f qs) (stmts_below a.body) (parts_below qs) m
+  items_below : AreRelated (listed (given_calls f)) (listed (given_calls f)) (listed (given_calls f)) IsThere
+  items_below = record {
+    none = λ around m. nowhere m;
+    both = λ around xs xs' ys ys' zs zs' one more m. either xs xs' one more m;
+    own = λ around i m. item_below i m;
+    inside = λ around i xs ys zs more m. either (calls_in_iteration f i) xs (iteration_below i) more m;
+  }
 
   body_below : (b : BodyData) → is_among u (calls_in_body f b) ≡ true → u < length (pous_of f)
-  body_below (statements ss) m = stmts_below ss m
-  body_below (chart_body qs) m = parts_below qs m
+  body_below b m =
+      let calls = listed (given_calls f) in
+      related_body calls calls calls IsThere items_below b (ap (is_among u) (sym (calls_of_body f b)) ∙ m)
 
   pou_below : (d : PouData) → is_among u (uses_in f d) ≡ true → u < length (pous_of f)
   unfolding uses_in

@@ -4,7 +4,6 @@ use Rattle.call_order.specs.Marks.{is_marked}
 use Rattle.source_tree.specs.Syntax.{PartData, BodyData, statements, chart, PouTypeData, function, function_block, program, PouData, FileData}
 use Rattle.std.specs.Prelude.{Some}
 use Rattle.source_tree.specs.Levels.{MayDo}
-use Rattle.program_tree.specs.Tree.{Statement, Statements, assign, call_block, choice, cases, repeat, chart as typed_chart_statement, no_statements, statement}
 use Rattle.naming.specs.Broken.{variables_twice}
 use Rattle.naming.specs.FileScope.{pou_at, is_program}
 use Rattle.naming.specs.Scopes.{variables_in_pou}
@@ -13,8 +12,8 @@ use Rattle.typing.specs.TypedStatements.{typed_stmts}
 use Rattle.typing.specs.TypedPrograms.{typed_body}
 use Rattle.typing.specs.Places.{sizes_of}
 use Rattle.typing.specs.Members.{scope_of, is_function}
-use Rattle.typed_programs.specs.Scopes.{Pous, BodyScope}
-use Rattle.typed_programs.specs.Statements.{IsTyped, IsTypedPart, AreTyped, AreTypedParts}
+use Rattle.typed_programs.specs.Statements.{AreTypedParts}
+use Rattle.typed_programs.proofs.TypedItems.{typed_parts}
 use Rattle.typed_scopes.specs.Charts.{ChartFits}
 use Rattle.typed_scopes.proofs.Statements.{stmts_are}
 use Rattle.typed_scopes.proofs.Charts.{chart_is}
@@ -24,19 +23,6 @@ use Rattle.typed_cells.specs.Premises.{UsesItsBlocks, IsOrdered}
 use Rattle.typed_cells.specs.Bodies.{IsTypedIn, ArePartsSound, IsBodySound}
 use Rattle.typed_cells.proofs.Scopes.{scope_fits}
 use Rattle.typed_cells.proofs.ChartCells.{chart_flags, chart_rising}
-
-module _ (ps : Pous) (b : BodyScope) where
-  part_is : (t : Statement) → IsTyped ps b t → IsTypedPart ps b t
-  part_is (assign target e) typed = typed
-  part_is (call_block block offset) typed = typed
-  part_is (choice arms other) typed = typed
-  part_is (cases kind e es other) typed = typed
-  part_is (repeat turns body) typed = typed
-  part_is (typed_chart_statement _ _ _) typed = absurd typed
-
-  parts_are : (ts : Statements) → AreTyped ps b ts → AreTypedParts ps b ts
-  parts_are no_statements typed = tt
-  parts_are (statement t ts) typed = (part_is t typed.0, parts_are ts typed.1)
 
 no_function : (pou_type : PouTypeData) (ps : List PartData) → MayDo pou_type (chart ps) → is_function pou_type ≡ false
 no_function (function t) ps may = absurd may
@@ -54,7 +40,7 @@ module _ (f : FileData) (runs : ℕ → Bool) (used : UsesItsBlocks f) (ordered 
 
   body_as : (b : BodyData) → p.body ≡ b → MayDo p.pou_type b → IsBodySound (scope_of f (sizes_of f) k) (uses_of_pou f k) b → AreTypedParts (pous f runs) (scope_over f k p) (typed_body (scope_of f (sizes_of f) k) b)
   body_as (statements ss) body may sound =
-      parts_are (pous f runs) (scope_over f k p) (typed_stmts (scope_of f (sizes_of f) k) ss)
+      typed_parts (pous f runs) (scope_over f k p) (typed_stmts (scope_of f (sizes_of f) k) ss)
       (stmts_are (pous f runs) (scope_over f k p) (last f) (scope_of f (sizes_of f) k) (uses_of_pou f k) (scope_fits f runs used ordered k p there is) [] ss sound.within sound.levelled sound.whole)
   body_as (chart ps) body may sound = (
     chart_is (pous f runs) (scope_over f k p) (last f) (scope_of f (sizes_of f) k) (uses_of_pou f k) (scope_fits f runs used ordered k p there is) ps (chart_fits ps body (no_function p.pou_type ps may) sound) sound.within sound.levelled sound.whole,

@@ -1,16 +1,13 @@
 -- A constant of an elementary type is a number of its range.
-use Rattle.std.proofs.Common.{◌≡◌, ◌<◌, ℕ, ℤ, Bool, true, false, if◌then◌else◌, Option, Some, None, sym, subst, arith, rules, tests}
-use Rattle.std.specs.Prelude.{◌≤ℤ◌}
-use Rattle.std.proofs.lemmas.Int.{ints}
+use Rattle.std.proofs.Common.{◌≡◌, ℕ, Bool, true, false, if◌then◌else◌, Option, Some, None}
 use Rattle.std.proofs.lemmas.Bool.{false≢true}
 use Rattle.plc_types.specs.declared.elementary.Elementary.{Elementary}
-use Rattle.plc_types.specs.declared.elementary.Elementary.TheVariants as types
 use Rattle.plc_types.specs.declared.data_type.DataType.{DataType}
 use Rattle.plc_types.specs.declared.data_type.DataType.TheVariants as kinds
 use Rattle.plc_types.specs.declared.function.StandardFunction.{StandardFunction}
 use Rattle.plc_types.specs.declared.operator.UnaryOperator.{UnaryOperator}
-use Rattle.plc_types.specs.DataTypes.{carrier, is_same_type}
-use Rattle.plc_types.specs.Types.{range_of, in_range, wrap_to}
+use Rattle.plc_types.specs.DataTypes.{is_same_type}
+use Rattle.plc_types.specs.Types.{range_of, in_range}
 use Rattle.plc_types.proofs.TypeRanges.{zero_in}
 use Rattle.plc_types.proofs.SameTypes.{wrapped_to}
 use Rattle.source_tree.specs.declared.syntax.Literal.{Literal}

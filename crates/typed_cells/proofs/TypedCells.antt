@@ -25,7 +25,7 @@ use Rattle.typing.specs.Variables.{domain_of_variable, judged_type_if, judged_va
 use Rattle.typing.specs.Places.{has_cell, is_stored_action, is_front, in_front, in_order, size_among, sizes_of, variables_at}
 use Rattle.typing.specs.TypedPrograms.{path_behind, cell_for, fault_cell, flag_cell, active_first, cells_for, cells_of_variable, cells_of, block_cells, cells_in}
 use Rattle.typed_programs.specs.Programs.{HasWholeRange, IsTypedCell}
-use Rattle.typed_scopes.specs.Types.{range_of_type, IsKnown, IsPlaceOf}
+use Rattle.typed_scopes.specs.Types.{range_of_type, IsPlaceOf}
 use Rattle.typed_scopes.proofs.TypedValues.{carrier-covers}
 use Rattle.typed_scopes.proofs.Wholes.{whole_and}
 use Rattle.typed_cells.specs.Places.{last}

@@ -3,7 +3,6 @@ use Rattle.std.proofs.Common.{◌≡◌, ℕ, ◌+◌, ◌<◌, ◌≤◌, ℤ, 
 use Rattle.std.specs.List.{slice_get}
 use Rattle.std.proofs.lemmas.List.{length-append}
 use Rattle.std.proofs.lemmas.Bool.{false≢true}
-use Rattle.std.proofs.lemmas.Int.{ints}
 use Rattle.plc_types.specs.declared.data_type.DataType.TheVariants as kinds
 use Rattle.plc_types.specs.Types.{in_range}
 use Rattle.plc_types.proofs.TypeRanges.{value_in}

@@ -4,7 +4,6 @@ use Rattle.std.specs.Prelude.{not}
 use Rattle.std.specs.List.{AllByRecursion}
 use Rattle.std.specs.Str.{bytes_eq}
 use Rattle.std.proofs.lemmas.Bool.{false≢true}
-use Rattle.std.proofs.lemmas.Int.{ints}
 use Rattle.plc_types.specs.declared.data_type.DataType.{DataType}
 use Rattle.plc_types.specs.declared.data_type.DataType.TheVariants as kinds
 use Rattle.plc_types.specs.declared.range.Range.{Range}

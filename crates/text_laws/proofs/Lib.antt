@@ -1,0 +1,5 @@
+mod Stated
+mod RowLemmas
+mod Conclusions
+mod Listed
+mod Said

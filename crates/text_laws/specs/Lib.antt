@@ -1,0 +1,3 @@
+pub mod Laws
+pub mod Findings
+pub mod Answers

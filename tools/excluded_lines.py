@@ -1,0 +1,55 @@
+"""Finds the ENV lines that exclude each other, by asking ./regver verify which of them allow a first row."""
+
+import os
+import subprocess
+import tempfile
+
+from pair_scan import REGVER, input_line
+
+# With more ENV lines they are not tried one by one.
+MOST_LINES = 40
+# So many seconds a trial may take.
+MOST_SECONDS = 60
+
+
+class Trials:
+    """Tries whether ENV lines allow a first row, by ./regver verify on programs without statements."""
+
+    def __init__(self, units, relation, room):
+        self.relation, self.room = relation, room
+        self.names = [os.path.join(room, name) for name in ("old", "new")]
+        for name, one in zip(self.names, units):
+            end = next(token.place for token in one.tokens if token.upper == "END_PROGRAM")
+            body = 0 if one.program.steps else len(one.program.body)
+            with open(name, "w", encoding="latin-1") as file:
+                file.write(one.text[:end - body] + one.text[end:])
+
+    def excludes(self, clauses):
+        """Whether verify says VACUOUS under these ENV lines, None where it does not say."""
+        lines = [input_line(one) for one in self.relation.inputs] + ["ENV {};".format(clause.text) for clause in clauses]
+        path = os.path.join(self.room, "relation")
+        with open(path, "w", encoding="latin-1") as file:
+            file.write("RELATION 1; FAULTS FREE; DEPTH 1; CONFLICTS 100000; {} RELATE TRUE;".format(" ".join(lines)))
+        words = [REGVER, "verify", *self.names, path, os.path.join(self.room, "finding")]
+        try:
+            ran = subprocess.run(words, stdout=subprocess.PIPE, stderr=subprocess.DEVNULL, timeout=MOST_SECONDS, check=False)
+        except subprocess.TimeoutExpired:
+            return None
+        return {b"VACUOUS\n": True, b"RELATED": False}.get(ran.stdout if ran.returncode else ran.stdout[:len(b"RELATED")])
+
+
+def excluding(units, relation):
+    """ENV lines none of which can be left out where no first row is to be allowed, and whether that was tried; else all of them."""
+    clauses = relation.environments
+    with tempfile.TemporaryDirectory() as room:
+        trials = Trials(units, relation, room)
+        if len(clauses) > MOST_LINES or not trials.excludes(clauses):
+            return clauses, False
+        needed = list(clauses)
+        for clause in clauses:
+            fewer = [one for one in needed if one is not clause]
+            excluded = trials.excludes(fewer)
+            if excluded is None:
+                return clauses, False
+            needed = fewer if excluded else needed
+    return needed, True
