@@ -4,7 +4,9 @@ use crate::equal::{add_equal, add_last_own, add_opposite};
 use crate::exclusive::add_exclusive;
 use crate::facts::{Facts, facts_of};
 use crate::flags::add_flags;
+use crate::guarded::add_guarded;
 use crate::junctions::add_junctions;
+use crate::maps::add_maps;
 use crate::proposal::Proposal;
 use crate::subject::Subject;
 use crate::sums::{add_counts, add_sums, add_sums_of_two};
@@ -22,6 +24,7 @@ fn add_ties(
     add_equal(facts, is_second, found)?;
     add_opposite(facts, found)?;
     add_flags(facts, found)?;
+    add_maps(facts, found)?;
     let mut left = Vec::new(facts.alloc);
     add_sums_of_two(facts, &mut left, found)?;
     add_sums(facts, left.as_slice(), found)?;
@@ -57,6 +60,7 @@ pub fn proposals(
     add_ties(&mut facts, false, &mut found)?;
     add_others(&facts, edges, &mut found)?;
     if found.len() <= room {
+        add_guarded(&facts, edges, room, &mut found)?;
         return Ok(found);
     }
     let mut first = Vec::new(alloc);
@@ -64,5 +68,6 @@ pub fn proposals(
     add_last_own(&facts, &mut first)?;
     add_ties(&mut facts, true, &mut first)?;
     add_others(&facts, edges, &mut first)?;
+    add_guarded(&facts, edges, room, &mut first)?;
     Ok(first)
 }

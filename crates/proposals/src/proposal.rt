@@ -9,6 +9,33 @@ pub enum Junction {
     AndNot,
 }
 
+/// A cell that has a value.
+#[derive(Clone, Copy)]
+pub struct HeldValue {
+    pub cell: usize,
+    pub value: Value,
+}
+
+/// What is said of cells where a guard holds.
+#[derive(Clone, Copy)]
+pub enum GuardedLine {
+    /// Two cells have one value.
+    Equal(usize, usize),
+    /// A cell, and a multiple of another, give a constant.
+    Sum {
+        first: usize,
+        second: usize,
+        factor: Value,
+        constant: Value,
+    },
+    /// A cell has this value.
+    Has(HeldValue),
+    /// A cell is at least so great.
+    AtLeast(HeldValue),
+    /// A cell is at most so great.
+    AtMost(HeldValue),
+}
+
 /// A clause over cells by their numbers, OLD's from 0 on and NEW's behind them.
 #[derive(Drop)]
 pub enum Proposal {
@@ -22,6 +49,14 @@ pub enum Proposal {
         cell: usize,
         value: Value,
         negated: bool,
+    },
+    /// A cell has a value exactly where another cell has this one.
+    Together(HeldValue, HeldValue),
+    /// Where a cell has a value, a line holds; on how many pairs it had that value.
+    Guarded {
+        guard: HeldValue,
+        line: GuardedLine,
+        seen: usize,
     },
     /// A sum of multiples of integer cells, the factors before the cells, is a constant.
     Sum {

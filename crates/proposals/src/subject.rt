@@ -6,11 +6,13 @@ use scan_model::Side;
 use seen_values::mixed;
 use std::alloc::{AllocError, Global};
 
-/// What may be said of values of a type: of BOOL ones; of numbers, which may be added; and of others, which may be compared.
+/// What may be said of values of a type: of BOOL ones; of numbers, which may be added; of enumerations, which have names; and of
+/// others, which may be compared.
 #[derive(Clone, Copy)]
 pub enum Sort {
     Bool,
     Integer,
+    Enumeration,
     Other,
 }
 
@@ -40,7 +42,8 @@ fn sort_of(kind: DataType) -> Sort {
                 Sort::Other
             }
         }
-        DataType::Enumeration(_) | DataType::Unknown => Sort::Other,
+        DataType::Enumeration(_) => Sort::Enumeration,
+        DataType::Unknown => Sort::Other,
     }
 }
 

@@ -10,8 +10,8 @@ use std::alloc::AllocError;
 // Of how many cells of a type sums are looked for.
 const MOST_CELLS: usize = 64;
 
-// Whether a number can be written where values have this integer type.
-fn can_be_written(group: u64, number: Value) -> bool {
+/// Whether a number can be written where values have this integer type.
+pub fn can_be_written(group: u64, number: Value) -> bool {
     let most = match group {
         2 => 127,
         3 => 32_767,

@@ -1,5 +1,5 @@
 // Cells and values of both programs, as clauses name them.
-use plc_types::{DataType, Value};
+use plc_types::{DataType, Elementary, Value};
 use program_tree::{Cell, Program};
 use std::alloc::{AllocError, Global};
 
@@ -76,4 +76,28 @@ pub fn add_value(
         }
         None => add_number(names, value, text),
     }
+}
+
+/// Adds that a cell has a value, or that it has not: a BOOL cell by its name alone.
+pub fn add_held(
+    names: &Names<'_>,
+    number: usize,
+    value: Value,
+    negated: bool,
+    text: &mut String,
+) -> Result<(), AllocError> {
+    let Some((_, cell)) = cell_at(names, number) else {
+        return Ok(());
+    };
+    let is_bool = matches!(cell.kind, DataType::Elementary(Elementary::Bool));
+    let is_true = value == 1;
+    if is_bool && is_true == negated {
+        text.push_str("NOT ")?;
+    }
+    add_cell(names, number, text)?;
+    if is_bool {
+        return Ok(());
+    }
+    text.push_str(if negated { " <> " } else { " = " })?;
+    add_value(names, number, value, text)
 }

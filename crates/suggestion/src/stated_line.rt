@@ -1,11 +1,11 @@
 // Lines: a clause, and a note on what was seen.
-use crate::cells::{Names, add_cell, add_number, add_value};
+use crate::cells::{Names, add_cell, add_held, add_number, add_value};
 use crate::counts::add_count;
 use crate::sums::add_sum;
 use line_trials::InvariantLine;
 use plc_types::Value;
 use program_tree::Program;
-use proposals::{Junction, Proposal};
+use proposals::{GuardedLine, HeldValue, Junction, Proposal};
 use std::alloc::{AllocError, Global};
 
 fn add_has_value(
@@ -84,6 +84,45 @@ fn add_not_both(
     text.push_str(")")
 }
 
+fn add_together(
+    names: &Names<'_>,
+    first: &HeldValue,
+    second: &HeldValue,
+    text: &mut String,
+) -> Result<(), AllocError> {
+    text.push_str("(")?;
+    add_held(names, first.cell, first.value, false, text)?;
+    text.push_str(") = (")?;
+    add_held(names, second.cell, second.value, false, text)?;
+    text.push_str(")")
+}
+
+// Adds a line that holds where a cell has a value, behind the other values of this.
+fn add_guarded(
+    names: &Names<'_>,
+    guard: &HeldValue,
+    line: &GuardedLine,
+    text: &mut String,
+) -> Result<(), AllocError> {
+    add_held(names, guard.cell, guard.value, true, text)?;
+    text.push_str(" OR ")?;
+    match line {
+        GuardedLine::Equal(first, second) => add_two(names, *first, " = ", *second, text),
+        GuardedLine::Sum {
+            first,
+            second,
+            factor,
+            constant,
+        } => {
+            let terms = [(1, *first), (*factor, *second)];
+            add_sum(names, &terms, *constant, ("", ""), text)
+        }
+        GuardedLine::Has(held) => add_held(names, held.cell, held.value, false, text),
+        GuardedLine::AtLeast(held) => add_bound(names, held.cell, " >= ", held.value, text),
+        GuardedLine::AtMost(held) => add_bound(names, held.cell, " <= ", held.value, text),
+    }
+}
+
 // The clause that a proposal stands for.
 fn add_clause(names: &Names<'_>, proposal: &Proposal, text: &mut String) -> Result<(), AllocError> {
     match proposal {
@@ -95,6 +134,8 @@ fn add_clause(names: &Names<'_>, proposal: &Proposal, text: &mut String) -> Resu
             value,
             negated,
         } => add_has_value(names, *flag, *cell, *value, *negated, text),
+        Proposal::Together(first, second) => add_together(names, first, second, text),
+        Proposal::Guarded { guard, line, .. } => add_guarded(names, guard, line, text),
         Proposal::Sum { terms, constant } => {
             add_sum(names, terms.as_slice(), *constant, ("", ""), text)
         }
@@ -126,7 +167,8 @@ fn note_of(names: &Names<'_>, proposal: &Proposal, pairs: usize) -> Result<Strin
         Proposal::Sum { .. } | Proposal::Count { .. } => {
             format!(in alloc; "this sum on {pairs} pairs")
         }
-        Proposal::HasValue { .. } | Proposal::Joined { .. } => {
+        Proposal::Guarded { seen, .. } => format!(in alloc; "seen there on {seen} pairs"),
+        Proposal::HasValue { .. } | Proposal::Together(_, _) | Proposal::Joined { .. } => {
             format!(in alloc; "together on {pairs} pairs")
         }
     }
