@@ -25,7 +25,7 @@ STATEMENT_WORDS = {"IF", "CASE", "FOR", "ELSE", "ELSIF", "END_IF", "END_CASE", "
                    "END_FUNCTION_BLOCK", "END_ACTION", "END_TRANSITION", "END_VAR"}
 RESERVED = set("""TYPE END_TYPE PROGRAM END_PROGRAM FUNCTION END_FUNCTION FUNCTION_BLOCK END_FUNCTION_BLOCK VAR VAR_INPUT VAR_OUTPUT
     VAR_TEMP CONSTANT END_VAR IF THEN ELSIF ELSE END_IF CASE END_CASE OF TO BY DO END_FOR FROM END_STEP END_TRANSITION END_ACTION
-    INITIAL_STEP STEP TRANSITION ACTION AND OR XOR MOD NOT FOR TRUE FALSE""".split()) | set(VALUES)
+    INITIAL_STEP STEP TRANSITION ACTION AND OR XOR MOD NOT FOR EXIT RETURN TRUE FALSE""".split()) | set(VALUES)
 
 BYTES = {
     "[": "`[` is not read: there are no arrays; write a variable for each element, and a CASE on the index.",
@@ -54,8 +54,6 @@ LEFT_OUT = {
     "ARRAY": "There are no arrays: write a variable for each element, and a CASE on the index.",
     "STRUCT": "There are no structures: write a variable for each member.",
     "WHILE": "There is no WHILE and no REPEAT: write a FOR with constant bounds and an IF inside of it.",
-    "EXIT": "There is no EXIT: write a BOOL that says whether it is done, and an IF NOT done around what follows.",
-    "RETURN": "There is no RETURN: write an IF around the statements that it would leave out.",
     "VAR_IN_OUT": "There is no VAR_IN_OUT: write a VAR_INPUT and a VAR_OUTPUT, and copy behind the call.",
     "VAR_GLOBAL": "There are no global variables: declare them in the PROGRAM, and hand them to blocks as inputs.",
     "RETAIN": "RETAIN is left out: take the word out; every run begins with the initial values.",
@@ -231,6 +229,16 @@ def of_sign(spot):
     return None
 
 
+def of_leaving(spot):
+    """What is wrong behind EXIT or RETURN as statements, or None."""
+    before = last(spot.before)
+    if before.upper not in ("EXIT", "RETURN") or last(spot.before, 2).upper not in STARTS:
+        return None
+    if before.upper == "RETURN" and (spot.token.form == "number" or spot.token.text in ("(", "-")):
+        return "A RETURN has no value: what a FUNCTION answers is assigned to its name before."
+    return "A ; is missing behind {}.".format(before.text)
+
+
 def of_grammar(spot):
     token, before = spot.token, last(spot.before)
     if not spot.before and re.match(r"\s*<", spot.text):
@@ -241,6 +249,9 @@ def of_grammar(spot):
         return "{} is no word of the language: write ELSIF.".format(token.text)
     if token.form == "word" and before.upper in ("ELSEIF", "ELIF"):
         return "{} is no word of the language: write ELSIF.".format(before.text)
+    leaving = of_leaving(spot)
+    if leaving:
+        return leaving
     reserved = of_reserved(spot)
     if reserved:
         return reserved
@@ -472,6 +483,7 @@ RULES = {
     "F2": lambda spot: "The step of this FOR is 0: it would never end.",
     "F3": lambda spot: "This FOR has more than 4,096 turns.",
     "F4": lambda spot: "The variable of this FOR cannot hold the value behind the last turn: declare it with a wider type.",
+    "F5": lambda spot: "This EXIT stands in no FOR, and an EXIT leaves a FOR: write RETURN to leave the whole body, or take it out.",
     "G2": lambda spot: "More than 64 parentheses, IF, CASE or FOR are open here: split the statement.",
     "M2": lambda spot: "The PROGRAM has more than 4,096 cells: compare parts of it by themselves.",
     "C1": lambda spot: "A chart has exactly one INITIAL_STEP.",

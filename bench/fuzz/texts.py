@@ -13,11 +13,17 @@ RANGES.update({"Level": (0, 9), "Light": (0, 2)})
 INTEGERS = tuple(one.name for one in ELEMENTARY if one.sort == "integer")
 BITS = tuple(one.name for one in ELEMENTARY if one.sort == "bit string")
 LIGHTS = ("Red", "Amber", "Green")
+LEAVING = os.environ.get("LEAVING", "1") != "0"
 TYPES = "TYPE Light : (Red, Amber, Green); Level : INT (0..9); END_TYPE"
 LIBRARY = (
     "FUNCTION twice : INT VAR_INPUT x, y : INT; END_VAR VAR t : R_TRIG; END_VAR t(CLK := x > y); twice := x + y; IF t.Q THEN twice := twice + x; END_IF; END_FUNCTION",
     "FUNCTION_BLOCK Delay VAR_INPUT x : INT; on : BOOL; END_VAR VAR_OUTPUT y : INT; END_VAR VAR last : INT; c : CTU; END_VAR c(CU := on, PV := 3); y := last; IF c.Q THEN last := x; END_IF; END_FUNCTION_BLOCK",
 )
+if LEAVING:
+    LIBRARY = (
+        "FUNCTION twice : INT VAR_INPUT x, y : INT; END_VAR VAR t : R_TRIG; END_VAR t(CLK := x > y); twice := x + y; IF NOT t.Q THEN RETURN; END_IF; twice := twice + x; END_FUNCTION",
+        "FUNCTION_BLOCK Delay VAR_INPUT x : INT; on : BOOL; END_VAR VAR_OUTPUT y : INT; END_VAR VAR last, i : INT; c : CTU; END_VAR c(CU := on, PV := 3); y := last; FOR i := 0 TO 2 DO IF c.Q THEN last := x; EXIT; ELSIF x = i THEN RETURN; END_IF; last := last - i; END_FOR; y := y + i; END_FUNCTION_BLOCK",
+    )
 
 
 def own(kind):
@@ -29,7 +35,7 @@ class Program:
     """A program by the grammar, with its variables known, so that most are accepted."""
 
     def __init__(self, pick):
-        self.pick, self.variables, self.loops = pick, {}, 0
+        self.pick, self.variables, self.loops, self.around = pick, {}, 0, 0
         kinds = ("BOOL", "BOOL", "INT", "SINT", pick.choice(tuple(RANGES)))
         self.inputs = self.declared("i", kinds, pick.randint(0, 3))
         self.outputs = self.declared("o", kinds, pick.randint(1, 3))
@@ -120,7 +126,18 @@ class Program:
         variable = f"n{self.loops}"
         self.loops += 1
         head = self.pick.choice((f"0 TO {self.pick.randint(0, 4)}", "5 TO 1 BY -2", "3 TO 1"))
-        return f"FOR {variable} := {head} DO {self.statements(depth - 1)} END_FOR;"
+        self.around += 1
+        body = self.statements(depth - 1)
+        self.around -= 1
+        return f"FOR {variable} := {head} DO {body} END_FOR;"
+
+    def leaving(self, depth):
+        """An EXIT, where a FOR is around, or a RETURN; most often behind a condition."""
+        word = "EXIT;" if self.around and self.pick.randrange(3) else "RETURN;"
+        if depth == 0 or self.pick.randrange(5) == 0:
+            return word
+        before = self.statements(0) + " " if self.pick.randrange(2) else ""
+        return f"IF {self.expression('BOOL', 1)} THEN {before}{word} END_IF;"
 
     def statement(self, depth):
         form = self.pick.randrange(12)
@@ -131,6 +148,8 @@ class Program:
             return self.selection(depth)
         if depth > 0 and form == 4:
             return self.iteration(depth)
+        if LEAVING and self.pick.randrange(8) == 0:
+            return self.leaving(depth)
         if form == 5:
             return f"edge(CLK := {self.expression('BOOL', 2)});"
         if form == 6:

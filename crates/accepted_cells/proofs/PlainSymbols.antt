@@ -14,7 +14,7 @@ use Rattle.source_tree.specs.declared.token.Tok.{Tok}
 use Rattle.source_tree.specs.Bytes.{is_letter, is_word_byte}
 use Rattle.source_tree.specs.Tokens.{Lexeme, is_word, Piece, gap, token, is_formed, AreJoined, lexemes, mark_len}
 use Rattle.source_tree.specs.Terminals.{Entry, entry_or, signs, terminal_of, IsClassified}
-use Rattle.source_tree.specs.Syntax.{Symbol, name, number, truth, elementary, negation, operator, opening, iteration, part, mark, left_out}
+use Rattle.source_tree.specs.Syntax.{Symbol, name, number, truth, elementary, negation, operator, opening, iteration, exit_word, part, mark, left_out}
 use Rattle.source_tree.specs.SyntaxView.{upper, symbol_of, symbol, symbols}
 use Rattle.st_lexer.specs.Lexing.{lexemes_of}
 use Rattle.front_end.specs.Texts.{HasTokens}
@@ -54,6 +54,7 @@ is_name terminals.Not = false
 is_name (terminals.Operator o) = false
 is_name terminals.Open = false
 is_name terminals.For = false
+is_name terminals.Exit = false
 is_name (terminals.Part w) = false
 is_name (terminals.Mark m) = false
 is_name terminals.LeftOut = false
@@ -93,6 +94,7 @@ IsPlain (negation at) = Unit {0}
 IsPlain (operator o at) = Unit {0}
 IsPlain (opening at) = Unit {0}
 IsPlain (iteration at) = Unit {0}
+IsPlain (exit_word at) = Unit {0}
 IsPlain (part w at) = Unit {0}
 IsPlain (mark m) = Unit {0}
 IsPlain (left_out at) = Unit {0}
@@ -106,6 +108,7 @@ plain_by terminals.Not slice at named = tt
 plain_by (terminals.Operator o) slice at named = tt
 plain_by terminals.Open slice at named = tt
 plain_by terminals.For slice at named = tt
+plain_by terminals.Exit slice at named = tt
 plain_by (terminals.Part w) slice at named = tt
 plain_by (terminals.Mark m) slice at named = tt
 plain_by terminals.LeftOut slice at named = tt

@@ -3,7 +3,8 @@ use Rattle.std.proofs.Common.{◌≡◌, ℕ, Bool, true, false, if◌then◌els
 use Rattle.source_tree.specs.Syntax.{PathData, Tree, Stmts, PartData, step_part, transition_part, action_part, BodyData, statements, chart as chart_body, PouData, FileData}
 use Rattle.source_tree.specs.StatementItems.{some, folded_stmts, folded_parts}
 use Rattle.program_tree.specs.declared.typed.Turns.{Turns}
-use Rattle.program_tree.specs.Tree.{Expression, Statement, assign as typed_assign, number, Statements, statement}
+use Rattle.program_tree.specs.Tree.{Expression, Statement, assign as typed_assign, number, own_body, Statements, no_statements, statement}
+use Rattle.program_tree.specs.Leaving.{can_return_all, in_own_body}
 use Rattle.program_tree.specs.StatementItems.{assignment as written, some as written_some, folded_all, folded_actions}
 use Rattle.program_tree.specs.View.{actions_of as actions_from}
 use Rattle.naming.specs.Scopes.{Variable, variables_in_pou}
@@ -11,7 +12,7 @@ use Rattle.sfc_shape.specs.Shapes.{actions_of}
 use Rattle.typing.specs.declared.next.Next.{Next}
 use Rattle.typing.specs.Typing.{Scope, by_path, kind_at}
 use Rattle.typing.specs.Typed.{typed}
-use Rattle.typing.specs.TypedStatements.{cell_of, typed_invoke, and_then, typed_stmts}
+use Rattle.typing.specs.TypedStatements.{cell_of, typed_invoke, and_then, typed_stmts, typed_list}
 use Rattle.typing.proofs.TypedItems.{turns_in, AreTypedAlike, typed_alike}
 use Rattle.typing.specs.TypedCharts.{typed_action}
 use Rattle.typing.specs.Variables.{initial_of}
@@ -38,6 +39,14 @@ module _ (c : ℕ) (v : Expression) where
   in_begun f next (w ∷ vs) ss is =
       let after = places_behind f (sizes_of f) next w in
       behind_one (is_temporary w.role) (typed_assign (first_place next w) (number (initial_of f w))) (begun f after vs ss) (in_begun f after vs ss is)
+
+  -- in a body of its own, where a RETURN makes one
+  in_own_body_by : (returns : Bool) (ss : Statements) → IsWrittenAmong c v ss → IsWrittenAmong c v (if returns then statement (own_body ss) no_statements else ss)
+  in_own_body_by true ss is = inl (inr is)
+  in_own_body_by false ss is = is
+
+  among_own : (ss : Statements) → IsWrittenAmong c v ss → IsWrittenAmong c v (in_own_body ss)
+  among_own ss is = in_own_body_by (can_return_all ss) ss is
 
 -- ---- what is made of an assignment
 
@@ -70,16 +79,19 @@ module _ (scope : Scope) (q : PathData) (e : Tree) where
   in_stmts : (ss : Stmts) → folded_stmts (some (IsAssignment q e)) [] ss → IsWrittenAmong cell value (typed_stmts scope ss)
   in_stmts ss is = typed_alike scope (some (IsAssignment q e)) (written_some (IsWriting cell value)) (λ around A B. A → B) typed_alike_writes [] ss is
 
+  in_list : (ss : Stmts) → folded_stmts (some (IsAssignment q e)) [] ss → IsWrittenAmong cell value (typed_list scope ss)
+  in_list ss is = among_own cell value (typed_stmts scope ss) (in_stmts ss is)
+
   in_actions : (all ps : List PartData) → folded_parts (some (IsAssignment q e)) ps → folded_actions (written_some (IsWriting cell value)) [] (actions_from (map (typed_action scope all) (actions_of ps)))
   in_actions all [] is = absurd is
   in_actions all (step_part s ∷ ps) is = in_actions all ps is
   in_actions all (transition_part t ∷ ps) (inl is) = absurd is
   in_actions all (transition_part t ∷ ps) (inr is) = in_actions all ps is
-  in_actions all (action_part a ∷ ps) (inl is) = inr (inl (in_stmts a.body is))
+  in_actions all (action_part a ∷ ps) (inl is) = inr (inl (in_list a.body is))
   in_actions all (action_part a ∷ ps) (inr is) = inr (inr (in_actions all ps is))
 
   in_body : (b : BodyData) → IsAssigned q e b → IsWrittenAmong cell value (typed_body scope b)
-  in_body (statements ss) is = in_stmts ss is
+  in_body (statements ss) is = in_list ss is
   in_body (chart_body ps) is = inl (inr (inl (in_actions ps ps is)))
 
 pub body_writes : (f : FileData) (k : ℕ) (p : PouData) (q : PathData) (e : Tree) → IsAssigned q e p.body

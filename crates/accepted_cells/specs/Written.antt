@@ -2,7 +2,7 @@
 use Rattle.std.specs.Prelude.{◌≡◌, ℕ, List, []}
 use Rattle.program_tree.specs.declared.typed.Turns.{Turns}
 use Rattle.program_tree.specs.Tree.{Expression, Statements}
-use Rattle.program_tree.specs.StatementItems.{StatementItem, assignment, invocation, condition, selector, labels, iteration, steps, associated, transition, some, folded_all}
+use Rattle.program_tree.specs.StatementItems.{StatementItem, assignment, invocation, condition, selector, labels, iteration, steps, associated, transition, enclosed, some, folded_all}
 
 module _ (cell : ℕ) (value : Expression) where
   -- an item puts the value into the cell
@@ -16,6 +16,7 @@ module _ (cell : ℕ) (value : Expression) where
   IsWriting around (steps cells) = ⊥
   IsWriting around (associated latch associations) = ⊥
   IsWriting around (transition t) = ⊥
+  IsWriting around (enclosed ss) = ⊥
 
   -- it is put into the cell among statements, also inside of an IF, a CASE, a FOR or a chart
   abbrev pub IsWrittenAmong : Statements → Type 0

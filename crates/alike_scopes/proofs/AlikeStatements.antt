@@ -18,7 +18,7 @@ use Rattle.typing.specs.Judged.{judged, judged_meaning, judged_condition}
 use Rattle.typing.specs.Labels.{seen_behind}
 use Rattle.typing.specs.JudgedStatements.{is_assignable, judged_target, judged_assign, is_control, member, judged_input, judged_output, judged_connections, connects_twice, has_right_arrow, judged_invoke, may_control, judged_control, judged_bound, judged_step, is_typed, step_is_typed, judged_iteration, turns_rule, broken_by, judged_selector, judged_labels_if}
 use Rattle.typing.specs.JudgedItems.{controls_in, seen_in, judged_item, IsWholeItem}
-use Rattle.typing.proofs.JudgedItems.{IsWhole, whole_broken_by, whole_given, whole_shared, given_body, shared_body}
+use Rattle.typing.proofs.JudgedItems.{IsWhole, whole_broken_by, whole_given, whole_shared, given_body, shared_body, shared_exits}
 use Rattle.typing.specs.Pous.{judged_body}
 use Rattle.bound_names.specs.typed_scopes.Uses.{Usable, AreConnectionsWithin, IsItemWithin}
 use Rattle.bound_names.proofs.typed_scopes.Wholes.{whole_require, whole_and}
@@ -210,6 +210,6 @@ module _ (s t : Scope) (alike : AreAlike s t) (uses : Usable) (apart : AreApart 
   pub body_too : (b : BodyData) → IsBodyWithin uses b → (judged_body s b).whole ≡ true → (judged_body t b).whole ≡ true
   body_too b within h =
       let every_too = items_carried Around (IsItemWithin uses) (IsWholeItem s []) (IsWholeItem t []) around_more item_too in
-      given_body t IsWhole whole_given b
+      given_body t IsWhole whole_given b (shared_exits s IsWhole whole_shared b h)
       (related_body (every (IsItemWithin uses)) (every (IsWholeItem s [])) (every (IsWholeItem t [])) (λ around A B C. Around around → A → B → C) every_too b (no_controls s t alike uses apart) within
       (shared_body s IsWhole whole_shared b h))

@@ -11,6 +11,7 @@ use Rattle.flat_core.specs.FlatView.{FlatArmData, nested}
 use Rattle.flat_form.specs.Owners.{OwnerData}
 use Rattle.flat_form.specs.Bodies.{Bodies}
 use Rattle.flat_form.specs.Calls.{scratch_in, before, moved}
+use Rattle.flat_form.specs.Unless.{Flags}
 use Rattle.flat_form.specs.FlatLists.{scratch_of, scratch_of_all, scratch_of_choices, scratch_of_entries, scratch_of_choice, flat_of, flat_of_all, flat_choices, flat_choice, flat_entries}
 
 pub left-choices : (arms : List TypedArm) (i : ℕ) (d a : TypedArm) → i < length arms → get_or arms i d ≡ a → choices_view (drop i arms) ≡ choose (arm_view a).0 (arm_view a).1 (choices_view (drop (i + 1) arms))
@@ -18,10 +19,10 @@ left-choices [] i d a h is = absurd (omega (arith, h))
 left-choices (x ∷ arms) zero d a h is = ap (λ (y : TypedArm). choose (arm_view y).0 (arm_view y).1 (choices_view arms)) is
 left-choices (x ∷ arms) (suc i) d a h is = let more : suc i + 1 ≡ suc (i + 1) = omega arith in rw more (left-choices arms i d a (omega (arith, h)) is)
 
-module _ (bodies : Bodies) (owner : OwnerData) (base cells : ℕ) where
+module _ (bodies : Bodies) (owner : OwnerData) (base cells : ℕ) (flags : Flags) where
   module _ (c : ChoiceData) (arms : Choices) (made made1 : List Scratch) (is_made1 : made1 ≡ made ++ scratch_of_choice bodies c) where
-    pub more-choices : (out more : List FlatArmData) → more ≡ out ++ flat_choice bodies owner base c (cells + length made) ∷ []
-        → more ++ flat_choices bodies owner base arms (cells + length made1) ≡ out ++ flat_choices bodies owner base (choose c.0 c.1 arms) (cells + length made)
+    pub more-choices : (out more : List FlatArmData) → more ≡ out ++ flat_choice bodies owner base flags c (cells + length made) ∷ []
+        → more ++ flat_choices bodies owner base flags arms (cells + length made1) ≡ out ++ flat_choices bodies owner base flags (choose c.0 c.1 arms) (cells + length made)
     more-choices out more is_more =
         let later : cells + length made1 ≡ cells + length made + length (scratch_in bodies c.0) + length (scratch_of_all bodies c.1)
         = omega (arith, ap length is_made1, length-append made (scratch_in bodies c.0 ++ scratch_of_all bodies c.1), length-append (scratch_in bodies c.0) (scratch_of_all bodies c.1)) in
@@ -38,8 +39,8 @@ module _ (bodies : Bodies) (owner : OwnerData) (base cells : ℕ) where
 
     pub case-listed : (out out1 out2 out3 : List FlatStatement) (value : Expression) (place : ℕ) (none arms : List FlatArmData) (nothing rest : List FlatStatement)
         → value ≡ moved bodies owner base e (cells + length made) → out1 ≡ out ++ before bodies owner base e (cells + length made) → place ≡ cells + length made1 → out2 ≡ out1 ++ set (cells + length made1) value ∷ []
-        → none ≡ [] → arms ≡ none ++ flat_entries bodies owner base kind place es (cells + length made2) → nothing ≡ [] → rest ≡ nothing ++ flat_of_all bodies owner base other (cells + length made3)
-        → out3 ≡ out2 ++ nested arms rest → out3 ≡ out ++ flat_of bodies owner base (cases kind e es other) (cells + length made)
+        → none ≡ [] → arms ≡ none ++ flat_entries bodies owner base flags kind place es (cells + length made2) → nothing ≡ [] → rest ≡ nothing ++ flat_of_all bodies owner base flags other (cells + length made3)
+        → out3 ≡ out2 ++ nested arms rest → out3 ≡ out ++ flat_of bodies owner base flags (cases kind e es other) (cells + length made)
     case-listed out out1 out2 out3 value place none arms nothing rest is_value is_out1 is_place is_out2 is_none is_arms is_nothing is_rest is_out3 =
         let t : cells + length made1 ≡ cells + length made + length (scratch_in bodies e) = omega (arith, ap length is_made1, length-append made (scratch_in bodies e)) in
         let t1 : cells + length made2 ≡ cells + length made + length (scratch_in bodies e) + 1 = omega (arith, t, ap length is_made2, length-append made1 (whole_cell kind ∷ [])) in

@@ -7,6 +7,7 @@ use Rattle.flat_core.specs.FlatTree.{FlatStatement, set}
 use Rattle.flat_form.specs.Owners.{OwnerData}
 use Rattle.flat_form.specs.Bodies.{Bodies}
 use Rattle.flat_form.specs.FlatCharts.{latch_list, flag_cell, flags_of, clear_flags, flat_transitions, mark_list}
+use Rattle.flat_form.specs.Unless.{without_flags}
 use Rattle.flat_form.specs.FlatLists.{scratch_of_actions, flat_of, flat_actions}
 use Rattle.flat_laws.proofs.ChartMoves.{length-flags}
 
@@ -46,7 +47,7 @@ module _ (bodies : Bodies) (owner : OwnerData) (base cells : ℕ) (steps : List 
   pub chart-listed : (out out1 out2 out3 out4 out5 : List FlatStatement) (flags : ℕ) → flags ≡ cells + length made1
       → out1 ≡ out ++ latch_list owner base steps actions → out2 ≡ out1 ++ flat_actions bodies owner base steps actions (cells + length made) → out3 ≡ out2 ++ clear_flags steps (cells + length made1)
       → out4 ≡ out3 ++ flat_transitions bodies owner base steps flags ts (cells + length made2) → out5 ≡ out4 ++ mark_list owner base steps flags
-      → out5 ≡ out ++ flat_of bodies owner base (chart steps actions ts) (cells + length made)
+      → out5 ≡ out ++ flat_of bodies owner base without_flags (chart steps actions ts) (cells + length made)
   chart-listed out out1 out2 out3 out4 out5 flags is_flags is_out1 is_out2 is_out3 is_out4 is_out5 =
       let t1 : cells + length made1 ≡ cells + length made + length (scratch_of_actions bodies actions)
       = omega (arith, ap length is_made1, length-append made (scratch_of_actions bodies actions)) in

@@ -1,3 +1,4 @@
+pub mod LeavingLemmas
 pub mod ViewLemmas
 pub mod CallLemmas
 pub mod CaseLemmas

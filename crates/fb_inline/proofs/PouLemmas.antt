@@ -1,5 +1,5 @@
 -- What the bodies of POUs become, and weigh.
-use Rattle.std.proofs.Common.{◌≡◌, ℕ, zero, suc, ◌<◌, Bool, true, List, ◌++◌, length, slice_index_or, sym, ap, subst, ◌∙◌, arith, rules, tests}
+use Rattle.std.proofs.Common.{◌≡◌, ℕ, zero, suc, ◌*◌, ◌<◌, Bool, true, List, ◌++◌, length, slice_index_or, sym, ap, subst, ◌∙◌, arith, rules, tests}
 use Rattle.std.specs.Prelude.{◌==◌}
 use Rattle.std.proofs.lemmas.List.{append-nil, length-map}
 use Rattle.std.proofs.lemmas.Bool.Decides.{nat_tests}
@@ -13,6 +13,7 @@ use Rattle.meaning.specs.Frames.{FrameData, frame_of, function_body}
 use Rattle.flat_core.specs.FlatTree.{FlatStatement}
 use Rattle.flat_charts.specs.declared.scope.FlatScope.{FlatScope}
 use Rattle.flat_form.specs.Owners.{OwnerData, call_owner}
+use Rattle.flat_form.specs.Unless.{without_flags}
 use Rattle.flat_form.specs.FlatLists.{scratch_of_all, flat_of_all}
 use Rattle.flat_form.specs.Pous.{block_body, bodies_of}
 use Rattle.flat_form.specs.Idle.{idle_in, AreIdle, AreIdleBelow}
@@ -21,14 +22,14 @@ use Rattle.flat_form.proofs.IdleLemmas.{idle-list, idle-scratch}
 use Rattle.flat_form.proofs.IdleTables.{by_test, told-idle, idle-whole}
 
 abbrev pub weight_here : FlatScope → ℕ
-weight_here scope = weight (all_called_view scope.called.now) scope.below
+weight_here scope = 2 * weight (all_called_view scope.called.now) scope.below
 
 module _ (ps : List CalledData) where
-  list-known : (owner : OwnerData) (i n base k : ℕ) → i < n → (bodies_of ps n).run_list owner i base k ≡ flat_of_all (bodies_of ps i) owner base (block_body (slice_index_or ps i nothing)) k
+  list-known : (owner : OwnerData) (i n base k : ℕ) → i < n → (bodies_of ps n).run_list owner i base k ≡ flat_of_all (bodies_of ps i) owner base without_flags (block_body (slice_index_or ps i nothing)) k
   list-known owner i zero base k h = absurd (omega (arith, h))
   list-known owner i (suc n) base k h =
       by_test (i == n)
-      (λ e. let same : n ≡ i = search (rules, tests) in rw e (ap (λ m. flat_of_all (bodies_of ps m) owner base (block_body (slice_index_or ps m nothing)) k) same))
+      (λ e. let same : n ≡ i = search (rules, tests) in rw e (ap (λ m. flat_of_all (bodies_of ps m) owner base without_flags (block_body (slice_index_or ps m nothing)) k) same))
       (λ e. let less : i < n = grind (arith, nat_tests) in rw e (list-known owner i n base k less))
 
   scratch-known : (i n : ℕ) → i < n → (bodies_of ps n).run_scratch i ≡ scratch_of_all (bodies_of ps i) (block_body (slice_index_or ps i nothing))
@@ -40,8 +41,8 @@ module _ (ps : List CalledData) where
 
   -- a block is made flat by its body
   list-run : (owner : OwnerData) (i n base k : ℕ) (p : CalledData) (body : Statements) → i < n → slice_index_or ps i nothing ≡ p → body ≡ block_body p
-      → (bodies_of ps n).run_list owner i base k ≡ flat_of_all (bodies_of ps i) owner base body k
-  list-run owner i n base k p body h is same = list-known owner i n base k h ∙ ap (λ q. flat_of_all (bodies_of ps i) owner base (block_body q) k) is ∙ ap (λ b. flat_of_all (bodies_of ps i) owner base b k) (sym same)
+      → (bodies_of ps n).run_list owner i base k ≡ flat_of_all (bodies_of ps i) owner base without_flags body k
+  list-run owner i n base k p body h is same = list-known owner i n base k h ∙ ap (λ q. flat_of_all (bodies_of ps i) owner base without_flags (block_body q) k) is ∙ ap (λ b. flat_of_all (bodies_of ps i) owner base without_flags b k) (sym same)
 
   scratch-run : (i n : ℕ) (p : CalledData) (body : Statements) → i < n → slice_index_or ps i nothing ≡ p → body ≡ block_body p
       → (bodies_of ps n).run_scratch i ≡ scratch_of_all (bodies_of ps i) body
@@ -50,9 +51,9 @@ module _ (ps : List CalledData) where
   -- ---- the lists behind a run
 
   pub list-ran : (owner : OwnerData) (i n base at k : ℕ) (p : CalledData) (body : Statements) (out after : List FlatStatement) → i < n → slice_index_or ps i nothing ≡ p → body ≡ block_body p → at ≡ base
-      → after ≡ out ++ flat_of_all (bodies_of ps i) owner at body k → after ≡ out ++ (bodies_of ps n).run_list owner i base k
+      → after ≡ out ++ flat_of_all (bodies_of ps i) owner at without_flags body k → after ≡ out ++ (bodies_of ps n).run_list owner i base k
   list-ran owner i n base at k p body out after h is same is_at ran =
-      ran ∙ ap (λ b. out ++ flat_of_all (bodies_of ps i) owner b body k) is_at ∙ ap (λ l. out ++ l) (sym (list-run owner i n base k p body h is same))
+      ran ∙ ap (λ b. out ++ flat_of_all (bodies_of ps i) owner b without_flags body k) is_at ∙ ap (λ l. out ++ l) (sym (list-run owner i n base k p body h is same))
 
   pub scratch-ran : (i n : ℕ) (p : CalledData) (body : Statements) (out after : List Scratch) → i < n → slice_index_or ps i nothing ≡ p → body ≡ block_body p
       → after ≡ out ++ scratch_of_all (bodies_of ps i) body → after ≡ out ++ (bodies_of ps n).run_scratch i
@@ -76,11 +77,11 @@ module _ (ps : List CalledData) where
   -- ---- a FUNCTION is called by its body
 
   pub call-list : (f n answer : ℕ) (places : List ℕ) (k : ℕ) → f < n
-      → (bodies_of ps n).call_list f answer places k ≡ flat_of_all (bodies_of ps f) (call_owner answer places) 0 (function_body (slice_index_or ps f nothing)) k
+      → (bodies_of ps n).call_list f answer places k ≡ flat_of_all (bodies_of ps f) (call_owner answer places) 0 without_flags (function_body (slice_index_or ps f nothing)) k
   call-list f zero answer places k h = absurd (omega (arith, h))
   call-list f (suc n) answer places k h =
       by_test (f == n)
-      (λ e. let same : n ≡ f = search (rules, tests) in rw e (ap (λ m. flat_of_all (bodies_of ps m) (call_owner answer places) 0 (function_body (slice_index_or ps m nothing)) k) same))
+      (λ e. let same : n ≡ f = search (rules, tests) in rw e (ap (λ m. flat_of_all (bodies_of ps m) (call_owner answer places) 0 without_flags (function_body (slice_index_or ps m nothing)) k) same))
       (λ e. let less : f < n = grind (arith, nat_tests) in rw e (call-list f n answer places k less))
 
   pub call-scratch : (f n : ℕ) → f < n → (bodies_of ps n).call_scratch f ≡ scratch_of_all (bodies_of ps f) (function_body (slice_index_or ps f nothing))
@@ -91,12 +92,12 @@ module _ (ps : List CalledData) where
       (λ e. let less : f < n = grind (arith, nat_tests) in rw e (call-scratch f n less))
 
   pub call-ran : (f n answer : ℕ) (places there_places : List ℕ) (k : ℕ) (p : CalledData) (body : Statements) (out after : List FlatStatement) → f < n → slice_index_or ps f nothing ≡ p
-      → there_places ≡ places → body ≡ function_body p → after ≡ out ++ flat_of_all (bodies_of ps f) (call_owner answer there_places) 0 body k
+      → there_places ≡ places → body ≡ function_body p → after ≡ out ++ flat_of_all (bodies_of ps f) (call_owner answer there_places) 0 without_flags body k
       → after ≡ out ++ (bodies_of ps n).call_list f answer places k
   call-ran f n answer places there_places k p body out after h is is_places is_body ran =
-      ran ∙ ap (λ l. out ++ flat_of_all (bodies_of ps f) (call_owner answer l) 0 body k) is_places
-      ∙ ap (λ b. out ++ flat_of_all (bodies_of ps f) (call_owner answer places) 0 b k) is_body
-      ∙ ap (λ l. out ++ l) (sym (call-list f n answer places k h ∙ ap (λ q. flat_of_all (bodies_of ps f) (call_owner answer places) 0 (function_body q) k) is))
+      ran ∙ ap (λ l. out ++ flat_of_all (bodies_of ps f) (call_owner answer l) 0 without_flags body k) is_places
+      ∙ ap (λ b. out ++ flat_of_all (bodies_of ps f) (call_owner answer places) 0 without_flags b k) is_body
+      ∙ ap (λ l. out ++ l) (sym (call-list f n answer places k h ∙ ap (λ q. flat_of_all (bodies_of ps f) (call_owner answer places) 0 without_flags (function_body q) k) is))
 
   pub call-ran-scratch : (f n : ℕ) (p : CalledData) (body : Statements) (out after : List Scratch) → f < n → slice_index_or ps f nothing ≡ p
       → body ≡ function_body p → after ≡ out ++ scratch_of_all (bodies_of ps f) body

@@ -1,5 +1,5 @@
 -- The turns of a FOR, one at a time, and their values.
-use Rattle.std.proofs.Common.{◌≡◌, ℕ, suc, ◌+◌, ◌-◌, ◌^◌, ◌<◌, true, false, List, [], ◌∷◌, ◌++◌, ℤ, pos, neg_ℤ, ◌+ℤ◌, ◌*ℤ◌, ◌≤ℤ◌, refl, sym, subst, append_assoc, arith}
+use Rattle.std.proofs.Common.{◌≡◌, ℕ, zero, suc, ◌+◌, ◌-◌, ◌^◌, ◌<◌, ◌≤◌, true, false, List, [], ◌∷◌, ◌++◌, ℤ, pos, neg_ℤ, ◌+ℤ◌, ◌*ℤ◌, ◌≤ℤ◌, refl, sym, ap, ◌∙◌, subst, append_assoc, arith}
 use Rattle.std.proofs.lemmas.Bool.{and_parts}
 use Rattle.std.proofs.lemmas.Int.{ints}
 use Rattle.plc_types.specs.declared.range.Range.{Range}
@@ -13,12 +13,29 @@ use Rattle.flat_core.specs.FlatTree.{FlatStatement, set}
 use Rattle.flat_form.specs.FlatLists.{repeated, unrolled}
 use Rattle.flat_laws.proofs.TurnValues.{stay_from, later-fit}
 
-pub unrolled-turn : (count counter control : ℕ) (v more step : ℤ) (m : ℕ) (body : ℕ → List FlatStatement) (k later : ℕ) (out begun ended : List FlatStatement) → counter < count → more ≡ v +ℤ step → later ≡ k + m
-    → begun ≡ out ++ set control (number v) ∷ [] → ended ≡ begun ++ body k
-    → ended ++ unrolled (count - (counter + 1)) control more step m body later ≡ out ++ unrolled (count - counter) control v step m body k
-unrolled-turn count counter control v more step m body k later out begun ended below is_more is_later is_begun is_ended =
-    let left : count - counter ≡ suc (count - (counter + 1)) = omega arith in
-    rw (left, is_more, is_later, is_ended, is_begun) (simp append_assoc)
+module _ (unless : List FlatStatement → List FlatStatement) where
+  pub unrolled-turn : (count counter control : ℕ) (v more step : ℤ) (m : ℕ) (body : ℕ → List FlatStatement) (k later : ℕ) (out ended : List FlatStatement) → counter < count → more ≡ v +ℤ step → later ≡ k + m
+      → ended ≡ out ++ unless (set control (number v) ∷ body k)
+      → ended ++ unrolled unless (count - (counter + 1)) control more step m body later ≡ out ++ unrolled unless (count - counter) control v step m body k
+  unrolled-turn count counter control v more step m body k later out ended below is_more is_later is_ended =
+      let left : count - counter ≡ suc (count - (counter + 1)) = omega arith in
+      rw (left, is_more, is_later, is_ended) (simp append_assoc)
+
+  -- behind the last turn
+  pub unrolled-end : (count counter control : ℕ) (v step : ℤ) (m : ℕ) (body : ℕ → List FlatStatement) (k : ℕ) (out ended whole : List FlatStatement) → count ≤ counter
+      → ended ≡ out ++ unless (set control (number v) ∷ []) → out ++ unrolled unless (count - counter) control v step m body k ≡ whole → ended ≡ whole
+  unrolled-end count counter control v step m body k out ended whole done is_ended is_whole =
+      let left : count - counter ≡ zero = omega (arith, done) in
+      is_ended ∙ (ap (λ (n : ℕ). out ++ unrolled unless n control v step m body k) (sym left) ∙ is_whole)
+
+-- what is put behind, one part after the other
+pub turn-listed : (control : ℕ) (v : ℤ) (out begun ended body : List FlatStatement) → begun ≡ out ++ set control (number v) ∷ [] → ended ≡ begun ++ body → ended ≡ out ++ set control (number v) ∷ body
+turn-listed control v out begun ended body is_begun is_ended = rw (is_ended, is_begun) (simp append_assoc)
+
+pub turn-guarded : (guard : List FlatStatement → List FlatStatement) (control : ℕ) (v : ℤ) (out none begun turn body ended : List FlatStatement) → none ≡ [] → begun ≡ none ++ set control (number v) ∷ [] → turn ≡ begun ++ body
+    → ended ≡ out ++ guard turn → ended ≡ out ++ guard (set control (number v) ∷ body)
+turn-guarded guard control v out none begun turn body ended is_none is_begun is_turn is_ended =
+    is_ended ∙ ap (λ (ts : List FlatStatement). out ++ guard ts) (is_turn ∙ ap (λ (ts : List FlatStatement). ts ++ body) (is_begun ∙ ap (λ (ts : List FlatStatement). ts ++ set control (number v) ∷ []) is_none))
 
 pub repeated-turn : (count counter : ℕ) (made cs more : List Scratch) → counter < count → more ≡ cs ++ made → more ++ repeated (count - (counter + 1)) made ≡ cs ++ repeated (count - counter) made
 repeated-turn count counter made cs more below is_more =

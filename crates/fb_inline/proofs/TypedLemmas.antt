@@ -19,7 +19,7 @@ use Rattle.program_tree.specs.declared.typed.Association.{Association}
 use Rattle.program_tree.specs.declared.typed.Called.{Called}
 use Rattle.program_tree.specs.declared.typed.CellType.{CellType}
 use Rattle.program_tree.specs.declared.typed.Turns.{Turns}
-use Rattle.program_tree.specs.Tree.{Expression, cell, unary, chain, call_standard, call_function, Operands, Expressions, TransitionData, Statement, assign, call_block, choice, cases, repeat, chart, Statements, no_statements, statement, Actions, action, CalledData, block, function, ProgramData}
+use Rattle.program_tree.specs.Tree.{Expression, cell, unary, chain, call_standard, call_function, Operands, Expressions, TransitionData, Statement, assign, call_block, choice, cases, repeat, chart, exit, return, own_body, Statements, no_statements, statement, Actions, action, CalledData, block, function, ProgramData}
 use Rattle.program_tree.specs.View.{expr_view, operand_view, operands_view, arguments_view, stmt_view, stmts_view, arm_view, choices_view, entry_view, entries_view, action_view, actions_view, transition_view, transitions_view, all_called_view}
 use Rattle.program_tree.specs.ChartPlaces.{chart_places, latch_places, AreSteps}
 use Rattle.program_tree.specs.Places.{of_cell, place_at, IsTypedPlace}
@@ -105,6 +105,9 @@ module _ (pous : Pous) (b : BodyScope) where
   part-typed (cases kind e es other) h = h
   part-typed (repeat turns body) h = h
   part-typed (chart _ _ _) h = absurd h
+  part-typed exit h = h
+  part-typed return h = h
+  part-typed (own_body ss) h = h
 
   pub parts-typed : (ts : Statements) → AreTyped pous b ts → AreTypedParts pous b ts
   parts-typed no_statements h = tt

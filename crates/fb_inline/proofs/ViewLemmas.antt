@@ -16,7 +16,7 @@ use Rattle.program_tree.specs.declared.typed.TypedArm.{TypedArm, out-TypedArm}
 use Rattle.program_tree.specs.declared.typed.TypedEntry.{TypedEntry, out-TypedEntry}
 use Rattle.program_tree.specs.declared.typed.TypedAction.{TypedAction, out-TypedAction}
 use Rattle.program_tree.specs.declared.typed.TypedTransition.{TypedTransition}
-use Rattle.program_tree.specs.Tree.{cell, unary, chain, call_standard, call_function, Statement, assign, call_block, choice, cases, repeat, chart, statement, entry, action}
+use Rattle.program_tree.specs.Tree.{cell, unary, chain, call_standard, call_function, Statement, assign, call_block, choice, cases, repeat, chart, own_body, statement, entry, action}
 use Rattle.program_tree.specs.View.{expr_view, operands_view, arguments_view, stmt_step, action_step, arm_step, entry_step, ActionData, ChoiceData, EntryData, stmt_view, stmts_view, arm_view, choices_view, entry_view, entries_view, action_view, actions_view, transition_view, transitions_view}
 use Rattle.flat_core.specs.declared.flat_tree.FlatStmt.{FlatStmt}
 use Rattle.flat_core.specs.FlatView.{flat_view, flats_view}
@@ -52,6 +52,9 @@ case-view kind e es other = simp stmt_lemmas
 
 pub for-view : (turns : Turns) (ss : Vec TypedStmt Global) → stmt_view (variants.For turns ss) ≡ repeat turns (stmts_view ss.items)
 for-view turns ss = simp stmt_lemmas
+
+pub body-view : (ss : Vec TypedStmt Global) → stmt_view (variants.Body ss) ≡ own_body (stmts_view ss.items)
+body-view ss = simp stmt_lemmas
 
 pub chart-view : (steps : Vec StepCells Global) (list : Vec TypedAction Global) (ts : Vec TypedTransition Global) → stmt_view (variants.Chart steps list ts) ≡ chart steps.items (actions_view list.items) (transitions_view ts.items)
 chart-view steps list ts = simp stmt_lemmas

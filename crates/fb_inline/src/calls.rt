@@ -11,6 +11,7 @@ ghost use Rattle.typed_programs.specs.Expressions.{AreInputs};
 ghost use Rattle.fb_inline.specs.TypedScopes.{IsTypedOver, HasType, AreOperands, HaveTypes};
 
 use crate::frames::{put_input, put_others, put_start};
+use crate::leaving::NO_FLAGS;
 use crate::statements::flatten_all;
 use flat_charts::{FlatScope, Owner, cell_at, place_at};
 use flat_core::FlatStmt;
@@ -141,7 +142,7 @@ fn flatten_answer(
         idle: scope.idle,
         below: function,
     };
-    flatten_all(body, &call, scratch, out, alloc)?;
+    flatten_all(body, &call, NO_FLAGS, scratch, out, alloc)?;
     Ok(cell_at(answer))
 }
 

@@ -7,6 +7,7 @@ ghost use Rattle.flat_core.specs.FlatView.{flats_view};
 ghost use Rattle.flat_charts.specs.Views.{owner_view};
 ghost use Rattle.flat_form.specs.Calls.{scratch_in};
 ghost use Rattle.flat_form.specs.FlatCharts.{scratch_of_transitions, flat_transition, flat_transitions};
+ghost use Rattle.flat_form.specs.Unless.{without_flags};
 ghost use Rattle.flat_form.specs.FlatLists.{scratch_of, scratch_of_actions, scratch_of_action, flat_of, flat_actions, flat_action};
 ghost use Rattle.flat_charts.specs.Views.{bodies_here, IsKnown, HasPlace, StepsHavePlaces, FlagsHavePlaces};
 ghost use Rattle.typed_programs.specs.Statements.{AreTyped, AreTypedActions, AreTypedTransitions, IsTypedChart};
@@ -14,6 +15,7 @@ ghost use Rattle.fb_inline.specs.TypedScopes.{IsTypedOver, HasType};
 
 use crate::calls::flatten_expr;
 use crate::chart_lists::{put_fired, put_flags, put_latches, put_marks};
+use crate::leaving::NO_FLAGS;
 use crate::puts::put_branch;
 use crate::statements::flatten_all;
 use flat_charts::{FlatScope, ready_test, runs_test};
@@ -35,7 +37,7 @@ pub fn flatten_chart(
     requires known { IsKnown scope.now }
     requires typed { IsTypedOver scope.now (λ pous b. IsTypedChart pous b steps.now (actions_view actions.now) (transitions_view transitions.now)) }
     ensures list { OnOk result (flats_view out.new.items
-        ≡ flats_view out.old.items ++ flat_of (bodies_here scope.now) (owner_view scope.now.owner) scope.now.base (chart steps.now (actions_view actions.now) (transitions_view transitions.now)) (scope.now.cells + length scratch.old.items)) }
+        ≡ flats_view out.old.items ++ flat_of (bodies_here scope.now) (owner_view scope.now.owner) scope.now.base without_flags (chart steps.now (actions_view actions.now) (transitions_view transitions.now)) (scope.now.cells + length scratch.old.items)) }
     ensures scratch { OnOk result (scratch.new.items
         ≡ scratch.old.items ++ scratch_of (bodies_here scope.now) (chart steps.now (actions_view actions.now) (transitions_view transitions.now))) }
 {
@@ -93,7 +95,7 @@ fn flatten_action(
     }
     let test = runs_test(alloc, action.latch, &action.associations, steps, scope)?;
     let mut body = Vec::new(alloc);
-    flatten_all(&action.body, scope, scratch, &mut body, alloc)?;
+    flatten_all(&action.body, scope, NO_FLAGS, scratch, &mut body, alloc)?;
     put_branch(out, test, body, alloc)?;
     Ok(())
 }

@@ -4,6 +4,7 @@
 // - `charts`: charts as flat statements
 // - `frames`: the cells of calls, as scratch cells
 // - `labels`: tests of the labels of a CASE
+// - `leaving`: EXIT and RETURN, and what stands behind statements that may leave
 // - `program`: the flat form of a program
 // - `puts`: one more flat statement, arm or scratch cell
 // - `statements`: statements as flat statements
@@ -14,6 +15,7 @@ mod chart_lists;
 mod charts;
 mod frames;
 mod labels;
+mod leaving;
 mod program;
 mod puts;
 mod statements;

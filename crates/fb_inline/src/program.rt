@@ -10,6 +10,7 @@ ghost use Rattle.node_core.specs.TypedFlats.{IsTypedFlat};
 ghost use Rattle.typed_programs.specs.Programs.{IsTypedProgram};
 ghost use Rattle.fb_inline.specs.Refusals.{IsTooLong};
 
+use crate::leaving::NO_FLAGS;
 use crate::puts::put_number;
 use crate::statements::flatten_all;
 use flat_charts::{FlatScope, Owner};
@@ -58,7 +59,14 @@ fn flat_program(alloc: Global, program: &Program) -> Result<Flat, AllocError>
         idle: &idle,
         below: program.called.len(),
     };
-    flatten_all(&program.body, &scope, &mut scratch, &mut body, alloc)?;
+    flatten_all(
+        &program.body,
+        &scope,
+        NO_FLAGS,
+        &mut scratch,
+        &mut body,
+        alloc,
+    )?;
     Ok(Flat {
         cells: copy_cells(&program.cells, alloc)?,
         scratch,

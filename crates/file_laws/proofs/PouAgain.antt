@@ -2,7 +2,7 @@
 use Rattle.std.proofs.Common.{◌≡◌, ℕ, ◌≤◌, false, not, List, [], ◌∷◌, ◌++◌, length, Some, None, refl, ap, ◌∙◌, arith, length-append}
 use Rattle.std.proofs.Math.Bool.{and-false}
 use Rattle.source_tree.specs.declared.token.Mark.TheVariants as marks
-use Rattle.source_tree.specs.Syntax.{Symbol, mark, Named, empty, assign, invoke, branch, cases, iterate, Stmts, no_stmts, stmt, no_arms, arm, no_else, else_stmts, TypeData, of_elementary, of_subrange, of_name, VariablesData, step_part, transition_part, action_part, PartData, BodyData, statements as statement_body, chart as chart_body, PouTypeData, function, function_block, program, PouData}
+use Rattle.source_tree.specs.Syntax.{Symbol, mark, Named, empty, assign, invoke, branch, cases, iterate, exit, return, Stmts, no_stmts, stmt, no_arms, arm, no_else, else_stmts, TypeData, of_elementary, of_subrange, of_name, VariablesData, step_part, transition_part, action_part, PartData, BodyData, statements as statement_body, chart as chart_body, PouTypeData, function, function_block, program, PouData}
 use Rattle.source_tree.specs.Prints.{name_symbol, print_stmts, print_type, print_variables, print_parts, print_body, beginning_of, end_of, print_result, print_pou}
 use Rattle.source_tree.specs.Levels.{IsResultFormed, HasSections, MayDo}
 use Rattle.grammar.specs.Marks.{same_mark}
@@ -49,6 +49,8 @@ no_section (stmt (branch no_arms (else_stmts others)) ss) k rest = refl
 no_section (stmt (branch (arm e others arms) other) ss) k rest = refl
 no_section (stmt (cases e es other) ss) k rest = refl
 no_section (stmt (iterate i others) ss) k rest = refl
+no_section (stmt (exit at) ss) k rest = refl
+no_section (stmt return ss) k rest = refl
 
 no_part_section : (ps : List PartData) (k : PouTypeData) (rest : List Symbol) → section_of (print_parts ps ++ mark (end_of k) ∷ rest) ≡ None
 unfolding section_of same_mark
@@ -72,6 +74,8 @@ no_part (stmt (branch no_arms (else_stmts others)) ss) k rest = refl
 no_part (stmt (branch (arm e others arms) other) ss) k rest = refl
 no_part (stmt (cases e es other) ss) k rest = refl
 no_part (stmt (iterate i others) ss) k rest = refl
+no_part (stmt (exit at) ss) k rest = refl
+no_part (stmt return ss) k rest = refl
 
 -- only what is no FUNCTION does what a chart says
 chart_is_allowed : (k : PouTypeData) (ps : List PartData) → MayDo k (chart_body ps) → is_function k ≡ false

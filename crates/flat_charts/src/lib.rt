@@ -7,6 +7,6 @@ mod places;
 mod scope;
 
 pub use chart_tests::{exited_flag, latch_test, own_cell, ready_test, runs_test};
-pub use joins::{chain, joined, without};
+pub use joins::{chain, joined, negated, without};
 pub use places::{cell_at, place_at};
 pub use scope::{FlatScope, Owner};

@@ -1,15 +1,19 @@
 -- The count of statements is the size of their flat list.
-use Rattle.std.proofs.Common.{◌≡◌, ℕ, zero, suc, ◌+◌, ◌*◌, List, [], ◌∷◌, ◌++◌, map, length, Option, None, Some, ℤ, ◌+ℤ◌, Bool, true, false, ◌≤◌, slice_index_or, refl, sym, ap, ◌∙◌, arith, rules, tests}
-use Rattle.std.specs.Prelude.{◌==◌, nat_lt, nat_le, if◌then◌else◌}
+use Rattle.std.proofs.Common.{◌≡◌, ℕ, zero, suc, ◌+◌, ◌*◌, List, [], ◌∷◌, ◌++◌, map, length, Option, None, Some, ℤ, ◌+ℤ◌, Bool, true, false, ◌≤◌, slice_index_or, refl, sym, ap, ◌∙◌, arith, rules, tests, Vec, Global}
+use Rattle.std.specs.Prelude.{◌==◌, ◌||◌, nat_lt, nat_le, if◌then◌else◌}
 use Rattle.std.proofs.lemmas.Bool.Decides.{nat_tests}
 use Rattle.plc_types.specs.declared.elementary.Elementary.{Elementary}
 use Rattle.program_tree.specs.declared.typed.StepCells.{StepCells}
 use Rattle.program_tree.specs.declared.typed.Association.{Association}
-use Rattle.program_tree.specs.Tree.{Expression, number, cell, unary, chain, call_standard, call_function, Operands, no_operands, operand, Expressions, no_expressions, expression, Statement, assign, call_block, choice, cases, repeat, chart, Statements, no_statements, statement, Choices, no_choices, choose, Entries, no_entries, entry, TransitionData, Actions, no_actions, action, CalledData, ProgramData}
+use Rattle.program_tree.specs.Tree.{Expression, number, cell, unary, chain, call_standard, call_function, Operands, no_operands, operand, Expressions, no_expressions, expression, Statement, assign, call_block, choice, cases, repeat, chart, exit, return, own_body, Statements, no_statements, statement, Choices, no_choices, choose, Entries, no_entries, entry, TransitionData, Actions, no_actions, action, CalledData, ProgramData}
 use Rattle.std.proofs.lemmas.List.{length-map}
 use Rattle.program_tree.specs.declared.typed.Called.{Called}
-use Rattle.program_tree.specs.View.{called_view, all_called_view}
+use Rattle.program_tree.specs.declared.typed.Turns.{Turns}
+use Rattle.program_tree.specs.declared.typed.TypedStmt.{TypedStmt, the_lemmas as stmt_lemmas}
+use Rattle.program_tree.specs.declared.typed.TypedStmt.TheVariants as variants
+use Rattle.program_tree.specs.View.{stmt_view, stmts_view, called_view, all_called_view}
 use Rattle.program_tree.specs.OperandTypes.{arity}
+use Rattle.program_tree.specs.Leaving.{can_exit, can_exit_all, can_return, can_return_all}
 use Rattle.meaning.specs.Calls.{nothing}
 use Rattle.meaning.specs.Frames.{FrameData, frames_of, function_body, type_at, initial_at}
 use Rattle.flat_core.specs.FlatTree.{FlatStatement, set, branch, no_flats, size_of_all}
@@ -19,8 +23,9 @@ use Rattle.flat_form.specs.Owners.{OwnerData, program_owner, call_owner}
 use Rattle.flat_form.specs.Bodies.{Bodies}
 use Rattle.flat_form.specs.Calls.{rest_list, scratch_in, input_scratch, input_places, moved, before, operands_before, all_before, inputs_before}
 use Rattle.flat_form.specs.FlatCharts.{latch_set, latch_list, runs_test, of_associated, flags_of, clear_flags, exited_set, entered_set, fired_list, ready_test, condition_list, flat_transition, flat_transitions, mark_list, flat_moves}
+use Rattle.flat_form.specs.Unless.{Flags, without_flags, was_left, guarded, unless_left, flag_scratch, flag_start, turn_flags, body_flags}
 use Rattle.flat_form.specs.FlatLists.{scratch_of, scratch_of_all, scratch_of_choices, scratch_of_entries, scratch_of_actions, unrolled, flat_of, flat_of_all, flat_choices, flat_entries, flat_actions}
-use Rattle.flat_count.specs.Counts.{Counting, count_of_start, count_in, count_in_operands, count_in_all, count_in_inputs, count_of_latch, count_of_latches, count_of_transition, count_of_transitions, count_of_associated, count_of, count_of_all, count_of_choices, count_of_entries, count_of_actions, counting_of, counting, counted, capped, AreCounts}
+use Rattle.flat_count.specs.Counts.{Counting, count_of_start, count_in, count_in_operands, count_in_all, count_in_inputs, count_of_latch, count_of_latches, count_of_transition, count_of_transitions, count_of_associated, count_of_flag, count_unless, count_of, count_of_all, count_of_choices, count_of_entries, count_of_actions, counting_of, counting, counted, capped, AreCounts}
 use Rattle.flat_form.specs.Pous.{block_body, bodies_of}
 use Rattle.flat_form.specs.FlatPrograms.{bodies_in, is_short}
 use Rattle.flat_form.proofs.FrameLemmas.{frames-here}
@@ -36,10 +41,42 @@ size-if : (test : Bool) (a b : List FlatStatement) (m n : ℕ) → size a ≡ m 
 size-if true a b m n p q = p
 size-if false a b m n p q = q
 
-size-unrolled : (n control : ℕ) (v step : ℤ) (m count : ℕ) (body : ℕ → List FlatStatement) → ((k : ℕ) → size (body k) ≡ count) → (k : ℕ) → size (unrolled n control v step m body k) ≡ n * (1 + count) + 1
-size-unrolled zero control v step m count body each k = omega arith
-size-unrolled (suc n) control v step m count body each k =
-    omega (arith, size-append (body k) (unrolled n control (v +ℤ step) step m body (k + m)), each k, size-unrolled n control (v +ℤ step) step m count body each (k + m))
+-- what stands behind statements that may leave
+unless-some : (n m : ℕ) → n ≡ suc m → count_unless true n ≡ 1 + n
+unless-some n m h = rw h refl
+
+size-guarded : (e : Expression) (ts : List FlatStatement) → size (guarded e ts) ≡ count_unless true (size ts)
+size-guarded e [] = refl
+size-guarded e (set place v ∷ ts) =
+    let some : size (set place v ∷ ts) ≡ suc (size ts) = omega arith in
+    omega (arith, unless-some (size (set place v ∷ ts)) (size ts) some)
+size-guarded e (branch f here other ∷ ts) =
+    let rest = size_of_all here + size_of_all other + size ts in
+    let some : size (branch f here other ∷ ts) ≡ suc rest = omega arith in
+    omega (arith, unless-some (size (branch f here other ∷ ts)) rest some)
+
+size-left : (exits returns : Bool) (flags : Flags) (ts : List FlatStatement) (n : ℕ) → size ts ≡ n → size (unless_left exits returns flags ts) ≡ count_unless (exits || returns) n
+size-left true returns flags ts n h = size-guarded (was_left true returns flags) ts ∙ ap (count_unless true) h
+size-left false true flags ts n h = size-guarded (was_left false true flags) ts ∙ ap (count_unless true) h
+size-left false false flags ts n h = h
+
+size-flag : (clears : Bool) (k : ℕ) → size (flag_start clears k) ≡ count_of_flag clears
+size-flag true k = refl
+size-flag false k = refl
+
+module _ (exits returns : Bool) (flags : Flags) where
+  size-unrolled : (n control : ℕ) (v step : ℤ) (m count : ℕ) (body : ℕ → List FlatStatement) → ((k : ℕ) → size (body k) ≡ count) → (k : ℕ)
+      → size (unrolled (unless_left exits returns flags) n control v step m body k) ≡ n * count_unless (exits || returns) (1 + count) + count_unless (exits || returns) 1
+  size-unrolled zero control v step m count body each k =
+      let last = size-left exits returns flags (set control (number v) ∷ []) 1 refl in
+      omega (arith, last)
+  size-unrolled (suc n) control v step m count body each k =
+      let turn : size (set control (number v) ∷ body k) ≡ 1 + count = omega (arith, each k) in
+      let here = size-left exits returns flags (set control (number v) ∷ body k) (1 + count) turn in
+      let more = size-unrolled n control (v +ℤ step) step m count body each (k + m) in
+      let whole = size-append (unless_left exits returns flags (set control (number v) ∷ body k)) (unrolled (unless_left exits returns flags) n control (v +ℤ step) step m body (k + m)) in
+      let product : suc n * count_unless (exits || returns) (1 + count) ≡ count_unless (exits || returns) (1 + count) + n * count_unless (exits || returns) (1 + count) = omega arith in
+      omega (arith, whole, here, more, product)
 
 size-starts : (frame : FrameData) (place n k : ℕ) → size (other_starts frame place n k) ≡ n
 size-starts frame place zero k = refl
@@ -153,51 +190,65 @@ module _ (bodies : Bodies) (counts : Counting) (same : (f : ℕ) → bodies.fram
 
   module _ (owner : OwnerData) where
     mutual
-      size_of-statement : (base : ℕ) (t : Statement) (k : ℕ) → size (flat_of bodies owner base t k) ≡ count_of counts t
-      size_of-statement base (assign target e) k =
+      size_of-statement : (base : ℕ) (flags : Flags) (t : Statement) (k : ℕ) → size (flat_of bodies owner base flags t k) ≡ count_of counts t
+      size_of-statement base flags (assign target e) k =
           omega (arith, size-append (before bodies owner base e k) (set (owner (base + target)) (moved bodies owner base e k) ∷ []), size-before owner base e k)
-      size_of-statement base (call_block b offset) k = each_run owner b (base + offset) k
-      size_of-statement base (choice arms other) k =
-          size_of-choices base arms k (flat_of_all bodies owner base other (k + length (scratch_of_choices bodies arms))) _ (size_of-all base other _)
-      size_of-statement base (cases kind e es other) k =
+      size_of-statement base flags (call_block b offset) k = each_run owner b (base + offset) k
+      size_of-statement base flags (choice arms other) k =
+          size_of-choices base flags arms k (flat_of_all bodies owner base flags other (k + length (scratch_of_choices bodies arms))) _ (size_of-all base flags other _)
+      size_of-statement base flags (cases kind e es other) k =
           let t = k + length (scratch_in bodies e) in
-          let rest = flat_of_all bodies owner base other (t + 1 + length (scratch_of_entries bodies es)) in
-          omega (arith, size-append (before bodies owner base e k) (set t (moved bodies owner base e k) ∷ nested (flat_entries bodies owner base kind t es (t + 1)) rest), size-before owner base e k, size_of-entries base kind t es (t + 1) rest _ (size_of-all base other (t + 1 + length (scratch_of_entries bodies es))))
-      size_of-statement base (repeat turns body) k =
-          size-unrolled turns.count (owner (base + turns.control)) turns.first turns.step (length (scratch_of_all bodies body)) (count_of_all counts body) (flat_of_all bodies owner base body) (λ j. size_of-all base body j) k
-      size_of-statement base (chart steps actions ts) k =
+          let rest = flat_of_all bodies owner base flags other (t + 1 + length (scratch_of_entries bodies es)) in
+          omega (arith, size-append (before bodies owner base e k) (set t (moved bodies owner base e k) ∷ nested (flat_entries bodies owner base flags kind t es (t + 1)) rest), size-before owner base e k, size_of-entries base flags kind t es (t + 1) rest _ (size_of-all base flags other (t + 1 + length (scratch_of_entries bodies es))))
+      size_of-statement base flags (repeat turns body) k =
+          let exits = can_exit_all body in
+          let inner = turn_flags exits flags k in
+          let list = unrolled (unless_left exits (can_return_all body) inner) turns.count (owner (base + turns.control)) turns.first turns.step (length (scratch_of_all bodies body)) (flat_of_all bodies owner base inner body) (k + length (flag_scratch exits)) in
+          let turning : size list ≡ turns.count * count_unless (exits || can_return_all body) (1 + count_of_all counts body) + count_unless (exits || can_return_all body) 1
+          = size-unrolled exits (can_return_all body) inner turns.count (owner (base + turns.control)) turns.first turns.step (length (scratch_of_all bodies body)) (count_of_all counts body) (flat_of_all bodies owner base inner body) (λ j. size_of-all base inner body j) (k + length (flag_scratch exits)) in
+          omega (arith, size-append (flag_start exits k) list, size-flag exits k, turning)
+      size_of-statement base flags (chart steps actions ts) k =
           let latches = latch_list owner base steps actions in
           let acting = flat_actions bodies owner base steps actions k in
           let later = k + length (scratch_of_actions bodies actions) in
           let moves = flat_moves bodies owner base steps ts later in
           omega (arith, size-append latches (acting ++ moves), size-append acting moves, size-latches owner base steps actions, size_of-actions base steps actions k, size-moves owner base steps later ts)
+      size_of-statement base flags exit k = refl
+      size_of-statement base flags return k = refl
+      size_of-statement base flags (own_body ss) k =
+          let returns = can_return_all ss in
+          let inner = body_flags returns flags k in
+          let list = flat_of_all bodies owner base inner ss (k + length (flag_scratch returns)) in
+          omega (arith, size-append (flag_start returns k) list, size-flag returns k, size_of-all base inner ss (k + length (flag_scratch returns)))
 
-      pub size_of-all : (base : ℕ) (ts : Statements) (k : ℕ) → size (flat_of_all bodies owner base ts k) ≡ count_of_all counts ts
-      size_of-all base no_statements k = refl
-      size_of-all base (statement t ts) k =
-          omega (arith, size-append (flat_of bodies owner base t k) (flat_of_all bodies owner base ts (k + length (scratch_of bodies t))), size_of-statement base t k, size_of-all base ts (k + length (scratch_of bodies t)))
+      pub size_of-all : (base : ℕ) (flags : Flags) (ts : Statements) (k : ℕ) → size (flat_of_all bodies owner base flags ts k) ≡ count_of_all counts ts
+      size_of-all base flags no_statements k = refl
+      size_of-all base flags (statement t ts) k =
+          let rest = flat_of_all bodies owner base flags ts (k + length (scratch_of bodies t)) in
+          let behind = size-left (can_exit t) (can_return t) flags rest (count_of_all counts ts) (size_of-all base flags ts (k + length (scratch_of bodies t))) in
+          omega (arith, size-append (flat_of bodies owner base flags t k) (unless_left (can_exit t) (can_return t) flags rest), size_of-statement base flags t k, behind)
 
-      size_of-choices : (base : ℕ) (arms : Choices) (k : ℕ) (rest : List FlatStatement) (count : ℕ) → size rest ≡ count → size (nested (flat_choices bodies owner base arms k) rest) ≡ count_of_choices counts arms + count
-      size_of-choices base no_choices k rest count h = omega (arith, h)
-      size_of-choices base (choose e ss arms) k rest count h =
+      size_of-choices : (base : ℕ) (flags : Flags) (arms : Choices) (k : ℕ) (rest : List FlatStatement) (count : ℕ) → size rest ≡ count → size (nested (flat_choices bodies owner base flags arms k) rest) ≡ count_of_choices counts arms + count
+      size_of-choices base flags no_choices k rest count h = omega (arith, h)
+      size_of-choices base flags (choose e ss arms) k rest count h =
           let j = k + length (scratch_in bodies e) in
           let i = j + length (scratch_of_all bodies ss) in
-          let here = branch (moved bodies owner base e k) (flats_of (flat_of_all bodies owner base ss j)) (flats_of (nested (flat_choices bodies owner base arms i) rest)) in
-          omega (arith, size-append (before bodies owner base e k) (here ∷ []), size-before owner base e k, size_of-all base ss j, size_of-choices base arms i rest count h)
+          let here = branch (moved bodies owner base e k) (flats_of (flat_of_all bodies owner base flags ss j)) (flats_of (nested (flat_choices bodies owner base flags arms i) rest)) in
+          omega (arith, size-append (before bodies owner base e k) (here ∷ []), size-before owner base e k, size_of-all base flags ss j, size_of-choices base flags arms i rest count h)
 
-      size_of-entries : (base : ℕ) (kind : Elementary) (t : ℕ) (es : Entries) (k : ℕ) (rest : List FlatStatement) (count : ℕ) → size rest ≡ count → size (nested (flat_entries bodies owner base kind t es k) rest) ≡ count_of_entries counts es + count
-      size_of-entries base kind t no_entries k rest count h = omega (arith, h)
-      size_of-entries base kind t (entry labels ss es) k rest count h =
-          omega (arith, size_of-all base ss k, size_of-entries base kind t es (k + length (scratch_of_all bodies ss)) rest count h)
+      size_of-entries : (base : ℕ) (flags : Flags) (kind : Elementary) (t : ℕ) (es : Entries) (k : ℕ) (rest : List FlatStatement) (count : ℕ) → size rest ≡ count → size (nested (flat_entries bodies owner base flags kind t es k) rest) ≡ count_of_entries counts es + count
+      size_of-entries base flags kind t no_entries k rest count h = omega (arith, h)
+      size_of-entries base flags kind t (entry labels ss es) k rest count h =
+          omega (arith, size_of-all base flags ss k, size_of-entries base flags kind t es (k + length (scratch_of_all bodies ss)) rest count h)
 
       size_of-actions : (base : ℕ) (steps : List StepCells) (actions : Actions) (k : ℕ) → size (flat_actions bodies owner base steps actions k) ≡ count_of_actions counts actions
       size_of-actions base steps no_actions k = refl
       size_of-actions base steps (action latch associations ss rest) k =
-          let body = flat_of_all bodies owner base ss k in
+          let body = flat_of_all bodies owner base without_flags ss k in
           let test = runs_test owner base steps latch associations in
           let here = of_associated associations (branch test (flats_of body) no_flats ∷ []) in
           let j = k + length (of_associated associations (scratch_of_all bodies ss)) in
-          omega (arith, size-append here (flat_actions bodies owner base steps rest j), size-associated associations test body _ (size_of-all base ss k), size_of-actions base steps rest j)
+          omega (arith, size-append here (flat_actions bodies owner base steps rest j), size-associated associations test body _ (size_of-all base without_flags ss k), size_of-actions base steps rest j)
 
 -- ---- POUs
 
@@ -213,32 +264,55 @@ module _ (ps : List CalledData) where
     size-run : (n : ℕ) (owner : OwnerData) (b base k : ℕ) → size ((bodies_of ps n).run_list owner b base k) ≡ (counting_of ps n).runs b
     size-run zero owner b base k = refl
     size-run (suc n) owner b base k =
-        size-if (b == n) _ _ _ _ (size_of-all (bodies_of ps n) (counting_of ps n) (same-frames ps n) (λ o c at j. size-run n o c at j) (λ f a places j. size-call n f a places j) owner base (block_body (slice_index_or ps n nothing)) k) (size-run n owner b base k)
+        size-if (b == n) _ _ _ _ (size_of-all (bodies_of ps n) (counting_of ps n) (same-frames ps n) (λ o c at j. size-run n o c at j) (λ f a places j. size-call n f a places j) owner base without_flags (block_body (slice_index_or ps n nothing)) k) (size-run n owner b base k)
 
     size-call : (n f a : ℕ) (places : List ℕ) (k : ℕ) → size ((bodies_of ps n).call_list f a places k) ≡ (counting_of ps n).bodies f
     size-call zero f a places k = refl
     size-call (suc n) f a places k =
-        size-if (f == n) _ _ _ _ (size_of-all (bodies_of ps n) (counting_of ps n) (same-frames ps n) (λ o c at j. size-run n o c at j) (λ g b there j. size-call n g b there j) (call_owner a places) 0 (function_body (slice_index_or ps n nothing)) k) (size-call n f a places k)
+        size-if (f == n) _ _ _ _ (size_of-all (bodies_of ps n) (counting_of ps n) (same-frames ps n) (λ o c at j. size-run n o c at j) (λ g b there j. size-call n g b there j) (call_owner a places) 0 without_flags (function_body (slice_index_or ps n nothing)) k) (size-call n f a places k)
 
 -- ---- counts that are the same up to the limit give counts that are
 
+same_sum : (a b c d : ℕ) → capped a ≡ capped c → capped b ≡ capped d → capped (a + b) ≡ capped (c + d)
+same_sum a b c d p q = grind (arith, nat_tests)
+
+same_unless : (asks : Bool) (a b : ℕ) → capped a ≡ capped b → capped (count_unless asks a) ≡ capped (count_unless asks b)
+same_unless true zero zero p = refl
+same_unless true zero (suc b) p = absurd (grind (arith, nat_tests, p))
+same_unless true (suc a) zero p = absurd (grind (arith, nat_tests, p))
+same_unless true (suc a) (suc b) p = same_sum 1 (suc a) 1 (suc b) refl p
+same_unless false a b p = p
+
+same_turns : (n a b x y : ℕ) → capped a ≡ capped b → capped x ≡ capped y → capped (n * a + x) ≡ capped (n * b + y)
+same_turns zero a b x y p q =
+    let left : 0 * a + x ≡ x = omega arith in
+    let right : 0 * b + y ≡ y = omega arith in
+    rw (left, right) q
+same_turns (suc n) a b x y p q =
+    let both = same_sum a (n * a + x) b (n * b + y) p (same_turns n a b x y p q) in
+    let left : suc n * a + x ≡ a + (n * a + x) = omega arith in
+    let right : suc n * b + y ≡ b + (n * b + y) = omega arith in
+    rw (left, right) both
+
+capped_twice : (n : ℕ) → capped (capped n) ≡ capped n
+capped_twice n = grind (arith, nat_tests)
+
+-- a FOR, by the count of its body
+pub turns-counted : (c : Counting) (turns : Turns) (list : Vec TypedStmt Global) (exits returns : Bool) (n whole : ℕ)
+    → exits ≡ can_exit_all (stmts_view list.items) → returns ≡ can_return_all (stmts_view list.items) → n ≡ capped (count_of_all c (stmts_view list.items))
+    → whole ≡ capped (count_of_flag exits + (turns.count * count_unless (exits || returns) (1 + n) + count_unless (exits || returns) 1))
+    → whole ≡ capped (count_of c (stmt_view (variants.For turns list)))
+turns-counted c turns list exits returns n whole is_exits is_returns is_n is_whole =
+    let body = stmts_view list.items in
+    let asks = can_exit_all body || can_return_all body in
+    let view : stmt_view (variants.For turns list) ≡ repeat turns body = simp stmt_lemmas in
+    let one = same_sum 1 (capped (count_of_all c body)) 1 (count_of_all c body) refl (capped_twice (count_of_all c body)) in
+    let turn = same_unless asks (1 + capped (count_of_all c body)) (1 + count_of_all c body) one in
+    let all = same_turns turns.count (count_unless asks (1 + capped (count_of_all c body))) (count_unless asks (1 + count_of_all c body)) (count_unless asks 1) (count_unless asks 1) turn refl in
+    let same = same_sum (count_of_flag (can_exit_all body)) _ (count_of_flag (can_exit_all body)) _ refl all in
+    rw (view, is_whole, is_n, is_exits, is_returns) same
+
 module _ (f g : Counting) (frames : (n : ℕ) → f.frame n ≡ g.frame n) (same_runs : (n : ℕ) → capped (f.runs n) ≡ capped (g.runs n)) (same_bodies : (n : ℕ) → capped (f.bodies n) ≡ capped (g.bodies n)) where
-  same_sum : (a b c d : ℕ) → capped a ≡ capped c → capped b ≡ capped d → capped (a + b) ≡ capped (c + d)
-  same_sum a b c d p q = grind (arith, nat_tests)
-
-  same_turns : (n a b : ℕ) → capped a ≡ capped b → capped (n * (1 + a) + 1) ≡ capped (n * (1 + b) + 1)
-  same_turns zero a b p =
-      let left : 0 * (1 + a) + 1 ≡ 1 = omega arith in
-      let right : 0 * (1 + b) + 1 ≡ 1 = omega arith in
-      rw (left, right)
-  same_turns (suc n) a b p =
-      let more = same_turns n a b p in
-      let one = same_sum 1 a 1 b refl p in
-      let both = same_sum (1 + a) (n * (1 + a) + 1) (1 + b) (n * (1 + b) + 1) one more in
-      let left : suc n * (1 + a) + 1 ≡ (1 + a) + (n * (1 + a) + 1) = omega arith in
-      let right : suc n * (1 + b) + 1 ≡ (1 + b) + (n * (1 + b) + 1) = omega arith in
-      rw (left, right) both
-
   mutual
     same_in : (e : Expression) → capped (count_in f e) ≡ capped (count_in g e)
     same_in (number v) = refl
@@ -281,13 +355,19 @@ module _ (f g : Counting) (frames : (n : ℕ) → f.frame n ≡ g.frame n) (same
     same_count (call_block b offset) = same_runs b
     same_count (choice arms other) = same_sum _ _ _ _ (same_choices arms) (same_all other)
     same_count (cases kind e es other) = same_sum _ _ _ _ (same_sum _ _ _ _ (same_sum _ 1 _ 1 (same_in e) refl) (same_entries es)) (same_all other)
-    same_count (repeat turns body) = same_turns turns.count _ _ (same_all body)
+    same_count (repeat turns body) =
+        let asks = can_exit_all body || can_return_all body in
+        same_sum (count_of_flag (can_exit_all body)) _ (count_of_flag (can_exit_all body)) _ refl
+        (same_turns turns.count _ _ (count_unless asks 1) (count_unless asks 1) (same_unless asks (1 + count_of_all f body) (1 + count_of_all g body) (same_sum 1 _ 1 _ refl (same_all body))) refl)
     same_count (chart steps actions ts) =
         same_sum (count_of_latches actions) _ (count_of_latches actions) _ refl (same_sum _ _ _ _ (same_actions actions) (same_sum (4 * length steps) _ (4 * length steps) _ refl (same_transitions ts)))
+    same_count exit = refl
+    same_count return = refl
+    same_count (own_body ss) = same_sum (count_of_flag (can_return_all ss)) _ (count_of_flag (can_return_all ss)) _ refl (same_all ss)
 
     pub same_all : (ts : Statements) → capped (count_of_all f ts) ≡ capped (count_of_all g ts)
     same_all no_statements = refl
-    same_all (statement t ts) = same_sum _ _ _ _ (same_count t) (same_all ts)
+    same_all (statement t ts) = same_sum _ _ _ _ (same_count t) (same_unless (can_exit t || can_return t) (count_of_all f ts) (count_of_all g ts) (same_all ts))
 
     same_choices : (arms : Choices) → capped (count_of_choices f arms) ≡ capped (count_of_choices g arms)
     same_choices no_choices = refl
@@ -316,7 +396,7 @@ is_short-count p body runs bodies ps n counts are called same =
     let m = length p.called in
     let equal : n ≡ capped (count_of_all (counting_of p.called m) p.body)
     = counts ∙ counts-same runs bodies ps (length ps) are body ∙ ap (λ q. capped (count_of_all (counting_of q (length q)) body)) called ∙ ap (λ b. capped (count_of_all (counting_of p.called m) b)) same in
-    let whole = size_of-all (bodies_in p) (counting_of p.called m) (same-frames p.called m) (λ o b base k. size-run p.called m o b base k) (λ f a places k. size-call p.called m f a places k) program_owner 0 p.body (length p.cells) in
+    let whole = size_of-all (bodies_in p) (counting_of p.called m) (same-frames p.called m) (λ o b base k. size-run p.called m o b base k) (λ f a places k. size-call p.called m f a places k) program_owner 0 without_flags p.body (length p.cells) in
     rw (equal, whole) (below_the_limit (count_of_all (counting_of p.called m) p.body))
 
 -- ---- the counts of POUs, one after the other
@@ -365,9 +445,6 @@ pub counts-all : (runs bodies : List ℕ) (called : List Called) (i : ℕ) → i
 counts-all runs bodies called i all first n =
     let m : length (all_called_view called) ≡ i = length-map called called_view ∙ sym all in
     rw m (first n)
-
-capped_twice : (n : ℕ) → capped (capped n) ≡ capped n
-capped_twice n = grind (arith, nat_tests)
 
 -- what is counted of the next POU
 pub body-counted : (n : ℕ) (counts known : Counting) (ts us : Statements) → n ≡ capped (count_of_all counts ts) → counts ≡ known → ts ≡ us → capped n ≡ capped (count_of_all known us)

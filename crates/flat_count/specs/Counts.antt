@@ -1,8 +1,9 @@
 -- How many flat statements a statement becomes, without its flat list, where the bodies of POUs become so many.
-use Rattle.std.specs.Prelude.{ℕ, zero, suc, ◌+◌, ◌*◌, ◌==◌, ◌≡◌, min, List, [], ◌∷◌, length, Option, None, Some, slice_index_or, if◌then◌else◌}
+use Rattle.std.specs.Prelude.{ℕ, zero, suc, ◌+◌, ◌*◌, ◌==◌, ◌≡◌, ◌||◌, Bool, true, false, min, List, [], ◌∷◌, length, Option, None, Some, slice_index_or, if◌then◌else◌}
 use Rattle.program_tree.specs.declared.typed.Association.{Association}
-use Rattle.program_tree.specs.Tree.{Expression, number, cell, unary, chain, call_standard, call_function, Operands, no_operands, operand, Expressions, no_expressions, expression, Statement, assign, call_block, choice, cases, repeat, chart, Statements, no_statements, statement, Choices, no_choices, choose, Entries, no_entries, entry, TransitionData, Actions, no_actions, action, CalledData}
+use Rattle.program_tree.specs.Tree.{Expression, number, cell, unary, chain, call_standard, call_function, Operands, no_operands, operand, Expressions, no_expressions, expression, Statement, assign, call_block, choice, cases, repeat, chart, exit, return, own_body, Statements, no_statements, statement, Choices, no_choices, choose, Entries, no_entries, entry, TransitionData, Actions, no_actions, action, CalledData}
 use Rattle.meaning.specs.Calls.{nothing}
+use Rattle.program_tree.specs.Leaving.{can_exit, can_exit_all, can_return, can_return_all}
 use Rattle.program_tree.specs.View.{all_called_view}
 use Rattle.program_tree.specs.OperandTypes.{arity}
 use Rattle.meaning.specs.Frames.{FrameData, frames_of, function_body, type_at}
@@ -64,19 +65,36 @@ abbrev pub count_of_associated : List Association → ℕ → ℕ
 count_of_associated [] n = 0
 count_of_associated (a ∷ more) n = 1 + n
 
+-- a FOR with an EXIT of its own, and a body with a RETURN of its own, clear a flag
+abbrev pub count_of_flag : Bool → ℕ
+count_of_flag true = 1
+count_of_flag false = 0
+
+-- statements behind one that may leave are asked for where there are any
+abbrev pub count_unless : Bool → ℕ → ℕ
+count_unless true zero = 0
+count_unless true (suc n) = 1 + suc n
+count_unless false n = n
+
 abbrev mutual
   pub count_of : Counting → Statement → ℕ
   count_of c (assign target e) = count_in c e + 1
   count_of c (call_block b offset) = c.runs b
   count_of c (choice arms other) = count_of_choices c arms + count_of_all c other
   count_of c (cases kind e es other) = count_in c e + 1 + count_of_entries c es + count_of_all c other
-  count_of c (repeat turns body) = turns.count * (1 + count_of_all c body) + 1
+  -- each turn, and the statement behind the last, are asked for where the body may leave
+  count_of c (repeat turns body) =
+      count_of_flag (can_exit_all body)
+      + (turns.count * count_unless (can_exit_all body || can_return_all body) (1 + count_of_all c body) + count_unless (can_exit_all body || can_return_all body) 1)
   -- each step has two flags that are cleared, and two cells that are marked
   count_of c (chart steps actions ts) = count_of_latches actions + (count_of_actions c actions + (4 * length steps + count_of_transitions c ts))
+  count_of c exit = 1
+  count_of c return = 1
+  count_of c (own_body ss) = count_of_flag (can_return_all ss) + count_of_all c ss
 
   pub count_of_all : Counting → Statements → ℕ
   count_of_all c no_statements = 0
-  count_of_all c (statement t ts) = count_of c t + count_of_all c ts
+  count_of_all c (statement t ts) = count_of c t + count_unless (can_exit t || can_return t) (count_of_all c ts)
 
   pub count_of_choices : Counting → Choices → ℕ
   count_of_choices c no_choices = 0

@@ -8,7 +8,8 @@ ghost use Rattle.flat_count.specs.Counts.{count_of, count_of_all, count_of_choic
 use crate::count_calls::count_calls;
 use crate::count_charts::{count_latches, count_moves};
 use crate::counts::Counts;
-use crate::sums::{count_at, count_turns, sum};
+use crate::leaves::{leaving, leaving_all};
+use crate::sums::{count_at, count_behind, count_flag, count_turns, sum};
 use program_tree::{Called, TypedAction, TypedArm, TypedEntry, TypedStmt};
 use std::alloc::{AllocError, Global};
 
@@ -57,14 +58,17 @@ fn count_body(callee: &Called, counts: &Counts<'_>) -> usize
     }
 }
 
-/// How many flat statements some statements become, where the bodies of POUs become as many as are counted for them.
+/// How many flat statements some statements become, where the bodies of POUs become as many as are counted for them. The last is counted first,
+/// since what stands behind a statement that may leave is asked for where there is any.
 #[cycle(count)]
 pub fn count_all(list: &[TypedStmt], counts: &Counts<'_>) -> usize
     ensures { result ≡ capped (count_of_all (counting_here counts.now) (stmts_view list.now)) }
 {
     let mut total = 0;
-    for stmt in list {
-        total = sum(total, count(stmt, counts));
+    for index in (0..list.len()).rev() {
+        let stmt = &list[index];
+        let behind = count_behind(leaving(stmt), total);
+        total = sum(count(stmt, counts), behind);
     }
     total
 }
@@ -88,7 +92,15 @@ fn count(stmt: &TypedStmt, counts: &Counts<'_>) -> usize
             let entries = count_entries(entries, counts);
             sum(sum(value, entries), count_all(other, counts))
         }
-        TypedStmt::For(turns, body) => count_turns(turns.count, count_all(body, counts)),
+        TypedStmt::For(turns, body) => {
+            count_turns(turns.count, leaving_all(body), count_all(body, counts))
+        }
+        TypedStmt::Exit => 1,
+        TypedStmt::Return => 1,
+        TypedStmt::Body(body) => {
+            let flag = count_flag(leaving_all(body).returns);
+            sum(flag, count_all(body, counts))
+        }
     }
 }
 

@@ -5,7 +5,9 @@ mod count;
 mod count_calls;
 mod count_charts;
 mod counts;
+mod leaves;
 mod short;
 mod sums;
 
+pub use leaves::{Leaves, leaving, leaving_all};
 pub use short::is_short;

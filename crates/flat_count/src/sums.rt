@@ -1,6 +1,8 @@
 // Counts that stand still above 200,000, so that nested FORs of thousands of turns are counted at once.
-ghost use Rattle.std.specs.Prelude.{◌≡◌, ◌+◌, ◌*◌, ◌≤◌};
-ghost use Rattle.flat_count.specs.Counts.{counted, capped};
+ghost use Rattle.std.specs.Prelude.{◌≡◌, ◌+◌, ◌*◌, ◌≤◌, ◌||◌};
+ghost use Rattle.flat_count.specs.Counts.{counted, capped, count_of_flag, count_unless};
+
+use crate::leaves::Leaves;
 
 /// How many statements a flat form may have.
 pub const MOST_STATEMENTS: usize = 200_000;
@@ -32,11 +34,36 @@ pub fn sum(a: usize, b: usize) -> usize
     capped(a + b)
 }
 
-/// So many turns with a body of so many statements: each sets the control variable, and so does the end.
-pub fn count_turns(turns: u16, body: usize) -> usize
-    requires { body ≤ 200001 }
-    ensures count { result ≡ capped (turns * (1 + body) + 1) }
+/// One for a flag that is cleared.
+pub fn count_flag(clears: bool) -> usize
+    ensures count { result ≡ count_of_flag clears }
+    ensures fits { result ≤ 1 }
+{
+    if clears { 1 } else { 0 }
+}
+
+/// What stands behind a statement, which is asked for where the statement may leave and anything stands there.
+pub fn count_behind(left: Leaves, behind: usize) -> usize
+    requires { behind ≤ 200001 }
+    ensures count { result ≡ capped (count_unless (left.exits || left.returns) behind) }
     ensures fits { result ≤ 200001 }
 {
-    capped(usize::from(turns) * (1 + body) + 1)
+    if behind > 0 && (left.exits || left.returns) {
+        return capped(1 + behind);
+    }
+    behind
+}
+
+/// So many turns with a body of so many statements: each sets the control variable, and so does the end. Where the body may leave, each turn and
+/// the end are asked for, and an EXIT has a flag, which is cleared before them.
+pub fn count_turns(turns: u16, left: Leaves, body: usize) -> usize
+    requires { body ≤ 200001 }
+    ensures count { result
+        ≡ capped (count_of_flag left.exits + (turns * count_unless (left.exits || left.returns) (1 + body) + count_unless (left.exits || left.returns) 1)) }
+    ensures fits { result ≤ 200001 }
+{
+    let flag = count_flag(left.exits);
+    let asked = count_flag(left.exits || left.returns);
+    let turns = usize::from(turns) * (asked + 1 + body);
+    capped(flag + turns + asked + 1)
 }

@@ -3,17 +3,24 @@ use Rattle.std.proofs.Common.{◌≡◌, ℕ, zero, suc, ◌+◌, Bool, true, fa
 use Rattle.std.proofs.lemmas.Bool.{and_parts}
 use Rattle.std.specs.Prelude.{◌==◌, slice_index_or, if◌then◌else◌}
 use Rattle.plc_types.specs.declared.range.Range.{Range}
-use Rattle.program_tree.specs.Tree.{Statement, assign, call_block, choice, cases, repeat, chart, Statements, no_statements, statement, CalledData, block, function}
+use Rattle.program_tree.specs.Tree.{Statement, assign, call_block, choice, cases, repeat, chart, exit, return, own_body, Statements, no_statements, statement, CalledData, block, function}
 use Rattle.program_tree.specs.declared.scratch.Scratch.{Scratch}
 use Rattle.meaning.specs.Values.{State, Callees}
-use Rattle.meaning.specs.Effects.{effect_of, effect_of_all}
+use Rattle.meaning.specs.Effects.{Effect, on, state_of, followed_by, effect_of, effect_of_all}
 use Rattle.meaning.specs.Calls.{nothing, run_of as effect_of_run, callees_of}
 use Rattle.flat_core.specs.FlatTree.{FlatStatement}
+use Rattle.program_tree.specs.Leaving.{can_exit, can_return}
 use Rattle.flat_form.specs.Owners.{OwnerData}
 use Rattle.flat_form.specs.Bodies.{Bodies}
+use Rattle.flat_form.specs.Unless.{Flags, without_flags, unless_left}
 use Rattle.flat_form.specs.FlatLists.{scratch_of, scratch_of_all, flat_of, flat_of_all}
 use Rattle.flat_form.specs.Pous.{block_body, bodies_of}
 use Rattle.flat_form.specs.Idle.{is_idle, is_idle_all, idle_of}
+
+unless_left-none : (exits returns : Bool) (flags : Flags) → unless_left exits returns flags [] ≡ []
+unless_left-none true returns flags = refl
+unless_left-none false true flags = refl
+unless_left-none false false flags = refl
 
 -- ---- statements, where each block that is told idle becomes and does nothing
 
@@ -26,6 +33,9 @@ module _ (idle : ℕ → Bool) where
     one-scratch (cases kind e es other) h = cc
     one-scratch (repeat turns body) h = cc
     one-scratch (chart _ _ _) h = cc
+    one-scratch exit h = cc
+    one-scratch return h = cc
+    one-scratch (own_body ss) h = cc
 
     all-scratch : (ts : Statements) → is_idle_all idle ts ≡ true → scratch_of_all bodies ts ≡ []
     all-scratch no_statements h = refl
@@ -34,38 +44,45 @@ module _ (idle : ℕ → Bool) where
         ap (λ (l : List Scratch). l ++ scratch_of_all bodies ts) (one-scratch t each_holds.0) ∙ all-scratch ts each_holds.1
 
   module _ (bodies : Bodies) (owner : OwnerData) (each : (b base k : ℕ) → idle b ≡ true → bodies.run_list owner b base k ≡ []) where
-    one-list : (base : ℕ) (t : Statement) (k : ℕ) → is_idle idle t ≡ true → flat_of bodies owner base t k ≡ []
-    one-list base (assign target e) k h = cc
-    one-list base (call_block b offset) k h = each b (base + offset) k h
-    one-list base (choice arms other) k h = cc
-    one-list base (cases kind e es other) k h = cc
-    one-list base (repeat turns body) k h = cc
-    one-list base (chart _ _ _) k h = cc
+    one-list : (base : ℕ) (flags : Flags) (t : Statement) (k : ℕ) → is_idle idle t ≡ true → flat_of bodies owner base flags t k ≡ []
+    one-list base flags (assign target e) k h = cc
+    one-list base flags (call_block b offset) k h = each b (base + offset) k h
+    one-list base flags (choice arms other) k h = cc
+    one-list base flags (cases kind e es other) k h = cc
+    one-list base flags (repeat turns body) k h = cc
+    one-list base flags (chart _ _ _) k h = cc
+    one-list base flags exit k h = cc
+    one-list base flags return k h = cc
+    one-list base flags (own_body ss) k h = cc
 
-    all-list : (base : ℕ) (ts : Statements) (k : ℕ) → is_idle_all idle ts ≡ true → flat_of_all bodies owner base ts k ≡ []
-    all-list base no_statements k h = refl
-    all-list base (statement t ts) k h =
+    all-list : (base : ℕ) (flags : Flags) (ts : Statements) (k : ℕ) → is_idle_all idle ts ≡ true → flat_of_all bodies owner base flags ts k ≡ []
+    all-list base flags no_statements k h = refl
+    all-list base flags (statement t ts) k h =
         let each_holds = and_parts (is_idle idle t) (is_idle_all idle ts) h in
-        ap (λ (l : List FlatStatement). l ++ flat_of_all bodies owner base ts (k + length (scratch_of bodies t))) (one-list base t k each_holds.0)
-        ∙ all-list base ts (k + length (scratch_of bodies t)) each_holds.1
+        let rest = all-list base flags ts (k + length (scratch_of bodies t)) each_holds.1 in
+        ap (λ (l : List FlatStatement). l ++ unless_left (can_exit t) (can_return t) flags (flat_of_all bodies owner base flags ts (k + length (scratch_of bodies t)))) (one-list base flags t k each_holds.0)
+        ∙ ap (λ (l : List FlatStatement). unless_left (can_exit t) (can_return t) flags l) rest ∙ unless_left-none (can_exit t) (can_return t) flags
 
   module _ (callees : Callees) (rs : List Range) (each : (b base : ℕ) (s : State) → idle b ≡ true → callees.runs b rs base s ≡ s) where
-    one-effect : (base : ℕ) (t : Statement) (s : State) → is_idle idle t ≡ true → effect_of callees rs base t s ≡ s
+    one-effect : (base : ℕ) (t : Statement) (s : State) → is_idle idle t ≡ true → effect_of callees rs base t s ≡ on s
     one-effect base (assign target e) s h = cc
-    one-effect base (call_block b offset) s h = each b (base + offset) s h
+    one-effect base (call_block b offset) s h = ap on (each b (base + offset) s h)
     one-effect base (choice arms other) s h = cc
     one-effect base (cases kind e es other) s h = cc
     one-effect base (repeat turns body) s h = cc
     one-effect base (chart _ _ _) s h = cc
+    one-effect base exit s h = cc
+    one-effect base return s h = cc
+    one-effect base (own_body ss) s h = cc
 
-    all-effect : (base : ℕ) (ts : Statements) (s : State) → is_idle_all idle ts ≡ true → effect_of_all callees rs base ts s ≡ s
+    all-effect : (base : ℕ) (ts : Statements) (s : State) → is_idle_all idle ts ≡ true → effect_of_all callees rs base ts s ≡ on s
     all-effect base no_statements s h = refl
     all-effect base (statement t ts) s h =
         let each_holds = and_parts (is_idle idle t) (is_idle_all idle ts) h in
-        ap (λ (u : State). effect_of_all callees rs base ts u) (one-effect base t s each_holds.0) ∙ all-effect base ts s each_holds.1
+        ap (λ (e : Effect). followed_by e (effect_of_all callees rs base ts)) (one-effect base t s each_holds.0) ∙ all-effect base ts s each_holds.1
 
     run-effect : (q : CalledData) (base : ℕ) (s : State) → is_idle_all idle (block_body q) ≡ true → effect_of_run callees q rs base s ≡ s
-    run-effect (block body) base s h = all-effect base body s h
+    run-effect (block body) base s h = ap state_of (all-effect base body s h)
     run-effect (function types ranges start body) base s h = refl
 
 -- ---- POUs, each of which runs those before it
@@ -84,8 +101,8 @@ module _ (ps : List CalledData) where
   idle-scratch (suc n) b h = next-scratch n (idle-scratch n) b (b == n) h
 
   next-list : (n : ℕ) (owner : OwnerData) (each : (b base k : ℕ) → idle_of ps n b ≡ true → (bodies_of ps n).run_list owner b base k ≡ []) (b base k : ℕ) (test : Bool) → IdleBody n b test
-      → (if test then flat_of_all (bodies_of ps n) owner base (block_body (slice_index_or ps n nothing)) k else (bodies_of ps n).run_list owner b base k) ≡ []
-  next-list n owner each b base k true h = all-list (idle_of ps n) (bodies_of ps n) owner each base (block_body (slice_index_or ps n nothing)) k h
+      → (if test then flat_of_all (bodies_of ps n) owner base without_flags (block_body (slice_index_or ps n nothing)) k else (bodies_of ps n).run_list owner b base k) ≡ []
+  next-list n owner each b base k true h = all-list (idle_of ps n) (bodies_of ps n) owner each base without_flags (block_body (slice_index_or ps n nothing)) k h
   next-list n owner each b base k false h = each b base k h
 
   pub idle-list : (n : ℕ) (owner : OwnerData) (b base k : ℕ) → idle_of ps n b ≡ true → (bodies_of ps n).run_list owner b base k ≡ []
@@ -106,8 +123,8 @@ module _ (ps : List CalledData) where
   pub idle_body-scratch : (n : ℕ) (ts : Statements) → is_idle_all (idle_of ps n) ts ≡ true → scratch_of_all (bodies_of ps n) ts ≡ []
   idle_body-scratch n ts h = all-scratch (idle_of ps n) (bodies_of ps n) (idle-scratch n) ts h
 
-  pub idle_body-list : (n : ℕ) (owner : OwnerData) (base : ℕ) (ts : Statements) (k : ℕ) → is_idle_all (idle_of ps n) ts ≡ true → flat_of_all (bodies_of ps n) owner base ts k ≡ []
-  idle_body-list n owner base ts k h = all-list (idle_of ps n) (bodies_of ps n) owner (idle-list n owner) base ts k h
+  pub idle_body-list : (n : ℕ) (owner : OwnerData) (base : ℕ) (flags : Flags) (ts : Statements) (k : ℕ) → is_idle_all (idle_of ps n) ts ≡ true → flat_of_all (bodies_of ps n) owner base flags ts k ≡ []
+  idle_body-list n owner base flags ts k h = all-list (idle_of ps n) (bodies_of ps n) owner (idle-list n owner) base flags ts k h
 
   pub idle_body-effect : (n : ℕ) (rs : List Range) (q : CalledData) (base : ℕ) (s : State) → is_idle_all (idle_of ps n) (block_body q) ≡ true → effect_of_run (callees_of ps n) q rs base s ≡ s
   idle_body-effect n rs q base s h = run-effect (idle_of ps n) (callees_of ps n) rs (idle-effect n rs) q base s h

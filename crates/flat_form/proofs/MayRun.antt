@@ -3,6 +3,7 @@ use Rattle.std.proofs.Common.{◌≡◌, ◌≢◌, ℕ, zero, suc, ◌<◌, ◌
 use Rattle.std.specs.Prelude.{◌==◌, slice_index_or, if◌then◌else◌}
 use Rattle.plc_types.specs.declared.range.Range.{Range}
 use Rattle.program_tree.specs.Tree.{CalledData}
+use Rattle.program_tree.specs.Leaving.{LeavesNothing}
 use Rattle.meaning.specs.Calls.{nothing}
 use Rattle.meaning.specs.Frames.{frames_of, function_body}
 use Rattle.flat_form.specs.Pous.{block_body}
@@ -21,13 +22,19 @@ other_number b n other = by_test (b == n) refl
     by_test false e = refl
 
 module _ (ps : List CalledData) where
-  -- the body of a POU, by its number, is typed, where it is run and where it is called
+  -- no EXIT and no RETURN leaves the body of a POU, by its number, and it is typed, where it is run and where it is called
   abbrev pub BlockIsTyped : ℕ → List Range → (ℕ → Bool) → ℕ → Type 0
-  BlockIsTyped i rs tested base = AreTyped (frames_of ps) (MayCallOf ps i) (MayRunOf ps rs tested i) (extents_of ps i) rs tested base (block_body (slice_index_or ps i nothing))
+  BlockIsTyped i rs tested base =
+      LeavesNothing (block_body (slice_index_or ps i nothing))
+      × AreTyped (frames_of ps) (MayCallOf ps i) (MayRunOf ps rs tested i) (extents_of ps i) rs tested base (block_body (slice_index_or ps i nothing))
+
+  -- the parts of a FUNCTION's body alone
+  abbrev pub FunctionParts : ℕ → Type 0
+  FunctionParts i =
+      AreTyped (frames_of ps) (MayCallOf ps i) (MayRunOf ps (frames_of ps i).ranges (tested_in (frames_of ps i)) i) (extents_of ps i) (frames_of ps i).ranges (tested_in (frames_of ps i)) 0 (function_body (slice_index_or ps i nothing))
 
   abbrev pub FunctionIsTyped : ℕ → Type 0
-  FunctionIsTyped i =
-      AreTyped (frames_of ps) (MayCallOf ps i) (MayRunOf ps (frames_of ps i).ranges (tested_in (frames_of ps i)) i) (extents_of ps i) (frames_of ps i).ranges (tested_in (frames_of ps i)) 0 (function_body (slice_index_or ps i nothing))
+  FunctionIsTyped i = LeavesNothing (function_body (slice_index_or ps i nothing)) × FunctionParts i
 
   -- ---- runs
 
@@ -63,10 +70,11 @@ module _ (ps : List CalledData) where
   -- ---- calls
 
   next-call : (n i inputs : ℕ) (sofar : i < n → MayCallOf ps n i inputs) → i < suc n → FrameFits (frames_of ps i) inputs → FunctionIsTyped i → (test : Bool) → (i == n) ≡ test
-      → Choice test (FrameFits (frames_of ps n) inputs × FunctionIsTyped n) (MayCallOf ps n i inputs)
+      → Choice test (FrameFits (frames_of ps n) inputs × LeavesNothing (function_body (slice_index_or ps n nothing)) × FunctionParts n) (MayCallOf ps n i inputs)
   next-call n i inputs sofar low fits typed true e =
       let same : i ≡ n = search (rules, tests) in
-      (subst (λ (j : ℕ). FrameFits (frames_of ps j) inputs) same fits, subst (λ (j : ℕ). FunctionIsTyped j) same typed)
+      let typed_here : FunctionIsTyped n = subst (λ (j : ℕ). FunctionIsTyped j) same typed in
+      (subst (λ (j : ℕ). FrameFits (frames_of ps j) inputs) same fits, typed_here.0, typed_here.1)
   next-call n i inputs sofar low fits typed false e =
       let other : i ≢ n = λ is_same. let two : (i == n) ≡ true = search (rules, tests) in cc in
       sofar (omega arith)

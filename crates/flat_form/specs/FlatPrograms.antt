@@ -5,6 +5,7 @@ use Rattle.flat_core.specs.FlatTree.{FlatStatement, set, FlatData, size_of_all}
 use Rattle.flat_core.specs.FlatView.{flats_of}
 use Rattle.flat_form.specs.Owners.{program_owner}
 use Rattle.flat_form.specs.Bodies.{Bodies}
+use Rattle.flat_form.specs.Unless.{without_flags}
 use Rattle.flat_form.specs.FlatLists.{scratch_of_all, flat_of_all}
 use Rattle.flat_form.specs.Pous.{bodies_of}
 
@@ -14,7 +15,7 @@ bodies_in p = bodies_of p.called (length p.called)
 
 -- FAULT becomes FALSE, then the body runs
 abbrev pub flat_scan : ProgramData → List FlatStatement
-flat_scan p = set 0 (number (pos 0)) ∷ flat_of_all (bodies_in p) program_owner 0 p.body (length p.cells)
+flat_scan p = set 0 (number (pos 0)) ∷ flat_of_all (bodies_in p) program_owner 0 without_flags p.body (length p.cells)
 
 -- the scratch cells stand behind the cells
 abbrev pub flat_program : ProgramData → FlatData

@@ -1,6 +1,6 @@
 -- FUNCTION_BLOCKs that do nothing. They may run each other, so that one run of theirs reaches very many, and none of these is asked about.
 use Rattle.std.specs.Prelude.{◌≡◌, ◌<◌, ℕ, zero, suc, ◌==◌, ◌&&◌, Bool, true, false, List, length, slice_index_or, if◌then◌else◌}
-use Rattle.program_tree.specs.Tree.{Statement, assign, call_block, choice, cases, repeat, chart, Statements, no_statements, statement, CalledData}
+use Rattle.program_tree.specs.Tree.{Statement, assign, call_block, choice, cases, repeat, chart, exit, return, own_body, Statements, no_statements, statement, CalledData}
 use Rattle.meaning.specs.Calls.{nothing}
 use Rattle.flat_form.specs.Pous.{block_body}
 
@@ -12,6 +12,9 @@ is_idle idle (choice arms other) = false
 is_idle idle (cases kind e es other) = false
 is_idle idle (repeat turns body) = false
 is_idle idle (chart _ _ _) = false
+is_idle idle exit = false
+is_idle idle return = false
+is_idle idle (own_body ss) = false
 
 -- no statements, or idle ones alone
 abbrev pub is_idle_all : (ℕ → Bool) → Statements → Bool

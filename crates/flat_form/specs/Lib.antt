@@ -3,6 +3,7 @@ pub mod Owners
 pub mod Bodies
 pub mod Calls
 pub mod FlatCharts
+pub mod Unless
 pub mod FlatLists
 pub mod Pous
 pub mod FlatPrograms

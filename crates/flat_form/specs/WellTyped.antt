@@ -1,12 +1,13 @@
 -- Well-typed programs, as far as their flat form asks for it: statements name the cells of their owner alone, and FAULT by no name;
 -- the FUNCTIONs that are called have so many inputs; what is assigned to a variable of a FUNCTION that is no subrange lies in its
--- range; and the actions of a chart leave the chart's own cells.
+-- range; the actions of a chart leave the chart's own cells; and no EXIT and no RETURN leaves the body of a POU, or the statements of an action.
 use Rattle.std.specs.Prelude.{◌≡◌, ◌<◌, ◌≤◌, ◌+◌, ◌==◌, ◌&&◌, ◌||◌, ℕ, zero, suc, max, Bool, true, false, List, [], ◌∷◌, length, pos, slice_index_or, Option, None, Some, if◌then◌else◌}
 use Rattle.plc_types.specs.declared.range.Range.{Range}
 use Rattle.program_tree.specs.declared.typed.StepCells.{StepCells}
 use Rattle.program_tree.specs.declared.typed.Association.{Association}
 use Rattle.plc_types.specs.Types.{range_of, in_range}
-use Rattle.program_tree.specs.Tree.{Expression, number, cell, unary, chain, call_standard, call_function, Operands, no_operands, operand, Expressions, no_expressions, expression, TransitionData, Statement, assign, call_block, choice, cases, repeat, chart, Statements, no_statements, statement, Choices, no_choices, choose, Entries, no_entries, entry, Actions, no_actions, action, CalledData, ProgramData}
+use Rattle.program_tree.specs.Tree.{Expression, number, cell, unary, chain, call_standard, call_function, Operands, no_operands, operand, Expressions, no_expressions, expression, TransitionData, Statement, assign, call_block, choice, cases, repeat, chart, exit, return, own_body, Statements, no_statements, statement, Choices, no_choices, choose, Entries, no_entries, entry, Actions, no_actions, action, CalledData, ProgramData}
+use Rattle.program_tree.specs.Leaving.{can_exit_actions, can_return_actions, LeavesNothing}
 use Rattle.program_tree.specs.OperandTypes.{arity}
 use Rattle.program_tree.specs.ChartPlaces.{chart_places, AreRisingFrom, AreSteps, NameSteps, IsAssociated}
 use Rattle.meaning.specs.Effects.{range_at}
@@ -86,6 +87,9 @@ abbrev mutual
   extent_of extents (cases kind e es other) = max (extent_of_entries extents es) (extent_of_all extents other)
   extent_of extents (repeat turns body) = max (turns.control + 1) (extent_of_all extents body)
   extent_of extents (chart steps actions ts) = max (extent_of_steps steps) (extent_of_actions extents actions)
+  extent_of extents exit = 0
+  extent_of extents return = 0
+  extent_of extents (own_body ss) = extent_of_all extents ss
 
   pub extent_of_all : (ℕ → ℕ) → Statements → ℕ
   extent_of_all extents no_statements = 0
@@ -114,6 +118,10 @@ extents_of ps (suc n) b = if b == n then extent_of_all (extents_of ps n) (block_
 abbrev pub AreFlags : List Range → ℕ → List ℕ → Type 0
 AreFlags rs base [] = Unit {0}
 AreFlags rs base (p ∷ ps) = IsOwnPlace rs (base + p) × ((range_at rs (base + p)).low ≡ pos 0) × ((range_at rs (base + p)).high ≡ pos 1) × AreFlags rs base ps
+
+-- no EXIT and no RETURN leaves the statements of an action
+abbrev pub ActionsLeaveNothing : Actions → Type 0
+ActionsLeaveNothing actions = (can_exit_actions actions ≡ false) × (can_return_actions actions ≡ false)
 
 -- the extent of the bodies of actions
 abbrev pub extent_of_bodies : (ℕ → ℕ) → Actions → ℕ
@@ -150,6 +158,10 @@ module _ (frames : ℕ → FrameData) (MayCall : ℕ → ℕ → Type 0) (MayRun
         IsOwnPlace rs (base + turns.control) × ((tested (base + turns.control) || turns_stay turns (range_at rs (base + turns.control))) ≡ true) × Choice (turns.count == 0) (Unit {0}) (AreTyped base body)
     IsTyped base (chart steps actions ts) =
         AreFlags rs base (chart_places steps actions) × AreRisingFrom (extent_of_bodies extents actions) (chart_places steps actions) × AreTypedActions base (length steps) actions × AreTypedTransitions base (length steps) ts
+        × ActionsLeaveNothing actions
+    IsTyped base exit = Unit {0}
+    IsTyped base return = Unit {0}
+    IsTyped base (own_body ss) = AreTyped base ss
 
     pub AreTyped : ℕ → Statements → Type 0
     AreTyped base no_statements = Unit {0}
@@ -191,7 +203,8 @@ abbrev mutual
   MayRunOf ps rs tested (suc n) b base =
       Choice (b == n)
       (Choice (is_idle_all (idle_of ps n) (block_body (slice_index_or ps n nothing))) (Unit {0})
-      (AreTyped (frames_of ps) (MayCallOf ps n) (MayRunOf ps rs tested n) (extents_of ps n) rs tested base (block_body (slice_index_or ps n nothing))))
+      (LeavesNothing (block_body (slice_index_or ps n nothing))
+      × AreTyped (frames_of ps) (MayCallOf ps n) (MayRunOf ps rs tested n) (extents_of ps n) rs tested base (block_body (slice_index_or ps n nothing))))
       (MayRunOf ps rs tested n b base)
 
   pub MayCallOf : List CalledData → ℕ → ℕ → ℕ → Type 0
@@ -199,6 +212,7 @@ abbrev mutual
   MayCallOf ps (suc n) f inputs =
       Choice (f == n)
       (FrameFits (frames_of ps n) inputs
+      × LeavesNothing (function_body (slice_index_or ps n nothing))
       × AreTyped (frames_of ps) (MayCallOf ps n) (MayRunOf ps (frames_of ps n).ranges (tested_in (frames_of ps n)) n) (extents_of ps n) (frames_of ps n).ranges (tested_in (frames_of ps n)) 0 (function_body (slice_index_or ps n nothing)))
       (MayCallOf ps n f inputs)
 
@@ -208,4 +222,5 @@ each_tested place = true
 
 abbrev pub IsWellTyped : ProgramData → Type 0
 IsWellTyped p =
-    AreTyped (frames_of p.called) (MayCallOf p.called (length p.called)) (MayRunOf p.called (ranges_of p.cells) each_tested (length p.called)) (extents_of p.called (length p.called)) (ranges_of p.cells) each_tested 0 p.body
+    LeavesNothing p.body
+    × AreTyped (frames_of p.called) (MayCallOf p.called (length p.called)) (MayRunOf p.called (ranges_of p.cells) each_tested (length p.called)) (extents_of p.called (length p.called)) (ranges_of p.cells) each_tested 0 p.body

@@ -6,13 +6,14 @@ use Rattle.plc_types.specs.Types.{in_range}
 use Rattle.program_tree.specs.Tree.{Expression, TransitionData, chart, Actions}
 use Rattle.program_tree.specs.declared.scratch.Scratch.{Scratch}
 use Rattle.meaning.specs.Values.{State, Callees, value_of}
-use Rattle.meaning.specs.Effects.{effect_of}
+use Rattle.meaning.specs.Effects.{state_of, effect_of}
 use Rattle.scan_model.specs.InRange.{IsInRange}
 use Rattle.flat_core.specs.FlatView.{flats_of}
 use Rattle.flat_core.specs.FlatScans.{run_of_all}
 use Rattle.flat_form.specs.Owners.{OwnerData}
 use Rattle.flat_form.specs.Bodies.{Bodies}
 use Rattle.flat_form.specs.Calls.{scratch_in, before, moved}
+use Rattle.flat_form.specs.Unless.{without_flags}
 use Rattle.flat_form.specs.FlatLists.{scratch_of, flat_of}
 use Rattle.flat_form.specs.WellTyped.{stays_in, IsTypedValue, IsTyped}
 use Rattle.flat_laws.proofs.Shown.{held, Owns, Shows, Done, Evaluated, Stands, CallRuns}
@@ -33,7 +34,7 @@ ChartsRun rs cs bodies callees MayCall MayRun extents own tested owner =
     (base : ℕ) (steps : List StepCells) (actions : Actions) (ts : List TransitionData) → IsTyped bodies.frame MayCall MayRun extents own tested base (chart steps actions ts) → EachActionRuns rs cs bodies callees own tested owner base actions
     → (k : ℕ) (f : ℤ) (s x : State) → Owns rs cs own tested owner k → Shows (length own) owner f s x → IsInRange own s → length rs ≤ k → 0 < length rs
     → k + length (scratch_of bodies (chart steps actions ts)) ≤ length x → Stands rs cs k (scratch_of bodies (chart steps actions ts))
-    → Done (length own) k owner f (effect_of callees own base (chart steps actions ts) s) x (run_of_all rs cs (flats_of (flat_of bodies owner base (chart steps actions ts) k)) x)
+    → Done (length own) k owner f (state_of (effect_of callees own base (chart steps actions ts) s)) x (run_of_all rs cs (flats_of (flat_of bodies owner base without_flags (chart steps actions ts) k)) x)
 
 -- the FUNCTIONs that may be called run as their lists show
 abbrev pub EachCallRuns : List Range → List Scratch → Bodies → Callees → (ℕ → ℕ → Type 0) → Type 0

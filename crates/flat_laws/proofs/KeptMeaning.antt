@@ -9,9 +9,10 @@ use Rattle.program_tree.specs.declared.typed.Part.TheVariants as parts
 use Rattle.plc_types.specs.declared.range.Range.{Range}
 use Rattle.plc_types.specs.Types.{range_of, in_range}
 use Rattle.program_tree.specs.Tree.{Statements, CellData, CalledData, block, function, ProgramData}
+use Rattle.program_tree.specs.Leaving.{LeavesNothing}
 use Rattle.program_tree.specs.declared.scratch.Scratch.{Scratch}
 use Rattle.meaning.specs.Values.{State, Callees, is_truth}
-use Rattle.meaning.specs.Effects.{range_at, stored, effect_of_all}
+use Rattle.meaning.specs.Effects.{range_at, stored, state_of, effect_of_all}
 use Rattle.meaning.specs.Calls.{given, nothing, run_of as effect_of_run, ends_of, callees_of}
 use Rattle.meaning.specs.Frames.{FrameData, frame_of, frames_of, function_body}
 use Rattle.scan_model.specs.Scans.{ranges_of, callees_in, scanned}
@@ -21,6 +22,7 @@ use Rattle.flat_core.specs.FlatView.{flats_of}
 use Rattle.flat_core.specs.FlatScans.{takes, placed, run_of_all, cleared, flat_scanned}
 use Rattle.flat_form.specs.Owners.{OwnerData, program_owner, call_owner}
 use Rattle.flat_form.specs.Bodies.{Bodies}
+use Rattle.flat_form.specs.Unless.{without_flags}
 use Rattle.flat_form.specs.FlatLists.{scratch_of_all, flat_of_all}
 use Rattle.flat_form.specs.Pous.{block_body, bodies_of}
 use Rattle.flat_form.specs.FlatPrograms.{bodies_in, flat_program}
@@ -81,9 +83,9 @@ module _ (rs : List Range) (cs : List Scratch) (some : 0 < length rs) (evaluated
   AreTypedHere n own tested frames base ts = AreTyped frames (MayCallOf ps n) (MayRunOf ps own tested n) (extents_of ps n) own tested base ts
 
   -- statements that may run and call the first so many POUs
-  done_body : (n : ℕ) → EachCall n → EachRun n → (own : List Range) (tested : ℕ → Bool) (owner : OwnerData) (first : HoldsFault own) (filled : 0 < length own) (base : ℕ) (ts : Statements) → AreTypedHere n own tested (frames_of ps) base ts
-      → RunsAs rs cs own tested owner first filled (scratch_of_all (bodies_of ps n) ts) (effect_of_all (callees_of ps n) own base ts) (flat_of_all (bodies_of ps n) owner base ts)
-  done_body n each_call each_run own tested owner first filled base ts typed k f s x owns shows range le filled_rs room stands =
+  done_body : (n : ℕ) → EachCall n → EachRun n → (own : List Range) (tested : ℕ → Bool) (owner : OwnerData) (first : HoldsFault own) (filled : 0 < length own) (base : ℕ) (ts : Statements) → LeavesNothing ts → AreTypedHere n own tested (frames_of ps) base ts
+      → RunsAs rs cs own tested owner first filled (scratch_of_all (bodies_of ps n) ts) (λ s. state_of (effect_of_all (callees_of ps n) own base ts s)) (flat_of_all (bodies_of ps n) owner base without_flags ts)
+  done_body n each_call each_run own tested owner first filled base ts alone typed k f s x owns shows range le filled_rs room stands =
       let bodies = bodies_of ps n in
       let callees = callees_of ps n in
       let runs_here : ExpressionsRun rs cs bodies callees (MayCallOf ps n) own tested owner = evaluated bodies callees (MayCallOf ps n) own tested owner first filled each_call in
@@ -91,62 +93,62 @@ module _ (rs : List Range) (cs : List Scratch) (some : 0 < length rs) (evaluated
       let leaves : RunsLeave callees (extents_of ps n) own = λ b at t p above far. runs-leave own p above ps n b at far t in
       done_all rs cs own tested owner first filled bodies callees (MayCallOf ps n) (MayRunOf ps own tested n) (extents_of ps n) keeps runs_here (stays bodies callees (MayCallOf ps n) own each_call) (each_run own tested owner first filled)
       (charts bodies callees (MayCallOf ps n) (MayRunOf ps own tested n) (extents_of ps n) own tested owner first filled keeps leaves runs_here)
-      base ts k f s x (subst (λ frames. AreTypedHere n own tested frames base ts) (sym (frames-here ps n)) typed) owns shows range le filled_rs room stands
+      base ts alone (subst (λ frames. AreTypedHere n own tested frames base ts) (sym (frames-here ps n)) typed) k f s x owns shows range le filled_rs room stands
 
   call-next : (n : ℕ) → EachCall n → EachRun n → EachCall (suc n)
   call-next n each_call each_run f inputs may = call_runs rs cs (bodies_of ps (suc n)) (callees_of ps (suc n)) f inputs (by_test (f == n) refl may)
     where
-      here : (q : CalledData) → FrameFits (frame_of q) inputs → AreTypedHere n (frame_of q).ranges (tested_in (frame_of q)) (frames_of ps) 0 (function_body q)
-          → FrameRuns rs cs (frame_of q) (ends_of (callees_of ps n) q) (scratch_of_all (bodies_of ps n) (function_body q)) (λ answer places k. flat_of_all (bodies_of ps n) (call_owner answer places) 0 (function_body q) k) inputs
-      here (block body) fits typed = let room = fits.room in absurd (omega (arith, room))
-      here (function types ranges start body) fits typed =
+      here : (q : CalledData) → FrameFits (frame_of q) inputs → LeavesNothing (function_body q) → AreTypedHere n (frame_of q).ranges (tested_in (frame_of q)) (frames_of ps) 0 (function_body q)
+          → FrameRuns rs cs (frame_of q) (ends_of (callees_of ps n) q) (scratch_of_all (bodies_of ps n) (function_body q)) (λ answer places k. flat_of_all (bodies_of ps n) (call_owner answer places) 0 without_flags (function_body q) k) inputs
+      here (block body) fits alone typed = let room = fits.room in absurd (omega (arith, room))
+      here (function types ranges start body) fits alone typed =
           let room = fits.room in
           let same_length = fits.ranges in
           let filled : 0 < length ranges = omega arith in
           let first = frame-fault ranges filled fits.fault_low fits.fault_high in
           record {
             fits = fits;
-            effect = effect_of_all (callees_of ps n) ranges 0 body;
+            effect = λ s. state_of (effect_of_all (callees_of ps n) ranges 0 body s);
             ends_so = λ vs. refl;
             keeps = λ s h. kept_by_all ranges first (callees_of ps n) (λ b at t i. kept_by_calls ranges first ps n b at t i) 0 body s h;
-            runs = λ answer places k g s x owns shows range le roomy stands. done_body n each_call each_run ranges (tested_in (frame_of (function types ranges start body))) (call_owner answer places) first filled 0 body typed k g s x owns shows range le some roomy stands;
+            runs = λ answer places k g s x owns shows range le roomy stands. done_body n each_call each_run ranges (tested_in (frame_of (function types ranges start body))) (call_owner answer places) first filled 0 body alone typed k g s x owns shows range le some roomy stands;
           }
 
       by_test : (test : Bool) → (f == n) ≡ test
-          → Choice test (FrameFits (frames_of ps n) inputs × AreTypedHere n (frames_of ps n).ranges (tested_in (frames_of ps n)) (frames_of ps) 0 (function_body (slice_index_or ps n nothing))) (MayCallOf ps n f inputs)
+          → Choice test (FrameFits (frames_of ps n) inputs × LeavesNothing (function_body (slice_index_or ps n nothing)) × AreTypedHere n (frames_of ps n).ranges (tested_in (frames_of ps n)) (frames_of ps) 0 (function_body (slice_index_or ps n nothing))) (MayCallOf ps n f inputs)
           → FrameRuns rs cs ((bodies_of ps n).frame f) (λ vs. if test then ends_of (callees_of ps n) (slice_index_or ps n nothing) vs else (callees_of ps n).ends f vs)
           (if test then scratch_of_all (bodies_of ps n) (function_body (slice_index_or ps n nothing)) else (bodies_of ps n).call_scratch f)
-          (λ answer places k. if test then flat_of_all (bodies_of ps n) (call_owner answer places) 0 (function_body (slice_index_or ps n nothing)) k else (bodies_of ps n).call_list f answer places k) inputs
+          (λ answer places k. if test then flat_of_all (bodies_of ps n) (call_owner answer places) 0 without_flags (function_body (slice_index_or ps n nothing)) k else (bodies_of ps n).call_list f answer places k) inputs
       by_test true e may_here =
           let same : f ≡ n = search (rules, tests) in
           let frame_same : (bodies_of ps n).frame f ≡ frames_of ps n = ap (λ (g : ℕ → FrameData). g f) (frames-here ps n) ∙ ap (frames_of ps) same in
-          subst (λ (frame : FrameData). FrameRuns rs cs frame (ends_of (callees_of ps n) (slice_index_or ps n nothing)) (scratch_of_all (bodies_of ps n) (function_body (slice_index_or ps n nothing))) (λ answer places k. flat_of_all (bodies_of ps n) (call_owner answer places) 0 (function_body (slice_index_or ps n nothing)) k) inputs)
-          (sym frame_same) (here (slice_index_or ps n nothing) may_here.0 may_here.1)
+          subst (λ (frame : FrameData). FrameRuns rs cs frame (ends_of (callees_of ps n) (slice_index_or ps n nothing)) (scratch_of_all (bodies_of ps n) (function_body (slice_index_or ps n nothing))) (λ answer places k. flat_of_all (bodies_of ps n) (call_owner answer places) 0 without_flags (function_body (slice_index_or ps n nothing)) k) inputs)
+          (sym frame_same) (here (slice_index_or ps n nothing) may_here.0 may_here.1 may_here.2)
       by_test false e may_there = frame_runs rs cs (bodies_of ps n) (callees_of ps n) f inputs (each_call f inputs may_there)
 
   run-next : (n : ℕ) → EachCall n → EachRun n → EachRun (suc n)
   run-next n each_call each_run own tested owner first filled b base may k f s x owns shows range le room stands = by_test (b == n) may room stands
     where
-      here : (q : CalledData) → AreTypedHere n own tested (frames_of ps) base (block_body q) → k + length (scratch_of_all (bodies_of ps n) (block_body q)) ≤ length x → Stands rs cs k (scratch_of_all (bodies_of ps n) (block_body q))
-          → Done (length own) k owner f (effect_of_run (callees_of ps n) q own base s) x (run_of_all rs cs (flats_of (flat_of_all (bodies_of ps n) owner base (block_body q) k)) x)
-      here (block body) typed roomy stand = done_body n each_call each_run own tested owner first filled base body typed k f s x owns shows range le some roomy stand
-      here (function types ranges start body) typed roomy stand = record { shown = shows; ran = Ran-none (length own) k owner x }
+      here : (q : CalledData) → LeavesNothing (block_body q) → AreTypedHere n own tested (frames_of ps) base (block_body q) → k + length (scratch_of_all (bodies_of ps n) (block_body q)) ≤ length x → Stands rs cs k (scratch_of_all (bodies_of ps n) (block_body q))
+          → Done (length own) k owner f (effect_of_run (callees_of ps n) q own base s) x (run_of_all rs cs (flats_of (flat_of_all (bodies_of ps n) owner base without_flags (block_body q) k)) x)
+      here (block body) alone typed roomy stand = done_body n each_call each_run own tested owner first filled base body alone typed k f s x owns shows range le some roomy stand
+      here (function types ranges start body) alone typed roomy stand = record { shown = shows; ran = Ran-none (length own) k owner x }
 
       -- an idle block becomes and does nothing
-      by_idle : (q : CalledData) (idle : Bool) → is_idle_all (idle_of ps n) (block_body q) ≡ idle → Choice idle (Unit {0}) (AreTypedHere n own tested (frames_of ps) base (block_body q)) → k + length (scratch_of_all (bodies_of ps n) (block_body q)) ≤ length x
+      by_idle : (q : CalledData) (idle : Bool) → is_idle_all (idle_of ps n) (block_body q) ≡ idle → Choice idle (Unit {0}) (LeavesNothing (block_body q) × AreTypedHere n own tested (frames_of ps) base (block_body q)) → k + length (scratch_of_all (bodies_of ps n) (block_body q)) ≤ length x
           → Stands rs cs k (scratch_of_all (bodies_of ps n) (block_body q))
-          → Done (length own) k owner f (effect_of_run (callees_of ps n) q own base s) x (run_of_all rs cs (flats_of (flat_of_all (bodies_of ps n) owner base (block_body q) k)) x)
+          → Done (length own) k owner f (effect_of_run (callees_of ps n) q own base s) x (run_of_all rs cs (flats_of (flat_of_all (bodies_of ps n) owner base without_flags (block_body q) k)) x)
       by_idle q true e may_here roomy stand =
           let nothing_done = idle_body-effect ps n own q base s e in
-          let nothing_left = idle_body-list ps n owner base (block_body q) k e in
+          let nothing_left = idle_body-list ps n owner base without_flags (block_body q) k e in
           rw (nothing_done, nothing_left) record { shown = shows; ran = Ran-none (length own) k owner x }
-      by_idle q false e typed roomy stand = here q typed roomy stand
+      by_idle q false e typed roomy stand = here q typed.0 typed.1 roomy stand
 
-      by_test : (test : Bool) → Choice test (Choice (is_idle_all (idle_of ps n) (block_body (slice_index_or ps n nothing))) (Unit {0}) (AreTypedHere n own tested (frames_of ps) base (block_body (slice_index_or ps n nothing)))) (MayRunOf ps own tested n b base)
+      by_test : (test : Bool) → Choice test (Choice (is_idle_all (idle_of ps n) (block_body (slice_index_or ps n nothing))) (Unit {0}) (LeavesNothing (block_body (slice_index_or ps n nothing)) × AreTypedHere n own tested (frames_of ps) base (block_body (slice_index_or ps n nothing)))) (MayRunOf ps own tested n b base)
           → k + length (if test then scratch_of_all (bodies_of ps n) (block_body (slice_index_or ps n nothing)) else (bodies_of ps n).run_scratch b) ≤ length x
           → Stands rs cs k (if test then scratch_of_all (bodies_of ps n) (block_body (slice_index_or ps n nothing)) else (bodies_of ps n).run_scratch b)
           → Done (length own) k owner f (if test then effect_of_run (callees_of ps n) (slice_index_or ps n nothing) own base s else (callees_of ps n).runs b own base s) x
-          (run_of_all rs cs (flats_of (if test then flat_of_all (bodies_of ps n) owner base (block_body (slice_index_or ps n nothing)) k else (bodies_of ps n).run_list owner b base k)) x)
+          (run_of_all rs cs (flats_of (if test then flat_of_all (bodies_of ps n) owner base without_flags (block_body (slice_index_or ps n nothing)) k else (bodies_of ps n).run_list owner b base k)) x)
       by_test true may_here roomy stand = by_idle (slice_index_or ps n nothing) (is_idle_all (idle_of ps n) (block_body (slice_index_or ps n nothing))) refl may_here roomy stand
       by_test false may_there roomy stand = each_run own tested owner first filled b base may_there k f s x owns shows range le roomy stand
 
@@ -244,10 +246,10 @@ module _ (evaluated : (rs : List Range) (cs : List Scratch) → 0 < length rs �
       let s0 = slice_set s 0 (pos 0) in
       let begun_range : IsInRange rs s0 = fault_cleared rs first s range in
       let each = each_pou rs cs filled (evaluated rs cs filled) (stays rs cs filled) (charts rs cs filled) ps (length ps) in
-      let list = flat_of_all bodies owner 0 p.body n in
+      let list = flat_of_all bodies owner 0 without_flags p.body n in
       let z = run_of_all rs cs (flats_of list) y in
-      let t = effect_of_all (callees_in p) rs 0 p.body s0 in
-      let done : Done (length rs) n (λ q. q) (pos 0) t y z = done_body rs cs filled (evaluated rs cs filled) (stays rs cs filled) (charts rs cs filled) ps (length ps) each.0 each.1 rs each_tested owner first filled 0 p.body typed n (pos 0) s0 y
+      let t = state_of (effect_of_all (callees_in p) rs 0 p.body s0) in
+      let done : Done (length rs) n (λ q. q) (pos 0) t y z = done_body rs cs filled (evaluated rs cs filled) (stays rs cs filled) (charts rs cs filled) ps (length ps) each.0 each.1 rs each_tested owner first filled 0 p.body typed.0 typed.1 n (pos 0) s0 y
       (program-Owns rs cs n (omega arith)) (begun-Shows (length rs) s (cleared cs) (sym s_long) filled) begun_range (omega arith) filled (omega arith) (program-Stands n rs cs long) in
       let z_long = done.ran.long in
       let t_range : IsInRange rs t = kept_by_all rs first (callees_in p) (λ b at u h. kept_by_calls rs first ps (length ps) b at u h) 0 p.body s0 begun_range in

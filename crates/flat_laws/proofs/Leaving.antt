@@ -7,10 +7,10 @@ use Rattle.plc_types.specs.declared.range.Range.{Range}
 use Rattle.program_tree.specs.declared.typed.StepCells.{StepCells}
 use Rattle.program_tree.specs.declared.typed.Association.{Association}
 use Rattle.plc_types.specs.Types.{in_range}
-use Rattle.program_tree.specs.Tree.{Statement, assign, call_block, choice, cases, repeat, chart, Statements, no_statements, statement, Choices, no_choices, choose, Entries, no_entries, entry, Actions, no_actions, action, CalledData, block, function}
+use Rattle.program_tree.specs.Tree.{Statement, assign, call_block, choice, cases, repeat, chart, exit, return, own_body, Statements, no_statements, statement, Choices, no_choices, choose, Entries, no_entries, entry, Actions, no_actions, action, CalledData, block, function}
 use Rattle.meaning.specs.Values.{State, Callees, value_of, faults, is_truth}
 use Rattle.meaning.specs.Charts.{Marking, runs}
-use Rattle.meaning.specs.Effects.{range_at, with_fault, stored, is_labelled, effect_of_turns, latched, all_latched, marked, effect_of, effect_of_all, effect_of_choices, effect_of_entries, effect_of_actions}
+use Rattle.meaning.specs.Effects.{Effect, on, exited, returned, state_of, followed_by, behind_turn, behind_body, range_at, with_fault, stored, is_labelled, effect_of_turns, latched, all_latched, marked, effect_of, effect_of_all, effect_of_choices, effect_of_entries, effect_of_actions}
 use Rattle.meaning.specs.Calls.{run_of, nothing, callees_of}
 use Rattle.flat_form.specs.Pous.{block_body}
 use Rattle.flat_form.specs.WellTyped.{extent_of_latch, extent_of_steps, extent_of, extent_of_all, extent_of_choices, extent_of_entries, extent_of_actions, extents_of}
@@ -35,9 +35,33 @@ module _ (own : List Range) (p : ℕ) (above : 0 < p) where
   below-leaves : (c : ℕ) (v : ℤ) → c < p → Leaves (stored own c v)
   below-leaves c v h s = stored-leaves c v (omega arith) s
 
-  turns-leave : (n c : ℕ) (v step : ℤ) (body : State → State) → c < p → Leaves body → Leaves (effect_of_turns own n c v step body)
+  -- the same of an effect, whatever the outcome
+  abbrev pub LeavesPlace : (State → Effect) → Type 0
+  LeavesPlace effect = (s : State) → held (state_of (effect s)) p ≡ held s p
+
+  left-if_effect : (b : Bool) (x y : Effect) (s : State) → held (state_of x) p ≡ held s p → held (state_of y) p ≡ held s p → held (state_of (if b then x else y)) p ≡ held s p
+  left-if_effect true x y s a b = a
+  left-if_effect false x y s a b = b
+
+  followed-leaves : (e : Effect) (next : State → Effect) → LeavesPlace next → held (state_of (followed_by e next)) p ≡ held (state_of e) p
+  followed-leaves (on s) next each = each s
+  followed-leaves (exited s) next each = refl
+  followed-leaves (returned s) next each = refl
+
+  behind-leaves : (e : Effect) (next : State → Effect) → LeavesPlace next → held (state_of (behind_turn e next)) p ≡ held (state_of e) p
+  behind-leaves (on s) next each = each s
+  behind-leaves (exited s) next each = refl
+  behind-leaves (returned s) next each = refl
+
+  body-leaves : (e : Effect) → held (state_of (behind_body e)) p ≡ held (state_of e) p
+  body-leaves (on s) = refl
+  body-leaves (exited s) = refl
+  body-leaves (returned s) = refl
+
+  turns-leave : (n c : ℕ) (v step : ℤ) (body : State → Effect) → c < p → LeavesPlace body → LeavesPlace (effect_of_turns own n c v step body)
   turns-leave zero c v step body h each s = below-leaves c v h s
-  turns-leave (suc n) c v step body h each s = turns-leave n c (v +ℤ step) step body h each _ ∙ each _ ∙ below-leaves c v h s
+  turns-leave (suc n) c v step body h each s =
+      behind-leaves (body (stored own c v s)) (effect_of_turns own n c (v +ℤ step) step body) (turns-leave n c (v +ℤ step) step body h each) ∙ each _ ∙ below-leaves c v h s
 
   module _ (base : ℕ) (x : Marking) where
     latch-leaves : (latch : Option ℕ) (associations : List Association) → base + extent_of_latch latch ≤ p → Leaves (latched own base x latch associations)
@@ -63,7 +87,7 @@ module _ (own : List Range) (p : ℕ) (above : 0 < p) where
         latches-leave base x rest (omega arith) _ ∙ latch-leaves base x latch associations (omega arith) s
 
     mutual
-      pub statement-leaves : (base : ℕ) (t : Statement) → base + extent_of extents t ≤ p → Leaves (effect_of callees own base t)
+      pub statement-leaves : (base : ℕ) (t : Statement) → base + extent_of extents t ≤ p → LeavesPlace (effect_of callees own base t)
       statement-leaves base (assign target e) far s = below-leaves (base + target) _ (omega arith) _ ∙ with_fault-leaves (faults callees base e s) s
       statement-leaves base (call_block b offset) far s = calls b (base + offset) (omega arith) s
       statement-leaves base (choice arms other) far s =
@@ -82,28 +106,31 @@ module _ (own : List Range) (p : ℕ) (above : 0 < p) where
           let a = le-max_left (extent_of_steps steps) (extent_of_actions extents actions) in
           let b = le-max_right (extent_of_steps steps) (extent_of_actions extents actions) in
           marks-leave base _ _ 0 steps (omega arith) _ ∙ with_fault-leaves _ _ ∙ actions-leave base _ _ actions (omega arith) _ ∙ latches-leave base _ actions (omega arith) s
+      statement-leaves base exit far s = refl
+      statement-leaves base return far s = refl
+      statement-leaves base (own_body ss) far s = body-leaves (effect_of_all callees own base ss s) ∙ all-leave base ss far s
 
-      pub all-leave : (base : ℕ) (ts : Statements) → base + extent_of_all extents ts ≤ p → Leaves (effect_of_all callees own base ts)
+      pub all-leave : (base : ℕ) (ts : Statements) → base + extent_of_all extents ts ≤ p → LeavesPlace (effect_of_all callees own base ts)
       all-leave base no_statements far s = refl
       all-leave base (statement t ts) far s =
           let a = le-max_left (extent_of extents t) (extent_of_all extents ts) in
           let b = le-max_right (extent_of extents t) (extent_of_all extents ts) in
-          all-leave base ts (omega arith) _ ∙ statement-leaves base t (omega arith) s
+          followed-leaves (effect_of callees own base t s) (effect_of_all callees own base ts) (all-leave base ts (omega arith)) ∙ statement-leaves base t (omega arith) s
 
-      choices-leave : (base : ℕ) (arms : Choices) (other : State → State) → base + extent_of_choices extents arms ≤ p → Leaves other → Leaves (effect_of_choices callees own base arms other)
+      choices-leave : (base : ℕ) (arms : Choices) (other : State → Effect) → base + extent_of_choices extents arms ≤ p → LeavesPlace other → LeavesPlace (effect_of_choices callees own base arms other)
       choices-leave base no_choices other far behind s = behind s
       choices-leave base (choose e ss arms) other far behind s =
           let a = le-max_left (extent_of_all extents ss) (extent_of_choices extents arms) in
           let b = le-max_right (extent_of_all extents ss) (extent_of_choices extents arms) in
           let first = with_fault-leaves (faults callees base e s) s in
-          left-if (is_truth (value_of callees base e s)) _ _ s (all-leave base ss (omega arith) _ ∙ first) (choices-leave base arms other (omega arith) behind _ ∙ first)
+          left-if_effect (is_truth (value_of callees base e s)) _ _ s (all-leave base ss (omega arith) _ ∙ first) (choices-leave base arms other (omega arith) behind _ ∙ first)
 
-      entries-leave : (base : ℕ) (v : ℤ) (es : Entries) (other : State → State) → base + extent_of_entries extents es ≤ p → Leaves other → Leaves (effect_of_entries callees own base v es other)
+      entries-leave : (base : ℕ) (v : ℤ) (es : Entries) (other : State → Effect) → base + extent_of_entries extents es ≤ p → LeavesPlace other → LeavesPlace (effect_of_entries callees own base v es other)
       entries-leave base v no_entries other far behind s = behind s
       entries-leave base v (entry labels ss es) other far behind s =
           let a = le-max_left (extent_of_all extents ss) (extent_of_entries extents es) in
           let b = le-max_right (extent_of_all extents ss) (extent_of_entries extents es) in
-          left-if (is_labelled v labels) _ _ s (all-leave base ss (omega arith) s) (entries-leave base v es other (omega arith) behind s)
+          left-if_effect (is_labelled v labels) _ _ s (all-leave base ss (omega arith) s) (entries-leave base v es other (omega arith) behind s)
 
       pub actions-leave : (base : ℕ) (x l : Marking) (actions : Actions) → base + extent_of_actions extents actions ≤ p → Leaves (effect_of_actions callees own base x l actions)
       actions-leave base x l no_actions far s = refl

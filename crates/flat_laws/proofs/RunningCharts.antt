@@ -10,7 +10,7 @@ use Rattle.program_tree.specs.declared.scratch.Scratch.{Scratch}
 use Rattle.program_tree.specs.ChartPlaces.{latch_places, chart_places, AreRisingFrom, NameSteps}
 use Rattle.meaning.specs.Values.{State, Callees, number_of}
 use Rattle.meaning.specs.Charts.{Marking, is_on, marking_now, marking_before, latch_is_on, next_latch, runs}
-use Rattle.meaning.specs.Effects.{range_at, stored, all_latched, effect_of_transitions, effect_of, effect_of_all, effect_of_actions}
+use Rattle.meaning.specs.Effects.{range_at, stored, all_latched, effect_of_transitions, state_of, effect_of, effect_of_all, effect_of_actions}
 use Rattle.meaning.specs.Frames.{FrameData}
 use Rattle.scan_model.specs.InRange.{IsInRange}
 use Rattle.flat_core.specs.FlatTree.{branch, no_flats}
@@ -19,6 +19,7 @@ use Rattle.flat_core.specs.FlatScans.{placed, run_of, run_of_all}
 use Rattle.flat_form.specs.Owners.{OwnerData}
 use Rattle.flat_form.specs.Bodies.{Bodies}
 use Rattle.flat_form.specs.FlatCharts.{no_step, active_at, before_at, latch_test, latch_list, latch_start, runs_test, scratch_of_moves, flat_moves}
+use Rattle.flat_form.specs.Unless.{without_flags}
 use Rattle.flat_form.specs.FlatLists.{scratch_of, scratch_of_all, scratch_of_actions, flat_of, flat_of_all, flat_actions}
 use Rattle.flat_form.specs.WellTyped.{extent_of_all, extent_of_bodies, AreFlags, AreTypedActions, IsTyped}
 use Rattle.flat_laws.proofs.Shown.{held, Owns, Owns-later, Shows, Done, Done-stored, Stands}
@@ -155,20 +156,20 @@ module _ (rs : List Range) (cs : List Scratch) (bodies : Bodies) (MayCall MayRun
     acted_action : (latch : Option ℕ) (a : Association) (more : List Association) (ss : Statements) (j : ℕ) (s x y : State) → IsTest y (latch_start owner base latch) (latch_is_on base latch s) → NameSteps (length steps) (a ∷ more)
         → ((k : ℕ) (f : ℤ) (s x : State) → Owns rs cs own tested owner k → Shows (length own) owner f s x → IsInRange own s → length rs ≤ k → 0 < length rs
         → k + length (scratch_of_all bodies ss) ≤ length x → Stands rs cs k (scratch_of_all bodies ss)
-        → Done (length own) k owner f (effect_of_all callees own base ss s) x (run_of_all rs cs (flats_of (flat_of_all bodies owner base ss k)) x))
+        → Done (length own) k owner f (state_of (effect_of_all callees own base ss s)) x (run_of_all rs cs (flats_of (flat_of_all bodies owner base without_flags ss k)) x))
         → ((i : ℕ) → i < length steps → extent_of_all extents ss ≤ (slice_index_or steps i no_step).active) → ((i : ℕ) → i < length steps → extent_of_all extents ss ≤ (slice_index_or steps i no_step).before)
         → k ≤ j → j + length (scratch_of_all bodies ss) ≤ length x → Stands rs cs j (scratch_of_all bodies ss) → Acted s x y
-        → Acted (if runs base xm lm latch (a ∷ more) s then effect_of_all callees own base ss s else s) x
-        (run_of rs cs (branch (runs_test owner base steps latch (a ∷ more)) (flats_of (flat_of_all bodies owner base ss j)) no_flats) y)
+        → Acted (if runs base xm lm latch (a ∷ more) s then state_of (effect_of_all callees own base ss s) else s) x
+        (run_of rs cs (branch (runs_test owner base steps latch (a ∷ more)) (flats_of (flat_of_all bodies owner base without_flags ss j)) no_flats) y)
     acted_action latch a more ss j s x y start names each now_above was_above behind fits stands so_far =
         let n = length own in
         let b = runs base xm lm latch (a ∷ more) s in
         let shown = so_far.done.shown in
         let long = so_far.done.ran.long in
         let test = IsTest-runs owner base steps y xm (now_tests rs cs own tested owner base first steps xm lm flag_now flag_was f s y shown so_far.known) lm (was_tests rs cs own tested owner base first steps xm lm flag_now flag_was f s y shown so_far.known) latch s (a ∷ more) names start in
-        let ran = test_run rs cs (runs_test owner base steps latch (a ∷ more)) (flats_of (flat_of_all bodies owner base ss j)) no_flats y b test in
-        let z = run_of_all rs cs (flats_of (flat_of_all bodies owner base ss j)) y in
-        let t = effect_of_all callees own base ss s in
+        let ran = test_run rs cs (runs_test owner base steps latch (a ∷ more)) (flats_of (flat_of_all bodies owner base without_flags ss j)) no_flats y b test in
+        let z = run_of_all rs cs (flats_of (flat_of_all bodies owner base without_flags ss j)) y in
+        let t = state_of (effect_of_all callees own base ss s) in
         let body : Done n j owner f t y z = each j f s y (Owns-later rs cs own tested owner k j behind o) shown so_far.within (omega arith) some (omega arith) stands in
         let acted : Acted t x z = record {
           done = Done-both n k owner f s t x y z so_far.done.ran (Done-earlier n k owner f j t y z behind body);
@@ -210,7 +211,7 @@ module _ (rs : List Range) (cs : List Scratch) (bodies : Bodies) (MayCall MayRun
   chart_done : EachEvaluated rs cs bodies MayCall callees own tested owner → 0 < length own → (steps : List StepCells) (actions : Actions) (ts : List TransitionData) → IsTyped bodies.frame MayCall MayRun extents own tested base (chart steps actions ts)
       → EachActionRuns rs cs bodies callees own tested owner base actions → (k : ℕ) (f : ℤ) (s x : State) → Owns rs cs own tested owner k → Shows (length own) owner f s x → IsInRange own s → length rs ≤ k
       → k + length (scratch_of bodies (chart steps actions ts)) ≤ length x → Stands rs cs k (scratch_of bodies (chart steps actions ts))
-      → Done (length own) k owner f (effect_of callees own base (chart steps actions ts) s) x (run_of_all rs cs (flats_of (flat_of bodies owner base (chart steps actions ts) k)) x)
+      → Done (length own) k owner f (state_of (effect_of callees own base (chart steps actions ts) s)) x (run_of_all rs cs (flats_of (flat_of bodies owner base without_flags (chart steps actions ts) k)) x)
   chart_done evaluated cells steps actions ts typed each k f s x o shown within low fits stands =
       let n = length own in
       let bound = extent_of_bodies extents actions in
@@ -245,7 +246,7 @@ module _ (rs : List Range) (cs : List Scratch) (bodies : Bodies) (MayCall MayRun
       let x3 = run_of_all rs cs (flats_of (flat_moves bodies owner base steps ts j)) x2 in
       let whole : Done n k owner f s3 x x3 = Done-both n k owner f s2 s3 x x2 x3 two.done.ran (Done-earlier n k owner f j s3 x2 x3 (omega arith) three) in
       let rest = flat_actions bodies owner base steps actions k ++ flat_moves bodies owner base steps ts j in
-      let ran : run_of_all rs cs (flats_of (flat_of bodies owner base (chart steps actions ts) k)) x ≡ x3 = run-append rs cs (latch_list owner base steps actions) rest x ∙ run-append rs cs (flat_actions bodies owner base steps actions k) (flat_moves bodies owner base steps ts j) x1 in
+      let ran : run_of_all rs cs (flats_of (flat_of bodies owner base without_flags (chart steps actions ts) k)) x ≡ x3 = run-append rs cs (latch_list owner base steps actions) rest x ∙ run-append rs cs (flat_actions bodies owner base steps actions k) (flat_moves bodies owner base steps ts j) x1 in
       subst (λ (q : State). Done n k owner f s3 x q) (sym ran) whole
 
 -- over an owner whose first cell is FAULT, and whose expressions are evaluated; a run of a block leaves values in range, and places above those that it sets
@@ -255,7 +256,7 @@ module _ (rs : List Range) (cs : List Scratch) (bodies : Bodies) (MayCall MayRun
   pub done_chart : (base : ℕ) (steps : List StepCells) (actions : Actions) (ts : List TransitionData) → IsTyped bodies.frame MayCall MayRun extents own tested base (chart steps actions ts) → EachActionRuns rs cs bodies callees own tested owner base actions
       → (k : ℕ) (f : ℤ) (s x : State) → Owns rs cs own tested owner k → Shows (length own) owner f s x → IsInRange own s → length rs ≤ k → 0 < length rs
       → k + length (scratch_of bodies (chart steps actions ts)) ≤ length x → Stands rs cs k (scratch_of bodies (chart steps actions ts))
-      → Done (length own) k owner f (effect_of callees own base (chart steps actions ts) s) x (run_of_all rs cs (flats_of (flat_of bodies owner base (chart steps actions ts) k)) x)
+      → Done (length own) k owner f (state_of (effect_of callees own base (chart steps actions ts) s)) x (run_of_all rs cs (flats_of (flat_of bodies owner base without_flags (chart steps actions ts) k)) x)
   done_chart base steps actions ts typed each k f s x o shown within low some fits stands =
       chart_done rs cs bodies MayCall MayRun extents callees own tested owner base runs_leave keeps first some evaluated cells steps actions ts typed each k f s x o shown within low fits stands
 
@@ -266,6 +267,6 @@ pub charts_run : (rs : List Range) (cs : List Scratch) → 0 < length rs → (bo
     → (base : ℕ) (steps : List StepCells) (actions : Actions) (ts : List TransitionData) → IsTyped bodies.frame MayCall MayRun extents own tested base (chart steps actions ts) → EachActionRuns rs cs bodies callees own tested owner base actions
     → (k : ℕ) (f : ℤ) (s x : State) → Owns rs cs own tested owner k → Shows (length own) owner f s x → IsInRange own s → length rs ≤ k → 0 < length rs
     → k + length (scratch_of bodies (chart steps actions ts)) ≤ length x → Stands rs cs k (scratch_of bodies (chart steps actions ts))
-    → Done (length own) k owner f (effect_of callees own base (chart steps actions ts) s) x (run_of_all rs cs (flats_of (flat_of bodies owner base (chart steps actions ts) k)) x)
+    → Done (length own) k owner f (state_of (effect_of callees own base (chart steps actions ts) s)) x (run_of_all rs cs (flats_of (flat_of bodies owner base without_flags (chart steps actions ts) k)) x)
 charts_run rs cs some bodies callees MayCall MayRun extents own tested owner first cells keeps leaves evaluated base steps actions ts typed each k f s x o shown within low more fits stands =
     done_chart rs cs bodies MayCall MayRun extents callees own tested owner evaluated (λ b place p t far above. leaves b place t p above far) keeps first cells base steps actions ts typed each k f s x o shown within low some fits stands

@@ -1,3 +1,4 @@
 pub mod RulesOfCalls
 pub mod RulesOfCharts
+pub mod RulesOfLeaving
 pub mod KeptRules

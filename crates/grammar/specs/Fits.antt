@@ -1,6 +1,6 @@
 -- Levelled trees that nest within a depth.
 use Rattle.std.specs.Prelude.{◌≡◌, ◌<◌, ℕ, zero, suc, List, [], ◌∷◌, Option, Some, None, Bool, is_some}
-use Rattle.source_tree.specs.Syntax.{Tree, literal, path, enumerator, paren, unary, chain, call, Links, no_links, link, Arguments, no_arguments, argument, ConnectionData, input, output, Stmt, empty, assign, invoke, branch, cases, iterate, Stmts, no_stmts, stmt, Arms, no_arms, arm, Entries, no_entries, entry, Otherwise, no_else, else_stmts, IterationData}
+use Rattle.source_tree.specs.Syntax.{Tree, literal, path, enumerator, paren, unary, chain, call, Links, no_links, link, Arguments, no_arguments, argument, ConnectionData, input, output, Stmt, empty, assign, invoke, branch, cases, iterate, exit, return, Stmts, no_stmts, stmt, Arms, no_arms, arm, Entries, no_entries, entry, Otherwise, no_else, else_stmts, IterationData}
 use Rattle.source_tree.specs.Levels.{level_of, level, IsPrimary, AreLabels, are_named}
 
 -- a levelled tree in which no expression stands inside more parentheses than the number, those of calls among them
@@ -58,6 +58,8 @@ abbrev mutual
   StmtFits (cases e (entry ls ss es) other) (suc d) = Fits e d × AreLabels ls × StmtsFit ss d × EntriesFit es d × ElseFits other d
   StmtFits (iterate i ss) zero = ⊥
   StmtFits (iterate i ss) (suc d) = IterationFits i d × StmtsFit ss d
+  StmtFits (exit at) d = Unit {0}
+  StmtFits return d = Unit {0}
 
   pub StmtsFit : Stmts → ℕ → Type 0
   StmtsFit no_stmts d = Unit {0}

@@ -3,8 +3,8 @@ use Rattle.std.specs.Prelude.{ℕ, zero, suc, Bool, true, false, ◌&&◌, List,
 use Rattle.grammar.specs.declared.opener.Opener.{Opener}
 use Rattle.grammar.specs.declared.opener.Opener.TheVariants as openers
 use Rattle.source_tree.specs.declared.token.Mark.{Mark}
-use Rattle.source_tree.specs.declared.token.Mark.TheVariants.{Semicolon, Colon, Assign, If, Then, Elsif, Else, EndIf, Case, Of, EndCase, EndFor}
-use Rattle.source_tree.specs.Syntax.{Symbol, name, iteration, mark, Named, Tree, LabelData, Stmt, empty, assign, branch, cases, iterate, Stmts, no_stmts, stmt, Arms, no_arms, arm, Entries, no_entries, entry, Otherwise, no_else, else_stmts}
+use Rattle.source_tree.specs.declared.token.Mark.TheVariants.{Semicolon, Colon, Assign, If, Then, Elsif, Else, EndIf, Case, Of, EndCase, EndFor, Return}
+use Rattle.source_tree.specs.Syntax.{Symbol, name, iteration, exit_word, mark, Named, Tree, LabelData, Stmt, empty, assign, branch, cases, iterate, exit, return, Stmts, no_stmts, stmt, Arms, no_arms, arm, Entries, no_entries, entry, Otherwise, no_else, else_stmts}
 use Rattle.grammar.specs.Marks.{same_mark}
 use Rattle.grammar.specs.Ends.{is_label, ends_entries}
 use Rattle.grammar.specs.Reading.{Read, ◌>>=◌, after, opened as parenthesis}
@@ -37,18 +37,28 @@ simple_or turns depth n ts None = assigned turns (expression turns depth) n ts
 unfoldable pub simple : ℕ → ℕ → Named → Read Stmt
 simple turns depth n ts = simple_or turns depth n ts (parenthesis ts)
 
+-- behind EXIT or RETURN, which is such a statement
+unfoldable pub ended : Stmt → Read Stmt
+ended s ts = after Semicolon ts >>= λ rest. Some (s, rest)
+
 -- what the next symbol begins: a statement that is read or not, or None where it begins no statement
 abbrev pub Begun : Type 0
 Begun = Option (Option (Stmt × List Symbol))
+
+-- the same, where this mark is the next symbol
+unfoldable pub marked : (Opener → Read Stmt) → Mark → List Symbol → Begun
+marked nested_of m ts =
+    if same_mark m Semicolon then Some (Some (empty, ts))
+    else (if same_mark m If then Some (nested_of openers.If ts)
+    else (if same_mark m Case then Some (nested_of openers.Case ts)
+    else (if same_mark m Return then Some (ended return ts) else None)))
 
 -- the truth value is whether labels may follow
 unfoldable pub begun : Bool → (Named → Read Stmt) → (Opener → Read Stmt) → List Symbol → Begun
 begun labelled simple_of nested_of (name t at ∷ ts) = if labelled && is_label ts then None else Some (simple_of (record { text = t; at = at }) ts)
 begun labelled simple_of nested_of (iteration at ∷ ts) = Some (nested_of (openers.For at) ts)
-begun labelled simple_of nested_of (mark m ∷ ts) =
-    if same_mark m Semicolon then Some (Some (empty, ts))
-    else (if same_mark m If then Some (nested_of openers.If ts)
-    else (if same_mark m Case then Some (nested_of openers.Case ts) else None))
+begun labelled simple_of nested_of (exit_word at ∷ ts) = Some (ended (exit at) ts)
+begun labelled simple_of nested_of (mark m ∷ ts) = marked nested_of m ts
 begun labelled simple_of nested_of ts = None
 
 abbrev pub statements_step : (Stmts → Read Stmts) → Stmts → List Symbol → Begun → Option (Stmts × List Symbol)

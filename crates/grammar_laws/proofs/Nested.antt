@@ -2,12 +2,12 @@
 use Rattle.std.proofs.Common.{◌≡◌, ℕ, zero, suc, ◌+◌, ◌-◌, ◌≤◌, Bool, List, [], ◌∷◌, ◌++◌, length, Option, Some, None, is_some, refl, sym, subst, ◌∙◌, append_assoc, arith}
 use Rattle.plc_types.specs.declared.operator.Operator.{Operator}
 use Rattle.source_tree.specs.declared.token.Mark.{Mark}
-use Rattle.source_tree.specs.declared.token.Mark.TheVariants.{Close, Comma, Semicolon, Colon, Assign, Arrow, Range, If, Then, Elsif, Else, EndIf, Case, Of, EndCase, To, By, Do, EndFor}
+use Rattle.source_tree.specs.declared.token.Mark.TheVariants.{Close, Comma, Semicolon, Colon, Assign, Arrow, Range, If, Then, Elsif, Else, EndIf, Case, Of, EndCase, To, By, Do, EndFor, Return}
 use Rattle.plc_types.specs.declared.operator.UnaryOperator.{UnaryOperator}
 use Rattle.plc_types.specs.declared.operator.UnaryOperator.TheVariants as signs
 use Rattle.source_tree.specs.declared.syntax.Literal.{Literal}
 use Rattle.source_tree.specs.declared.syntax.Literal.TheVariants as literals
-use Rattle.source_tree.specs.Syntax.{Symbol, opening, iteration, mark, Named, PathData, Tree, literal, path, enumerator, paren, unary, chain, call, Links, no_links, link, LabelData, IterationData, Arguments, no_arguments, argument, ConnectionData, input, output, Stmt, empty, assign, invoke, branch, cases, iterate, Stmts, no_stmts, stmt, Arms, no_arms, arm, Entries, no_entries, entry, Otherwise, no_else, else_stmts}
+use Rattle.source_tree.specs.Syntax.{Symbol, opening, iteration, exit_word, mark, Named, PathData, Tree, literal, path, enumerator, paren, unary, chain, call, Links, no_links, link, LabelData, IterationData, Arguments, no_arguments, argument, ConnectionData, input, output, Stmt, empty, assign, invoke, branch, cases, iterate, exit, return, Stmts, no_stmts, stmt, Arms, no_arms, arm, Entries, no_entries, entry, Otherwise, no_else, else_stmts}
 use Rattle.source_tree.specs.Prints.{unary_symbol, print_members, print_path, print_literal, print_argument_name, print, print_links, print_high, print_label, print_more_labels, print_labels, print_step, print_arguments, print_more_arguments, print_connection, print_more_connections, print_connections, print_stmt, print_stmts, print_arms, print_entries, print_otherwise, name_symbol}
 use Rattle.source_tree.specs.Levels.{level_of, IsLevelled, AreOfLevel, IsConstant, IsInitialFormed, IsLabelFormed, AreLabelsFormed, AreLabels, IsStepLevelled, IsIterationLevelled, are_named, AreOfForm, AreConnectionsLevelled, IsStmtLevelled, AreStmtsLevelled, AreArmsLevelled, AreEntriesLevelled, IsElseLevelled}
 use Rattle.grammar.specs.Marks.{same_mark}
@@ -226,6 +226,14 @@ module _ (limit : ℕ) where
   unfolding open_parentheses open_ifs open_cases open_iterations same_mark
   plain_do o = refl
 
+  plain_return : IsPlain Return
+  unfolding open_parentheses open_ifs open_cases open_iterations same_mark
+  plain_return o = refl
+
+  behind_exit : (at : ℕ) (o : Open) (rest : List Symbol) → Within o (exit_word at ∷ rest) → Within o rest
+  unfolding open_parentheses open_ifs open_cases open_iterations
+  behind_exit at o rest h = h.1
+
   behind_if : (o : Open) (rest : List Symbol) → Within o (mark If ∷ rest) → (total (in_if o) ≤ limit) × Within (in_if o) rest
   unfolding open_parentheses open_ifs open_cases open_iterations same_mark
   behind_if o rest h = h
@@ -416,6 +424,8 @@ module _ (limit : ℕ) where
     stmt_nested (cases e no_entries other) = λ o rest l h. absurd l
     stmt_nested (cases e (entry ls ss es) other) = cases_nested e ls ss es other (entry_nested ls ss es (stmts_nested ss) (entries_nested es)) (otherwise_nested other)
     stmt_nested (iterate i ss) = iterate_nested i ss (stmts_nested ss)
+    stmt_nested (exit at) = λ o rest l h. (tt, past Semicolon o rest plain_semicolon (behind_exit at o (mark Semicolon ∷ rest) h))
+    stmt_nested return = λ o rest l h. (tt, past Semicolon o rest plain_semicolon (past Return o (mark Semicolon ∷ rest) plain_return h))
 
     pub stmts_nested : (ss : Stmts) → StmtsNested ss
     stmts_nested no_stmts = λ o rest l h. (tt, h)
@@ -490,6 +500,8 @@ mutual
   stmt_levelled (cases e (entry ls ss es) other) (suc d) h = (fits_levelled e d h.0, h.1, stmts_levelled ss d h.2, entries_levelled es d h.3, else_levelled other d h.4)
   stmt_levelled (iterate i ss) zero h = absurd h
   stmt_levelled (iterate i ss) (suc d) h = (iteration_levelled i d h.0, stmts_levelled ss d h.1)
+  stmt_levelled (exit at) d h = tt
+  stmt_levelled return d h = tt
 
   pub stmts_levelled : (ss : Stmts) (d : ℕ) → StmtsFit ss d → AreStmtsLevelled ss
   stmts_levelled no_stmts d h = tt

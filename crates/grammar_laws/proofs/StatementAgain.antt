@@ -3,8 +3,8 @@ use Rattle.std.proofs.Common.{◌≡◌, ℕ, zero, suc, ◌≤◌, Bool, true, 
 use Rattle.std.proofs.lemmas.Bool.{not-false, or_parts}
 use Rattle.std.proofs.Math.Bool.{and-false}
 use Rattle.source_tree.specs.declared.token.Mark.{Mark}
-use Rattle.source_tree.specs.declared.token.Mark.TheVariants.{Close, Semicolon, Colon, Assign, If, Then, Elsif, Else, EndIf, Case, Of, EndCase, EndFor, Do, To, Point}
-use Rattle.source_tree.specs.Syntax.{Symbol, name, opening, iteration, mark, Named, PathData, Tree, ConnectionData, LabelData, IterationData, Stmt, empty, assign, invoke, branch, cases, iterate, Stmts, no_stmts, stmt, Arms, no_arms, arm, Entries, no_entries, entry, Otherwise, no_else, else_stmts}
+use Rattle.source_tree.specs.declared.token.Mark.TheVariants.{Close, Semicolon, Colon, Assign, If, Then, Elsif, Else, EndIf, Case, Of, EndCase, EndFor, Return, Do, To, Point}
+use Rattle.source_tree.specs.Syntax.{Symbol, name, opening, iteration, exit_word, mark, Named, PathData, Tree, ConnectionData, LabelData, IterationData, Stmt, empty, assign, invoke, branch, cases, iterate, exit, return, Stmts, no_stmts, stmt, Arms, no_arms, arm, Entries, no_entries, entry, Otherwise, no_else, else_stmts}
 use Rattle.source_tree.specs.Prints.{name_symbol, print_members, print_path, print, print_labels, print_step, print_connections, print_stmt, print_stmts, print_arms, print_entries, print_otherwise}
 use Rattle.source_tree.specs.Levels.{AreLabels}
 use Rattle.grammar.specs.Marks.{same_mark}
@@ -13,7 +13,7 @@ use Rattle.grammar.specs.Fits.{Fits, ConnectionsFit, StmtFits, StmtsFit, ArmsFit
 use Rattle.grammar.specs.declared.opener.Opener.{Opener}
 use Rattle.grammar.specs.Reading.{Read, after, opened as parenthesis}
 use Rattle.grammar.specs.Expressions.{expression}
-use Rattle.grammar.specs.Statements.{add_stmt, add_arm, add_entry, assigned, simple, begun, statements_from, arms_from, otherwise, branched, repeated, entries_from, selected, opened, nested, statements}
+use Rattle.grammar.specs.Statements.{add_stmt, add_arm, add_entry, assigned, simple, ended, marked, begun, statements_from, arms_from, otherwise, branched, repeated, entries_from, selected, opened, nested, statements}
 use Rattle.grammar_laws.proofs.Again.{path_again, expression_again}
 use Rattle.grammar_laws.proofs.Selections.{labels_again, labels_begin, labels_end}
 use Rattle.grammar_laws.proofs.Iterations.{iteration_shape, iteration_again}
@@ -138,6 +138,8 @@ stmt_some (invoke n at cs) = omega arith
 stmt_some (branch arms other) = omega (arith, length-append (print_arms If arms) (print_otherwise EndIf other), otherwise_some EndIf other)
 stmt_some (cases e es other) = omega arith
 stmt_some (iterate i ss) = omega arith
+stmt_some (exit at) = omega arith
+stmt_some return = omega arith
 
 pub count_stmts-le : (ss : Stmts) → count_stmts ss ≤ length (print_stmts ss)
 count_stmts-le no_stmts = omega arith
@@ -152,12 +154,13 @@ count_entries-le no_entries = omega arith
 count_entries-le (entry ls ss es) = omega (arith, count_entries-le es, length-append (print_labels ls) (mark Colon ∷ (print_stmts ss ++ print_entries es)), length-append (print_stmts ss) (print_entries es))
 
 -- where no statement begins, none is begun
-no_mark_begun : (labelled : Bool) (simple_of : Named → Read Stmt) (other : Opener → Read Stmt) (m : Mark) (ts : List Symbol) → (same_mark m Semicolon || same_mark m If || same_mark m Case) ≡ false → begun labelled simple_of other (mark m ∷ ts) ≡ None
-unfolding begun
+no_mark_begun : (labelled : Bool) (simple_of : Named → Read Stmt) (other : Opener → Read Stmt) (m : Mark) (ts : List Symbol) → (same_mark m Semicolon || same_mark m If || same_mark m Case || same_mark m Return) ≡ false → begun labelled simple_of other (mark m ∷ ts) ≡ None
+unfolding begun marked
 no_mark_begun labelled simple_of other m ts h =
-    let all = or_parts (same_mark m Semicolon || same_mark m If) (same_mark m Case) h in
-    let first = or_parts (same_mark m Semicolon) (same_mark m If) all.0 in
-    rw (first.0, first.1, all.1) refl
+    let all = or_parts (same_mark m Semicolon || same_mark m If || same_mark m Case) (same_mark m Return) h in
+    let some = or_parts (same_mark m Semicolon || same_mark m If) (same_mark m Case) all.0 in
+    let first = or_parts (same_mark m Semicolon) (same_mark m If) some.0 in
+    rw (first.0, first.1, some.1, all.1) refl
 
 no_name_begun : (labelled : Bool) (simple_of : Named → Read Stmt) (other : Opener → Read Stmt) (n : Named) (ts : List Symbol) → (labelled && is_label ts) ≡ true → begun labelled simple_of other (name_symbol n ∷ ts) ≡ None
 unfolding begun
@@ -167,6 +170,7 @@ pub none_begun : (labelled : Bool) (simple_of : Named → Read Stmt) (other : Op
 unfolding begun
 none_begun labelled simple_of other (name t at ∷ ts) h = no_name_begun labelled simple_of other (record { text = t; at = at }) ts (not-false (labelled && is_label ts) h)
 none_begun labelled simple_of other (iteration at ∷ ts) h = absurd cc
+none_begun labelled simple_of other (exit_word at ∷ ts) h = absurd cc
 none_begun labelled simple_of other (mark m ∷ ts) h = no_mark_begun labelled simple_of other m ts h
 none_begun labelled simple_of other ts h = refl
 
@@ -208,8 +212,16 @@ module _ (turns : ℕ) where
   body_again ss labelled d rest a fits ends len = a labelled d turns no_stmts rest fits ends (omega (arith, count_stmts-le ss, length-append (print_stmts ss) rest)) len
 
   empty_again : StmtAgain empty
-  unfolding begun same_mark
+  unfolding begun marked same_mark
   empty_again labelled d rest fits len = refl
+
+  exit_again : (at : ℕ) → StmtAgain (exit at)
+  unfolding begun ended after same_mark
+  exit_again at labelled d rest fits len = refl
+
+  return_again : StmtAgain return
+  unfolding begun marked ended after same_mark
+  return_again labelled d rest fits len = refl
 
   assigned_again : (p : PathData) (e : Tree) (d : ℕ) (rest : List Symbol) → Fits e d → length (print_path p ++ mark Assign ∷ (print e ++ mark Semicolon ∷ rest)) ≤ turns
       → assigned turns (E d) p.first (print_members p.members ++ mark Assign ∷ (print e ++ mark Semicolon ∷ rest)) ≡ Some (assign p e, rest)
@@ -311,7 +323,7 @@ module _ (turns : ℕ) where
       (b x xs d n (add_arm before e ss) rest ax more.0 more.1 more.2 ends last (omega arith) least ∙ ap (λ (y : Arms). Some (y, rest)) (join_arms-add before e ss (arm x xs arms)))
 
   branch_again : (e : Tree) (ss : Stmts) (arms : Arms) (other : Otherwise) → StmtsAgain ss → ArmsAgain arms → OtherwiseAgain other → StmtAgain (branch (arm e ss arms) other)
-  unfolding begun same_mark nested opened branched E S C statements
+  unfolding begun marked same_mark nested opened branched E S C statements
   branch_again e ss arms other a b o labelled zero rest fits len = absurd fits
   branch_again e ss arms other a b o labelled (suc d) rest fits len =
       let end : List Symbol = print_otherwise EndIf other ++ rest in
@@ -352,7 +364,7 @@ module _ (turns : ℕ) where
       (b ks xs d n (add_entry before ls ss) rest ax more.0 more.1 more.2 ends last (omega arith) least ∙ ap (λ (y : Entries). Some (y, rest)) (join_entries-add before ls ss (entry ks xs es)))
 
   cases_again : (e : Tree) (ls : List LabelData) (ss : Stmts) (es : Entries) (other : Otherwise) → StmtsAgain ss → EntriesAgain es → OtherwiseAgain other → StmtAgain (cases e (entry ls ss es) other)
-  unfolding begun same_mark nested opened selected E S C statements
+  unfolding begun marked same_mark nested opened selected E S C statements
   cases_again e ls ss es other a b o labelled zero rest fits len = absurd fits
   cases_again e ls ss es other a b o labelled (suc d) rest fits len =
       let end : List Symbol = print_otherwise EndCase other ++ rest in
@@ -403,6 +415,8 @@ module _ (turns : ℕ) where
     stmt_again (cases e no_entries other) = λ labelled d rest fits len. absurd fits
     stmt_again (cases e (entry ls ss es) other) = cases_again e ls ss es other (stmts_again ss) (entries_again es) (otherwise_again other)
     stmt_again (iterate i ss) = iterate_again i ss (stmts_again ss)
+    stmt_again (exit at) = exit_again at
+    stmt_again return = return_again
 
     pub stmts_again : (ss : Stmts) → StmtsAgain ss
     stmts_again no_stmts = stmts_none

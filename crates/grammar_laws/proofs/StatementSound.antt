@@ -1,8 +1,8 @@
 -- Statements that are read are fitting ones that print the symbols that were taken.
 use Rattle.std.proofs.Common.{◌≡◌, ℕ, zero, suc, Bool, true, false, cond, ◌&&◌, List, [], ◌∷◌, ◌++◌, Option, Some, None, refl, sym, ap, subst, ◌∙◌, append_assoc}
 use Rattle.source_tree.specs.declared.token.Mark.{Mark}
-use Rattle.source_tree.specs.declared.token.Mark.TheVariants.{Semicolon, Colon, Assign, If, Then, Elsif, Else, EndIf, Case, Of, EndCase, EndFor}
-use Rattle.source_tree.specs.Syntax.{Symbol, name, iteration, mark, Named, PathData, Tree, LabelData, IterationData, Stmt, empty, assign, branch, cases, iterate, Stmts, no_stmts, stmt, Arms, no_arms, arm, Entries, no_entries, entry, Otherwise, no_else, else_stmts}
+use Rattle.source_tree.specs.declared.token.Mark.TheVariants.{Semicolon, Colon, Assign, If, Then, Elsif, Else, EndIf, Case, Of, EndCase, EndFor, Return}
+use Rattle.source_tree.specs.Syntax.{Symbol, name, iteration, exit_word, mark, Named, PathData, Tree, LabelData, IterationData, Stmt, empty, assign, branch, cases, iterate, exit, return, Stmts, no_stmts, stmt, Arms, no_arms, arm, Entries, no_entries, entry, Otherwise, no_else, else_stmts}
 use Rattle.source_tree.specs.Prints.{name_symbol, print_path, print, print_labels, print_iteration, print_stmt, print_stmts, print_arms, print_entries, print_otherwise}
 use Rattle.source_tree.specs.Levels.{AreLabels}
 use Rattle.grammar.specs.Marks.{same_mark}
@@ -14,7 +14,7 @@ use Rattle.grammar.specs.Reading.{Read, ◌>>=◌, after, opened as parenthesis}
 use Rattle.grammar.specs.Expressions.{path_from, inside, expression}
 use Rattle.grammar.specs.Labels.{labels}
 use Rattle.grammar.specs.Iterations.{iteration_from}
-use Rattle.grammar.specs.Statements.{add_stmt, add_arm, add_entry, assigned, simple_or, simple, Begun, begun, statements_step, statements_from, arms_step, arms_from, otherwise_or, otherwise, branched, repeated, entries_step, entries_from, selected, opened, nested, statements}
+use Rattle.grammar.specs.Statements.{add_stmt, add_arm, add_entry, assigned, simple_or, simple, ended, Begun, marked, begun, statements_step, statements_from, arms_step, arms_from, otherwise_or, otherwise, branched, repeated, entries_step, entries_from, selected, opened, nested, statements}
 use Rattle.grammar_laws.proofs.Steps.{bind_some, some_is, after_is, same_mark-is, opened_is as parenthesis_is}
 use Rattle.grammar_laws.proofs.Sound.{path_from_is, inside_is, expression_is}
 use Rattle.grammar_laws.proofs.Selections.{labels_is}
@@ -149,18 +149,32 @@ module _ (labelled : Bool) (simple_of : Named → Read Stmt) (other : Opener →
   nested_begun o ts None e = tt
   nested_begun o ts (Some s) e = inner o ts s.0 s.1 e
 
-  mark_begun : (m : Mark) (ts : List Symbol) (ends branches selects : Bool) → same_mark m Semicolon ≡ ends → same_mark m If ≡ branches → same_mark m Case ≡ selects
-      → BegunIs labelled d (mark m ∷ ts) (cond ends (Some (Some (empty, ts))) (cond branches (Some (other openers.If ts)) (cond selects (Some (other openers.Case ts)) None)))
-  mark_begun m ts true branches selects p q r = (ap (λ (k : Mark). mark k ∷ ts) (same_mark-is m Semicolon p), tt)
-  mark_begun m ts false true selects p q r = subst (λ (k : Mark). BegunIs labelled d (mark k ∷ ts) (Some (other openers.If ts))) (sym (same_mark-is m If q)) (nested_begun openers.If ts (other openers.If ts) refl)
-  mark_begun m ts false false true p q r = subst (λ (k : Mark). BegunIs labelled d (mark k ∷ ts) (Some (other openers.Case ts))) (sym (same_mark-is m Case r)) (nested_begun openers.Case ts (other openers.Case ts) refl)
-  mark_begun m ts false false false p q r = rw (p, q, r) refl
+  -- a statement that is one word and `;`
+  ended_go : (word : Symbol) (s : Stmt) (ts : List Symbol) (r : Option (Stmt × List Symbol)) → print_stmt s ≡ word ∷ mark Semicolon ∷ [] → StmtFits s d → ended s ts ≡ r → BegunIs labelled d (word ∷ ts) (Some r)
+  unfolding ended
+  ended_go word s ts None shape fits e = tt
+  ended_go word s ts (Some y) shape fits e =
+      let a = bind_some (after Semicolon ts) (λ (rest : List Symbol). Some (s, rest)) y e in
+      let printed : word ∷ ts ≡ print_stmt s ++ a.0 = ap (λ (r : List Symbol). word ∷ r) (after_is Semicolon ts a.0 a.1) ∙ sym (ap (λ (r : List Symbol). r ++ a.0) shape) in
+      subst (λ (x : Stmt × List Symbol). (word ∷ ts ≡ print_stmt x.0 ++ x.1) × StmtFits x.0 d) (some_is (s, a.0) y a.2) (printed, fits)
+
+  ended_begun : (word : Symbol) (s : Stmt) (ts : List Symbol) → print_stmt s ≡ word ∷ mark Semicolon ∷ [] → StmtFits s d → BegunIs labelled d (word ∷ ts) (Some (ended s ts))
+  ended_begun word s ts shape fits = ended_go word s ts (ended s ts) shape fits refl
+
+  mark_begun : (m : Mark) (ts : List Symbol) (ends branches selects returns : Bool) → same_mark m Semicolon ≡ ends → same_mark m If ≡ branches → same_mark m Case ≡ selects → same_mark m Return ≡ returns
+      → BegunIs labelled d (mark m ∷ ts) (cond ends (Some (Some (empty, ts))) (cond branches (Some (other openers.If ts)) (cond selects (Some (other openers.Case ts)) (cond returns (Some (ended return ts)) None))))
+  mark_begun m ts true branches selects returns p q r s = (ap (λ (k : Mark). mark k ∷ ts) (same_mark-is m Semicolon p), tt)
+  mark_begun m ts false true selects returns p q r s = subst (λ (k : Mark). BegunIs labelled d (mark k ∷ ts) (Some (other openers.If ts))) (sym (same_mark-is m If q)) (nested_begun openers.If ts (other openers.If ts) refl)
+  mark_begun m ts false false true returns p q r s = subst (λ (k : Mark). BegunIs labelled d (mark k ∷ ts) (Some (other openers.Case ts))) (sym (same_mark-is m Case r)) (nested_begun openers.Case ts (other openers.Case ts) refl)
+  mark_begun m ts false false false true p q r s = subst (λ (k : Mark). BegunIs labelled d (mark k ∷ ts) (Some (ended return ts))) (sym (same_mark-is m Return s)) (ended_begun (mark Return) return ts refl tt)
+  mark_begun m ts false false false false p q r s = rw (p, q, r, s) refl
 
   begun_is : (ts : List Symbol) → BegunIs labelled d ts (begun labelled simple_of other ts)
-  unfolding begun
+  unfolding begun marked
   begun_is (name t at ∷ ts) = name_begun (record { text = t; at = at }) ts (labelled && is_label ts) refl
   begun_is (iteration at ∷ ts) = nested_begun (openers.For at) ts (other (openers.For at) ts) refl
-  begun_is (mark m ∷ ts) = mark_begun m ts (same_mark m Semicolon) (same_mark m If) (same_mark m Case) refl refl refl
+  begun_is (exit_word at ∷ ts) = ended_begun (exit_word at) (exit at) ts refl tt
+  begun_is (mark m ∷ ts) = mark_begun m ts (same_mark m Semicolon) (same_mark m If) (same_mark m Case) (same_mark m Return) refl refl refl refl
   begun_is ts = refl
 
   abbrev Listed : Stmts → List Symbol → Stmts → List Symbol → Type 0

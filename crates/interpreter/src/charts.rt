@@ -3,7 +3,7 @@ ghost use Rattle.std.specs.Prelude.{◌≡◌, ◌≤◌, ◌+◌, ◌*◌, ◌^
 ghost use Rattle.program_tree.specs.Tree.{chart};
 ghost use Rattle.program_tree.specs.View.{stmts_view, actions_view, transition_view, transitions_view};
 ghost use Rattle.meaning.specs.Charts.{runs, holds_in, faults_in};
-ghost use Rattle.meaning.specs.Effects.{effect_of, effect_of_all, effect_of_actions};
+ghost use Rattle.meaning.specs.Effects.{on, state_of, effect_of, effect_of_all, effect_of_actions};
 ghost use Rattle.meaning.specs.Flags.{may_leave, exited_with, entered_with, exited_after, entered_after, fault_after};
 ghost use Rattle.meaning.specs.Room.{markings_in_all, markings_in_actions};
 ghost use Rattle.interpreter.specs.Scopes.{callees_here, room_here};
@@ -30,7 +30,7 @@ pub fn run_chart(
     requires known { scope.now.below ≤ length scope.now.called.now }
     requires bound { scope.now.base + (scope.now.below + 1) * 2 ^ 64 ≤ 2 ^ 128 }
     requires room { room_here scope.now + 4 * length steps.now + markings_in_actions (actions_view actions.now) ≤ length stack.old }
-    ensures state { cells.new ≡ effect_of (callees_here scope.now) scope.now.ranges.now scope.now.base (chart steps.now (actions_view actions.now) (transitions_view transitions.now)) cells.old }
+    ensures state { on cells.new ≡ effect_of (callees_here scope.now) scope.now.ranges.now scope.now.base (chart steps.now (actions_view actions.now) (transitions_view transitions.now)) cells.old }
     ensures room { length stack.new ≡ length stack.old }
 {
     let (now, stack) = stack.split_at_mut(steps.len());
@@ -68,6 +68,7 @@ fn run_actions(
     }
 }
 
+// What ends the statements of an action ends them alone.
 #[cycle(run)]
 fn run_action(
     action: &TypedAction,
@@ -81,7 +82,7 @@ fn run_action(
     requires bound { scope.now.base + (scope.now.below + 1) * 2 ^ 64 ≤ 2 ^ 128 }
     requires room { room_here scope.now + markings_in_all (stmts_view action.now.body.items) ≤ length stack.old }
     ensures state { cells.new ≡ (if runs scope.now.base now.now before.now action.now.latch action.now.associations.items cells.old
-        then effect_of_all (callees_here scope.now) scope.now.ranges.now scope.now.base (stmts_view action.now.body.items) cells.old else cells.old) }
+        then state_of (effect_of_all (callees_here scope.now) scope.now.ranges.now scope.now.base (stmts_view action.now.body.items) cells.old) else cells.old) }
     ensures room { length stack.new ≡ length stack.old }
 {
     if runs(action, now, before, scope.base, cells) {

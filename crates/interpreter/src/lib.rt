@@ -4,6 +4,7 @@
 // - `charts`: one run of a chart
 // - `evaluation`: the value of an expression, and whether its evaluation meets a fault
 // - `markings`: markings of a chart
+// - `outcome`: how statements end
 // - `room`: room for calls and charts
 // - `scope`: what evaluations and runs read
 // - `selection`: the conditions of an IF and the entries of a CASE
@@ -16,6 +17,7 @@ mod cells;
 mod charts;
 mod evaluation;
 mod markings;
+mod outcome;
 mod room;
 mod scope;
 mod selection;
@@ -23,6 +25,7 @@ mod statements;
 mod turns;
 
 pub use evaluation::{Evaluated, evaluate};
+pub use outcome::Outcome;
 pub use room::add_room;
 pub use scope::Scope;
 pub use statements::run_all;

@@ -51,7 +51,10 @@ fn add_markings(stmt: &TypedStmt, stack: &mut Vec<Value>) -> Result<(), AllocErr
     ensures { OnOk result (length stack.new.items ≡ length stack.old.items + markings_in (stmt_view stmt.now)) }
 {
     match stmt {
-        TypedStmt::Assign(_, _) | TypedStmt::CallBlock { .. } => Ok(()),
+        TypedStmt::Assign(_, _)
+        | TypedStmt::CallBlock { .. }
+        | TypedStmt::Exit
+        | TypedStmt::Return => Ok(()),
         TypedStmt::If(arms, other) => {
             add_markings_of_arms(arms, stack)?;
             add_markings_of_all(other, stack)
@@ -60,7 +63,7 @@ fn add_markings(stmt: &TypedStmt, stack: &mut Vec<Value>) -> Result<(), AllocErr
             add_markings_of_entries(entries, stack)?;
             add_markings_of_all(other, stack)
         }
-        TypedStmt::For(_, body) => add_markings_of_all(body, stack),
+        TypedStmt::For(_, body) | TypedStmt::Body(body) => add_markings_of_all(body, stack),
         TypedStmt::Chart(steps, actions, _) => {
             for _step in steps {
                 add_cells(4, stack)?;

@@ -4,16 +4,18 @@ ghost use Rattle.plc_types.specs.Types.{in_range};
 ghost use Rattle.program_tree.specs.View.{stmts_view};
 ghost use Rattle.meaning.specs.Effects.{effect_of_turns, effect_of_all};
 ghost use Rattle.meaning.specs.Room.{markings_in_all};
+ghost use Rattle.interpreter.specs.Outcomes.{effect_with};
 ghost use Rattle.interpreter.specs.Scopes.{callees_here, room_here};
 
 use crate::cells::{is_within, put, range_at};
+use crate::outcome::Outcome;
 use crate::scope::Scope;
 use crate::statements::run_all;
 use plc_types::{Range, Value};
 use program_tree::{Turns, TypedStmt};
 
-/// Runs a body turn by turn, and leaves the control variable at the value that ends them. A number that is no Value is in
-/// no cell's range.
+/// Runs a body turn by turn, and leaves the control variable at the value that ends them. A turn that an EXIT or a RETURN leaves is the
+/// last one, and the control variable keeps its value. A number that is no Value is in no cell's range.
 #[cycle(run)]
 pub fn run_turns(
     body: &[TypedStmt],
@@ -21,11 +23,11 @@ pub fn run_turns(
     scope: &Scope<'_>,
     cells: &mut [Value],
     stack: &mut [Value],
-)
+) -> Outcome
     requires known { scope.now.below ≤ length scope.now.called.now }
     requires bound { scope.now.base + (scope.now.below + 1) * 2 ^ 64 ≤ 2 ^ 128 }
     requires room { room_here scope.now + markings_in_all (stmts_view body.now) ≤ length stack.old }
-    ensures state { cells.new ≡ effect_of_turns scope.now.ranges.now turns.count (scope.now.base + turns.control) turns.first turns.step
+    ensures effect { effect_with result cells.new ≡ effect_of_turns scope.now.ranges.now turns.count (scope.now.base + turns.control) turns.first turns.step
         (effect_of_all (callees_here scope.now) scope.now.ranges.now scope.now.base (stmts_view body.now)) cells.old }
     ensures room { length stack.new ≡ length stack.old }
 {
@@ -34,10 +36,15 @@ pub fn run_turns(
     let mut value = i128::from(turns.first);
     for _ in 0..turns.count {
         set_control(control, range, value, cells);
-        run_all(body, scope, cells, stack);
+        match run_all(body, scope, cells, stack) {
+            Outcome::On => {}
+            Outcome::Exit => return Outcome::On,
+            Outcome::Return => return Outcome::Return,
+        }
         value += i128::from(turns.step);
     }
     set_control(control, range, value, cells);
+    Outcome::On
 }
 
 // Gives the control variable a value where that is in its range; else that is a fault.

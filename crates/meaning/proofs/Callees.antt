@@ -9,7 +9,7 @@ use Rattle.program_tree.specs.plc_types.Types.{in_range}
 use Rattle.program_tree.specs.Tree.{Statements, CalledData, block, function}
 use Rattle.program_tree.specs.View.{called_view, all_called_view}
 use Rattle.meaning.specs.Values.{State}
-use Rattle.meaning.specs.Effects.{range_at, effect_of_turns, effect_of_all}
+use Rattle.meaning.specs.Effects.{Effect, range_at, state_of, behind_turn, effect_of_turns, effect_of_all}
 use Rattle.meaning.specs.Calls.{given, run_of, ends_of, nothing, callees_of}
 use Rattle.meaning.specs.Room.{room_of, room_for}
 use Rattle.meaning.proofs.Cases.{by_test}
@@ -75,18 +75,18 @@ room-call ps i n h =
 
 pub function-ran : (ps : List CalledData) (f n : ℕ) (types : List CellType) (rs given_rs : List Range) (body ran_body : Statements) (start given_start front own : State) (vs : List ℤ) → f < n
     → slice_index_or ps f nothing ≡ function types rs start body → given_rs ≡ rs → given_start ≡ start → ran_body ≡ body
-    → front ≡ given given_rs 2 vs given_start → own ≡ effect_of_all (callees_of ps f) given_rs 0 ran_body front → own ≡ (callees_of ps n).ends f vs
+    → front ≡ given given_rs 2 vs given_start → own ≡ state_of (effect_of_all (callees_of ps f) given_rs 0 ran_body front) → own ≡ (callees_of ps n).ends f vs
 function-ran ps f n types rs given_rs body ran_body start given_start front own vs h is r st b e ran =
-    let k : (callees_of ps n).ends f vs ≡ effect_of_all (callees_of ps f) rs 0 body (given rs 2 vs start) = ends-known ps f n vs h ∙ ap (λ q. ends_of (callees_of ps f) q vs) is in
+    let k : (callees_of ps n).ends f vs ≡ state_of (effect_of_all (callees_of ps f) rs 0 body (given rs 2 vs start)) = ends-known ps f n vs h ∙ ap (λ q. ends_of (callees_of ps f) q vs) is in
     rw (ran, e, r, st, b) (sym k)
 
 pub block-answers : (ps : List CalledData) (f n : ℕ) (body : Statements) (vs : List ℤ) → f < n → slice_index_or ps f nothing ≡ block body → (callees_of ps n).ends f vs ≡ []
 block-answers ps f n body vs h is = ends-known ps f n vs h ∙ ap (λ q. ends_of (callees_of ps f) q vs) is
 
 pub block-ran : (ps : List CalledData) (b n : ℕ) (rs : List Range) (base : ℕ) (body ran_body : Statements) (s after : State) → b < n → slice_index_or ps b nothing ≡ block body
-    → ran_body ≡ body → after ≡ effect_of_all (callees_of ps b) rs base ran_body s → after ≡ (callees_of ps n).runs b rs base s
+    → ran_body ≡ body → after ≡ state_of (effect_of_all (callees_of ps b) rs base ran_body s) → after ≡ (callees_of ps n).runs b rs base s
 block-ran ps b n rs base body ran_body s after h is e ran =
-    let k : (callees_of ps n).runs b rs base s ≡ effect_of_all (callees_of ps b) rs base body s = runs-known ps b n rs base s h ∙ ap (λ q. run_of (callees_of ps b) q rs base s) is in
+    let k : (callees_of ps n).runs b rs base s ≡ state_of (effect_of_all (callees_of ps b) rs base body s) = runs-known ps b n rs base s h ∙ ap (λ q. run_of (callees_of ps b) q rs base s) is in
     rw (ran, e) (sym k)
 
 pub function-runs : (ps : List CalledData) (b n : ℕ) (types : List CellType) (rs own : List Range) (base : ℕ) (start : State) (body : Statements) (s : State) → b < n → slice_index_or ps b nothing ≡ function types own start body
@@ -95,12 +95,12 @@ function-runs ps b n types rs own base start body s h is = sym (runs-known ps b 
 
 -- ---- the turns of a FOR: one turn less is left, and the whole is the same
 
-pub effect_of_turns-turn : (rs : List Range) (count counter control : ℕ) (v more step : ℤ) (body : State → State) (s set ran : State) (r : Range) → counter < count
+pub effect_of_turns-turn : (rs : List Range) (count counter control : ℕ) (v more step : ℤ) (body : State → Effect) (s set : State) (ran : Effect) (r : Range) → counter < count
     → r ≡ range_at rs control → more ≡ v +ℤ step → set ≡ (if in_range v r then slice_set s control v else slice_set s 0 (pos 1)) → ran ≡ body set
-    → effect_of_turns rs (count - (counter + 1)) control more step body ran ≡ effect_of_turns rs (count - counter) control v step body s
+    → behind_turn ran (effect_of_turns rs (count - (counter + 1)) control more step body) ≡ effect_of_turns rs (count - counter) control v step body s
 effect_of_turns-turn rs count counter control v more step body s set ran r below is_range is_more is_set is_ran =
     let left : count - counter ≡ suc (count - (counter + 1)) = omega arith in
-    rw (left, is_more, is_ran, is_set, is_range)
+    rw (left, is_more, is_ran, is_set, is_range) refl
 
 -- ---- a fault of an input or of the run
 

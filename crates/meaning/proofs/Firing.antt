@@ -12,7 +12,7 @@ use Rattle.program_tree.specs.Tree.{TransitionData, Actions, chart}
 use Rattle.program_tree.specs.View.{actions_view, transitions_view}
 use Rattle.meaning.specs.Values.{State, Callees}
 use Rattle.meaning.specs.Charts.{Marking, is_on, marking_now, marking_before, is_among, is_exited, is_entered, may_fire, evaluated, fired, holds_in, faults_in, is_next}
-use Rattle.meaning.specs.Effects.{with_fault, all_latched, marked, effect_of_transitions, effect_of_actions, effect_of}
+use Rattle.meaning.specs.Effects.{with_fault, all_latched, marked, on, effect_of_transitions, effect_of_actions, effect_of}
 use Rattle.meaning.specs.Flags.{no_steps, with_steps, may_leave, exited_after, entered_after, fault_after, is_next_from}
 use Rattle.meaning.proofs.Cases.{by_test, or-swap}
 use Rattle.meaning.proofs.Loops.{length-set}
@@ -144,17 +144,17 @@ pub chart-ran : (callees : Callees) (rs : List Range) (base : ℕ) (steps : List
     → s1 ≡ all_latched rs base x actions s → s2 ≡ effect_of_actions callees rs base x l actions s1
     → exited ≡ exited_after x (holds_in callees base s2) ts z → entered ≡ entered_after x (holds_in callees base s2) ts z zc
     → fault ≡ fault_after x (holds_in callees base s2) (faults_in callees base s2) ts z false
-    → s3 ≡ with_fault fault s2 → s4 ≡ marked rs base x (is_next_from x exited entered) 0 steps s3 → s4 ≡ effect_of callees rs base (chart steps actions ts) s
+    → s3 ≡ with_fault fault s2 → s4 ≡ marked rs base x (is_next_from x exited entered) 0 steps s3 → on s4 ≡ effect_of callees rs base (chart steps actions ts) s
 chart-ran callees rs base steps actions ts s x l exited0 entered0 z zc exited entered s1 s2 s3 s4 fault lx ll lc ex elb ez ezc e1 e2 el ec ef e3 e4 =
     let one : s4 ≡ effect_of_transitions callees rs base x steps ts s2 =
     rw (e4, e3, ef, el, ec, ez, ezc) (transitions-same callees rs base x steps ts s2 exited0 entered0 lx ll lc) in
-    let two : effect_of_transitions callees rs base x steps ts s2 ≡ effect_of callees rs base (chart steps actions ts) s = rw (e2, e1, ex, elb) refl in
-    one ∙ two
+    let two : on (effect_of_transitions callees rs base x steps ts s2) ≡ effect_of callees rs base (chart steps actions ts) s = rw (e2, e1, ex, elb) refl in
+    ap on one ∙ two
 
 -- the same chart as data
 pub chart-same : (callees : Callees) (rs : List Range) (base : ℕ) (steps given_steps : List StepCells) (actions given_actions : List TypedAction) (ts given_ts : List TypedTransition) (s after : State)
-    → given_steps ≡ steps → given_actions ≡ actions → given_ts ≡ ts → after ≡ effect_of callees rs base (chart given_steps (actions_view given_actions) (transitions_view given_ts)) s
-    → after ≡ effect_of callees rs base (chart steps (actions_view actions) (transitions_view ts)) s
+    → given_steps ≡ steps → given_actions ≡ actions → given_ts ≡ ts → on after ≡ effect_of callees rs base (chart given_steps (actions_view given_actions) (transitions_view given_ts)) s
+    → on after ≡ effect_of callees rs base (chart steps (actions_view actions) (transitions_view ts)) s
 chart-same callees rs base steps given_steps actions given_actions ts given_ts s after es ea et ran =
     ran ∙ ap (λ (p : List StepCells). effect_of callees rs base (chart p (actions_view given_actions) (transitions_view given_ts)) s) es
     ∙ ap (λ (p : List TypedAction). effect_of callees rs base (chart steps (actions_view p) (transitions_view given_ts)) s) ea

@@ -2,5 +2,6 @@ pub mod Sizes
 pub mod Cases
 pub mod Loops
 pub mod Callees
+pub mod Leaving
 pub mod Firing
 pub mod InTurn

@@ -1,6 +1,6 @@
 -- The measure of a run: what is left of the tree, and all that the POUs may do that it may call.
 use Rattle.std.proofs.Common.{ℕ, zero, suc, ◌+◌, ◌*◌, List, [], ◌∷◌, slice_index_or}
-use Rattle.program_tree.specs.Tree.{Expression, number, cell, unary, chain, call_standard, call_function, Operands, no_operands, operand, Expressions, no_expressions, expression, TransitionData, Statement, assign, call_block, choice, cases, repeat, chart, Statements, no_statements, statement, Choices, no_choices, choose, Entries, no_entries, entry, Actions, no_actions, action, CalledData, block, function}
+use Rattle.program_tree.specs.Tree.{Expression, number, cell, unary, chain, call_standard, call_function, Operands, no_operands, operand, Expressions, no_expressions, expression, TransitionData, Statement, assign, call_block, choice, cases, repeat, chart, exit, return, own_body, Statements, no_statements, statement, Choices, no_choices, choose, Entries, no_entries, entry, Actions, no_actions, action, CalledData, block, function}
 use Rattle.meaning.specs.Calls.{nothing}
 
 abbrev mutual
@@ -32,6 +32,9 @@ abbrev mutual
   statement_nodes (cases kind e es other) = nodes e + entry_nodes es + body_nodes other + 1
   statement_nodes (repeat turns body) = body_nodes body + 1
   statement_nodes (chart steps actions ts) = action_nodes actions + transition_nodes ts + 1
+  statement_nodes exit = 1
+  statement_nodes return = 1
+  statement_nodes (own_body ss) = body_nodes ss + 1
 
   pub body_nodes : Statements → ℕ
   body_nodes no_statements = 0

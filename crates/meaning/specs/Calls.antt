@@ -3,7 +3,7 @@ use Rattle.std.specs.Prelude.{ℕ, zero, suc, ◌+◌, ◌==◌, List, [], ◌�
 use Rattle.program_tree.specs.plc_types.declared.range.Range.{Range}
 use Rattle.program_tree.specs.Tree.{Statements, no_statements, CalledData, block, function}
 use Rattle.meaning.specs.Values.{State, Callees, no_callees}
-use Rattle.meaning.specs.Effects.{stored, effect_of_all}
+use Rattle.meaning.specs.Effects.{stored, state_of, effect_of_all}
 
 -- values that are assigned to cells one behind the other, from a place on
 abbrev pub given : List Range → ℕ → List ℤ → State → State
@@ -11,13 +11,13 @@ given rs place [] s = s
 given rs place (v ∷ vs) s = given rs (place + 1) vs (stored rs place v s)
 
 -- A call of a FUNCTION begins with cells of its own at their initial values, assigns its inputs, which stand behind FAULT and what it
--- answers, in declared order, and runs its body.
+-- answers, in declared order, and runs its body, of which it keeps the state whatever ends it.
 abbrev pub end_of : Callees → List Range → List ℤ → Statements → List ℤ → State
-end_of callees rs start body vs = effect_of_all callees rs 0 body (given rs 2 vs start)
+end_of callees rs start body vs = state_of (effect_of_all callees rs 0 body (given rs 2 vs start))
 
 -- a FUNCTION_BLOCK is no FUNCTION, and a FUNCTION no FUNCTION_BLOCK: what has no meaning changes nothing and answers nothing
 abbrev pub run_of : Callees → CalledData → List Range → ℕ → State → State
-run_of callees (block body) rs base s = effect_of_all callees rs base body s
+run_of callees (block body) rs base s = state_of (effect_of_all callees rs base body s)
 run_of callees (function types own start body) rs base s = s
 
 abbrev pub ends_of : Callees → CalledData → List ℤ → State

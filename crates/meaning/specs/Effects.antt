@@ -9,7 +9,7 @@ use Rattle.std.specs.List.{list_any}
 use Rattle.program_tree.specs.declared.typed.StepCells.{StepCells}
 use Rattle.program_tree.specs.declared.typed.Association.{Association}
 use Rattle.program_tree.specs.plc_types.Types.{in_range}
-use Rattle.program_tree.specs.Tree.{Statement, TransitionData, assign, call_block, choice, cases, repeat, chart, Statements, no_statements, statement, Choices, no_choices, choose, Entries, no_entries, entry, Actions, no_actions, action}
+use Rattle.program_tree.specs.Tree.{Statement, TransitionData, assign, call_block, choice, cases, repeat, chart, exit, return, own_body, Statements, no_statements, statement, Choices, no_choices, choose, Entries, no_entries, entry, Actions, no_actions, action}
 use Rattle.meaning.specs.Values.{State, Callees, number_of, value_of, faults, is_truth}
 use Rattle.meaning.specs.Charts.{Marking, marking_now, marking_before, next_latch, runs, evaluated, fired, holds_in, faults_in, is_next}
 
@@ -20,6 +20,37 @@ range_at rs place = slice_index_or rs place (record { low = pos 1; high = pos 0 
 -- a fault that is met is added to FAULT, the first cell
 abbrev pub with_fault : Bool → State → State
 with_fault fault s = if fault then slice_set s 0 (pos 1) else s
+
+-- What a statement does to a state, and whether what stands behind it in its list goes on. An EXIT leaves the list, and the innermost FOR around it ends
+-- there; a RETURN leaves it, and the innermost body of its own ends there (3.3.2.1 and 3.3.2.4).
+pub data Effect : Type 0 where
+  on : State → Effect
+  exited : State → Effect
+  returned : State → Effect
+
+-- the state that is left, whatever the outcome
+abbrev pub state_of : Effect → State
+state_of (on s) = s
+state_of (exited s) = s
+state_of (returned s) = s
+
+-- what stands behind a statement runs only where it goes on
+abbrev pub followed_by : Effect → (State → Effect) → Effect
+followed_by (on s) next = next s
+followed_by (exited s) next = exited s
+followed_by (returned s) next = returned s
+
+-- The turns behind one: an EXIT in it ends the FOR, which goes on; a RETURN ends the FOR, and what stands around it.
+abbrev pub behind_turn : Effect → (State → Effect) → Effect
+behind_turn (on s) next = next s
+behind_turn (exited s) next = on s
+behind_turn (returned s) next = returned s
+
+-- behind a body of its own all goes on where a RETURN ended it
+abbrev pub behind_body : Effect → Effect
+behind_body (on s) = on s
+behind_body (exited s) = exited s
+behind_body (returned s) = on s
 
 -- a value outside the target's range is a fault, and leaves the target
 abbrev pub stored : List Range → ℕ → ℤ → State → State
@@ -36,10 +67,10 @@ is_labelled v [] = false
 is_labelled v (l ∷ ls) = is_named v l || is_labelled v ls
 
 -- So many turns of a body: the control variable gets its value, and the body runs; behind the last turn the variable gets the
--- value that ends the FOR.
-abbrev pub effect_of_turns : List Range → ℕ → ℕ → ℤ → ℤ → (State → State) → State → State
-effect_of_turns rs zero control v step body s = stored rs control v s
-effect_of_turns rs (suc count) control v step body s = effect_of_turns rs count control (v +ℤ step) step body (body (stored rs control v s))
+-- value that ends the FOR. Where a turn leaves the body, the variable keeps its value.
+abbrev pub effect_of_turns : List Range → ℕ → ℕ → ℤ → ℤ → (State → Effect) → State → Effect
+effect_of_turns rs zero control v step body s = on (stored rs control v s)
+effect_of_turns rs (suc count) control v step body s = behind_turn (body (stored rs control v s)) (effect_of_turns rs count control (v +ℤ step) step body)
 
 -- The latches of a chart's actions, and its steps' cells: each is a BOOL, and assigned as any other cell.
 abbrev pub latched : List Range → ℕ → Marking → Option ℕ → List Association → State → State
@@ -64,10 +95,10 @@ effect_of_transitions callees rs base x steps ts s =
     (with_fault (list_any (faults_in callees base s) (evaluated x (holds_in callees base s) [] ts)) s)
 
 abbrev mutual
-  pub effect_of : Callees → List Range → ℕ → Statement → State → State
+  pub effect_of : Callees → List Range → ℕ → Statement → State → Effect
   effect_of callees rs base (assign target e) s =
-      stored rs (base + target) (value_of callees base e s) (with_fault (faults callees base e s) s)
-  effect_of callees rs base (call_block b offset) s = callees.runs b rs (base + offset) s
+      on (stored rs (base + target) (value_of callees base e s) (with_fault (faults callees base e s) s))
+  effect_of callees rs base (call_block b offset) s = on (callees.runs b rs (base + offset) s)
   effect_of callees rs base (choice arms other) s = effect_of_choices callees rs base arms (effect_of_all callees rs base other) s
   effect_of callees rs base (cases kind e es other) s =
       effect_of_entries callees rs base (value_of callees base e s) es (effect_of_all callees rs base other) (with_fault (faults callees base e s) s)
@@ -76,27 +107,31 @@ abbrev mutual
   effect_of callees rs base (chart steps actions ts) s =
       let x = marking_now base steps s in
       let l = marking_before base steps s in
-      effect_of_transitions callees rs base x steps ts (effect_of_actions callees rs base x l actions (all_latched rs base x actions s))
+      on (effect_of_transitions callees rs base x steps ts (effect_of_actions callees rs base x l actions (all_latched rs base x actions s)))
+  effect_of callees rs base exit s = exited s
+  effect_of callees rs base return s = returned s
+  effect_of callees rs base (own_body ss) s = behind_body (effect_of_all callees rs base ss s)
 
-  pub effect_of_all : Callees → List Range → ℕ → Statements → State → State
-  effect_of_all callees rs base no_statements s = s
-  effect_of_all callees rs base (statement t ts) s = effect_of_all callees rs base ts (effect_of callees rs base t s)
+  -- a list ends at the first statement that leaves it
+  pub effect_of_all : Callees → List Range → ℕ → Statements → State → Effect
+  effect_of_all callees rs base no_statements s = on s
+  effect_of_all callees rs base (statement t ts) s = followed_by (effect_of callees rs base t s) (effect_of_all callees rs base ts)
 
   -- conditions are evaluated in order up to the first that is TRUE, whose statements run; with none, the others do
-  pub effect_of_choices : Callees → List Range → ℕ → Choices → (State → State) → State → State
+  pub effect_of_choices : Callees → List Range → ℕ → Choices → (State → Effect) → State → Effect
   effect_of_choices callees rs base no_choices other s = other s
   effect_of_choices callees rs base (choose e ss arms) other s =
       if is_truth (value_of callees base e s) then effect_of_all callees rs base ss (with_fault (faults callees base e s) s)
       else effect_of_choices callees rs base arms other (with_fault (faults callees base e s) s)
 
   -- the entry runs that is the first to have the selector's value among its labels; with none, the others run
-  pub effect_of_entries : Callees → List Range → ℕ → ℤ → Entries → (State → State) → State → State
+  pub effect_of_entries : Callees → List Range → ℕ → ℤ → Entries → (State → Effect) → State → Effect
   effect_of_entries callees rs base v no_entries other s = other s
   effect_of_entries callees rs base v (entry labels ss es) other s =
       if is_labelled v labels then effect_of_all callees rs base ss s else effect_of_entries callees rs base v es other s
 
-  -- the actions that run do so in the order of the text
+  -- the actions that run do so in the order of the text; what ends the list of one ends that action alone
   pub effect_of_actions : Callees → List Range → ℕ → Marking → Marking → Actions → State → State
   effect_of_actions callees rs base x l no_actions s = s
   effect_of_actions callees rs base x l (action latch associations body rest) s =
-      effect_of_actions callees rs base x l rest (if runs base x l latch associations s then effect_of_all callees rs base body s else s)
+      effect_of_actions callees rs base x l rest (if runs base x l latch associations s then state_of (effect_of_all callees rs base body s) else s)

@@ -1,6 +1,6 @@
 -- How many cells calls and charts take at once.
 use Rattle.std.specs.Prelude.{ℕ, zero, suc, ◌+◌, ◌*◌, List, length, slice_index_or}
-use Rattle.program_tree.specs.Tree.{Statement, assign, call_block, choice, cases, repeat, chart, Statements, no_statements, statement, Choices, no_choices, choose, Entries, no_entries, entry, Actions, no_actions, action, CalledData, block, function}
+use Rattle.program_tree.specs.Tree.{Statement, assign, call_block, choice, cases, repeat, chart, exit, return, own_body, Statements, no_statements, statement, Choices, no_choices, choose, Entries, no_entries, entry, Actions, no_actions, action, CalledData, block, function}
 use Rattle.meaning.specs.Calls.{nothing}
 
 -- a chart keeps four markings while it runs
@@ -12,6 +12,9 @@ abbrev mutual
   markings_in (cases kind e es other) = markings_in_entries es + markings_in_all other
   markings_in (repeat turns body) = markings_in_all body
   markings_in (chart steps actions ts) = 4 * length steps + markings_in_actions actions
+  markings_in exit = 0
+  markings_in return = 0
+  markings_in (own_body ss) = markings_in_all ss
 
   pub markings_in_all : Statements → ℕ
   markings_in_all no_statements = 0

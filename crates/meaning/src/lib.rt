@@ -4,4 +4,4 @@
 
 mod laws;
 
-pub use laws::transitions_fire_in_turn;
+pub use laws::{lists_do_what_their_parts_do, transitions_fire_in_turn};

@@ -266,6 +266,8 @@ fn walk_stmt(
             walk_iteration(scope, iteration, outcome, numbers, calls)?;
             walk_stmts(scope, body, outcome, numbers, calls)
         }
+        Stmt::Exit(_) => Ok(()),
+        Stmt::Return => Ok(()),
     }
 }
 

@@ -5,7 +5,7 @@ use Rattle.std.proofs.lemmas.Bool.{and_parts}
 use Rattle.std.proofs.lemmas.List.{append-nil, append_assoc}
 use Rattle.rules.specs.declared.rule.Rule.TheVariants.{NotOneInitialStep}
 use Rattle.rules.specs.Judgements.{Judgement, and, breaks}
-use Rattle.source_tree.specs.Syntax.{IterationData, Tree, LabelData, Stmt, empty, assign, invoke, branch, cases, iterate, Stmts, no_stmts, stmt, Arms, no_arms, arm, Entries, no_entries, entry, Otherwise, no_else, else_stmts, PartData, step_part, transition_part, action_part, BodyData, statements, chart, FileData}
+use Rattle.source_tree.specs.Syntax.{IterationData, Tree, LabelData, Stmt, empty, assign, invoke, branch, cases, iterate, exit, return, Stmts, no_stmts, stmt, Arms, no_arms, arm, Entries, no_entries, entry, Otherwise, no_else, else_stmts, PartData, step_part, transition_part, action_part, BodyData, statements, chart, FileData}
 use Rattle.source_tree.specs.StatementItems.{StatementItem, every, listed, folded, folded_stmts, folded_arms, folded_entries, folded_else, folded_parts, folded_body}
 use Rattle.naming.specs.Scopes.{PouScope}
 use Rattle.naming.specs.Broken.{in_tree, in_labels, in_iteration, in_stmt, in_stmts, in_arms, in_entries, in_else, in_own_name, in_own_name_if, in_steps, in_part, in_chart_parts, is_initial_part, place_of_chart, in_body}
@@ -35,6 +35,8 @@ module _ (f : FileData) (p : PouScope) where
     named_item around (iterate i ss) h =
         let two = both_whole (in_iteration f p i) (in_stmts f p ss) h in
         (two.0, named_items (i ∷ around) ss two.1)
+    named_item around (exit at) h = tt
+    named_item around return h = tt
 
     pub named_items : (around : List IterationData) (ss : Stmts) → (in_stmts f p ss).whole ≡ true → folded_stmts (every IsNamedItem) around ss
     named_items around no_stmts h = tt
@@ -97,6 +99,8 @@ module _ (f : FileData) where
         append_assoc (calls_in f e) (calls_in_entries f es) (calls_in_else f other)
         ∙ ap (λ zs. calls_in f e ++ zs) (ap₂ (λ xs ys. xs ++ ys) (calls_of_entries around e [] es) (calls_of_else around other))
     calls_of_item around (iterate i ss) = ap (λ zs. calls_in_iteration f i ++ zs) (calls_of_items (i ∷ around) ss)
+    calls_of_item around (exit at) = refl
+    calls_of_item around return = refl
 
     pub calls_of_items : (around : List IterationData) (ss : Stmts) → calls_in_stmts f ss ≡ folded_stmts (listed given_calls) around ss
     calls_of_items around no_stmts = refl

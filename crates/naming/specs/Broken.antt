@@ -4,7 +4,7 @@ use Rattle.std.specs.List.{list_any}
 use Rattle.std.specs.Str.{bytes_eq}
 use Rattle.rules.specs.declared.rule.Rule.TheVariants.{DeclaredTwice, UnknownName, InTermsOfItself, WrongUse, NotOneProgram, NotOneInitialStep, UnknownStep, UnknownAction, StepTwice, UnknownQualifier}
 use Rattle.rules.specs.declared.rule.Refusal.{Refusal}
-use Rattle.source_tree.specs.Syntax.{Named, PathData, Tree, literal, path, enumerator, paren, unary, chain, call, Links, no_links, link, Arguments, no_arguments, argument, ConnectionData, input, output, Stmt, empty, assign, invoke, branch, cases, iterate, Stmts, no_stmts, stmt, Arms, no_arms, arm, Entries, no_entries, entry, Otherwise, no_else, else_stmts, LabelData, IterationData, TypeData, of_elementary, of_subrange, of_name, SpecificationData, of_type, of_values, TypeDeclarationData, StepActionData, ChartStepData, StepsData, one_step, several_steps, ChartTransitionData, ChartActionData, PartData, step_part, transition_part, action_part, BodyData, statements, chart as chart_body, PouTypeData, function, function_block, program, PouData, FileData}
+use Rattle.source_tree.specs.Syntax.{Named, PathData, Tree, literal, path, enumerator, paren, unary, chain, call, Links, no_links, link, Arguments, no_arguments, argument, ConnectionData, input, output, Stmt, empty, assign, invoke, branch, cases, iterate, exit, return, Stmts, no_stmts, stmt, Arms, no_arms, arm, Entries, no_entries, entry, Otherwise, no_else, else_stmts, LabelData, IterationData, TypeData, of_elementary, of_subrange, of_name, SpecificationData, of_type, of_values, TypeDeclarationData, StepActionData, ChartStepData, StepsData, one_step, several_steps, ChartTransitionData, ChartActionData, PartData, step_part, transition_part, action_part, BodyData, statements, chart as chart_body, PouTypeData, function, function_block, program, PouData, FileData}
 use Rattle.naming.specs.declared.callee.Callee.{Callee}
 use Rattle.naming.specs.declared.callee.Callee.TheVariants as callees
 use Rattle.naming.specs.Seen.{Seen}
@@ -345,6 +345,8 @@ abbrev mutual
   in_stmt f p (branch arms other) = and (in_arms f p arms) (in_else f p other)
   in_stmt f p (cases e es other) = and (and (in_tree f p e) (in_entries f p es)) (in_else f p other)
   in_stmt f p (iterate i ss) = and (in_iteration f p i) (in_stmts f p ss)
+  in_stmt f p (exit at) = ok
+  in_stmt f p return = ok
 
   pub in_stmts : FileData → PouScope → Stmts → Judgement
   in_stmts f p no_stmts = ok

@@ -5,7 +5,7 @@ use Rattle.call_order.specs.Uses.{Reaches}
 use Rattle.rules.specs.declared.rule.Refusal.{Refusal}
 use Rattle.rules.specs.declared.rule.Rule.TheVariants.{InTermsOfItself}
 use Rattle.rules.specs.Rules.{IsAmong}
-use Rattle.source_tree.specs.Syntax.{Tree, literal, path, enumerator, paren, unary, chain, call, Links, no_links, link, Arguments, no_arguments, argument, ConnectionData, input, output, Stmt, empty, assign, invoke, branch, cases, iterate, Stmts, no_stmts, stmt, Arms, no_arms, arm, Entries, no_entries, entry, Otherwise, no_else, else_stmts, IterationData, PartData, step_part, transition_part, action_part, BodyData, statements, chart as chart_body, PouData, FileData}
+use Rattle.source_tree.specs.Syntax.{Tree, literal, path, enumerator, paren, unary, chain, call, Links, no_links, link, Arguments, no_arguments, argument, ConnectionData, input, output, Stmt, empty, assign, invoke, branch, cases, iterate, exit, return, Stmts, no_stmts, stmt, Arms, no_arms, arm, Entries, no_entries, entry, Otherwise, no_else, else_stmts, IterationData, PartData, step_part, transition_part, action_part, BodyData, statements, chart as chart_body, PouData, FileData}
 use Rattle.naming.specs.declared.callee.Callee.{Callee}
 use Rattle.naming.specs.declared.callee.Callee.TheVariants as callees
 use Rattle.naming.specs.FileScope.{pous_of, pou_at}
@@ -69,6 +69,8 @@ abbrev mutual
   calls_in_stmt f (branch arms other) = calls_in_arms f arms ++ calls_in_else f other
   calls_in_stmt f (cases e es other) = calls_in f e ++ calls_in_entries f es ++ calls_in_else f other
   calls_in_stmt f (iterate i ss) = calls_in_iteration f i ++ calls_in_stmts f ss
+  calls_in_stmt f (exit at) = []
+  calls_in_stmt f return = []
 
   pub calls_in_stmts : FileData → Stmts → List ℕ
   calls_in_stmts f no_stmts = []

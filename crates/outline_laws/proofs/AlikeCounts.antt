@@ -1,15 +1,16 @@
 -- Bodies that are typed over scopes that differ in the places of cells alone become as many flat statements.
 use Rattle.std.proofs.Common.{◌≡◌, ◌≤◌, ℕ, ◌+◌, ◌*◌, List, [], ◌∷◌, ◌++◌, length, map, set, replicate, Bool, true, false, if◌then◌else◌, Option, Some, None, option_map, refl, sym, ap, ◌∙◌, arith}
-use Rattle.std.specs.Prelude.{pos}
+use Rattle.std.specs.Prelude.{◌||◌, pos}
 use Rattle.std.specs.Option.{unwrap_or}
 use Rattle.std.proofs.lemmas.List.{length-map, map-set}
 use Rattle.plc_types.specs.declared.data_type.DataType.{DataType}
 use Rattle.plc_types.specs.declared.operator.UnaryOperator.{UnaryOperator}
 use Rattle.plc_types.specs.declared.function.StandardFunction.{StandardFunction}
-use Rattle.program_tree.specs.Tree.{Expression, number, call_function, Expressions, Statement, assign as typed_assign, Statements, statement}
+use Rattle.program_tree.specs.Tree.{Expression, number, call_function, Expressions, Statement, assign as typed_assign, own_body, Statements, no_statements, statement}
 use Rattle.program_tree.specs.View.{expressions_of, actions_of as actions_from}
 use Rattle.source_tree.specs.declared.syntax.Literal.{Literal}
-use Rattle.source_tree.specs.Syntax.{Named, Tree, literal, path, enumerator, paren, unary, chain, call, Links, no_links, link, Arguments, no_arguments, argument, ConnectionData, input, output, empty, assign, invoke, branch, cases, iterate, Stmts, no_stmts, stmt, Arms, no_arms, arm, Entries, no_entries, entry, Otherwise, no_else, else_stmts, ChartTransitionData, ChartActionData, PartData, BodyData, statements, chart as chart_body, FileData}
+use Rattle.source_tree.specs.Syntax.{Named, Tree, literal, path, enumerator, paren, unary, chain, call, Links, no_links, link, Arguments, no_arguments, argument, ConnectionData, input, output, empty, assign, invoke, branch, cases, iterate, exit, return, Stmts, no_stmts, stmt, Arms, no_arms, arm, Entries, no_entries, entry, Otherwise, no_else, else_stmts, ChartTransitionData, ChartActionData, PartData, BodyData, statements, chart as chart_body, FileData}
+use Rattle.program_tree.specs.Leaving.{can_exit, can_exit_all, can_exit_choices, can_exit_entries, can_return, can_return_all, can_return_choices, can_return_entries, in_own_body}
 use Rattle.program_tree.specs.OperandTypes.{arity}
 use Rattle.naming.specs.Broken.{alone}
 use Rattle.naming.specs.Library.{standard_function}
@@ -17,7 +18,7 @@ use Rattle.naming.specs.Scopes.{Variable}
 use Rattle.meaning.specs.Frames.{FrameData}
 use Rattle.sfc_shape.specs.Shapes.{steps_of, transitions_of, actions_of, step_numbers, associations_of, in_firing_order}
 use Rattle.flat_form.specs.Frames.{others_behind}
-use Rattle.flat_count.specs.Counts.{Counting, count_of_start, count_in, count_in_operands, count_in_all, count_in_inputs, count_of_latch, count_of_latches, count_of_transitions, count_of_associated, count_of, count_of_all, count_of_choices, count_of_entries, count_of_actions}
+use Rattle.flat_count.specs.Counts.{Counting, count_of_start, count_in, count_in_operands, count_in_all, count_in_inputs, count_of_latch, count_of_latches, count_of_transitions, count_of_associated, count_of_flag, count_unless, count_of, count_of_all, count_of_choices, count_of_entries, count_of_actions}
 use Rattle.typing.specs.declared.scope.Place.{Place}
 use Rattle.typing.specs.declared.scope.Place.TheVariants as places
 use Rattle.typing.specs.declared.scope.Meaning.{Meaning}
@@ -28,13 +29,108 @@ use Rattle.typing.specs.Typing.{Scope, by_path, by_value, kind_at, type_of, oper
 use Rattle.typing.specs.Judged.{negative_literal, expected_at, place_for, expected_by}
 use Rattle.typing.specs.Typed.{PlacedData, placed, read_of, meaning_read, typed_signed, with_operand, typed_answer, typed_result, typed, typed_links, typed_operands, typed_given}
 use Rattle.typing.specs.JudgedStatements.{member}
-use Rattle.typing.specs.TypedStatements.{typed_inputs, typed_outputs, typed_run, typed_invoke, and_then, typed_stmts, typed_arms, typed_entries, typed_else}
+use Rattle.typing.specs.TypedStatements.{typed_inputs, typed_outputs, typed_run, typed_invoke, and_then, typed_stmts, typed_arms, typed_entries, typed_else, typed_list}
 use Rattle.typing.specs.TypedCharts.{step_cells, latch_place, latch_of, typed_action, typed_transition, typed_chart}
 use Rattle.typing.specs.Places.{places_behind, first_place, sizes_of}
 use Rattle.typing.specs.Variables.{initial_of}
 use Rattle.typing.specs.TypedPrograms.{is_temporary, begun, typed_body}
 use Rattle.alike_scopes.specs.AlikeScopes.{unplaced, cleared, AreAlike}
 use Rattle.alike_scopes.proofs.AlikeLabels.{turn_count_alike}
+
+-- ---- which statements may leave
+
+-- statements that do not leave their list
+abbrev AreCalm : List Statement → Type 0
+AreCalm [] = Unit {0}
+AreCalm (x ∷ xs) = (can_exit x ≡ false) × (can_return x ≡ false) × AreCalm xs
+
+calm-append : (xs ys : List Statement) → AreCalm xs → AreCalm ys → AreCalm (xs ++ ys)
+calm-append [] ys h k = k
+calm-append (x ∷ xs) ys h k = (h.0, h.1, calm-append xs ys h.2 k)
+
+calm-inputs : (s : Scope) (n : Named) (cs : List ConnectionData) → AreCalm (typed_inputs s n cs)
+calm-inputs s n [] = tt
+calm-inputs s n (input x e ∷ cs) = (refl, refl, calm-inputs s n cs)
+calm-inputs s n (output y p ∷ cs) = calm-inputs s n cs
+
+calm-outputs : (s : Scope) (n : Named) (cs : List ConnectionData) → AreCalm (typed_outputs s n cs)
+calm-outputs s n [] = tt
+calm-outputs s n (input x e ∷ cs) = calm-outputs s n cs
+calm-outputs s n (output y p ∷ cs) = (refl, refl, calm-outputs s n cs)
+
+calm-run : (o : Option Instance) → AreCalm (typed_run o)
+calm-run None = tt
+calm-run (Some i) = (refl, refl, tt)
+
+calm-invoke : (s : Scope) (n : Named) (cs : List ConnectionData) → AreCalm (typed_invoke s n cs)
+calm-invoke s n cs =
+    calm-append (typed_inputs s n cs ++ typed_run (s.instance n.text)) (typed_outputs s n cs)
+    (calm-append (typed_inputs s n cs) (typed_run (s.instance n.text)) (calm-inputs s n cs) (calm-run (s.instance n.text))) (calm-outputs s n cs)
+
+exits-and_then : (xs : List Statement) (ts : Statements) → AreCalm xs → can_exit_all (and_then xs ts) ≡ can_exit_all ts
+exits-and_then [] ts h = refl
+exits-and_then (x ∷ xs) ts h = ap (λ (b : Bool). b || can_exit_all (and_then xs ts)) h.0 ∙ exits-and_then xs ts h.2
+
+returns-and_then : (xs : List Statement) (ts : Statements) → AreCalm xs → can_return_all (and_then xs ts) ≡ can_return_all ts
+returns-and_then [] ts h = refl
+returns-and_then (x ∷ xs) ts h = ap (λ (b : Bool). b || can_return_all (and_then xs ts)) h.1 ∙ returns-and_then xs ts h.2
+
+-- a scope does not say which statements leave
+module _ (s t : Scope) where
+  mutual
+    exits_stmts : (ss : Stmts) → can_exit_all (typed_stmts s ss) ≡ can_exit_all (typed_stmts t ss)
+    exits_stmts no_stmts = refl
+    exits_stmts (stmt empty ss) = exits_stmts ss
+    exits_stmts (stmt (assign p e) ss) = exits_stmts ss
+    exits_stmts (stmt (invoke n at cs) ss) =
+        exits-and_then (typed_invoke s n cs) (typed_stmts s ss) (calm-invoke s n cs) ∙ exits_stmts ss ∙ sym (exits-and_then (typed_invoke t n cs) (typed_stmts t ss) (calm-invoke t n cs))
+    exits_stmts (stmt (branch arms other) ss) = λ i. (exits_arms arms i || exits_else other i) || exits_stmts ss i
+    exits_stmts (stmt (cases e es other) ss) = λ i. (exits_entries (type_of s None e) (type_of t None e) es i || exits_else other i) || exits_stmts ss i
+    exits_stmts (stmt (iterate it body) ss) = exits_stmts ss
+    exits_stmts (stmt (exit at) ss) = refl
+    exits_stmts (stmt return ss) = exits_stmts ss
+
+    exits_arms : (arms : Arms) → can_exit_choices (typed_arms s arms) ≡ can_exit_choices (typed_arms t arms)
+    exits_arms no_arms = refl
+    exits_arms (arm e ss arms) = λ i. exits_stmts ss i || exits_arms arms i
+
+    exits_entries : (j k : DataType) (es : Entries) → can_exit_entries (typed_entries s j es) ≡ can_exit_entries (typed_entries t k es)
+    exits_entries j k no_entries = refl
+    exits_entries j k (entry ls ss es) = λ i. exits_stmts ss i || exits_entries j k es i
+
+    exits_else : (other : Otherwise) → can_exit_all (typed_else s other) ≡ can_exit_all (typed_else t other)
+    exits_else no_else = refl
+    exits_else (else_stmts ss) = exits_stmts ss
+
+  mutual
+    returns_stmts : (ss : Stmts) → can_return_all (typed_stmts s ss) ≡ can_return_all (typed_stmts t ss)
+    returns_stmts no_stmts = refl
+    returns_stmts (stmt empty ss) = returns_stmts ss
+    returns_stmts (stmt (assign p e) ss) = returns_stmts ss
+    returns_stmts (stmt (invoke n at cs) ss) =
+        returns-and_then (typed_invoke s n cs) (typed_stmts s ss) (calm-invoke s n cs) ∙ returns_stmts ss ∙ sym (returns-and_then (typed_invoke t n cs) (typed_stmts t ss) (calm-invoke t n cs))
+    returns_stmts (stmt (branch arms other) ss) = λ i. (returns_arms arms i || returns_else other i) || returns_stmts ss i
+    returns_stmts (stmt (cases e es other) ss) = λ i. (returns_entries (type_of s None e) (type_of t None e) es i || returns_else other i) || returns_stmts ss i
+    returns_stmts (stmt (iterate it body) ss) = λ i. returns_stmts body i || returns_stmts ss i
+    returns_stmts (stmt (exit at) ss) = returns_stmts ss
+    returns_stmts (stmt return ss) = refl
+
+    returns_arms : (arms : Arms) → can_return_choices (typed_arms s arms) ≡ can_return_choices (typed_arms t arms)
+    returns_arms no_arms = refl
+    returns_arms (arm e ss arms) = λ i. returns_stmts ss i || returns_arms arms i
+
+    returns_entries : (j k : DataType) (es : Entries) → can_return_entries (typed_entries s j es) ≡ can_return_entries (typed_entries t k es)
+    returns_entries j k no_entries = refl
+    returns_entries j k (entry ls ss es) = λ i. returns_stmts ss i || returns_entries j k es i
+
+    returns_else : (other : Otherwise) → can_return_all (typed_else s other) ≡ can_return_all (typed_else t other)
+    returns_else no_else = refl
+    returns_else (else_stmts ss) = returns_stmts ss
+
+-- nothing behind a statement is nothing
+unless-none : (asks : Bool) → count_unless asks 0 ≡ 0
+unless-none true = refl
+unless-none false = refl
 
 module _ (c : Counting) where
   -- ---- values
@@ -113,9 +209,28 @@ module _ (c : Counting) where
   sum_of [] = 0
   sum_of (x ∷ xs) = count_of c x + sum_of xs
 
-  sum-and_then : (xs : List Statement) (ts : Statements) → count_of_all c (and_then xs ts) ≡ sum_of xs + count_of_all c ts
-  sum-and_then [] ts = omega arith
-  sum-and_then (x ∷ xs) ts = omega (arith, sum-and_then xs ts)
+  sum-and_then : (xs : List Statement) (ts : Statements) → AreCalm xs → count_of_all c (and_then xs ts) ≡ sum_of xs + count_of_all c ts
+  sum-and_then [] ts h = omega arith
+  sum-and_then (x ∷ xs) ts h =
+      let more = sum-and_then xs ts h.2 in
+      let here : count_of_all c (and_then (x ∷ xs) ts) ≡ count_of c x + count_of_all c (and_then xs ts) = λ i. count_of c x + count_unless (h.0 i || h.1 i) (count_of_all c (and_then xs ts)) in
+      omega (arith, more, here)
+
+  -- a statement alone
+  sum-alone : (x : Statement) → count_of_all c (statement x no_statements) ≡ count_of c x + 0
+  sum-alone x = ap (λ (n : ℕ). count_of c x + n) (unless-none (can_exit x || can_return x))
+
+  -- statements in a body of their own
+  abbrev own_count : Bool → ℕ → ℕ
+  own_count true n = 1 + n
+  own_count false n = n
+
+  own-by : (returns : Bool) (ts : Statements) → can_return_all ts ≡ returns → count_of_all c (if returns then statement (own_body ts) no_statements else ts) ≡ own_count returns (count_of_all c ts)
+  own-by true ts h = let flag = ap count_of_flag h in omega (arith, sum-alone (own_body ts), flag)
+  own-by false ts h = refl
+
+  same_own : (ts us : Statements) → can_return_all ts ≡ can_return_all us → count_of_all c ts ≡ count_of_all c us → count_of_all c (in_own_body ts) ≡ count_of_all c (in_own_body us)
+  same_own ts us returns same = own-by (can_return_all ts) ts refl ∙ (λ i. own_count (returns i) (same i)) ∙ sym (own-by (can_return_all us) us refl)
 
   sum-append : (xs ys : List Statement) → sum_of (xs ++ ys) ≡ sum_of xs + sum_of ys
   sum-append [] ys = omega arith
@@ -137,14 +252,14 @@ module _ (c : Counting) where
   latch_free None = refl
   latch_free (Some m) = latch_at m.place
 
-  more_by : (m : ℕ) (b : Bool) (x : Statement) (ts : Statements) → m ≤ count_of_all c ts → m ≤ count_of_all c (if b then statement x ts else ts)
-  more_by m true x ts h = omega (arith, h)
-  more_by m false x ts h = h
+  more_by : (m : ℕ) (b : Bool) (place : ℕ) (e : Expression) (ts : Statements) → m ≤ count_of_all c ts → m ≤ count_of_all c (if b then statement (typed_assign place e) ts else ts)
+  more_by m true place e ts h = omega (arith, h)
+  more_by m false place e ts h = h
 
   -- VAR_TEMP variables that begin count, too
   pub less_begun : (f : FileData) (next : Next) (vs : List Variable) (ts : Statements) → count_of_all c ts ≤ count_of_all c (begun f next vs ts)
   less_begun f next [] ts = omega arith
-  less_begun f next (v ∷ vs) ts = more_by (count_of_all c ts) (is_temporary v.role) (typed_assign (first_place next v) (number (initial_of f v))) (begun f (places_behind f (sizes_of f) next v) vs ts) (less_begun f (places_behind f (sizes_of f) next v) vs ts)
+  less_begun f next (v ∷ vs) ts = more_by (count_of_all c ts) (is_temporary v.role) (first_place next v) (number (initial_of f v)) (begun f (places_behind f (sizes_of f) next v) vs ts) (less_begun f (places_behind f (sizes_of f) next v) vs ts)
 
   module _ (s t : Scope) (alike : AreAlike s t) where
     place_same : (g : Signature) → ((name : List ℕ) → s.input g.function name ≡ t.input g.function name) → (place : ℕ) (n : Option Named) → place_for s g place n ≡ place_for t g place n
@@ -227,10 +342,21 @@ module _ (c : Counting) where
             let r = by_path p in
             λ i. (same_in (kind_at (s.means r)) (kind_at (t.means r)) e i + 1) + same_stmts ss i
         same_stmts (stmt (invoke n at cs) ss) =
-            sum-and_then (typed_invoke s n cs) (typed_stmts s ss) ∙ (λ i. same_invoke n cs i + same_stmts ss i) ∙ sym (sum-and_then (typed_invoke t n cs) (typed_stmts t ss))
-        same_stmts (stmt (branch arms other) ss) = λ i. (same_arms arms i + same_else other i) + same_stmts ss i
-        same_stmts (stmt (cases e es other) ss) = λ i. (same_in None None e i + 1 + same_entries (type_of s None e) (type_of t None e) es i + same_else other i) + same_stmts ss i
-        same_stmts (stmt (iterate it body) ss) = λ i. (turn_count_alike s t alike it i * (1 + same_stmts body i) + 1) + same_stmts ss i
+            sum-and_then (typed_invoke s n cs) (typed_stmts s ss) (calm-invoke s n cs) ∙ (λ i. same_invoke n cs i + same_stmts ss i) ∙ sym (sum-and_then (typed_invoke t n cs) (typed_stmts t ss) (calm-invoke t n cs))
+        same_stmts (stmt (branch arms other) ss) =
+            λ i. (same_arms arms i + same_else other i) + count_unless ((exits_arms s t arms i || exits_else s t other i) || (returns_arms s t arms i || returns_else s t other i)) (same_stmts ss i)
+        same_stmts (stmt (cases e es other) ss) =
+            let j = type_of s None e in
+            let k = type_of t None e in
+            λ i. (same_in None None e i + 1 + same_entries j k es i + same_else other i)
+            + count_unless ((exits_entries s t j k es i || exits_else s t other i) || (returns_entries s t j k es i || returns_else s t other i)) (same_stmts ss i)
+        same_stmts (stmt (iterate it body) ss) =
+            let exits = exits_stmts s t body in
+            let returns = returns_stmts s t body in
+            λ i. (count_of_flag (exits i) + (turn_count_alike s t alike it i * count_unless (exits i || returns i) (1 + same_stmts body i) + count_unless (exits i || returns i) 1))
+            + count_unless (false || returns i) (same_stmts ss i)
+        same_stmts (stmt (exit at) ss) = λ i. 1 + count_unless true (same_stmts ss i)
+        same_stmts (stmt return ss) = λ i. 1 + count_unless true (same_stmts ss i)
 
         same_arms : (arms : Arms) → count_of_choices c (typed_arms s arms) ≡ count_of_choices c (typed_arms t arms)
         same_arms no_arms = refl
@@ -244,9 +370,12 @@ module _ (c : Counting) where
         same_else no_else = refl
         same_else (else_stmts ss) = same_stmts ss
 
+      same_list : (ss : Stmts) → count_of_all c (typed_list s ss) ≡ count_of_all c (typed_list t ss)
+      same_list ss = same_own (typed_stmts s ss) (typed_stmts t ss) (returns_stmts s t ss) (same_stmts ss)
+
       same_actions : (ps : List PartData) (actions : List ChartActionData) → count_of_actions c (actions_from (map (typed_action s ps) actions)) ≡ count_of_actions c (actions_from (map (typed_action t ps) actions))
       same_actions ps [] = refl
-      same_actions ps (a ∷ rest) = λ i. count_of_associated (associations_of ps a.name.text) (same_stmts a.body i) + same_actions ps rest i
+      same_actions ps (a ∷ rest) = λ i. count_of_associated (associations_of ps a.name.text) (same_list a.body i) + same_actions ps rest i
 
       same_steps : (ps : List PartData) → length (map (step_cells s) (steps_of ps)) ≡ length (map (step_cells t) (steps_of ps))
       same_steps ps = length-map (steps_of ps) (step_cells s) ∙ sym (length-map (steps_of ps) (step_cells t))
@@ -255,5 +384,5 @@ module _ (c : Counting) where
       same_chart ps = λ i. same_latches ps (actions_of ps) i + (same_actions ps (actions_of ps) i + (4 * same_steps ps i + same_transitions ps (in_firing_order (transitions_of ps)) i))
 
       pub same_body : (b : BodyData) → count_of_all c (typed_body s b) ≡ count_of_all c (typed_body t b)
-      same_body (statements ss) = same_stmts ss
-      same_body (chart_body ps) = λ i. same_chart ps i + 0
+      same_body (statements ss) = same_list ss
+      same_body (chart_body ps) = sum-alone (typed_chart s ps) ∙ (λ i. same_chart ps i + 0) ∙ sym (sum-alone (typed_chart t ps))

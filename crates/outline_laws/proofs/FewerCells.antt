@@ -1,13 +1,15 @@
 -- Where no frame has cells, and runs and bodies count less, less is counted, up to the limit. A call of a FUNCTION whose frame is longer than the
 -- limit is too long in any case.
-use Rattle.std.proofs.Common.{◌≡◌, ◌≤◌, ◌⊎◌, ℕ, zero, suc, ◌+◌, ◌-◌, ◌*◌, List, [], ◌∷◌, length, arith, inl, inr}
+use Rattle.std.proofs.Common.{◌≡◌, ◌≤◌, ◌⊎◌, ℕ, zero, suc, ◌+◌, ◌-◌, ◌*◌, Bool, true, false, List, [], ◌∷◌, length, arith, inl, inr}
+use Rattle.std.specs.Prelude.{◌||◌}
 use Rattle.std.proofs.lemmas.Bool.Decides.{nat_tests}
 use Rattle.program_tree.specs.declared.typed.Association.{Association}
-use Rattle.program_tree.specs.Tree.{Expression, number, cell, unary, chain, call_standard, call_function, Operands, no_operands, operand, Expressions, no_expressions, expression, Statement, assign, call_block, choice, cases, repeat, chart, Statements, no_statements, statement, Choices, no_choices, choose, Entries, no_entries, entry, TransitionData, Actions, no_actions, action}
+use Rattle.program_tree.specs.Tree.{Expression, number, cell, unary, chain, call_standard, call_function, Operands, no_operands, operand, Expressions, no_expressions, expression, Statement, assign, call_block, choice, cases, repeat, chart, exit, return, own_body, Statements, no_statements, statement, Choices, no_choices, choose, Entries, no_entries, entry, TransitionData, Actions, no_actions, action}
+use Rattle.program_tree.specs.Leaving.{can_exit, can_exit_all, can_return, can_return_all}
 use Rattle.program_tree.specs.OperandTypes.{arity}
 use Rattle.meaning.specs.Frames.{FrameData}
 use Rattle.flat_form.specs.Frames.{others_behind}
-use Rattle.flat_count.specs.Counts.{Counting, count_of_start, count_in, count_in_operands, count_in_all, count_in_inputs, count_of_latches, count_of_transition, count_of_transitions, count_of_associated, count_of, count_of_all, count_of_choices, count_of_entries, count_of_actions, capped}
+use Rattle.flat_count.specs.Counts.{Counting, count_of_start, count_in, count_in_operands, count_in_all, count_in_inputs, count_of_latches, count_of_transition, count_of_transitions, count_of_associated, count_of_flag, count_unless, count_of, count_of_all, count_of_choices, count_of_entries, count_of_actions, capped}
 
 -- ---- numbers up to the limit
 
@@ -26,17 +28,22 @@ past m x h = grind (arith, nat_tests)
 pub further : (m x y : ℕ) → capped m ≤ x → x ≤ y → capped m ≤ y
 further m x y h k = grind (arith, nat_tests)
 
-turns-less : (n m x : ℕ) → capped m ≤ x → capped (n * (1 + m) + 1) ≤ n * (1 + x) + 1
-turns-less zero m x h =
-    let left : 0 * (1 + m) + 1 ≡ 1 = omega arith in
-    let right : 0 * (1 + x) + 1 ≡ 1 = omega arith in
-    rw (left, right) (same 1)
-turns-less (suc n) m x h =
-    let more = turns-less n m x h in
-    let one = sum 1 m 1 x (same 1) h in
-    let both = sum (1 + m) (n * (1 + m) + 1) (1 + x) (n * (1 + x) + 1) one more in
-    let left : suc n * (1 + m) + 1 ≡ (1 + m) + (n * (1 + m) + 1) = omega arith in
-    let right : suc n * (1 + x) + 1 ≡ (1 + x) + (n * (1 + x) + 1) = omega arith in
+unless-less : (asks : Bool) (m x : ℕ) → capped m ≤ x → capped (count_unless asks m) ≤ count_unless asks x
+unless-less true zero zero h = none
+unless-less true zero (suc x) h = further 0 0 (1 + suc x) none (omega arith)
+unless-less true (suc m) zero h = absurd (grind (arith, nat_tests, h))
+unless-less true (suc m) (suc x) h = sum 1 (suc m) 1 (suc x) (same 1) h
+unless-less false m x h = h
+
+turns-less : (n m x end : ℕ) → capped m ≤ x → capped (n * m + end) ≤ n * x + end
+turns-less zero m x end h =
+    let left : 0 * m + end ≡ end = omega arith in
+    let right : 0 * x + end ≡ end = omega arith in
+    rw (left, right) (same end)
+turns-less (suc n) m x end h =
+    let both = sum m (n * m + end) x (n * x + end) h (turns-less n m x end h) in
+    let left : suc n * m + end ≡ m + (n * m + end) = omega arith in
+    let right : suc n * x + end ≡ x + (n * x + end) = omega arith in
     rw (left, right) both
 
 -- ---- calls
@@ -103,13 +110,19 @@ module _ (a b : Counting) (no_others : (f inputs : ℕ) → others_behind (a.fra
     less_statement (call_block k offset) = runs k
     less_statement (choice arms other) = sum _ _ _ _ (less_choices arms) (less_of other)
     less_statement (cases kind e es other) = sum _ _ _ _ (sum _ _ _ _ (sum _ 1 _ 1 (less_in e) (same 1)) (less_entries es)) (less_of other)
-    less_statement (repeat turns body) = turns-less turns.count (count_of_all a body) (count_of_all b body) (less_of body)
+    less_statement (repeat turns body) =
+        let asks = can_exit_all body || can_return_all body in
+        let turn = unless-less asks (1 + count_of_all a body) (1 + count_of_all b body) (sum 1 _ 1 _ (same 1) (less_of body)) in
+        sum _ _ _ _ (same (count_of_flag (can_exit_all body))) (turns-less turns.count _ _ (count_unless asks 1) turn)
     less_statement (chart steps actions ts) =
         sum _ _ _ _ (same (count_of_latches actions)) (sum _ _ _ _ (less_actions actions) (sum _ _ _ _ (same (4 * length steps)) (less_transitions ts)))
+    less_statement exit = same 1
+    less_statement return = same 1
+    less_statement (own_body ss) = sum _ _ _ _ (same (count_of_flag (can_return_all ss))) (less_of ss)
 
     pub less_of : (ts : Statements) → capped (count_of_all a ts) ≤ count_of_all b ts
     less_of no_statements = none
-    less_of (statement t ts) = sum _ _ _ _ (less_statement t) (less_of ts)
+    less_of (statement t ts) = sum _ _ _ _ (less_statement t) (unless-less (can_exit t || can_return t) _ _ (less_of ts))
 
     less_choices : (arms : Choices) → capped (count_of_choices a arms) ≤ count_of_choices b arms
     less_choices no_choices = none

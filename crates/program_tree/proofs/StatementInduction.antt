@@ -2,8 +2,8 @@
 use Rattle.std.proofs.Common.{List, [], ◌∷◌}
 use Rattle.plc_types.specs.declared.elementary.Elementary.{Elementary}
 use Rattle.program_tree.specs.declared.typed.Turns.{Turns}
-use Rattle.program_tree.specs.Tree.{TransitionData, Statement, assign, call_block, choice, cases, repeat, chart, Statements, no_statements, statement, Choices, no_choices, choose, Entries, no_entries, entry, Actions, no_actions, action}
-use Rattle.program_tree.specs.StatementItems.{StatementItem, assignment, invocation, condition, selector, labels, iteration, steps, associated, transition, Fold, folded, folded_all, folded_choices, folded_entries, folded_actions, folded_transitions}
+use Rattle.program_tree.specs.Tree.{TransitionData, Statement, assign, call_block, choice, cases, repeat, chart, exit, return, own_body, Statements, no_statements, statement, Choices, no_choices, choose, Entries, no_entries, entry, Actions, no_actions, action}
+use Rattle.program_tree.specs.StatementItems.{StatementItem, assignment, invocation, condition, selector, labels, iteration, steps, associated, transition, enclosed, Fold, folded, folded_all, folded_choices, folded_entries, folded_actions, folded_transitions}
 
 -- What three folds make is related: what they make of nothing, of one item, and of parts that are related; and what they make of a FOR where that of its
 -- statements is related inside of it, so that a relation may take from the item of a FOR what it asks of the statements in it.
@@ -28,6 +28,9 @@ mutual
   related a b c R r around (cases kind e es other) = r.both around _ _ _ _ _ _ (r.own around (selector kind e)) (r.both around _ _ _ _ _ _ (related_entries a b c R r around kind es) (related_all a b c R r around other))
   related a b c R r around (repeat turns body) = r.inside around turns _ _ _ (related_all a b c R r (turns ∷ around) body)
   related a b c R r around (chart cells actions ts) = r.both around _ _ _ _ _ _ (r.own around (steps cells)) (r.both around _ _ _ _ _ _ (related_actions a b c R r around actions) (related_transitions a b c R r around ts))
+  related a b c R r around exit = r.none around
+  related a b c R r around return = r.none around
+  related a b c R r around (own_body ss) = r.both around _ _ _ _ _ _ (r.own around (enclosed ss)) (related_all a b c R r around ss)
 
   pub related_all {ℓ κ μ ν} : {A : Type ℓ} {B : Type κ} {C : Type μ} (a : Fold A) (b : Fold B) (c : Fold C) (R : List Turns → A → B → C → Type ν) → AreRelated a b c R
       → (around : List Turns) (ts : Statements) → R around (folded_all a around ts) (folded_all b around ts) (folded_all c around ts)

@@ -7,3 +7,4 @@ pub mod ChartPlaces
 pub use Rattle.plc_types.specs as plc_types
 pub use Rattle.plc_types.specs.num_core as num_core
 pub mod StatementItems
+pub mod Leaving

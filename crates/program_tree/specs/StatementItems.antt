@@ -5,10 +5,10 @@ use Rattle.program_tree.specs.declared.typed.TypedLabel.{TypedLabel}
 use Rattle.program_tree.specs.declared.typed.Turns.{Turns}
 use Rattle.program_tree.specs.declared.typed.StepCells.{StepCells}
 use Rattle.program_tree.specs.declared.typed.Association.{Association}
-use Rattle.program_tree.specs.Tree.{Expression, TransitionData, Statement, assign, call_block, choice, cases, repeat, chart, Statements, no_statements, statement, Choices, no_choices, choose, Entries, no_entries, entry, Actions, no_actions, action, CalledData, block, function}
+use Rattle.program_tree.specs.Tree.{Expression, TransitionData, Statement, assign, call_block, choice, cases, repeat, chart, exit, return, own_body, Statements, no_statements, statement, Choices, no_choices, choose, Entries, no_entries, entry, Actions, no_actions, action, CalledData, block, function}
 
 -- A cell with the value that is put into it; a call of a block, over the cells from a place on; a condition of an IF; the selector of a CASE and the labels of
--- an entry, with its type; the turns of a FOR; and of a chart its steps, the latch of an action with the action's associations, and a transition.
+-- an entry, with its type; the turns of a FOR; and of a chart its steps, the latch of an action with the action's associations, and a transition; and that a list is a body of its own.
 pub data StatementItem : Type 0 where
   assignment : ℕ → Expression → StatementItem
   invocation : ℕ → ℕ → StatementItem
@@ -19,6 +19,7 @@ pub data StatementItem : Type 0 where
   steps : List StepCells → StatementItem
   associated : Option ℕ → List Association → StatementItem
   transition : TransitionData → StatementItem
+  enclosed : Statements → StatementItem
 
 -- How something is made of items: of none, of items and others behind them, and of one that stands inside of some FORs, the innermost first.
 pub record Fold {ℓ} (A : Type ℓ) : Type ℓ where
@@ -38,6 +39,9 @@ abbrev mutual
   folded j around (cases kind e es other) = j.both (j.own around (selector kind e)) (j.both (folded_entries j around kind es) (folded_all j around other))
   folded j around (repeat turns body) = j.both (j.own around (iteration turns)) (folded_all j (turns ∷ around) body)
   folded j around (chart cells actions ts) = j.both (j.own around (steps cells)) (j.both (folded_actions j around actions) (folded_transitions j around ts))
+  folded j around exit = j.none
+  folded j around return = j.none
+  folded j around (own_body ss) = j.both (j.own around (enclosed ss)) (folded_all j around ss)
 
   pub folded_all {ℓ} : {A : Type ℓ} → Fold A → List Turns → Statements → A
   folded_all j around no_statements = j.none

@@ -42,7 +42,8 @@ pub record TransitionData : Type 0 where
 -- statements: an assignment, a call of a block, which runs the body of a FUNCTION_BLOCK, by its number, over the cells of an instance, which begin at a place,
 -- an IF with its conditions and what runs where none is TRUE, a CASE with the type of its selector, its entries and what runs where none fits, a FOR by its
 -- turns, and a chart, with its steps and actions in the order of the text and its transitions in the order in which they fire. An
--- action has the cell of its latch, where it has one, its associations with steps, and its statements.
+-- action has the cell of its latch, where it has one, its associations with steps, and its statements. EXIT leaves the innermost FOR, and RETURN
+-- the innermost body of its own, which has the statements of a POU or of an action.
 mutual
   pub data Statement : Type 0 where
     assign : ℕ → Expression → Statement
@@ -51,6 +52,9 @@ mutual
     cases : Elementary → Expression → Entries → Statements → Statement
     repeat : Turns → Statements → Statement
     chart : List StepCells → Actions → List TransitionData → Statement
+    exit : Statement
+    return : Statement
+    own_body : Statements → Statement
 
   pub data Statements : Type 0 where
     no_statements : Statements

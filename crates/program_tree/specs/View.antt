@@ -20,7 +20,7 @@ use Rattle.program_tree.specs.declared.typed.Cell.{Cell}
 use Rattle.program_tree.specs.declared.typed.Called.{Called}
 use Rattle.program_tree.specs.declared.typed.Called.TheVariants as called
 use Rattle.program_tree.specs.declared.typed.Program.{Program}
-use Rattle.program_tree.specs.Tree.{Expression, number, cell, unary, chain, call_standard, call_function, Operands, no_operands, operand, Expressions, no_expressions, expression, TransitionData, Statement, assign, call_block, choice, cases, repeat, chart, Statements, no_statements, statement, Choices, no_choices, choose, Entries, no_entries, entry, Actions, no_actions, action, CellData, CalledData, block, function, ProgramData}
+use Rattle.program_tree.specs.Tree.{Expression, number, cell, unary, chain, call_standard, call_function, Operands, no_operands, operand, Expressions, no_expressions, expression, TransitionData, Statement, assign, call_block, choice, cases, repeat, chart, exit, return, own_body, Statements, no_statements, statement, Choices, no_choices, choose, Entries, no_entries, entry, Actions, no_actions, action, CellData, CalledData, block, function, ProgramData}
 
 -- an operator, the type of its operands, and its right operand
 abbrev pub OperandData : Type 0
@@ -101,6 +101,9 @@ stmt_step (TypedStmt-F.If arms other) = choice (choices_of arms.items) (statemen
 stmt_step (TypedStmt-F.Case kind e es other) = cases kind (expr_view e) (entries_of es.items) (statements_of other.items)
 stmt_step (TypedStmt-F.For turns ss) = repeat turns (statements_of ss.items)
 stmt_step (TypedStmt-F.Chart steps actions ts) = chart steps.items (actions_of actions.items) (transitions_view ts.items)
+stmt_step TypedStmt-F.Exit = exit
+stmt_step TypedStmt-F.Return = return
+stmt_step (TypedStmt-F.Body ss) = own_body (statements_of ss.items)
 
 abbrev pub arm_step : TypedArm-F Statement ActionData ChoiceData EntryData → ChoiceData
 arm_step a = (expr_view a.condition, statements_of a.body.items)

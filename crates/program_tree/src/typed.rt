@@ -60,7 +60,8 @@ pub struct TypedTransition {
 /// A statement. A target is the place of its cell. A call of a block runs the body of a FUNCTION_BLOCK, by its number among the POUs that the
 /// program may call, over the cells of an instance, which begin at a place. A chart is what a POU does whose body is one
 /// (IEC 61131-3, 2.6): its steps and its actions in the order of the text, and its transitions in the order in which they fire. A
-/// CASE has the elementary type whose numbers the values of its selector are.
+/// CASE has the elementary type whose numbers the values of its selector are. A body of its own is a list that a RETURN in it ends, and
+/// nothing else: the statements of a POU or of an action.
 #[derive(Drop)]
 #[cycle(typed_stmt)]
 pub enum TypedStmt {
@@ -70,6 +71,9 @@ pub enum TypedStmt {
     Case(Elementary, TypedExpr, Vec<TypedEntry>, Vec<TypedStmt>),
     For(Turns, Vec<TypedStmt>),
     Chart(Vec<StepCells>, Vec<TypedAction>, Vec<TypedTransition>),
+    Exit,
+    Return,
+    Body(Vec<TypedStmt>),
 }
 
 /// An action of a chart (IEC 61131-3, 2.6.4): the cell of its latch, where some step sets or resets it; its associations in the order

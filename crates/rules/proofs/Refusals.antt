@@ -24,7 +24,7 @@ in_order =
     rules_of.NotOneInitialStep ∷ rules_of.UnknownStep ∷ rules_of.UnknownAction ∷ rules_of.StepTwice ∷ rules_of.UnknownQualifier ∷
     rules_of.InputsDiffer ∷ rules_of.InputCount ∷ rules_of.OperandType ∷ rules_of.ValueType ∷ rules_of.OutsideType ∷ rules_of.NotAssignable ∷
     rules_of.ArgumentCount ∷ rules_of.Overlap ∷ rules_of.NotConstant ∷ rules_of.StepZero ∷ rules_of.TooManyTurns ∷ rules_of.OutsideControl ∷
-    rules_of.TooManyValues ∷ rules_of.NotBool ∷ rules_of.TooManyCells ∷ rules_of.TooManyStatements ∷ rules_of.TooManyNodes ∷
+    rules_of.ExitOutsideFor ∷ rules_of.TooManyValues ∷ rules_of.NotBool ∷ rules_of.TooManyCells ∷ rules_of.TooManyStatements ∷ rules_of.TooManyNodes ∷
     rules_of.TooManyCandidates ∷ rules_of.TooManyGates ∷ rules_of.FindingTooLong ∷ rules_of.NoTrace ∷ []
 
 rule_at : ℕ → Rule
@@ -66,6 +66,7 @@ rule_at-rank_of rules_of.NotConstant = refl
 rule_at-rank_of rules_of.StepZero = refl
 rule_at-rank_of rules_of.TooManyTurns = refl
 rule_at-rank_of rules_of.OutsideControl = refl
+rule_at-rank_of rules_of.ExitOutsideFor = refl
 rule_at-rank_of rules_of.TooManyValues = refl
 rule_at-rank_of rules_of.NotBool = refl
 rule_at-rank_of rules_of.TooManyCells = refl

@@ -40,6 +40,7 @@ name_of rules_of.NotConstant = codes "F1"
 name_of rules_of.StepZero = codes "F2"
 name_of rules_of.TooManyTurns = codes "F3"
 name_of rules_of.OutsideControl = codes "F4"
+name_of rules_of.ExitOutsideFor = codes "F5"
 name_of rules_of.TooManyValues = codes "M3"
 name_of rules_of.NotBool = codes "R4"
 name_of rules_of.TooManyCells = codes "M2"
@@ -86,15 +87,16 @@ rank_of rules_of.NotConstant = 30
 rank_of rules_of.StepZero = 31
 rank_of rules_of.TooManyTurns = 32
 rank_of rules_of.OutsideControl = 33
-rank_of rules_of.TooManyValues = 34
-rank_of rules_of.NotBool = 35
-rank_of rules_of.TooManyCells = 36
-rank_of rules_of.TooManyStatements = 37
-rank_of rules_of.TooManyNodes = 38
-rank_of rules_of.TooManyCandidates = 39
-rank_of rules_of.TooManyGates = 40
-rank_of rules_of.FindingTooLong = 41
-rank_of rules_of.NoTrace = 42
+rank_of rules_of.ExitOutsideFor = 34
+rank_of rules_of.TooManyValues = 35
+rank_of rules_of.NotBool = 36
+rank_of rules_of.TooManyCells = 37
+rank_of rules_of.TooManyStatements = 38
+rank_of rules_of.TooManyNodes = 39
+rank_of rules_of.TooManyCandidates = 40
+rank_of rules_of.TooManyGates = 41
+rank_of rules_of.FindingTooLong = 42
+rank_of rules_of.NoTrace = 43
 
 -- one refusal comes before another of the same pass: by place, then by the order of the rules
 abbrev pub comes_before : Refusal → Refusal → Bool

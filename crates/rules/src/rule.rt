@@ -76,6 +76,8 @@ pub enum Rule {
     /// F4: a value of a FOR's control variable is outside its type, the one that ends the FOR included. Its
     /// place is the FOR's.
     OutsideControl,
+    /// F5: an EXIT outside a FOR. Its place is the word's.
+    ExitOutsideFor,
     /// M3: an enumeration has more than 256 values. Its place is the type's name.
     TooManyValues,
     /// R4: a clause is not BOOL. Its place is its first token's.
@@ -136,6 +138,7 @@ impl Rule {
             Rule::StepZero => "F2",
             Rule::TooManyTurns => "F3",
             Rule::OutsideControl => "F4",
+            Rule::ExitOutsideFor => "F5",
             Rule::TooManyValues => "M3",
             Rule::NotBool => "R4",
             Rule::TooManyCells => "M2",

@@ -1,26 +1,27 @@
 -- Two countings that say the same of each POU that statements use count the same of them.
 use Rattle.std.proofs.Common.{◌≡◌, ℕ, zero, suc, ◌+◌, ◌*◌, Bool, true, false, if◌then◌else◌, Option, Some, None, List, [], ◌∷◌, ◌++◌, length, refl, ap, ◌∙◌, arith}
-use Rattle.std.specs.Prelude.{◌==◌}
+use Rattle.std.specs.Prelude.{◌==◌, ◌||◌}
 use Rattle.std.proofs.lemmas.Bool.Decides.{nat_tests}
 use Rattle.call_order.specs.Uses.{is_among}
 use Rattle.call_order.proofs.Members.{is_among-left, is_among-right, is_among-head, is_among-tail}
 use Rattle.program_tree.specs.declared.typed.Association.{Association}
-use Rattle.program_tree.specs.Tree.{Expression, number, cell, unary, chain, call_standard, call_function, Operands, no_operands, operand, Expressions, no_expressions, expression, Statement, assign, call_block, choice, cases, repeat, chart, Statements, no_statements, statement, Choices, no_choices, choose, Entries, no_entries, entry, TransitionData, Actions, no_actions, action}
+use Rattle.program_tree.specs.Tree.{Expression, number, cell, unary, chain, call_standard, call_function, Operands, no_operands, operand, Expressions, no_expressions, expression, Statement, assign, call_block, choice, cases, repeat, chart, exit, return, own_body, Statements, no_statements, statement, Choices, no_choices, choose, Entries, no_entries, entry, TransitionData, Actions, no_actions, action}
+use Rattle.program_tree.specs.Leaving.{can_exit, can_exit_all, can_return, can_return_all}
 use Rattle.program_tree.specs.OperandTypes.{arity}
 use Rattle.meaning.specs.Frames.{FrameData}
 use Rattle.flat_form.specs.Frames.{others_behind}
-use Rattle.flat_count.specs.Counts.{Counting, count_of_start, count_in, count_in_operands, count_in_all, count_in_inputs, count_of_latches, count_of_transitions, count_of_associated, count_of, count_of_all, count_of_choices, count_of_entries, count_of_actions}
+use Rattle.flat_count.specs.Counts.{Counting, count_of_start, count_in, count_in_operands, count_in_all, count_in_inputs, count_of_latches, count_of_transitions, count_of_associated, count_of_flag, count_unless, count_of, count_of_all, count_of_choices, count_of_entries, count_of_actions}
 use Rattle.running_pous.specs.Uses.{uses_in, uses_in_operands, uses_in_all, uses_of_transitions, uses_of, uses_of_all, uses_of_choices, uses_of_entries, uses_of_action, uses_of_actions}
 
 -- a FOR, whose statements count only where it has turns
-turns_alike : (n x y : ℕ) → ((n == 0) ≡ false → x ≡ y) → n * (1 + x) + 1 ≡ n * (1 + y) + 1
-turns_alike zero x y some =
-    let left : 0 * (1 + x) + 1 ≡ 1 = omega arith in
-    let right : 0 * (1 + y) + 1 ≡ 1 = omega arith in
+turns_alike : (n : ℕ) (asks : Bool) (end x y : ℕ) → ((n == 0) ≡ false → x ≡ y) → n * count_unless asks (1 + x) + end ≡ n * count_unless asks (1 + y) + end
+turns_alike zero asks end x y some =
+    let left : 0 * count_unless asks (1 + x) + end ≡ end = omega arith in
+    let right : 0 * count_unless asks (1 + y) + end ≡ end = omega arith in
     rw (left, right) refl
-turns_alike (suc n) x y some =
+turns_alike (suc n) asks end x y some =
     let turns : (suc n == 0) ≡ false = grind (arith, nat_tests) in
-    ap (λ (m : ℕ). suc n * (1 + m) + 1) (some turns)
+    ap (λ (m : ℕ). suc n * count_unless asks (1 + m) + end) (some turns)
 
 -- two countings say the same of a POU
 pub record IsAlike (a b : Counting) (n : ℕ) : Type 0 where
@@ -114,18 +115,24 @@ module _ (a b : Counting) where
         let entries = alike_entries es (left (uses_of_entries es) (uses_of_all other) behind) in
         let more = alike_all other (right (uses_of_entries es) (uses_of_all other) behind) in
         λ i. selector i + 1 + entries i + more i
-    alike_of (repeat turns body) all = turns_alike turns.count (count_of_all a body) (count_of_all b body) (λ some. alike_all body (chosen (turns.count == 0) (uses_of_all body) some all))
+    alike_of (repeat turns body) all =
+        let asks = can_exit_all body || can_return_all body in
+        ap (λ (n : ℕ). count_of_flag (can_exit_all body) + n)
+        (turns_alike turns.count asks (count_unless asks 1) (count_of_all a body) (count_of_all b body) (λ some. alike_all body (chosen (turns.count == 0) (uses_of_all body) some all)))
     alike_of (chart steps actions ts) all =
         let acting = alike_actions actions (left (uses_of_actions actions) (uses_of_transitions ts) all) in
         let trying = alike_transitions ts (right (uses_of_actions actions) (uses_of_transitions ts) all) in
         λ i. count_of_latches actions + (acting i + (4 * length steps + trying i))
+    alike_of exit all = refl
+    alike_of return all = refl
+    alike_of (own_body ss) all = ap (λ (n : ℕ). count_of_flag (can_return_all ss) + n) (alike_all ss all)
 
     pub alike_all : (ts : Statements) → AreAlike (uses_of_all ts) → count_of_all a ts ≡ count_of_all b ts
     alike_all no_statements all = refl
     alike_all (statement t ts) all =
         let one = alike_of t (left (uses_of t) (uses_of_all ts) all) in
         let more = alike_all ts (right (uses_of t) (uses_of_all ts) all) in
-        λ i. one i + more i
+        λ i. one i + count_unless (can_exit t || can_return t) (more i)
 
     alike_choices : (arms : Choices) → AreAlike (uses_of_choices arms) → count_of_choices a arms ≡ count_of_choices b arms
     alike_choices no_choices all = refl

@@ -6,7 +6,7 @@ use Rattle.plc_types.specs.declared.range.Range.{Range}
 use Rattle.program_tree.specs.Tree.{Statements, CalledData, block, function}
 use Rattle.call_order.specs.Uses.{is_among}
 use Rattle.meaning.specs.Values.{State, Callees}
-use Rattle.meaning.specs.Effects.{effect_of_all}
+use Rattle.meaning.specs.Effects.{state_of, effect_of_all}
 use Rattle.meaning.specs.Calls.{given, run_of, ends_of, nothing, callees_of}
 use Rattle.meaning.proofs.Cases.{by_test}
 use Rattle.running_pous.specs.Uses.{uses_of_all, uses_of_called}
@@ -17,12 +17,12 @@ use Rattle.running_laws.proofs.SameUses.{DoSame, DoSameFor, all_same}
 -- ---- one POU
 
 runs_same : (a b : Callees) (p : CalledData) → DoSameFor a b (uses_of_called p) → (rs : List Range) (base : ℕ) (s : State) → run_of a p rs base s ≡ run_of b p rs base s
-runs_same a b (block body) h rs base s = all_same a b base rs body h s
+runs_same a b (block body) h rs base s = ap state_of (all_same a b base rs body h s)
 runs_same a b (function types own start body) h rs base s = refl
 
 ends_same : (a b : Callees) (p : CalledData) → DoSameFor a b (uses_of_called p) → (vs : List ℤ) → ends_of a p vs ≡ ends_of b p vs
 ends_same a b (block body) h vs = refl
-ends_same a b (function types rs start body) h vs = all_same a b 0 rs body h (given rs 2 vs start)
+ends_same a b (function types rs start body) h vs = ap state_of (all_same a b 0 rs body h (given rs 2 vs start))
 
 -- ---- POUs, of which some run
 

@@ -6,12 +6,12 @@ use Rattle.std.proofs.lemmas.Bool.{eqb-true}
 use Rattle.plc_types.specs.declared.range.Range.{Range}
 use Rattle.program_tree.specs.declared.typed.StepCells.{StepCells}
 use Rattle.program_tree.specs.declared.typed.Association.{Association}
-use Rattle.program_tree.specs.Tree.{Expression, number, cell, unary, chain, call_standard, call_function, Operands, no_operands, operand, Expressions, no_expressions, expression, TransitionData, Statement, assign, call_block, choice, cases, repeat, chart, Statements, no_statements, statement, Choices, no_choices, choose, Entries, no_entries, entry, Actions, no_actions, action}
+use Rattle.program_tree.specs.Tree.{Expression, number, cell, unary, chain, call_standard, call_function, Operands, no_operands, operand, Expressions, no_expressions, expression, TransitionData, Statement, assign, call_block, choice, cases, repeat, chart, exit, return, own_body, Statements, no_statements, statement, Choices, no_choices, choose, Entries, no_entries, entry, Actions, no_actions, action}
 use Rattle.call_order.specs.Uses.{is_among}
 use Rattle.call_order.proofs.Members.{is_among-left, is_among-right, is_among-head, is_among-tail}
 use Rattle.meaning.specs.Values.{State, Callees, is_truth, unary_applied, applied, divides_by_zero, called, fault_in, answer_in, value_of, value_on, values_of, faults, any_faults, one_faults}
 use Rattle.meaning.specs.Charts.{Marking, marking_now, marking_before, runs, may_fire, evaluated, fired, holds_in, faults_in, is_next}
-use Rattle.meaning.specs.Effects.{with_fault, stored, is_labelled, effect_of_turns, all_latched, marked, effect_of_transitions, effect_of, effect_of_all, effect_of_choices, effect_of_entries, effect_of_actions}
+use Rattle.meaning.specs.Effects.{Effect, on, exited, returned, state_of, followed_by, behind_turn, behind_body, with_fault, stored, is_labelled, effect_of_turns, all_latched, marked, effect_of_transitions, effect_of, effect_of_all, effect_of_choices, effect_of_entries, effect_of_actions}
 use Rattle.meaning.proofs.Cases.{by_test}
 use Rattle.running_pous.specs.Uses.{uses_in, uses_in_operands, uses_in_all, uses_of_transitions, uses_of, uses_of_all, uses_of_choices, uses_of_entries, uses_of_action, uses_of_actions}
 
@@ -68,16 +68,27 @@ module _ (p q : TransitionData → Bool) where
   fired_alike x ts alike =
       filter_alike (evaluated x p [] ts) (alike_evaluated x p ts [] alike) ∙ ap (λ (us : List TransitionData). filter q us) (evaluated_alike x ts alike [])
 
--- ---- the turns of a FOR
+-- ---- what stands behind a statement, and the turns of a FOR
 
-turns_same : (rs : List Range) (count control : ℕ) (v step : ℤ) (one other : State → State) → ((s : State) → one s ≡ other s) → (s : State)
+followed_same : (e : Effect) (one other : State → Effect) → ((s : State) → one s ≡ other s) → followed_by e one ≡ followed_by e other
+followed_same (on s) one other same = same s
+followed_same (exited s) one other same = refl
+followed_same (returned s) one other same = refl
+
+behind_same : (e : Effect) (one other : State → Effect) → ((s : State) → one s ≡ other s) → behind_turn e one ≡ behind_turn e other
+behind_same (on s) one other same = same s
+behind_same (exited s) one other same = refl
+behind_same (returned s) one other same = refl
+
+turns_same : (rs : List Range) (count control : ℕ) (v step : ℤ) (one other : State → Effect) → ((s : State) → one s ≡ other s) → (s : State)
     → effect_of_turns rs count control v step one s ≡ effect_of_turns rs count control v step other s
 turns_same rs zero control v step one other same s = refl
 turns_same rs (suc count) control v step one other same s =
-    ap (λ (z : State). effect_of_turns rs count control (v +ℤ step) step one z) (same (stored rs control v s))
-    ∙ turns_same rs count control (v +ℤ step) step one other same (other (stored rs control v s))
+    ap (λ (e : Effect). behind_turn e (effect_of_turns rs count control (v +ℤ step) step one)) (same (stored rs control v s))
+    ∙ behind_same (other (stored rs control v s)) (effect_of_turns rs count control (v +ℤ step) step one) (effect_of_turns rs count control (v +ℤ step) step other)
+    (λ z. turns_same rs count control (v +ℤ step) step one other same z)
 
-no_turns : (rs : List Range) (count control : ℕ) (v step : ℤ) (one other : State → State) (s : State) → count ≡ 0
+no_turns : (rs : List Range) (count control : ℕ) (v step : ℤ) (one other : State → Effect) (s : State) → count ≡ 0
     → effect_of_turns rs count control v step one s ≡ effect_of_turns rs count control v step other s
 no_turns rs count control v step one other s none = rw none refl
 
@@ -200,8 +211,8 @@ module _ (a b : Callees) where
 
       mutual
         effect_same : (t : Statement) → DoSameFor a b (uses_of t) → (s : State) → effect_of a rs base t s ≡ effect_of b rs base t s
-        effect_same (assign target e) h s = ap₂ (λ v fault. stored rs (base + target) v (with_fault fault s)) (value_same e h s) (faults_same e h s)
-        effect_same (call_block n offset) h s = (head_of n [] h).0 rs (base + offset) s
+        effect_same (assign target e) h s = ap₂ (λ v fault. on (stored rs (base + target) v (with_fault fault s))) (value_same e h s) (faults_same e h s)
+        effect_same (call_block n offset) h s = ap on ((head_of n [] h).0 rs (base + offset) s)
         effect_same (choice arms other) h s =
             let rest = right_of (uses_of_choices arms) (uses_of_all other) h in
             choices_same arms (left_of (uses_of_choices arms) (uses_of_all other) h) (effect_of_all a rs base other) (effect_of_all b rs base other) (λ z. all_same other rest z) s
@@ -220,16 +231,20 @@ module _ (a b : Callees) where
             let x = marking_now base steps s in
             let l = marking_before base steps s in
             let latches = all_latched rs base x actions s in
-            ap (λ (z : State). effect_of_transitions a rs base x steps ts z) (actions_same x l actions (left_of (uses_of_actions actions) (uses_of_transitions ts) h) latches)
-            ∙ transitions_same x steps ts (right_of (uses_of_actions actions) (uses_of_transitions ts) h) (effect_of_actions b rs base x l actions latches)
+            ap (λ (z : State). on (effect_of_transitions a rs base x steps ts z)) (actions_same x l actions (left_of (uses_of_actions actions) (uses_of_transitions ts) h) latches)
+            ∙ ap on (transitions_same x steps ts (right_of (uses_of_actions actions) (uses_of_transitions ts) h) (effect_of_actions b rs base x l actions latches))
+        effect_same exit h s = refl
+        effect_same return h s = refl
+        effect_same (own_body ss) h s = ap behind_body (all_same ss h s)
 
         pub all_same : (ts : Statements) → DoSameFor a b (uses_of_all ts) → (s : State) → effect_of_all a rs base ts s ≡ effect_of_all b rs base ts s
         all_same no_statements h s = refl
         all_same (statement t ts) h s =
-            ap (λ (z : State). effect_of_all a rs base ts z) (effect_same t (left_of (uses_of t) (uses_of_all ts) h) s)
-            ∙ all_same ts (right_of (uses_of t) (uses_of_all ts) h) (effect_of b rs base t s)
+            let behind = right_of (uses_of t) (uses_of_all ts) h in
+            ap (λ (e : Effect). followed_by e (effect_of_all a rs base ts)) (effect_same t (left_of (uses_of t) (uses_of_all ts) h) s)
+            ∙ followed_same (effect_of b rs base t s) (effect_of_all a rs base ts) (effect_of_all b rs base ts) (λ z. all_same ts behind z)
 
-        choices_same : (arms : Choices) → DoSameFor a b (uses_of_choices arms) → (other others : State → State) → ((z : State) → other z ≡ others z) → (s : State)
+        choices_same : (arms : Choices) → DoSameFor a b (uses_of_choices arms) → (other others : State → Effect) → ((z : State) → other z ≡ others z) → (s : State)
             → effect_of_choices a rs base arms other s ≡ effect_of_choices b rs base arms others s
         choices_same no_choices h other others same s = same s
         choices_same (choose e ss arms) h other others same s =
@@ -244,7 +259,7 @@ module _ (a b : Callees) where
             ∙ choices_same arms (right_of (uses_of_all ss) (uses_of_choices arms) more) other others same (with_fault (faults b base e s) s) in
             if-same _ _ _ _ _ _ truth ran later
 
-        entries_same : (es : Entries) → DoSameFor a b (uses_of_entries es) → (v w : ℤ) → v ≡ w → (other others : State → State) → ((z : State) → other z ≡ others z) → (s : State)
+        entries_same : (es : Entries) → DoSameFor a b (uses_of_entries es) → (v w : ℤ) → v ≡ w → (other others : State → Effect) → ((z : State) → other z ≡ others z) → (s : State)
             → effect_of_entries a rs base v es other s ≡ effect_of_entries b rs base w es others s
         entries_same no_entries h v w is other others same s = same s
         entries_same (entry labels ss es) h v w is other others same s =
@@ -260,7 +275,9 @@ module _ (a b : Callees) where
         actions_same x l (action latch associations ss rest) h s =
             let here = left_of (uses_of_action latch associations (uses_of_all ss)) (uses_of_actions rest) h in
             let behind = right_of (uses_of_action latch associations (uses_of_all ss)) (uses_of_actions rest) h in
-            let ran : (runs base x l latch associations s ≡ false) ⊎ (effect_of_all a rs base ss s ≡ effect_of_all b rs base ss s) =
-            ⊎_elim (λ never. inl never) (λ used. inr (all_same ss used s)) (by_action base x l latch associations (uses_of_all ss) here s) in
-            ap (λ (z : State). effect_of_actions a rs base x l rest z) (ran_same (runs base x l latch associations s) (effect_of_all a rs base ss s) (effect_of_all b rs base ss s) s ran)
-            ∙ actions_same x l rest behind (if runs base x l latch associations s then effect_of_all b rs base ss s else s)
+            let one = state_of (effect_of_all a rs base ss s) in
+            let other = state_of (effect_of_all b rs base ss s) in
+            let ran : (runs base x l latch associations s ≡ false) ⊎ (one ≡ other) =
+            ⊎_elim (λ never. inl never) (λ used. inr (ap state_of (all_same ss used s))) (by_action base x l latch associations (uses_of_all ss) here s) in
+            ap (λ (z : State). effect_of_actions a rs base x l rest z) (ran_same (runs base x l latch associations s) one other s ran)
+            ∙ actions_same x l rest behind (if runs base x l latch associations s then other else s)

@@ -1,11 +1,11 @@
 -- A scan of the program that a file states does what one of its whole typed program does.
-use Rattle.std.proofs.Common.{◌≡◌, ℕ, List, length, ap₂, pos}
+use Rattle.std.proofs.Common.{◌≡◌, ℕ, List, length, ap, ap₂, pos}
 use Rattle.std.specs.Prelude.{slice_set}
 use Rattle.plc_types.specs.declared.range.Range.{Range}
 use Rattle.source_tree.specs.Syntax.{PouData, FileData}
 use Rattle.program_tree.specs.Tree.{Statements}
 use Rattle.meaning.specs.Values.{State}
-use Rattle.meaning.specs.Effects.{effect_of_all}
+use Rattle.meaning.specs.Effects.{state_of, effect_of_all}
 use Rattle.meaning.specs.Calls.{callees_of}
 use Rattle.scan_model.specs.Scans.{ranges_of, scanned}
 use Rattle.scan_model.specs.InRange.{Row}
@@ -26,7 +26,7 @@ bodies_same f body rs base s =
     body_same (called_by f) (stated_by f runs) body (stated_long f runs) (stated_whole f runs) rs base s
 
 pub scans_same : (f : FileData) (k : ℕ) (p : PouData) (s : State) → scanned (stated_program f k p) s ≡ scanned (typed_program f k p) s
-scans_same f k p s = bodies_same f (pou_body f k p) (ranges_of (typed_program f k p).cells) 0 (slice_set s 0 (pos 0))
+scans_same f k p s = ap state_of (bodies_same f (pou_body f k p) (ranges_of (typed_program f k p).cells) 0 (slice_set s 0 (pos 0)))
 
 -- ---- a row
 

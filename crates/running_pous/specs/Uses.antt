@@ -1,7 +1,7 @@
 -- The POUs that expressions and statements use: the FUNCTIONs that they call, and the FUNCTION_BLOCKs whose bodies they run, by their numbers.
 use Rattle.std.specs.Prelude.{ℕ, ◌==◌, List, [], ◌∷◌, ◌++◌, Option, Some, None, if◌then◌else◌}
 use Rattle.program_tree.specs.declared.typed.Association.{Association}
-use Rattle.program_tree.specs.Tree.{Expression, number, cell, unary, chain, call_standard, call_function, Operands, no_operands, operand, Expressions, no_expressions, expression, TransitionData, Statement, assign, call_block, choice, cases, repeat, chart, Statements, no_statements, statement, Choices, no_choices, choose, Entries, no_entries, entry, Actions, no_actions, action, CalledData, block, function}
+use Rattle.program_tree.specs.Tree.{Expression, number, cell, unary, chain, call_standard, call_function, Operands, no_operands, operand, Expressions, no_expressions, expression, TransitionData, Statement, assign, call_block, choice, cases, repeat, chart, exit, return, own_body, Statements, no_statements, statement, Choices, no_choices, choose, Entries, no_entries, entry, Actions, no_actions, action, CalledData, block, function}
 
 abbrev mutual
   pub uses_in : Expression → List ℕ
@@ -39,6 +39,9 @@ abbrev mutual
   uses_of (cases kind e es other) = uses_in e ++ (uses_of_entries es ++ uses_of_all other)
   uses_of (repeat turns body) = if turns.count == 0 then [] else uses_of_all body
   uses_of (chart steps actions ts) = uses_of_actions actions ++ uses_of_transitions ts
+  uses_of exit = []
+  uses_of return = []
+  uses_of (own_body ss) = uses_of_all ss
 
   pub uses_of_all : Statements → List ℕ
   uses_of_all no_statements = []

@@ -94,6 +94,8 @@ fn append_in_stmt(stmt: &TypedStmt, uses: &mut Vec<usize>) -> Result<(), AllocEr
             append_in_actions(actions, uses)?;
             append_in_transitions(transitions, uses)
         }
+        TypedStmt::Exit | TypedStmt::Return => Ok(()),
+        TypedStmt::Body(body) => append_uses(body, uses),
     }
 }
 

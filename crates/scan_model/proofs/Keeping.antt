@@ -1,5 +1,5 @@
 -- Loading and scans keep every value in its cell's range.
-use Rattle.std.proofs.Common.{◌≡◌, ℕ, zero, suc, Bool, true, false, List, [], ◌∷◌, ℤ, pos, ◌+ℤ◌, ◌≤ℤ◌, refl, ap, subst, sym, length, rules, arith, tests}
+use Rattle.std.proofs.Common.{◌≡◌, ℕ, zero, suc, Bool, true, false, List, [], ◌∷◌, ℤ, pos, ◌+ℤ◌, ◌≤ℤ◌, refl, ap, subst, sym, length, arith}
 use Rattle.std.specs.Prelude.{◌+◌, ◌==◌, Option, None, Some, slice_set, slice_index_or, if◌then◌else◌, All}
 use Rattle.std.proofs.lemmas.Int.{ints}
 use Rattle.std.proofs.lemmas.Bool.{and_parts}
@@ -8,12 +8,12 @@ use Rattle.program_tree.specs.declared.typed.StepCells.{StepCells}
 use Rattle.program_tree.specs.declared.typed.Association.{Association}
 use Rattle.plc_types.specs.Types.{in_range}
 use Rattle.plc_types.proofs.InRange.{bounds}
-use Rattle.program_tree.specs.Tree.{Statement, assign, call_block, choice, cases, repeat, chart, Statements, no_statements, statement, Choices, no_choices, choose, Entries, no_entries, entry, Actions, no_actions, action, CellData, CalledData, block, function, ProgramData}
+use Rattle.program_tree.specs.Tree.{Statement, assign, call_block, choice, cases, repeat, chart, exit, return, own_body, Statements, no_statements, statement, Choices, no_choices, choose, Entries, no_entries, entry, Actions, no_actions, action, CellData, CalledData, block, function, ProgramData}
 use Rattle.scan_model.specs.declared.relation.InputLine.{InputLine}
 use Rattle.scan_model.specs.declared.relation.InputLine.TheVariants.{Both, Old, New}
 use Rattle.meaning.specs.Values.{State, Callees, value_of, faults, is_truth}
 use Rattle.meaning.specs.Charts.{Marking, runs}
-use Rattle.meaning.specs.Effects.{range_at, with_fault, stored, is_labelled, effect_of_turns, latched, all_latched, marked, effect_of, effect_of_all, effect_of_choices, effect_of_entries, effect_of_actions}
+use Rattle.meaning.specs.Effects.{Effect, on, exited, returned, state_of, followed_by, behind_turn, behind_body, range_at, with_fault, stored, is_labelled, effect_of_turns, latched, all_latched, marked, effect_of, effect_of_all, effect_of_choices, effect_of_entries, effect_of_actions}
 use Rattle.meaning.specs.Calls.{run_of, nothing, callees_of}
 use Rattle.scan_model.specs.Scans.{ranges_of, callees_in, scanned}
 use Rattle.scan_model.specs.InRange.{Row, IsInRange, BeginsWithFault, IsFitToRun, fits_places, put_at}
@@ -36,6 +36,27 @@ IsInRange-set (r ∷ rs) (x ∷ s) (suc c) v f h = (f.0, f.1, IsInRange-set rs s
 pub either : (rs : List Range) (b : Bool) (x y : State) → (b ≡ true → IsInRange rs x) → (b ≡ false → IsInRange rs y) → IsInRange rs (if b then x else y)
 either rs true x y p q = p refl
 either rs false x y p q = q refl
+
+-- the same of the states that one of two effects leaves
+pub either_leaves : (rs : List Range) (b : Bool) (x y : Effect) → (b ≡ true → IsInRange rs (state_of x)) → (b ≡ false → IsInRange rs (state_of y)) → IsInRange rs (state_of (if b then x else y))
+either_leaves rs true x y p q = p refl
+either_leaves rs false x y p q = q refl
+
+-- what runs behind a statement, a turn or a body of its own keeps what they leave in range, or does not run
+kept_by_next : (rs : List Range) (e : Effect) (next : State → Effect) → IsInRange rs (state_of e) → ((s : State) → IsInRange rs s → IsInRange rs (state_of (next s))) → IsInRange rs (state_of (followed_by e next))
+kept_by_next rs (on s) next f keeps = keeps s f
+kept_by_next rs (exited s) next f keeps = f
+kept_by_next rs (returned s) next f keeps = f
+
+kept_behind_turn : (rs : List Range) (e : Effect) (next : State → Effect) → IsInRange rs (state_of e) → ((s : State) → IsInRange rs s → IsInRange rs (state_of (next s))) → IsInRange rs (state_of (behind_turn e next))
+kept_behind_turn rs (on s) next f keeps = keeps s f
+kept_behind_turn rs (exited s) next f keeps = f
+kept_behind_turn rs (returned s) next f keeps = f
+
+kept_behind_body : (rs : List Range) (e : Effect) → IsInRange rs (state_of e) → IsInRange rs (state_of (behind_body e))
+kept_behind_body rs (on s) f = f
+kept_behind_body rs (exited s) f = f
+kept_behind_body rs (returned s) f = f
 
 -- the first range is that of a BOOL
 pub HoldsFault : List Range → Type 0
@@ -66,9 +87,10 @@ module _ (rs : List Range) (first : HoldsFault rs) where
   pub kept_by_store : (c : ℕ) (v : ℤ) (s : State) → IsInRange rs s → IsInRange rs (stored rs c v s)
   kept_by_store c v s f = either rs (in_range v (range_at rs c)) _ _ (λ h. IsInRange-set rs s c v f h) (λ _. faulted s f)
 
-  pub kept_by_turns : (n c : ℕ) (v step : ℤ) (body : State → State) → ((s : State) → IsInRange rs s → IsInRange rs (body s)) → (s : State) → IsInRange rs s → IsInRange rs (effect_of_turns rs n c v step body s)
+  pub kept_by_turns : (n c : ℕ) (v step : ℤ) (body : State → Effect) → ((s : State) → IsInRange rs s → IsInRange rs (state_of (body s))) → (s : State) → IsInRange rs s → IsInRange rs (state_of (effect_of_turns rs n c v step body s))
   kept_by_turns zero c v step body keeps s f = kept_by_store c v s f
-  kept_by_turns (suc n) c v step body keeps s f = kept_by_turns n c (v +ℤ step) step body keeps _ (keeps _ (kept_by_store c v s f))
+  kept_by_turns (suc n) c v step body keeps s f =
+      kept_behind_turn rs (body (stored rs c v s)) _ (keeps _ (kept_by_store c v s f)) (λ x g. kept_by_turns n c (v +ℤ step) step body keeps x g)
 
   pub kept_by_latch : (base : ℕ) (x : Marking) (latch : Option ℕ) (associations : List Association) (s : State) → IsInRange rs s → IsInRange rs (latched rs base x latch associations s)
   kept_by_latch base x None associations s f = f
@@ -85,7 +107,7 @@ module _ (rs : List Range) (first : HoldsFault rs) where
 
   module _ (callees : Callees) (calls : (b base : ℕ) (s : State) → IsInRange rs s → IsInRange rs (callees.runs b rs base s)) where
     mutual
-      pub kept_by_statement : (base : ℕ) (a : Statement) (s : State) → IsInRange rs s → IsInRange rs (effect_of callees rs base a s)
+      pub kept_by_statement : (base : ℕ) (a : Statement) (s : State) → IsInRange rs s → IsInRange rs (state_of (effect_of callees rs base a s))
       kept_by_statement base (assign c e) s f = kept_by_store (base + c) _ _ (fault_added (faults callees base e s) s f)
       kept_by_statement base (call_block b offset) s f = calls b (base + offset) s f
       kept_by_statement base (choice arms other) s f = kept_by_choices base arms (effect_of_all callees rs base other) (λ x g. kept_by_all base other x g) s f
@@ -95,21 +117,25 @@ module _ (rs : List Range) (first : HoldsFault rs) where
           kept_by_turns turns.count (base + turns.control) turns.first turns.step (effect_of_all callees rs base body) (λ x g. kept_by_all base body x g) s f
       kept_by_statement base (chart steps actions ts) s f =
           kept_by_marks base _ _ 0 steps _ (fault_added _ _ (kept_by_actions base _ _ actions _ (kept_by_latches base _ actions s f)))
+      kept_by_statement base exit s f = f
+      kept_by_statement base return s f = f
+      kept_by_statement base (own_body ss) s f = kept_behind_body rs (effect_of_all callees rs base ss s) (kept_by_all base ss s f)
 
-      pub kept_by_all : (base : ℕ) (b : Statements) (s : State) → IsInRange rs s → IsInRange rs (effect_of_all callees rs base b s)
+      pub kept_by_all : (base : ℕ) (b : Statements) (s : State) → IsInRange rs s → IsInRange rs (state_of (effect_of_all callees rs base b s))
       kept_by_all base no_statements s f = f
-      kept_by_all base (statement a rest) s f = kept_by_all base rest _ (kept_by_statement base a s f)
+      kept_by_all base (statement a rest) s f =
+          kept_by_next rs (effect_of callees rs base a s) (effect_of_all callees rs base rest) (kept_by_statement base a s f) (λ x g. kept_by_all base rest x g)
 
-      pub kept_by_choices : (base : ℕ) (arms : Choices) (other : State → State) → ((s : State) → IsInRange rs s → IsInRange rs (other s)) → (s : State) → IsInRange rs s → IsInRange rs (effect_of_choices callees rs base arms other s)
+      pub kept_by_choices : (base : ℕ) (arms : Choices) (other : State → Effect) → ((s : State) → IsInRange rs s → IsInRange rs (state_of (other s))) → (s : State) → IsInRange rs s → IsInRange rs (state_of (effect_of_choices callees rs base arms other s))
       kept_by_choices base no_choices other keeps s f = keeps s f
       kept_by_choices base (choose e b arms) other keeps s f =
           let g = fault_added (faults callees base e s) s f in
-          either rs (is_truth (value_of callees base e s)) _ _ (λ _. kept_by_all base b _ g) (λ _. kept_by_choices base arms other keeps _ g)
+          either_leaves rs (is_truth (value_of callees base e s)) _ _ (λ _. kept_by_all base b _ g) (λ _. kept_by_choices base arms other keeps _ g)
 
-      pub kept_by_entries : (base : ℕ) (v : ℤ) (es : Entries) (other : State → State) → ((s : State) → IsInRange rs s → IsInRange rs (other s)) → (s : State) → IsInRange rs s → IsInRange rs (effect_of_entries callees rs base v es other s)
+      pub kept_by_entries : (base : ℕ) (v : ℤ) (es : Entries) (other : State → Effect) → ((s : State) → IsInRange rs s → IsInRange rs (state_of (other s))) → (s : State) → IsInRange rs s → IsInRange rs (state_of (effect_of_entries callees rs base v es other s))
       kept_by_entries base v no_entries other keeps s f = keeps s f
       kept_by_entries base v (entry labels b es) other keeps s f =
-          either rs (is_labelled v labels) _ _ (λ _. kept_by_all base b s f) (λ _. kept_by_entries base v es other keeps s f)
+          either_leaves rs (is_labelled v labels) _ _ (λ _. kept_by_all base b s f) (λ _. kept_by_entries base v es other keeps s f)
 
       pub kept_by_actions : (base : ℕ) (x l : Marking) (actions : Actions) (s : State) → IsInRange rs s → IsInRange rs (effect_of_actions callees rs base x l actions s)
       kept_by_actions base x l no_actions s f = f

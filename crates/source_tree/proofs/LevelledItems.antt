@@ -1,6 +1,6 @@
 -- Each item of levelled statements is levelled.
 use Rattle.std.proofs.Common.{List, [], ◌∷◌}
-use Rattle.source_tree.specs.Syntax.{IterationData, Tree, LabelData, Stmt, empty, assign, invoke, branch, cases, iterate, Stmts, no_stmts, stmt, Arms, no_arms, arm, Entries, no_entries, entry, Otherwise, no_else, else_stmts, PartData, step_part, transition_part, action_part, BodyData, statements, chart}
+use Rattle.source_tree.specs.Syntax.{IterationData, Tree, LabelData, Stmt, empty, assign, invoke, branch, cases, iterate, exit, return, Stmts, no_stmts, stmt, Arms, no_arms, arm, Entries, no_entries, entry, Otherwise, no_else, else_stmts, PartData, step_part, transition_part, action_part, BodyData, statements, chart}
 use Rattle.source_tree.specs.Levels.{IsStmtLevelled, AreStmtsLevelled, AreArmsLevelled, AreEntriesLevelled, IsElseLevelled, ArePartsLevelled, IsBodyLevelled}
 use Rattle.source_tree.specs.StatementItems.{every, folded, folded_stmts, folded_arms, folded_entries, folded_else, folded_parts, folded_body}
 use Rattle.source_tree.specs.LevelledItems.{IsLevelledItem}
@@ -15,6 +15,8 @@ mutual
   levelled_item around (cases e no_entries other) h = absurd h
   levelled_item around (cases e (entry ls ss es) other) h = (h.0, ((h.1, (levelled_items around ss h.2, levelled_entries around e (ls ∷ []) es h.3)), levelled_else around other h.4))
   levelled_item around (iterate i ss) h = (h.0, levelled_items (i ∷ around) ss h.1)
+  levelled_item around (exit at) h = tt
+  levelled_item around return h = tt
 
   pub levelled_items : (around : List IterationData) (ss : Stmts) → AreStmtsLevelled ss → folded_stmts (every IsLevelledItem) around ss
   levelled_items around no_stmts h = tt

@@ -1,6 +1,6 @@
 -- The one induction over statements: where what folds make of each item is related, so is what they make of a body.
 use Rattle.std.proofs.Common.{List, [], ◌∷◌}
-use Rattle.source_tree.specs.Syntax.{IterationData, Tree, LabelData, Stmt, empty, assign, invoke, branch, cases, iterate, Stmts, no_stmts, stmt, Arms, no_arms, arm, Entries, no_entries, entry, Otherwise, no_else, else_stmts, PartData, step_part, transition_part, action_part, BodyData, statements, chart}
+use Rattle.source_tree.specs.Syntax.{IterationData, Tree, LabelData, Stmt, empty, assign, invoke, branch, cases, iterate, exit, return, Stmts, no_stmts, stmt, Arms, no_arms, arm, Entries, no_entries, entry, Otherwise, no_else, else_stmts, PartData, step_part, transition_part, action_part, BodyData, statements, chart}
 use Rattle.source_tree.specs.StatementItems.{StatementItem, assignment, invocation, condition, selector, labels, iteration, Fold, folded, folded_stmts, folded_arms, folded_entries, folded_else, folded_parts, folded_body}
 
 -- What three folds make is related: what they make of nothing, of one item, and of parts that are related; and what they make of a FOR where that of its
@@ -22,6 +22,8 @@ mutual
   related a b c R r around (cases e es other) =
       r.both around _ _ _ _ _ _ (r.own around (selector e)) (r.both around _ _ _ _ _ _ (related_entries a b c R r around e [] es) (related_else a b c R r around other))
   related a b c R r around (iterate i ss) = r.inside around i _ _ _ (related_stmts a b c R r (i ∷ around) ss)
+  related a b c R r around (exit at) = r.none around
+  related a b c R r around return = r.none around
 
   pub related_stmts {ℓ κ μ ν} : {A : Type ℓ} {B : Type κ} {C : Type μ} (a : Fold A) (b : Fold B) (c : Fold C) (R : List IterationData → A → B → C → Type ν) → AreRelated a b c R
       → (around : List IterationData) (ss : Stmts) → R around (folded_stmts a around ss) (folded_stmts b around ss) (folded_stmts c around ss)

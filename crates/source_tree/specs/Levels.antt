@@ -6,7 +6,7 @@ use Rattle.plc_types.specs.declared.operator.UnaryOperator.TheVariants as signs
 use Rattle.source_tree.specs.declared.syntax.Literal.TheVariants as literals
 use Rattle.source_tree.specs.declared.syntax.Section.{Section}
 use Rattle.source_tree.specs.declared.syntax.Section.TheVariants as sections
-use Rattle.source_tree.specs.Syntax.{Tree, literal, path, enumerator, paren, unary, chain, call, Links, no_links, link, Arguments, no_arguments, argument, ConnectionData, input, output, Stmt, empty, assign, invoke, branch, cases, iterate, Stmts, no_stmts, stmt, Arms, no_arms, arm, Entries, no_entries, entry, Otherwise, no_else, else_stmts, LabelData, IterationData, TypeData, of_elementary, of_subrange, of_name, SpecificationData, of_type, of_values, TypeDeclarationData, DeclarationData, VariablesData, PartData, step_part, transition_part, action_part, BodyData, statements, chart as chart_body, PouTypeData, function, function_block, program, PouData, ItemData, types, pou, FileData}
+use Rattle.source_tree.specs.Syntax.{Tree, literal, path, enumerator, paren, unary, chain, call, Links, no_links, link, Arguments, no_arguments, argument, ConnectionData, input, output, Stmt, empty, assign, invoke, branch, cases, iterate, exit, return, Stmts, no_stmts, stmt, Arms, no_arms, arm, Entries, no_entries, entry, Otherwise, no_else, else_stmts, LabelData, IterationData, TypeData, of_elementary, of_subrange, of_name, SpecificationData, of_type, of_values, TypeDeclarationData, DeclarationData, VariablesData, PartData, step_part, transition_part, action_part, BodyData, statements, chart as chart_body, PouTypeData, function, function_block, program, PouData, ItemData, types, pou, FileData}
 
 -- how loosely an operator binds
 abbrev pub level_of : Operator → ℕ
@@ -124,6 +124,8 @@ abbrev mutual
   IsStmtLevelled (cases e no_entries other) = ⊥
   IsStmtLevelled (cases e (entry ls ss es) other) = IsLevelled e × AreLabels ls × AreStmtsLevelled ss × AreEntriesLevelled es × IsElseLevelled other
   IsStmtLevelled (iterate i ss) = IsIterationLevelled i × AreStmtsLevelled ss
+  IsStmtLevelled (exit at) = Unit {0}
+  IsStmtLevelled return = Unit {0}
 
   pub AreStmtsLevelled : Stmts → Type 0
   AreStmtsLevelled no_stmts = Unit {0}

@@ -10,7 +10,7 @@ use Rattle.plc_types.specs.declared.operator.UnaryOperator.{UnaryOperator}
 use Rattle.plc_types.specs.declared.operator.UnaryOperator.TheVariants as signs
 use Rattle.source_tree.specs.declared.syntax.Section.{Section}
 use Rattle.source_tree.specs.declared.syntax.Section.TheVariants as sections
-use Rattle.source_tree.specs.Syntax.{Symbol, name, number, truth, elementary, negation, operator, opening, iteration, part, mark, Named, PathData, Tree, literal, path, enumerator, paren, unary, chain, call, Links, no_links, link, Arguments, no_arguments, argument, ConnectionData, input, output, Stmt, empty, assign, invoke, branch, cases, iterate, Stmts, no_stmts, stmt, Arms, no_arms, arm, Entries, no_entries, entry, Otherwise, no_else, else_stmts, LabelData, IterationData, BoundsData, TypeData, of_elementary, of_subrange, of_name, SpecificationData, of_type, of_values, TypeDeclarationData, DeclarationData, VariablesData, BracketsData, StepActionData, ChartStepData, StepsData, one_step, several_steps, PriorityData, ChartTransitionData, ChartActionData, PartData, step_part, transition_part, action_part, BodyData, statements, chart as chart_body, PouTypeData, function, function_block, program, PouData, ItemData, types, pou, FileData}
+use Rattle.source_tree.specs.Syntax.{Symbol, name, number, truth, elementary, negation, operator, opening, iteration, exit_word, part, mark, Named, PathData, Tree, literal, path, enumerator, paren, unary, chain, call, Links, no_links, link, Arguments, no_arguments, argument, ConnectionData, input, output, Stmt, empty, assign, invoke, branch, cases, iterate, exit, return, Stmts, no_stmts, stmt, Arms, no_arms, arm, Entries, no_entries, entry, Otherwise, no_else, else_stmts, LabelData, IterationData, BoundsData, TypeData, of_elementary, of_subrange, of_name, SpecificationData, of_type, of_values, TypeDeclarationData, DeclarationData, VariablesData, BracketsData, StepActionData, ChartStepData, StepsData, one_step, several_steps, PriorityData, ChartTransitionData, ChartActionData, PartData, step_part, transition_part, action_part, BodyData, statements, chart as chart_body, PouTypeData, function, function_block, program, PouData, ItemData, types, pou, FileData}
 
 abbrev pub name_symbol : Named → Symbol
 name_symbol n = name n.text n.at
@@ -110,6 +110,8 @@ abbrev mutual
   print_stmt (branch arms other) = print_arms marks.If arms ++ print_otherwise marks.EndIf other
   print_stmt (cases e es other) = mark marks.Case ∷ (print e ++ mark marks.Of ∷ (print_entries es ++ print_otherwise marks.EndCase other))
   print_stmt (iterate i ss) = print_iteration i ++ (print_stmts ss ++ mark marks.EndFor ∷ [])
+  print_stmt (exit at) = exit_word at ∷ mark marks.Semicolon ∷ []
+  print_stmt return = mark marks.Return ∷ mark marks.Semicolon ∷ []
 
   pub print_stmts : Stmts → List Symbol
   print_stmts no_stmts = []

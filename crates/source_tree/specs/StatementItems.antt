@@ -1,6 +1,6 @@
 -- One view of statements: what stands in a statement itself, its items, and what is made of the items of all statements inside of it.
 use Rattle.std.specs.Prelude.{ℕ, ◌⊎◌, List, [], ◌∷◌, ◌++◌}
-use Rattle.source_tree.specs.Syntax.{Named, PathData, Tree, ConnectionData, LabelData, IterationData, Stmt, empty, assign, invoke, branch, cases, iterate, Stmts, no_stmts, stmt, Arms, no_arms, arm, Entries, no_entries, entry, Otherwise, no_else, else_stmts, PartData, step_part, transition_part, action_part, BodyData, statements, chart}
+use Rattle.source_tree.specs.Syntax.{Named, PathData, Tree, ConnectionData, LabelData, IterationData, Stmt, empty, assign, invoke, branch, cases, iterate, exit, return, Stmts, no_stmts, stmt, Arms, no_arms, arm, Entries, no_entries, entry, Otherwise, no_else, else_stmts, PartData, step_part, transition_part, action_part, BodyData, statements, chart}
 
 -- A target with the value that it takes; a call of an instance, by its name, the place of its parenthesis and what is connected; a condition of an IF or
 -- of a transition; the selector of a CASE; the labels of an entry of a CASE, with its selector and the labels of the entries before it, the last one first;
@@ -27,6 +27,8 @@ abbrev mutual
   folded j around (branch arms other) = j.both (folded_arms j around arms) (folded_else j around other)
   folded j around (cases e es other) = j.both (j.own around (selector e)) (j.both (folded_entries j around e [] es) (folded_else j around other))
   folded j around (iterate i ss) = j.both (j.own around (iteration i)) (folded_stmts j (i ∷ around) ss)
+  folded j around (exit at) = j.none
+  folded j around return = j.none
 
   pub folded_stmts {ℓ} : {A : Type ℓ} → Fold A → List IterationData → Stmts → A
   folded_stmts j around no_stmts = j.none

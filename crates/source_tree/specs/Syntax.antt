@@ -18,6 +18,7 @@ pub data Symbol : Type 0 where
   operator : Operator → ℕ → Symbol
   opening : ℕ → Symbol
   iteration : ℕ → Symbol
+  exit_word : ℕ → Symbol
   part : PartWord → ℕ → Symbol
   mark : Mark → Symbol
   left_out : ℕ → Symbol
@@ -70,7 +71,7 @@ pub record IterationData : Type 0 where
   pub step : Option Tree
 
 -- Statements. A call of a block has the name of an instance and the place of its parenthesis; an IF has an arm for IF and for
--- each ELSIF, and then what stands behind ELSE; a CASE has entries, each with its labels.
+-- each ELSIF, and then what stands behind ELSE; a CASE has entries, each with its labels; an EXIT has its place.
 mutual
   pub data Stmt : Type 0 where
     empty : Stmt
@@ -79,6 +80,8 @@ mutual
     branch : Arms → Otherwise → Stmt
     cases : Tree → Entries → Otherwise → Stmt
     iterate : IterationData → Stmts → Stmt
+    exit : ℕ → Stmt
+    return : Stmt
 
   pub data Stmts : Type 0 where
     no_stmts : Stmts

@@ -49,7 +49,7 @@ use Rattle.source_tree.specs.declared.syntax.Pou.{Pou}
 use Rattle.source_tree.specs.declared.syntax.Item.{Item}
 use Rattle.source_tree.specs.declared.syntax.Item.TheVariants as items
 use Rattle.source_tree.specs.declared.syntax.SourceFile.{SourceFile}
-use Rattle.source_tree.specs.Syntax.{Symbol, name, number, truth, elementary, negation, operator, opening, iteration, part, mark, left_out, Named, PathData, Tree, literal, path, enumerator, paren, unary, chain, call, Links, no_links, link, Arguments, no_arguments, argument, ConnectionData, input, output, Stmt, empty, assign, invoke, branch, cases, iterate, Stmts, no_stmts, stmt, Arms, no_arms, arm, Entries, no_entries, entry, Otherwise, no_else, else_stmts, LabelData, IterationData, BoundsData, TypeData, of_elementary, of_subrange, of_name, SpecificationData, of_type, of_values, TypeDeclarationData, DeclarationData, VariablesData, BracketsData, StepActionData, ChartStepData, StepsData, one_step, several_steps, PriorityData, ChartTransitionData, ChartActionData, PartData, step_part, transition_part, action_part, BodyData, statements, chart as chart_body, PouTypeData, function, function_block, program, PouData, ItemData, types, pou, FileData}
+use Rattle.source_tree.specs.Syntax.{Symbol, name, number, truth, elementary, negation, operator, opening, iteration, exit_word, part, mark, left_out, Named, PathData, Tree, literal, path, enumerator, paren, unary, chain, call, Links, no_links, link, Arguments, no_arguments, argument, ConnectionData, input, output, Stmt, empty, assign, invoke, branch, cases, iterate, exit, return, Stmts, no_stmts, stmt, Arms, no_arms, arm, Entries, no_entries, entry, Otherwise, no_else, else_stmts, LabelData, IterationData, BoundsData, TypeData, of_elementary, of_subrange, of_name, SpecificationData, of_type, of_values, TypeDeclarationData, DeclarationData, VariablesData, BracketsData, StepActionData, ChartStepData, StepsData, one_step, several_steps, PriorityData, ChartTransitionData, ChartActionData, PartData, step_part, transition_part, action_part, BodyData, statements, chart as chart_body, PouTypeData, function, function_block, program, PouData, ItemData, types, pou, FileData}
 
 -- a text in upper case
 abbrev pub upper : List ℕ → List ℕ
@@ -64,6 +64,7 @@ symbol_of terminals.Not text at = negation at
 symbol_of (terminals.Operator o) text at = operator o at
 symbol_of terminals.Open text at = opening at
 symbol_of terminals.For text at = iteration at
+symbol_of terminals.Exit text at = exit_word at
 symbol_of (terminals.Part w) text at = part w at
 symbol_of (terminals.Mark m) text at = mark m
 symbol_of terminals.LeftOut text at = left_out at
@@ -181,6 +182,8 @@ stmt_step (Stmt-F.Call n at cs) = invoke (name_view n) at (connections_view cs.i
 stmt_step (Stmt-F.If arms other) = branch (arms_of arms.items) (otherwise_of other)
 stmt_step (Stmt-F.Case e es other) = cases (tree_view e) (entries_of es.items) (otherwise_of other)
 stmt_step (Stmt-F.For i ss) = iterate (iteration_view i.value) (stmts_of ss.items)
+stmt_step (Stmt-F.Exit at) = exit at
+stmt_step Stmt-F.Return = return
 
 abbrev pub arm_step : Arm-F Stmt ArmData EntryData → ArmData
 arm_step a = (tree_view a.condition, stmts_of a.body.items)

@@ -45,6 +45,7 @@ mark_words =
     ∷ (codes "BY", terminals.Mark marks.By)
     ∷ (codes "DO", terminals.Mark marks.Do)
     ∷ (codes "END_FOR", terminals.Mark marks.EndFor)
+    ∷ (codes "RETURN", terminals.Mark marks.Return)
     ∷ (codes "FROM", terminals.Mark marks.From)
     ∷ (codes "END_STEP", terminals.Mark marks.EndStep)
     ∷ (codes "END_TRANSITION", terminals.Mark marks.EndTransition)
@@ -60,7 +61,7 @@ chart_words =
     ∷ (codes "ACTION", terminals.Part part_words.Action)
     ∷ []
 
--- reserved words that are operators or values, and FOR
+-- reserved words that are operators or values, FOR and EXIT
 abbrev pub operator_words : List Entry
 operator_words =
     (codes "AND", terminals.Operator operators.And)
@@ -69,6 +70,7 @@ operator_words =
     ∷ (codes "MOD", terminals.Operator operators.Mod)
     ∷ (codes "NOT", terminals.Not)
     ∷ (codes "FOR", terminals.For)
+    ∷ (codes "EXIT", terminals.Exit)
     ∷ (codes "TRUE", terminals.Truth true)
     ∷ (codes "FALSE", terminals.Truth false)
     ∷ []
@@ -79,7 +81,7 @@ left_out_words =
     codes "REAL" ∷ codes "LREAL" ∷ codes "STRING" ∷ codes "WSTRING"
     ∷ codes "DATE" ∷ codes "TIME" ∷ codes "TIME_OF_DAY" ∷ codes "TOD" ∷ codes "DATE_AND_TIME" ∷ codes "DT"
     ∷ codes "LINT" ∷ codes "ULINT" ∷ codes "LWORD" ∷ codes "ARRAY" ∷ codes "STRUCT"
-    ∷ codes "WHILE" ∷ codes "REPEAT" ∷ codes "EXIT" ∷ codes "RETURN"
+    ∷ codes "WHILE" ∷ codes "REPEAT"
     ∷ codes "VAR_IN_OUT" ∷ codes "VAR_EXTERNAL" ∷ codes "VAR_ACCESS" ∷ codes "VAR_GLOBAL" ∷ codes "VAR_CONFIG"
     ∷ codes "RETAIN" ∷ codes "NON_RETAIN" ∷ codes "AT"
     ∷ codes "CONFIGURATION" ∷ codes "RESOURCE" ∷ codes "TASK" ∷ codes "R_EDGE" ∷ codes "F_EDGE"

@@ -100,7 +100,7 @@ pub enum Connection {
 
 /// A statement (IEC 61131-3, 3.3.2). A call of a block has the name of the instance, the place of its parenthesis, and its
 /// connections; an IF an arm for IF and for each ELSIF, and what stands behind ELSE; a CASE its selector, its entries, and what
-/// stands behind ELSE; a FOR its values and its body.
+/// stands behind ELSE; a FOR its values and its body; an EXIT its place.
 #[derive(Drop)]
 #[cycle(stmt)]
 pub enum Stmt {
@@ -110,6 +110,8 @@ pub enum Stmt {
     If(Vec<Arm>, Option<Vec<Stmt>>),
     Case(Expr, Vec<Entry>, Option<Vec<Stmt>>),
     For(Box<Iteration>, Vec<Stmt>),
+    Exit(usize),
+    Return,
 }
 
 /// A condition, and the statements behind its THEN.

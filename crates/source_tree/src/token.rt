@@ -39,6 +39,7 @@ pub enum Mark {
     By,
     Do,
     EndFor,
+    Return,
     From,
     EndStep,
     EndTransition,
@@ -63,7 +64,7 @@ pub enum TokenClass {
 }
 
 /// What a token is for the grammar (IEC 61131-3, annexes B and C): a name; a number, by its value; a truth
-/// value; an elementary type; NOT; a binary operator, `-` among them; `(`; FOR; a word that begins a part of a chart; another
+/// value; an elementary type; NOT; a binary operator, `-` among them; `(`; FOR; EXIT; a word that begins a part of a chart; another
 /// word or sign that is let in; or a word that is left out.
 #[derive(Clone, Copy, PartialEq, Eq)]
 pub enum Terminal {
@@ -75,6 +76,7 @@ pub enum Terminal {
     Operator(Operator),
     Open,
     For,
+    Exit,
     Part(PartWord),
     Mark(Mark),
     LeftOut,

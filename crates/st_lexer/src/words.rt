@@ -46,7 +46,7 @@ static WORDS_E: [(&str, Terminal); 14] = [
     ("END_STEP", Terminal::Mark(Mark::EndStep)),
     ("END_TRANSITION", Terminal::Mark(Mark::EndTransition)),
     ("END_ACTION", Terminal::Mark(Mark::EndAction)),
-    ("EXIT", Terminal::LeftOut),
+    ("EXIT", Terminal::Exit),
 ];
 
 static WORDS_F: [(&str, Terminal); 6] = [
@@ -81,9 +81,9 @@ static WORDS_O: [(&str, Terminal); 2] = [
 static WORDS_P: [(&str, Terminal); 1] = [("PROGRAM", Terminal::Mark(Mark::Program))];
 
 static WORDS_R: [(&str, Terminal); 6] = [
+    ("RETURN", Terminal::Mark(Mark::Return)),
     ("REAL", Terminal::LeftOut),
     ("REPEAT", Terminal::LeftOut),
-    ("RETURN", Terminal::LeftOut),
     ("RETAIN", Terminal::LeftOut),
     ("RESOURCE", Terminal::LeftOut),
     ("R_EDGE", Terminal::LeftOut),

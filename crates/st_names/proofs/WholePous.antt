@@ -6,7 +6,7 @@ use Rattle.std.specs.Str.{bytes_eq}
 use Rattle.std.proofs.lemmas.Bool.{and_from, and_parts}
 use Rattle.rules.specs.declared.rule.Rule.{Rule}
 use Rattle.rules.specs.declared.rule.Rule.TheVariants.{UnknownStep, UnknownAction, StepTwice, UnknownQualifier, NotOneInitialStep}
-use Rattle.source_tree.specs.Syntax.{Named, PathData, Tree, literal, path, enumerator, paren, unary, chain, call, Links, no_links, link, Arguments, no_arguments, argument, ConnectionData, input, output, Stmt, empty, assign, invoke, branch, cases, iterate, Stmts, no_stmts, stmt, Arms, no_arms, arm, Entries, no_entries, entry, Otherwise, no_else, else_stmts, LabelData, IterationData, TypeData, of_elementary, of_subrange, of_name, SpecificationData, of_type, of_values, StepActionData, PartData, step_part, transition_part, action_part, BodyData, statements, chart as chart_body, PouTypeData, PouData, FileData}
+use Rattle.source_tree.specs.Syntax.{Named, PathData, Tree, literal, path, enumerator, paren, unary, chain, call, Links, no_links, link, Arguments, no_arguments, argument, ConnectionData, input, output, Stmt, empty, assign, invoke, branch, cases, iterate, exit, return, Stmts, no_stmts, stmt, Arms, no_arms, arm, Entries, no_entries, entry, Otherwise, no_else, else_stmts, LabelData, IterationData, TypeData, of_elementary, of_subrange, of_name, SpecificationData, of_type, of_values, StepActionData, PartData, step_part, transition_part, action_part, BodyData, statements, chart as chart_body, PouTypeData, PouData, FileData}
 use Rattle.naming.specs.declared.callee.Callee.{Callee}
 use Rattle.naming.specs.declared.callee.Callee.TheVariants as callees
 use Rattle.naming.specs.Seen.{Seen}
@@ -364,6 +364,8 @@ module _ (f : FileData) (once : (q : List ℕ) → is_doubled_in_file f q ≡ fa
       stmt_sound (branch arms other) = both_sound (in_arms f p arms) (in_else f p other) (arms_sound arms) (else_sound other)
       stmt_sound (cases e es other) = both_sound (and (in_tree f p e) (in_entries f p es)) (in_else f p other) (both_sound (in_tree f p e) (in_entries f p es) (tree_sound e) (entries_sound es)) (else_sound other)
       stmt_sound (iterate i ss) = both_sound (in_iteration f p i) (in_stmts f p ss) (iteration_sound i) (stmts_sound ss)
+      stmt_sound (exit at) = λ h. refl
+      stmt_sound return = λ h. refl
 
       stmts_sound : (ss : Stmts) → IsWholeIfSound (in_stmts f p ss)
       stmts_sound no_stmts = λ h. refl

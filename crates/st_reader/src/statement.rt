@@ -54,6 +54,41 @@ fn simple(
     }
 }
 
+/// The rest of an EXIT or RETURN, which is such a statement.
+#[tactic(auto, unfolding(grammar::specs::Statements::ended))]
+fn ended(statement: Stmt, toks: &[Tok<'_>], end: usize, at: usize) -> Result<(Stmt, usize), Stop>
+    ensures { Gives view.stmt_view toks.now result (spec.ended (view.stmt_view statement) (ahead toks.now at)) }
+{
+    let at = expect(Mark::Semicolon, toks, end, at)?;
+    Ok((statement, at))
+}
+
+/// The statement that a mark begins, which stands before a place, or None where it begins none.
+#[cycle(statement)]
+#[tactic(auto, unfolding(grammar::specs::Statements::marked))]
+fn marked(
+    alloc: Global,
+    mark: Mark,
+    toks: &[Tok<'_>],
+    end: usize,
+    at: usize,
+    depth: usize,
+) -> Result<Option<(Stmt, usize)>, Stop>
+    ensures { Begins view.stmt_view toks.now result (spec.marked (spec.nested (length toks.now) depth) mark (ahead toks.now at)) }
+{
+    if same_mark(mark, Mark::Semicolon) {
+        Ok(Some((Stmt::Empty, at)))
+    } else if same_mark(mark, Mark::If) {
+        Ok(Some(nested(alloc, Opener::If, toks, end, at, depth)?))
+    } else if same_mark(mark, Mark::Case) {
+        Ok(Some(nested(alloc, Opener::Case, toks, end, at, depth)?))
+    } else if same_mark(mark, Mark::Return) {
+        Ok(Some(ended(Stmt::Return, toks, end, at)?))
+    } else {
+        Ok(None)
+    }
+}
+
 /// The statement that the token at a place begins, or None where it begins none. Where labels may follow, a name
 /// that is one begins none.
 #[cycle(statement)]
@@ -83,17 +118,8 @@ fn begun(
             let opener = Opener::For(first.at);
             Ok(Some(nested(alloc, opener, toks, end, at + 1, depth)?))
         }
-        Terminal::Mark(mark) => {
-            if same_mark(mark, Mark::Semicolon) {
-                Ok(Some((Stmt::Empty, at + 1)))
-            } else if same_mark(mark, Mark::If) {
-                Ok(Some(nested(alloc, Opener::If, toks, end, at + 1, depth)?))
-            } else if same_mark(mark, Mark::Case) {
-                Ok(Some(nested(alloc, Opener::Case, toks, end, at + 1, depth)?))
-            } else {
-                Ok(None)
-            }
-        }
+        Terminal::Exit => Ok(Some(ended(Stmt::Exit(first.at), toks, end, at + 1)?)),
+        Terminal::Mark(mark) => marked(alloc, mark, toks, end, at + 1, depth),
         _ => Ok(None),
     }
 }

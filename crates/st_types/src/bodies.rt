@@ -24,7 +24,7 @@ use program_tree::{TypedExpr, TypedStmt};
 use rules::Outcome;
 use source_tree::{Body, Pou};
 use std::alloc::{AllocError, Global};
-use stmt_types::{judge_stmts, type_stmts};
+use stmt_types::{judge_list, type_list};
 use typing::{Next, Scope};
 use use_numbers::UseNumbers;
 
@@ -33,7 +33,7 @@ fn judge_body<S: Scope>(alloc: Global, scope: &S, body: &Body) -> Result<Outcome
     ensures { IfOk result (λ o. o ≡ outcome_of (judged_body (S.means scope.now) (body_view body.now))) }
 {
     match body {
-        Body::Statements(stmts) => judge_stmts(alloc, scope, stmts),
+        Body::Statements(stmts) => judge_list(alloc, scope, stmts),
         Body::Chart(chart) => judge_parts(alloc, scope, &chart.parts),
     }
 }
@@ -104,7 +104,7 @@ pub(crate) fn type_body<S: Scope>(
     ensures { IfOk result (λ list. stmts_view list.items ≡ typed_body (S.means scope.now) (body_view body.now)) }
 {
     match body {
-        Body::Statements(stmts) => type_stmts(alloc, scope, stmts),
+        Body::Statements(stmts) => type_list(alloc, scope, stmts),
         Body::Chart(chart) => {
             let stmt = type_chart(alloc, scope, uses, chart)?;
             Ok(vec![in alloc; stmt]?)

@@ -15,7 +15,7 @@ use rules::{Outcome, Rule};
 use sfc_shape::{Shape, shape_of};
 use source_tree::{Chart, ChartAction, ChartPart, ChartStep, ChartTransition};
 use std::alloc::{AllocError, Global};
-use stmt_types::{judge_stmts, type_stmts};
+use stmt_types::{judge_list, type_list};
 use typing::{Meaning, Place, Scope};
 use use_numbers::UseNumbers;
 
@@ -28,7 +28,7 @@ fn judge_part<S: Scope>(alloc: Global, scope: &S, part: &ChartPart) -> Result<Ou
         ChartPart::Transition(transition) => {
             judge_condition(alloc, scope, Rule::OperandType, &transition.condition)
         }
-        ChartPart::Action(action) => judge_stmts(alloc, scope, &action.body),
+        ChartPart::Action(action) => judge_list(alloc, scope, &action.body),
     }
 }
 
@@ -80,7 +80,7 @@ fn type_action<S: Scope>(
 {
     let latch = latch_of(meaning_alone(alloc, scope, &action.name)?);
     let associations = shape.associations(alloc, number, &action.name)?;
-    let body = type_stmts(alloc, scope, &action.body)?;
+    let body = type_list(alloc, scope, &action.body)?;
     Ok(TypedAction {
         latch,
         associations,

@@ -1,3 +1,4 @@
 pub mod SeenLemmas
 pub mod StepLemmas
 pub mod ArrowLemmas
+pub mod ExitLemmas

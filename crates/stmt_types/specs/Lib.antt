@@ -1,1 +1,2 @@
 pub mod SeenLabels
+pub mod ExitOutcomes

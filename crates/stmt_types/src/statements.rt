@@ -2,10 +2,13 @@
 ghost use Rattle.std.specs.Prelude.{◌≡◌, [], IfOk};
 ghost use Rattle.source_tree.specs.SyntaxView.{path_view, tree_view, stmt_view, stmts_view, arms_view, entries_view, else_view};
 ghost use Rattle.typing.specs.JudgedStatements.{judged_target, judged_assign, judged_stmts};
+ghost use Rattle.typing.specs.JudgedExits.{judged_exits};
+ghost use Rattle.rules.specs.Judgements.{and};
 ghost use Rattle.rules.specs.Outcomes.{outcome_of};
 ghost use Rattle.typing.specs.Outcomes.{stmt_outcome, stmts_outcome, arms_outcome, bodies_outcome, else_outcome};
 
 use crate::connections::judge_invoke;
+use crate::exits::judge_exits;
 use crate::iteration::{is_assignable, judge_turns, with_control};
 use crate::selection::judge_selection;
 use expr_types::{
@@ -55,7 +58,7 @@ fn judge_stmt<S: Scope>(
     ensures { IfOk result (λ o. o ≡ stmt_outcome (S.means scope.now) controls.now so_far (stmt_view stmt.now)) }
 {
     match stmt {
-        Stmt::Empty => Ok(so_far),
+        Stmt::Empty | Stmt::Exit(_) | Stmt::Return => Ok(so_far),
         Stmt::Assign(path, value) => {
             let judged = judge_assign(alloc, scope, controls, path, value)?;
             Ok(so_far.and(judged))
@@ -153,14 +156,19 @@ fn judge_else<S: Scope>(
     }
 }
 
-/// Whether statements are whole, and what they break first. Fails where memory runs out.
+// Whether statements are whole, their EXITs aside, and what they break first.
 #[tactic(auto, using(typing_laws::proofs::Judging::judging))]
-pub fn judge_stmts<S: Scope>(
-    alloc: Global,
-    scope: &S,
-    stmts: &[Stmt],
-) -> Result<Outcome, AllocError>
+fn judge_stmts<S: Scope>(alloc: Global, scope: &S, stmts: &[Stmt]) -> Result<Outcome, AllocError>
     ensures { IfOk result (λ o. o ≡ outcome_of (judged_stmts (S.means scope.now) [] (stmts_view stmts.now))) }
 {
     judge_all(alloc, scope, &[], Outcome::ok(), stmts)
+}
+
+/// Whether the statements of a POU or of an action are whole, and what they break first. Fails where memory runs out.
+#[tactic(auto, using(typing_laws::proofs::Judging::judging))]
+pub fn judge_list<S: Scope>(alloc: Global, scope: &S, stmts: &[Stmt]) -> Result<Outcome, AllocError>
+    ensures { IfOk result (λ o. o ≡ outcome_of (and (judged_stmts (S.means scope.now) [] (stmts_view stmts.now)) (judged_exits (stmts_view stmts.now)))) }
+{
+    let judged = judge_stmts(alloc, scope, stmts)?;
+    Ok(judged.and(judge_exits(stmts)))
 }

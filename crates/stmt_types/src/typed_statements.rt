@@ -2,12 +2,13 @@
 ghost use Rattle.std.specs.Prelude.{◌≡◌, ◌++◌, map, IfOk, OnOk};
 ghost use Rattle.source_tree.specs.SyntaxView.{stmt_view, stmts_view, arms_view, entries_view, else_view};
 ghost use Rattle.program_tree.specs.View.{stmt_view as typed_view, stmts_view as typed_stmts_view, choices_view, entries_view as typed_entries_view};
-ghost use Rattle.typing.specs.TypedStatements.{typed_stmts, typed_arms, typed_entries, typed_else};
+ghost use Rattle.typing.specs.TypedStatements.{typed_stmts, typed_arms, typed_entries, typed_else, typed_list};
 ghost use Rattle.typing.specs.TypedLists.{statements_for};
 
 use crate::connections::type_invoke;
 use crate::iteration::turns_of;
 use crate::labels::typed_labels;
+use crate::returns::can_return_all;
 use expr_types::{cell_of, kind_at, type_expr, type_of};
 use plc_types::DataType;
 use program_tree::{TypedArm, TypedEntry, TypedStmt};
@@ -54,12 +55,20 @@ fn type_stmt<S: Scope>(
             list.push(TypedStmt::For(turns, body))?;
             Ok(())
         }
+        Stmt::Exit(_) => {
+            list.push(TypedStmt::Exit)?;
+            Ok(())
+        }
+        Stmt::Return => {
+            list.push(TypedStmt::Return)?;
+            Ok(())
+        }
     }
 }
 
-/// The typed statements that statements stand for.
+// The typed statements that statements stand for.
 #[cycle(type_stmts)]
-pub fn type_stmts<S: Scope>(
+fn type_stmts<S: Scope>(
     alloc: Global,
     scope: &S,
     stmts: &[Stmt],
@@ -115,5 +124,21 @@ fn type_else<S: Scope>(
     match other {
         None => Ok(Vec::new(alloc)),
         Some(other) => type_stmts(alloc, scope, other),
+    }
+}
+
+/// The typed statements of a POU or of an action: one body of its own where a RETURN leaves them. Fails where memory runs out.
+pub fn type_list<S: Scope>(
+    alloc: Global,
+    scope: &S,
+    stmts: &[Stmt],
+) -> Result<Vec<TypedStmt>, AllocError>
+    ensures { IfOk result (λ list. typed_stmts_view list.items ≡ typed_list (S.means scope.now) (stmts_view stmts.now)) }
+{
+    let list = type_stmts(alloc, scope, stmts)?;
+    if can_return_all(&list) {
+        Ok(vec![in alloc; TypedStmt::Body(list)]?)
+    } else {
+        Ok(list)
     }
 }

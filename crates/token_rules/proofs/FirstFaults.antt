@@ -5,7 +5,7 @@ use Rattle.std.proofs.lemmas.Bool.{ltb-false}
 use Rattle.rules.specs.declared.rule.Rule.TheVariants.{TooDeep}
 use Rattle.source_tree.specs.declared.token.Mark.{Mark}
 use Rattle.source_tree.specs.declared.token.Mark.TheVariants.{If, EndIf, Case, EndCase, EndFor, Close}
-use Rattle.source_tree.specs.Syntax.{Symbol, name, number, truth, elementary, negation, operator, opening, iteration, part, mark, left_out}
+use Rattle.source_tree.specs.Syntax.{Symbol, name, number, truth, elementary, negation, operator, opening, iteration, exit_word, part, mark, left_out}
 use Rattle.grammar.specs.Marks.{same_mark}
 use Rattle.grammar.specs.Nesting.{open_parentheses, open_ifs, open_cases, open_iterations, nothing_open, total, behind, NestsWithin, Shallow}
 use Rattle.source_tree.specs.declared.token.Tok.{Tok}
@@ -152,6 +152,7 @@ few_behind (negation at) o few e = few
 few_behind (operator p at) o few e = few
 few_behind (opening at) o few e = not_deep (behind o (opening at)) e
 few_behind (iteration at) o few e = not_deep (behind o (iteration at)) e
+few_behind (exit_word at) o few e = few
 few_behind (part w at) o few e = few
 few_behind (mark m) o few e = few_mark o m (same_mark m If) (same_mark m Case) refl refl few e
 few_behind (left_out at) o few e = absurd cc

@@ -1,5 +1,5 @@
--- A body begins with assignments that its places take.
-use Rattle.std.proofs.Common.{◌≡◌, ℕ, ◌+◌, ◌≤◌, Bool, true, false, List, [], ◌∷◌, ◌++◌, Some, None, refl, sym, ◌∙◌, arith, subst}
+-- A body begins with assignments that its places take; they leave nothing.
+use Rattle.std.proofs.Common.{◌≡◌, ℕ, ℤ, ◌+◌, ◌≤◌, Bool, true, false, if◌then◌else◌, List, [], ◌∷◌, ◌++◌, Some, None, refl, sym, ◌∙◌, arith, subst}
 use Rattle.std.specs.List.{AllByRecursion}
 use Rattle.std.proofs.lemmas.Bool.{both_ways, or_right}
 use Rattle.plc_types.specs.DataTypes.{carrier}
@@ -7,6 +7,7 @@ use Rattle.plc_types.specs.Types.{range_of, in_range}
 use Rattle.plc_types.proofs.InRange.{covers_in}
 use Rattle.source_tree.specs.Syntax.{PouData, FileData}
 use Rattle.program_tree.specs.Tree.{number, assign, Statements, statement}
+use Rattle.program_tree.specs.Leaving.{LeavesNothing}
 use Rattle.program_tree.specs.declared.scratch.Scratch.{Scratch}
 use Rattle.program_tree.specs.Places.{place_at}
 use Rattle.naming.specs.FileScope.{pou_at}
@@ -78,6 +79,16 @@ module _ (f : FileData) (ps : Pous) (b : BodyScope) where
         let low = below_by f b.settable next v ds (is_front next.of_function v.role) refl below in
         let rest = begun_typed ds (places_behind f (sizes_of f) next v) sizes.1 plain.1 whole.1 p.behind (above_behind f b.first next v (is_front next.of_function v.role) refl above) low.behind in
         begun_by (is_temporary v.role) next v ds refl sizes.0 plain.0 whole.0 p.here (above_here b.first next v (is_front next.of_function v.role) refl above) low.here rest
+
+-- behind assignments
+assigned_leaves : (temporary : Bool) (target : ℕ) (value : ℤ) (ss : Statements) → LeavesNothing ss → LeavesNothing (if temporary then statement (assign target (number value)) ss else ss)
+assigned_leaves true target value ss leaves = leaves
+assigned_leaves false target value ss leaves = leaves
+
+pub begun_leaves : (f : FileData) (next : Next) (vs : List Variable) (ss : Statements) → LeavesNothing ss → LeavesNothing (begun f next vs ss)
+begun_leaves f next [] ss leaves = leaves
+begun_leaves f next (v ∷ vs) ss leaves =
+    assigned_leaves (is_temporary v.role) (first_place next v) (initial_of f v) (begun f (places_behind f (sizes_of f) next v) vs ss) (begun_leaves f (places_behind f (sizes_of f) next v) vs ss leaves)
 
 -- the body of a POU, behind the values that its VAR_TEMP variables begin with
 pub begun_is : (f : FileData) (runs : ℕ → Bool) → UsesItsBlocks f → IsOrdered f → AreWhole f → (k : ℕ) (p : PouData) → pou_at f k ≡ Some p → (ss : Statements) → AreTypedParts (pous f runs) (scope_over f k p) ss

@@ -1,22 +1,24 @@
--- A body that breaks no rule and uses only what it may is typed over the cells of its POU.
+-- A body that breaks no rule and uses only what it may is typed over the cells of its POU, and no EXIT and no RETURN leaves it.
 use Rattle.std.proofs.Common.{◌≡◌, ℕ, Bool, true, false, List, [], refl}
 use Rattle.call_order.specs.Marks.{is_marked}
 use Rattle.source_tree.specs.Syntax.{PartData, BodyData, statements, chart, PouTypeData, function, function_block, program, PouData, FileData}
 use Rattle.std.specs.Prelude.{Some}
 use Rattle.source_tree.specs.Levels.{MayDo}
+use Rattle.program_tree.specs.Leaving.{LeavesNothing}
 use Rattle.naming.specs.Broken.{variables_twice}
 use Rattle.naming.specs.FileScope.{pou_at, is_program}
 use Rattle.naming.specs.Scopes.{variables_in_pou}
 use Rattle.typing.specs.Reached.{reached}
-use Rattle.typing.specs.TypedStatements.{typed_stmts}
+use Rattle.typing.specs.TypedStatements.{typed_list}
 use Rattle.typing.specs.TypedPrograms.{typed_body}
 use Rattle.typing.specs.Places.{sizes_of}
 use Rattle.typing.specs.Members.{scope_of, is_function}
+use Rattle.typing.proofs.Exits.{leaves_nothing}
 use Rattle.typed_programs.specs.Statements.{AreTypedParts}
 use Rattle.typed_programs.proofs.TypedItems.{typed_parts}
 use Rattle.typed_scopes.specs.Charts.{ChartFits}
-use Rattle.typed_scopes.proofs.Statements.{stmts_are}
-use Rattle.typed_scopes.proofs.Charts.{chart_is}
+use Rattle.typed_scopes.proofs.Statements.{list_is}
+use Rattle.typed_scopes.proofs.Charts.{chart_is, chart_leaves_nothing}
 use Rattle.typed_cells.specs.Uses.{uses_of_pou}
 use Rattle.typed_cells.specs.Places.{last, scope_over, pous}
 use Rattle.typed_cells.specs.Premises.{UsesItsBlocks, IsOrdered}
@@ -40,12 +42,16 @@ module _ (f : FileData) (runs : ℕ → Bool) (used : UsesItsBlocks f) (ordered 
 
   body_as : (b : BodyData) → p.body ≡ b → MayDo p.pou_type b → IsBodySound (scope_of f (sizes_of f) k) (uses_of_pou f k) b → AreTypedParts (pous f runs) (scope_over f k p) (typed_body (scope_of f (sizes_of f) k) b)
   body_as (statements ss) body may sound =
-      typed_parts (pous f runs) (scope_over f k p) (typed_stmts (scope_of f (sizes_of f) k) ss)
-      (stmts_are (pous f runs) (scope_over f k p) (last f) (scope_of f (sizes_of f) k) (uses_of_pou f k) (scope_fits f runs used ordered k p there is) [] ss sound.within sound.levelled sound.whole)
+      typed_parts (pous f runs) (scope_over f k p) (typed_list (scope_of f (sizes_of f) k) ss)
+      (list_is (pous f runs) (scope_over f k p) (last f) (scope_of f (sizes_of f) k) (uses_of_pou f k) (scope_fits f runs used ordered k p there is) ss sound.within sound.levelled sound.whole)
   body_as (chart ps) body may sound = (
     chart_is (pous f runs) (scope_over f k p) (last f) (scope_of f (sizes_of f) k) (uses_of_pou f k) (scope_fits f runs used ordered k p there is) ps (chart_fits ps body (no_function p.pou_type ps may) sound) sound.within sound.levelled sound.whole,
     tt,
   )
 
+  leaves_as : (b : BodyData) → IsBodySound (scope_of f (sizes_of f) k) (uses_of_pou f k) b → LeavesNothing (typed_body (scope_of f (sizes_of f) k) b)
+  leaves_as (statements ss) sound = leaves_nothing (scope_of f (sizes_of f) k) ss sound.exits
+  leaves_as (chart ps) sound = chart_leaves_nothing (scope_of f (sizes_of f) k) ps sound.whole
+
   pub body_is_typed : MayDo p.pou_type p.body → IsBodySound (scope_of f (sizes_of f) k) (uses_of_pou f k) p.body → IsTypedIn f runs k p
-  body_is_typed may sound = body_as p.body refl may sound
+  body_is_typed may sound = (body_as p.body refl may sound, leaves_as p.body sound)

@@ -6,6 +6,7 @@ use Rattle.std.proofs.lemmas.Bool.{false≢true}
 use Rattle.call_order.specs.Marks.{is_marked}
 use Rattle.source_tree.specs.Syntax.{TypeData, PouTypeData, function, function_block, program, PouData, FileData}
 use Rattle.program_tree.specs.Tree.{Statements, no_statements, CalledData}
+use Rattle.program_tree.specs.Leaving.{LeavesNothing}
 use Rattle.program_tree.specs.declared.scratch.Scratch.{Scratch}
 use Rattle.program_tree.specs.Places.{of_cell, IsTypedPlace}
 use Rattle.naming.specs.FileScope.{pou_at}
@@ -13,7 +14,7 @@ use Rattle.naming.specs.Scopes.{names_in_body, variables_in_pou}
 use Rattle.meaning.specs.Calls.{nothing}
 use Rattle.meaning.specs.Frames.{FrameData, frames_of}
 use Rattle.typing.specs.Reached.{reached}
-use Rattle.typing.specs.Places.{in_order, count_of_cells, sizes_of}
+use Rattle.typing.specs.Places.{in_order, count_of_cells, sizes_of, first_places}
 use Rattle.typing.specs.Members.{may_be_called, called_order, is_function}
 use Rattle.typing.specs.TypedPrograms.{frame_cells, pou_body, called_of, called_if}
 use Rattle.running_pous.specs.Stated.{unused_of, unused_if, stated_if, stated_by, shortened}
@@ -34,13 +35,13 @@ use Rattle.running_pous.proofs.StatedPous.{stated_at, length_stated}
 use Rattle.typed_cells.proofs.Frames.{kept_cells, frame_is}
 use Rattle.typed_cells.proofs.Signatures.{kept_room}
 use Rattle.typed_cells.proofs.TypedFrames.{frame_places_are, instance_typed, frame_typed, program_typed}
-use Rattle.typed_cells.proofs.Beginnings.{begun_is}
+use Rattle.typed_cells.proofs.Beginnings.{begun_is, begun_leaves}
 
-body_in : (ps : Pous) (b : BodyScope) (body : Statements) → b.settable ≤ length b.places → AreTypedParts ps b body → IsTypedBody ps b.first b.places b.pous body
-body_in ps b body within typed = record { settable = b.settable; within = within; typed = typed }
+body_in : (ps : Pous) (b : BodyScope) (body : Statements) → b.settable ≤ length b.places → AreTypedParts ps b body → LeavesNothing body → IsTypedBody ps b.first b.places b.pous body
+body_in ps b body within typed leaves = record { settable = b.settable; within = within; typed = typed; leaves_nothing = leaves }
 
 no_body : (ps : Pous) (first : ℕ) (places : List Scratch) (before : ℕ) → IsTypedBody ps first places before no_statements
-no_body ps first places before = record { settable = 0; within = omega arith; typed = tt }
+no_body ps first places before = record { settable = 0; within = omega arith; typed = tt; leaves_nothing = (refl, refl) }
 
 module _ (f : FileData) (runs : ℕ → Bool) (used : UsesItsBlocks f) (ordered : IsOrdered f) (whole : AreWhole f) (bodies : (k : ℕ) (p : PouData) → pou_at f k ≡ Some p → is_marked (reached f) k ≡ true → IsTypedIn f runs k p) where
   module _ (k : ℕ) (p : PouData) (there : pou_at f k ≡ Some p) where
@@ -58,7 +59,10 @@ module _ (f : FileData) (runs : ℕ → Bool) (used : UsesItsBlocks f) (ordered 
         omega (arith, all, counted, parts, head)
 
     body_at : is_marked (reached f) k ≡ true → IsTypedBody (pous f runs) (first_of p.pou_type) (pou_places f k p.pou_type p) (before_pou f k p.pou_type) (pou_body f k p)
-    body_at is = body_in (pous f runs) (scope_over f k p) (pou_body f k p) settable_within (begun_is f runs used ordered whole k p there _ (bodies k p there is))
+    body_at is =
+        let body = bodies k p there is in
+        body_in (pous f runs) (scope_over f k p) (pou_body f k p) settable_within (begun_is f runs used ordered whole k p there _ body.0)
+        (begun_leaves f (first_places f (sizes_of f) p.pou_type (variables_in_pou p)) (variables_in_pou p) _ body.1)
 
     -- by what the POU is
     body_as : (pou_type : PouTypeData) → p.pou_type ≡ pou_type → is_marked (reached f) k ≡ true → IsTypedBody (pous f runs) (first_of pou_type) (pou_places f k pou_type p) (before_pou f k pou_type) (pou_body f k p)

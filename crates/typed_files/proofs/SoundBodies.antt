@@ -11,6 +11,8 @@ use Rattle.typing.specs.Typing.{Scope}
 use Rattle.typing.specs.Places.{variables_in, sizes_of}
 use Rattle.typing.specs.Variables.{judged_variables}
 use Rattle.typing.specs.Members.{scope_of}
+use Rattle.typing.specs.JudgedStatements.{judged_stmts}
+use Rattle.typing.specs.JudgedExits.{judged_exits}
 use Rattle.typing.specs.Pous.{judged_body, broken_types}
 use Rattle.typing.specs.Reached.{reached}
 use Rattle.whole_files.specs.typed_scopes.Uses.{Usable}
@@ -33,7 +35,9 @@ parts_levelled [] h = absurd h
 parts_levelled (p ∷ ps) h = h
 
 body_sound : (scope : Scope) (uses : Usable) (b : BodyData) → IsBodyWithin uses b → IsBodyLevelled b → (judged_body scope b).whole ≡ true → IsNamedBody scope b → IsBodySound scope uses b
-body_sound scope uses (statements ss) within levels whole named = record { within = within; levelled = levels; whole = whole }
+body_sound scope uses (statements ss) within levels whole named =
+    let parts = whole_and (judged_stmts scope [] ss) (judged_exits ss) whole in
+    record { within = within; levelled = levels; whole = parts.0; exits = parts.1 }
 body_sound scope uses (chart_body ps) within levels whole named =
     record { within = within; levelled = parts_levelled ps levels; whole = whole; transitions = named.transitions; actions = named.actions }
 

@@ -8,6 +8,7 @@ use Rattle.program_tree.specs.Tree.{number, cell, chain, no_operands, operand, T
 use Rattle.program_tree.specs.ChartPlaces.{chart_places, latch_places, AreSteps}
 use Rattle.flat_form.specs.Calls.{scratch_in, before}
 use Rattle.flat_form.specs.FlatCharts.{negated, both, latch_test, latch_list, flags_of, exited_flag, entered_flag, clear_flags, ready_term, ready_test, entered_set, fired_list, scratch_of_transitions, flat_transitions, mark_list, scratch_of_moves, flat_moves}
+use Rattle.flat_form.specs.Unless.{Flags, without_flags}
 use Rattle.flat_form.specs.FlatLists.{scratch_of, scratch_of_all, scratch_of_actions, flat_of, flat_actions}
 use Rattle.typed_programs.specs.Statements.{AreTypedTransitions, AreTypedActions, IsTypedChart}
 use Rattle.typed_flat_laws.proofs.TypedLists.{typed_both, stand_front, stand_back}
@@ -16,6 +17,7 @@ use Rattle.typed_flat_laws.proofs.Moved.{Stand, moved-is}
 use Rattle.typed_flat_laws.proofs.CallLists.{Lists, before-typed}
 use Rattle.typed_flat_laws.proofs.ChartTests.{IsTest, AreTests, and-is, StepsAreTests, latch_test-is, runs_test-is}
 use Rattle.typed_flat_laws.proofs.ChartCells.{IsFlagAt, flag-is, flag-set, FlagsStand, flags-stand, flags-rest, OwnFlags, own-flags, latches-own, rest-own, steps-are, start-is}
+use Rattle.typed_flat_laws.proofs.Leaving.{without_flags-are}
 use Rattle.typed_flat_laws.proofs.StatementLists.{list-typed}
 
 module _ (s : Standing) (steps : List StepCells) (each : StepsAreTests s.places s.owner s.base steps) where
@@ -34,7 +36,7 @@ module _ (s : Standing) (steps : List StepCells) (each : StepsAreTests s.places 
   actions-typed (action latch (a ∷ more) ss rest) k own h stands =
       let body = scratch_of_all s.bodies ss in
       let others = scratch_of_actions s.bodies rest in (
-        (runs_test-is s.places s.owner s.base steps each latch (a ∷ more) (start-is s latch (a ∷ more) ss rest own) h.1, list-typed s ss k h.2 (stand_front s.places body others k stands), tt),
+        (runs_test-is s.places s.owner s.base steps each latch (a ∷ more) (start-is s latch (a ∷ more) ss rest own) h.1, list-typed s without_flags ss k h.2 (without_flags-are s.places s.fault) (stand_front s.places body others k stands), tt),
         actions-typed rest (k + length body) (rest-own s latch (a ∷ more) ss rest own) h.3 (stand_back s.places body others k stands),
       )
 
@@ -107,9 +109,9 @@ module _ (s : Standing) where
       typed_both s.places (clear_flags steps k) _ (clear-typed steps k front)
       (typed_both s.places (flat_transitions s.bodies s.owner s.base steps k ts j) _ (transitions-typed s steps (steps-are s steps all own) k flags ts j h (stand_back s.places mine rest k stands)) (marks-typed steps all k own flags))
 
-  pub chart-typed : (steps : List StepCells) (all : Actions) (ts : List TransitionData) (k : ℕ) → IsTypedChart (pous_of s) s.scope steps all ts → Stand s k (scratch_of s.bodies (chart steps all ts))
-      → Lists s (flat_of s.bodies s.owner s.base (chart steps all ts) k)
-  chart-typed steps all ts k h stands =
+  pub chart-typed : (flags : Flags) (steps : List StepCells) (all : Actions) (ts : List TransitionData) (k : ℕ) → IsTypedChart (pous_of s) s.scope steps all ts → Stand s k (scratch_of s.bodies (chart steps all ts))
+      → Lists s (flat_of s.bodies s.owner s.base flags (chart steps all ts) k)
+  chart-typed flags steps all ts k h stands =
       let own = own-flags s (chart_places steps all) h.0 in
       let latches = latches-own s steps all own in
       let each = steps-are s steps all own in

@@ -4,7 +4,7 @@ use Rattle.std.specs.Prelude.{All, None, Some}
 use Rattle.std.proofs.lemmas.List.Elements.{All-head, All-tail}
 use Rattle.plc_types.specs.declared.elementary.Elementary.{Elementary}
 use Rattle.program_tree.specs.declared.typed.StepCells.{StepCells}
-use Rattle.program_tree.specs.Tree.{Statement, assign, call_block, choice, cases, repeat, chart, Statements, no_statements, statement, Choices, no_choices, choose, Entries, no_entries, entry, Actions, no_actions, action}
+use Rattle.program_tree.specs.Tree.{Statement, assign, call_block, choice, cases, repeat, chart, exit, return, own_body, Statements, no_statements, statement, Choices, no_choices, choose, Entries, no_entries, entry, Actions, no_actions, action}
 use Rattle.program_tree.specs.ChartPlaces.{chart_places, latch_places, AreRisingFrom}
 use Rattle.flat_form.specs.WellTyped.{extent_of_steps, extent_of, extent_of_all, extent_of_choices, extent_of_entries, extent_of_actions, extent_of_bodies}
 use Rattle.typed_programs.specs.Scopes.{Pous, BodyScope}
@@ -23,6 +23,9 @@ module _ (pous : Pous) (b : BodyScope) (extents : ℕ → ℕ) (each : (block : 
     statement-extent (cases kind e es other) h = let first = entries-extent kind es h.1 in let rest = list-extent other h.2 in omega arith
     statement-extent (repeat turns body) h = let low = h.0.1 in let rest = list-extent body h.2 in omega arith
     statement-extent (chart _ _ _) h = absurd h
+    statement-extent exit h = omega arith
+    statement-extent return h = omega arith
+    statement-extent (own_body ss) h = list-extent ss h
 
     list-extent : (ts : Statements) → AreTyped pous b ts → extent_of_all extents ts ≤ b.settable
     list-extent no_statements h = omega arith
@@ -86,6 +89,9 @@ module _ (pous : Pous) (b : BodyScope) (extents : ℕ → ℕ) (each : (block : 
         let first = steps-extent steps all h.0 in
         let more = actions-extent (length steps) all (latches-flags steps all h.0) h.2 in
         omega arith
+    part-extent exit h = omega arith
+    part-extent return h = omega arith
+    part-extent (own_body ss) h = list-within (own_body ss) (list-extent ss h)
 
     pub parts-extent : (ts : Statements) → AreTypedParts pous b ts → extent_of_all extents ts ≤ length b.places
     parts-extent no_statements h = omega arith

@@ -1,12 +1,15 @@
 -- The bodies of typed POUs become typed lists, where each POU runs and calls only those before it.
 use Rattle.std.proofs.Common.{◌≡◌, ℕ, suc, zero, ◌+◌, ◌<◌, ◌≤◌, Bool, true, false, List, ◌∷◌, length, refl, sym, ap, subst, ◌∙◌, arith, rules, tests}
 use Rattle.std.specs.Prelude.{◌==◌, slice_index_or, All, if◌then◌else◌}
-use Rattle.program_tree.specs.Tree.{Statement, assign, call_block, choice, cases, repeat, chart, Statements, no_statements, statement, CalledData, block, function}
+use Rattle.plc_types.specs.declared.elementary.Elementary.TheVariants as types
+use Rattle.program_tree.specs.Tree.{Statement, assign, call_block, choice, cases, repeat, chart, exit, return, own_body, Statements, no_statements, statement, CalledData, block, function}
+use Rattle.program_tree.specs.Leaving.{can_exit, can_return}
 use Rattle.program_tree.specs.declared.scratch.Scratch.{Scratch}
-use Rattle.program_tree.specs.Places.{place_at, IsTypedPlace}
+use Rattle.program_tree.specs.Places.{whole_cell, place_at, IsTypedPlace}
 use Rattle.meaning.specs.Calls.{nothing}
 use Rattle.meaning.specs.Frames.{FrameData, frame_of, frames_of, function_body, scratch_at}
 use Rattle.flat_form.specs.Owners.{OwnerData, call_owner}
+use Rattle.flat_form.specs.Unless.{Flags, without_flags}
 use Rattle.flat_form.specs.FlatLists.{scratch_of, scratch_of_all, flat_of, flat_of_all}
 use Rattle.flat_form.specs.Pous.{block_body, bodies_of}
 use Rattle.flat_form.proofs.FrameLemmas.{frames-here}
@@ -18,26 +21,32 @@ use Rattle.typed_flat_laws.proofs.FramePlaces.{Begins, frame-length, frame-place
 use Rattle.typed_flat_laws.proofs.Standing.{PlacesStand, places_at, CallIsTyped, RunIsTyped, AreBefore, Standing, pous_of}
 use Rattle.typed_flat_laws.proofs.Moved.{Stand}
 use Rattle.typed_flat_laws.proofs.CallLists.{Lists}
+use Rattle.typed_flat_laws.proofs.Leaving.{AreMarks, without_flags-are, unless_left-typed}
 use Rattle.typed_flat_laws.proofs.StatementLists.{statement-typed}
 use Rattle.typed_flat_laws.proofs.ChartLists.{chart-typed}
 
 -- ---- bodies of statements and charts
 
 module _ (s : Standing) where
-  part-typed : (t : Statement) (k : ℕ) → IsTypedPart (pous_of s) s.scope t → Stand s k (scratch_of s.bodies t) → Lists s (flat_of s.bodies s.owner s.base t k)
-  part-typed (assign target e) k h stands = statement-typed s (assign target e) k h stands
-  part-typed (call_block b offset) k h stands = statement-typed s (call_block b offset) k h stands
-  part-typed (choice arms other) k h stands = statement-typed s (choice arms other) k h stands
-  part-typed (cases kind e es other) k h stands = statement-typed s (cases kind e es other) k h stands
-  part-typed (repeat turns body) k h stands = statement-typed s (repeat turns body) k h stands
-  part-typed (chart steps all ts) k h stands = chart-typed s steps all ts k h stands
+  part-typed : (flags : Flags) (t : Statement) (k : ℕ) → IsTypedPart (pous_of s) s.scope t → AreMarks s.places flags → Stand s k (scratch_of s.bodies t) → Lists s (flat_of s.bodies s.owner s.base flags t k)
+  part-typed flags (assign target e) k h m stands = statement-typed s flags (assign target e) k h m stands
+  part-typed flags (call_block b offset) k h m stands = statement-typed s flags (call_block b offset) k h m stands
+  part-typed flags (choice arms other) k h m stands = statement-typed s flags (choice arms other) k h m stands
+  part-typed flags (cases kind e es other) k h m stands = statement-typed s flags (cases kind e es other) k h m stands
+  part-typed flags (repeat turns body) k h m stands = statement-typed s flags (repeat turns body) k h m stands
+  part-typed flags (chart steps all ts) k h m stands = chart-typed s flags steps all ts k h stands
+  part-typed flags exit k h m stands = statement-typed s flags exit k h m stands
+  part-typed flags return k h m stands = statement-typed s flags return k h m stands
+  part-typed flags (own_body ss) k h m stands = statement-typed s flags (own_body ss) k h m stands
 
-  pub parts-typed : (ts : Statements) (k : ℕ) → AreTypedParts (pous_of s) s.scope ts → Stand s k (scratch_of_all s.bodies ts) → Lists s (flat_of_all s.bodies s.owner s.base ts k)
-  parts-typed no_statements k h stands = tt
-  parts-typed (statement t ts) k h stands =
+  pub parts-typed : (flags : Flags) (ts : Statements) (k : ℕ) → AreTypedParts (pous_of s) s.scope ts → AreMarks s.places flags → Stand s k (scratch_of_all s.bodies ts) → Lists s (flat_of_all s.bodies s.owner s.base flags ts k)
+  parts-typed flags no_statements k h m stands = tt
+  parts-typed flags (statement t ts) k h m stands =
       let made = scratch_of s.bodies t in
       let rest = scratch_of_all s.bodies ts in
-      typed_both s.places (flat_of s.bodies s.owner s.base t k) _ (part-typed t k h.0 (stand_front s.places made rest k stands)) (parts-typed ts (k + length made) h.1 (stand_back s.places made rest k stands))
+      let others = flat_of_all s.bodies s.owner s.base flags ts (k + length made) in
+      typed_both s.places (flat_of s.bodies s.owner s.base flags t k) _ (part-typed flags t k h.0 m (stand_front s.places made rest k stands))
+      (unless_left-typed s.places (can_exit t) (can_return t) flags others m (parts-typed flags ts (k + length made) h.1 m (stand_back s.places made rest k stands)))
 
 -- ---- POUs
 
@@ -54,7 +63,7 @@ module _ (called : List CalledData) (instances : ℕ → List Scratch) where
   abbrev pub ArePous : Type 0
   ArePous = (n : ℕ) → n < length called → IsTypedPou pous_in n (slice_index_or called n nothing)
 
-module _ (ps : List Scratch) (typed : All IsTypedPlace ps) (called : List CalledData) (instances : ℕ → List Scratch) where
+module _ (ps : List Scratch) (typed : All IsTypedPlace ps) (fault : place_at ps 0 ≡ whole_cell types.Bool) (called : List CalledData) (instances : ℕ → List Scratch) where
   abbrev pous : Pous
   pous = pous_in called instances
 
@@ -64,11 +73,12 @@ module _ (ps : List Scratch) (typed : All IsTypedPlace ps) (called : List Called
   -- the body of a POU behind so many others, over the cells of an owner
   pub body-typed : (n : ℕ) → Known n → (first : ℕ) (cells : List Scratch) (ts : Statements) → IsTypedBody pous first cells n ts → (owner : OwnerData) (base : ℕ)
       → ((i : ℕ) → first ≤ i → i < length cells → place_at ps (owner (base + i)) ≡ place_at cells i)
-      → (k : ℕ) → StandFrom ps k (scratch_of_all (bodies_of called n) ts) → Typed ps (flat_of_all (bodies_of called n) owner base ts k)
+      → (k : ℕ) → StandFrom ps k (scratch_of_all (bodies_of called n) ts) → Typed ps (flat_of_all (bodies_of called n) owner base without_flags ts k)
   body-typed n known first cells ts body owner base owns k stands =
       let s : Standing = record {
         places = ps;
         typed = typed;
+        fault = fault;
         bodies = bodies_of called n;
         instances = instances;
         scope = record { first = first; places = cells; settable = body.settable; pous = n };
@@ -78,7 +88,7 @@ module _ (ps : List Scratch) (typed : All IsTypedPlace ps) (called : List Called
         base = base;
         owns = owns;
       } in
-      parts-typed s ts k (subst (λ (frames : ℕ → FrameData). AreTypedParts (record { frames = frames; instances = instances }) s.scope ts) (sym (frames-here called n)) body.typed) stands
+      parts-typed s without_flags ts k (subst (λ (frames : ℕ → FrameData). AreTypedParts (record { frames = frames; instances = instances }) s.scope ts) (sym (frames-here called n)) body.typed) (without_flags-are ps fault) stands
 
   -- ---- a FUNCTION that is called
 
@@ -92,7 +102,7 @@ module _ (ps : List Scratch) (typed : All IsTypedPlace ps) (called : List Called
       ap (λ j. place_at ps (call_owner result places j)) e ∙ places_at ps frame 1 (result ∷ places) i stand (omega arith) ∙ ap (scratch_at frame) f ∙ sym (frame-place frame (suc i) (omega arith))
 
   function-typed : (n : ℕ) → Known n → (q : CalledData) → IsTypedPou pous n q → (result : ℕ) (places : List ℕ) (k : ℕ) → 2 + length places ≡ length (frames_of called n).types → PlacesStand ps (frames_of called n) 1 (result ∷ places)
-      → StandFrom ps k (scratch_of_all (bodies_of called n) (function_body q)) → Typed ps (flat_of_all (bodies_of called n) (call_owner result places) 0 (function_body q) k)
+      → StandFrom ps k (scratch_of_all (bodies_of called n) (function_body q)) → Typed ps (flat_of_all (bodies_of called n) (call_owner result places) 0 without_flags (function_body q) k)
   function-typed n known (block body) h result places k many stand stands = tt
   function-typed n known (function types ranges start body) h result places k many stand stands =
       body-typed n known 1 (frame_places (frames_of called n)) body h.1 (call_owner result places) 0 (frame-owned (frames_of called n) result places many stand) k stands
@@ -100,7 +110,7 @@ module _ (ps : List Scratch) (typed : All IsTypedPlace ps) (called : List Called
   -- ---- a FUNCTION_BLOCK that is run
 
   block-typed : (n : ℕ) → Known n → (q : CalledData) → IsTypedPou pous n q → (owner : OwnerData) (base k : ℕ) → ((i : ℕ) → i < length (instances n) → place_at ps (owner (base + i)) ≡ place_at (instances n) i)
-      → StandFrom ps k (scratch_of_all (bodies_of called n) (block_body q)) → Typed ps (flat_of_all (bodies_of called n) owner base (block_body q) k)
+      → StandFrom ps k (scratch_of_all (bodies_of called n) (block_body q)) → Typed ps (flat_of_all (bodies_of called n) owner base without_flags (block_body q) k)
   block-typed n known (block body) h owner base k owns stands = body-typed n known 0 (instances n) body h.1 owner base (λ i first low. owns i low) k stands
   block-typed n known (function types ranges start body) h owner base k owns stands = tt
 
@@ -115,7 +125,7 @@ module _ (ps : List Scratch) (typed : All IsTypedPlace ps) (called : List Called
     where
       by_cases : (test : Bool) → (f == n) ≡ test
           → StandFrom ps k (if test then scratch_of_all (bodies_of called n) (function_body (slice_index_or called n nothing)) else (bodies_of called n).call_scratch f)
-          → Typed ps (if test then flat_of_all (bodies_of called n) (call_owner result places) 0 (function_body (slice_index_or called n nothing)) k else (bodies_of called n).call_list f result places k)
+          → Typed ps (if test then flat_of_all (bodies_of called n) (call_owner result places) 0 without_flags (function_body (slice_index_or called n nothing)) k else (bodies_of called n).call_list f result places k)
       by_cases true e h =
           let same : f ≡ n = search (rules, tests) in
           let frame : (bodies_of called n).frame f ≡ frames_of called n = ap (λ (g : ℕ → FrameData). g f) (frames-here called n) ∙ ap (frames_of called) same in
@@ -127,7 +137,7 @@ module _ (ps : List Scratch) (typed : All IsTypedPlace ps) (called : List Called
     where
       by_cases : (test : Bool) → (b == n) ≡ test
           → StandFrom ps k (if test then scratch_of_all (bodies_of called n) (block_body (slice_index_or called n nothing)) else (bodies_of called n).run_scratch b)
-          → Typed ps (if test then flat_of_all (bodies_of called n) owner base (block_body (slice_index_or called n nothing)) k else (bodies_of called n).run_list owner b base k)
+          → Typed ps (if test then flat_of_all (bodies_of called n) owner base without_flags (block_body (slice_index_or called n nothing)) k else (bodies_of called n).run_list owner b base k)
       by_cases true e h =
           let same : b ≡ n = search (rules, tests) in
           block-typed n known (slice_index_or called n nothing) (are n low) owner base k (subst (λ (j : ℕ). (i : ℕ) → i < length (instances j) → place_at ps (owner (base + i)) ≡ place_at (instances j) i) same owns) h

@@ -1,5 +1,5 @@
 -- The flat form of a typed program is typed.
-use Rattle.std.proofs.Common.{◌≡◌, ℕ, suc, zero, ◌+◌, ◌<◌, ◌≤◌, List, [], ◌∷◌, ◌++◌, length, map, refl, ap, subst, ◌∙◌, pos, arith, length-append, append_assoc}
+use Rattle.std.proofs.Common.{◌≡◌, ℕ, suc, zero, ◌+◌, ◌<◌, ◌≤◌, false, List, [], ◌∷◌, ◌++◌, length, map, refl, ap, subst, ◌∙◌, pos, arith, length-append, append_assoc}
 use Rattle.std.specs.Prelude.{All}
 use Rattle.std.proofs.lemmas.List.{length-map}
 use Rattle.std.proofs.lemmas.List.Elements.{All-append, All-map, All-weaker}
@@ -8,7 +8,7 @@ use Rattle.plc_types.specs.declared.range.Range.{Range}
 use Rattle.plc_types.specs.Types.{range_of, in_range}
 use Rattle.program_tree.specs.Tree.{CellData, ProgramData}
 use Rattle.program_tree.specs.declared.scratch.Scratch.{Scratch}
-use Rattle.program_tree.specs.Places.{of_cell, place_at, IsTypedPlace}
+use Rattle.program_tree.specs.Places.{whole_cell, of_cell, place_at, IsTypedPlace}
 use Rattle.scan_model.specs.InRange.{BeginsWithFault}
 use Rattle.flat_core.specs.FlatRules.{IsFlat}
 use Rattle.flat_form.specs.Owners.{program_owner}
@@ -49,6 +49,15 @@ first-same : (cells : List CellData) (made : List Scratch) → BeginsWithFault c
 first-same [] made h = absurd h
 first-same (c ∷ cells) made h = refl
 
+-- FAULT takes each BOOL
+fault-flag : (cells : List CellData) (made : List Scratch) → BeginsWithFault cells → (place_at (map of_cell cells) 0).is_subrange ≡ false → place_at (map of_cell cells ++ made) 0 ≡ whole_cell types.Bool
+fault-flag [] made h whole = absurd h
+fault-flag (c ∷ cells) made h whole =
+    let kind = h.1 in
+    let range = h.2 in
+    let is_subrange : c.is_subrange ≡ false = whole in
+    rw kind (rw range (rw is_subrange refl))
+
 -- ---- programs
 
 cells-whole : (cells : List CellData) → All IsTypedCell cells → All IsTypedPlace (map of_cell cells)
@@ -62,6 +71,7 @@ flat_program-typed p typed is_flat =
     let n = length p.called in
     let whole : All IsTypedPlace (cells ++ made)
     = All-append IsTypedPlace cells made (cells-whole p.cells typed.cells) (body-whole p.called typed.instances n (whole-before p.called typed.instances are n (omega arith)) 1 cells p.body typed.body) in
+    let fault = fault-flag p.cells made typed.fault typed.whole_fault in
     let many : length cells ≡ length p.cells = length-map p.cells of_cell in
     let owns = λ (i : ℕ) (first : 1 ≤ i) (low : i < length cells).
     let e : 0 + i ≡ i = omega arith in
@@ -73,7 +83,7 @@ flat_program-typed p typed is_flat =
       places = whole;
       statements = (
         number_taken (cells ++ made) whole 0 (pos 0) (ap (λ (r : Range). in_range (pos 0) r) (fault-range p.cells made typed.fault)),
-        body-typed (cells ++ made) whole p.called typed.instances n (all-before (cells ++ made) whole p.called typed.instances are n (omega arith)) 1 cells p.body typed.body program_owner 0 owns (length p.cells)
+        body-typed (cells ++ made) whole fault p.called typed.instances n (all-before (cells ++ made) whole fault p.called typed.instances are n (omega arith)) 1 cells p.body typed.body program_owner 0 owns (length p.cells)
             (subst (λ j. StandFrom (cells ++ made) j made) many (behind-stand cells made)),
       );
     }

@@ -4,10 +4,11 @@ pub mod Standing
 pub mod Moved
 pub mod CallLists
 pub mod LabelTests
-pub mod Turns
-pub mod StatementLists
 pub mod ChartTests
 pub mod ChartCells
+pub mod Leaving
+pub mod Turns
+pub mod StatementLists
 pub mod ChartLists
 pub mod FlatBodies
 pub mod ScratchPlaces

@@ -3,6 +3,7 @@ use Rattle.std.proofs.Common.{◌≡◌, ℕ, suc, zero, ◌+◌, ◌<◌, ◌�
 use Rattle.std.specs.Prelude.{◌==◌, slice_index_or, if◌then◌else◌}
 use Rattle.plc_types.specs.declared.range.Range.{Range}
 use Rattle.program_tree.specs.Tree.{Statements, CalledData, block, function}
+use Rattle.program_tree.specs.Leaving.{LeavesNothing}
 use Rattle.program_tree.specs.declared.scratch.Scratch.{Scratch}
 use Rattle.program_tree.specs.Places.{place_at}
 use Rattle.meaning.specs.Calls.{nothing}
@@ -57,8 +58,15 @@ module _ (called : List CalledData) (instances : ℕ → List Scratch) where
 
   -- ---- bodies
 
+  abbrev AreOwn : ℕ → List Range → (ℕ → Bool) → ℕ → Statements → Type 0
+  AreOwn n ranges tested base ts = AreTyped (frames_of called) (MayCallOf called n) (MayRunOf called ranges tested n) (extents_of called n) ranges tested base ts
+
+  -- no EXIT and no RETURN leaves a body
   abbrev BodyIsOwn : ℕ → List Range → (ℕ → Bool) → ℕ → Statements → Type 0
-  BodyIsOwn n ranges tested base ts = AreTyped (frames_of called) (MayCallOf called n) (MayRunOf called ranges tested n) (extents_of called n) ranges tested base ts
+  BodyIsOwn n ranges tested base ts = LeavesNothing ts × AreOwn n ranges tested base ts
+
+  abbrev CallIsOwn : ℕ → Statements → Type 0
+  CallIsOwn n ts = AreOwn n (frames_of called n).ranges (tested_in (frames_of called n)) 0 ts
 
   pub body-own : (n : ℕ) → AreOwnBefore n → (first : ℕ) (cells : List Scratch) (ts : Statements) → IsTypedBody (pous_in called instances) first cells n ts → (ranges : List Range) (tested : ℕ → Bool) (base : ℕ) → 0 < base + first
       → ((i : ℕ) → first ≤ i → i < length cells → IsCellFor ranges tested (base + i) (place_at cells i)) → BodyIsOwn n ranges tested base ts
@@ -74,20 +82,21 @@ module _ (called : List CalledData) (instances : ℕ → List Scratch) where
         behind_fault = some;
         owns = owns;
       } in
-      parts-own w (MayCallOf called n) known.calls (MayRunOf called ranges tested n) (known.runs ranges tested) (extents_of called n) known.extents ts body.typed
+      (body.leaves_nothing, parts-own w (MayCallOf called n) known.calls (MayRunOf called ranges tested n) (known.runs ranges tested) (extents_of called n) known.extents ts body.leaves_nothing body.typed)
 
   function-own : (n : ℕ) → AreOwnBefore n → (q : CalledData) → IsTypedPou (pous_in called instances) n q → frames_of called n ≡ frame_of q → (inputs : ℕ) → 2 + inputs ≤ length (frames_of called n).types
-      → FrameFits (frames_of called n) inputs × BodyIsOwn n (frames_of called n).ranges (tested_in (frames_of called n)) 0 (function_body q)
+      → FrameFits (frames_of called n) inputs × LeavesNothing (function_body q) × CallIsOwn n (function_body q)
   function-own n known (block body) h is inputs room = absurd (omega (arith, ap (λ (frame : FrameData). length frame.types) is))
   function-own n known (function types ranges start body) h is inputs room =
       let frame = frames_of called n in
-      (frame-fits frame inputs h.0 room, body-own n known 1 (frame_places frame) body h.1 frame.ranges (tested_in frame) 0 (omega arith) (frame-cell frame h.0))
+      let own = body-own n known 1 (frame_places frame) body h.1 frame.ranges (tested_in frame) 0 (omega arith) (frame-cell frame h.0) in
+      (frame-fits frame inputs h.0 room, own.0, own.1)
 
   block-own : (n : ℕ) → AreOwnBefore n → (q : CalledData) → IsTypedPou (pous_in called instances) n q → (ranges : List Range) (tested : ℕ → Bool) (base : ℕ) → IsInstanceAt ranges tested (instances n) base → BodyIsOwn n ranges tested base (block_body q)
   block-own n known (block body) h ranges tested base is =
       let some = is.behind_fault in
       body-own n known 0 (instances n) body h.1 ranges tested base (omega arith) (λ i first low. is.owns i low)
-  block-own n known (function types rs start body) h ranges tested base is = tt
+  block-own n known (function types rs start body) h ranges tested base is = ((refl, refl), tt)
 
   block-extent : (n : ℕ) → AreOwnBefore n → (q : CalledData) → IsTypedPou (pous_in called instances) n q → extent_of_all (extents_of called n) (block_body q) ≤ length (instances n)
   block-extent n known (block body) h =
@@ -109,7 +118,7 @@ module _ (called : List CalledData) (instances : ℕ → List Scratch) where
   calls-more n are low known f inputs below room = by_cases (f == n) refl
     where
       by_cases : (test : Bool) → (f == n) ≡ test
-          → Choice test (FrameFits (frames_of called n) inputs × BodyIsOwn n (frames_of called n).ranges (tested_in (frames_of called n)) 0 (function_body (slice_index_or called n nothing))) (MayCallOf called n f inputs)
+          → Choice test (FrameFits (frames_of called n) inputs × LeavesNothing (function_body (slice_index_or called n nothing)) × CallIsOwn n (function_body (slice_index_or called n nothing))) (MayCallOf called n f inputs)
       by_cases true e =
           let same : f ≡ n = search (rules, tests) in
           function-own n known (slice_index_or called n nothing) (are n low) refl inputs (subst (λ j. 2 + inputs ≤ length (frames_of called j).types) same room)

@@ -1,15 +1,16 @@
 -- Typed statements name cells of their owner, set values that fit, and run blocks among the owner's cells.
 use Rattle.std.proofs.Common.{◌≡◌, ℕ, ◌+◌, ◌<◌, ◌≤◌, Bool, true, false, ◌||◌, List, [], ◌∷◌, length, refl, ap, subst, ◌∙◌, arith}
 use Rattle.std.specs.Prelude.{◌==◌, All}
-use Rattle.std.proofs.lemmas.Bool.{or_right}
+use Rattle.std.proofs.lemmas.Bool.{or_right, or_parts}
 use Rattle.std.proofs.lemmas.List.Elements.{All-head, All-tail}
 use Rattle.plc_types.specs.declared.elementary.Elementary.{Elementary}
 use Rattle.plc_types.specs.declared.elementary.Elementary.TheVariants as types
 use Rattle.plc_types.specs.declared.range.Range.{Range}
 use Rattle.program_tree.specs.declared.typed.Association.{Association}
-use Rattle.program_tree.specs.Tree.{Expression, TransitionData, Statement, assign, call_block, choice, cases, repeat, chart, Statements, no_statements, statement, Choices, no_choices, choose, Entries, no_entries, entry, Actions, no_actions, action}
+use Rattle.program_tree.specs.Tree.{Expression, TransitionData, Statement, assign, call_block, choice, cases, repeat, chart, exit, return, own_body, Statements, no_statements, statement, Choices, no_choices, choose, Entries, no_entries, entry, Actions, no_actions, action}
+use Rattle.program_tree.specs.Leaving.{can_exit, can_exit_all, can_return, can_return_all, LeavesNothing}
 use Rattle.program_tree.specs.declared.scratch.Scratch.{Scratch}
-use Rattle.program_tree.specs.ChartPlaces.{chart_places, AreRisingFrom}
+use Rattle.program_tree.specs.ChartPlaces.{chart_places}
 use Rattle.program_tree.specs.Places.{place_at}
 use Rattle.meaning.specs.Effects.{range_at}
 use Rattle.meaning.specs.StaysIn.{turns_stay}
@@ -84,6 +85,9 @@ module _ (w : OwnCells) (MayCall : ℕ → ℕ → Type 0) (each_call : EachMayB
           owes (turns.count == 0) (Lists body) (list-own body h.2),
         )
     statement-own (chart _ _ _) h = absurd h
+    statement-own exit h = tt
+    statement-own return h = tt
+    statement-own (own_body ss) h = list-own ss h
 
     pub list-own : (ts : Statements) → AreTyped (pous_for w) w.scope ts → Lists ts
     list-own no_statements h = tt
@@ -118,19 +122,30 @@ module _ (w : OwnCells) (MayCall : ℕ → ℕ → Type 0) (each_call : EachMayB
   transitions-own n [] h = tt
   transitions-own n (t ∷ ts) h = (value-typed w MayCall each_call types.Bool t.condition h.0, h.1, h.2, transitions-own n ts h.3)
 
-  part-own : (t : Statement) → IsTypedPart (pous_for w) w.scope t → One t
-  part-own (assign target e) h = assign-own target e h
-  part-own (call_block block offset) h = run-own block offset h
-  part-own (choice arms other) h = statement-own (choice arms other) h
-  part-own (cases kind e es other) h = statement-own (cases kind e es other) h
-  part-own (repeat turns body) h = statement-own (repeat turns body) h
-  part-own (chart steps all ts) h = (
+  -- no EXIT and no RETURN leaves a chart of a body that they do not leave
+  abbrev IsNotLeft : Statement → Type 0
+  IsNotLeft t = (can_exit t ≡ false) × (can_return t ≡ false)
+
+  part-own : (t : Statement) → IsNotLeft t → IsTypedPart (pous_for w) w.scope t → One t
+  part-own (assign target e) g h = assign-own target e h
+  part-own (call_block block offset) g h = run-own block offset h
+  part-own (choice arms other) g h = statement-own (choice arms other) h
+  part-own (cases kind e es other) g h = statement-own (cases kind e es other) h
+  part-own (repeat turns body) g h = statement-own (repeat turns body) h
+  part-own (chart steps all ts) g h = (
     flags-own (chart_places steps all) h.0,
     rising-lower w.scope.settable (extent_of_bodies extents all) (chart_places steps all) (bodies-extent (pous_for w) w.scope extents each_extent (length steps) all h.2) h.1,
     actions-own (length steps) all h.2,
     transitions-own (length steps) ts h.3,
+    g,
   )
+  part-own exit g h = tt
+  part-own return g h = tt
+  part-own (own_body ss) g h = statement-own (own_body ss) h
 
-  pub parts-own : (ts : Statements) → AreTypedParts (pous_for w) w.scope ts → Lists ts
-  parts-own no_statements h = tt
-  parts-own (statement t ts) h = (part-own t h.0, parts-own ts h.1)
+  pub parts-own : (ts : Statements) → LeavesNothing ts → AreTypedParts (pous_for w) w.scope ts → Lists ts
+  parts-own no_statements g h = tt
+  parts-own (statement t ts) g h =
+      let exits = or_parts (can_exit t) (can_exit_all ts) g.0 in
+      let returns = or_parts (can_return t) (can_return_all ts) g.1 in
+      (part-own t (exits.0, returns.0) h.0, parts-own ts (exits.1, returns.1) h.1)

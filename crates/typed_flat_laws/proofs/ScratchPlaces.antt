@@ -1,5 +1,5 @@
 -- The scratch cells of a typed program take numbers of their types.
-use Rattle.std.proofs.Common.{ℕ, suc, zero, ◌+◌, ◌<◌, ◌≤◌, List, [], ◌∷◌, ◌++◌, length, refl, arith}
+use Rattle.std.proofs.Common.{ℕ, Bool, true, false, suc, zero, ◌+◌, ◌<◌, ◌≤◌, List, [], ◌∷◌, ◌++◌, length, refl, arith}
 use Rattle.std.specs.Prelude.{All}
 use Rattle.std.proofs.lemmas.List.Elements.{All-nil, All-cons, All-append}
 use Rattle.plc_types.specs.declared.elementary.Elementary.{Elementary}
@@ -7,7 +7,8 @@ use Rattle.plc_types.specs.declared.elementary.Elementary.TheVariants as types
 use Rattle.plc_types.proofs.TypeRanges.{least_in, greatest_in}
 use Rattle.program_tree.specs.declared.typed.StepCells.{StepCells}
 use Rattle.program_tree.specs.declared.typed.Association.{Association}
-use Rattle.program_tree.specs.Tree.{Expression, number, cell, unary, chain, call_standard, call_function, Operands, no_operands, operand, Expressions, no_expressions, expression, TransitionData, Statement, assign, call_block, choice, cases, repeat, chart, Statements, no_statements, statement, Choices, no_choices, choose, Entries, no_entries, entry, Actions, no_actions, action}
+use Rattle.program_tree.specs.Tree.{Expression, number, cell, unary, chain, call_standard, call_function, Operands, no_operands, operand, Expressions, no_expressions, expression, TransitionData, Statement, assign, call_block, choice, cases, repeat, chart, exit, return, own_body, Statements, no_statements, statement, Choices, no_choices, choose, Entries, no_entries, entry, Actions, no_actions, action}
+use Rattle.program_tree.specs.Leaving.{can_exit_all, can_return_all}
 use Rattle.program_tree.specs.declared.scratch.Scratch.{Scratch}
 use Rattle.program_tree.specs.Places.{whole_cell, place_at, IsTypedPlace}
 use Rattle.program_tree.specs.OperandTypes.{arity, first_operand_kind, first_kind}
@@ -17,6 +18,7 @@ use Rattle.flat_form.specs.Frames.{others_behind, other_scratch}
 use Rattle.flat_form.specs.Bodies.{Bodies}
 use Rattle.flat_form.specs.Calls.{rest_scratch, scratch_in, operand_scratch, all_scratch, input_scratch}
 use Rattle.flat_form.specs.FlatCharts.{of_associated, flag_cell, flags_of, scratch_of_transitions, scratch_of_moves}
+use Rattle.flat_form.specs.Unless.{flag_scratch}
 use Rattle.flat_form.specs.FlatLists.{repeated, scratch_of, scratch_of_all, scratch_of_choices, scratch_of_entries, scratch_of_actions}
 use Rattle.typed_programs.specs.Scopes.{Pous, BodyScope}
 use Rattle.typed_programs.specs.Expressions.{IsOf, Join, AreOf, AreInputs}
@@ -44,6 +46,10 @@ turns-whole (suc n) made h = both made (repeated n made) h (turns-whole n made h
 flags-whole : (steps : List StepCells) → Whole (flags_of steps)
 flags-whole [] = none
 flags-whole (p ∷ steps) = one flag_cell (flag_cell ∷ flags_of steps) (refl, refl) (one flag_cell (flags_of steps) (refl, refl) (flags-whole steps))
+
+flag_scratch-whole : (test : Bool) → Whole (flag_scratch test)
+flag_scratch-whole true = one flag_cell [] (refl, refl) none
+flag_scratch-whole false = none
 
 associated-whole : (associations : List Association) (made : List Scratch) → Whole made → Whole (of_associated associations made)
 associated-whole [] made h = none
@@ -106,8 +112,12 @@ module _ (bodies : Bodies) (instances : ℕ → List Scratch) (b : BodyScope) (k
         let entries = scratch_of_entries bodies es in
         let others = scratch_of_all bodies other in
         both (scratch_in bodies e) (whole_cell kind ∷ (entries ++ others)) (in-whole kind e h.0) (one (whole_cell kind) (entries ++ others) (whole-typed kind) (both entries others (entries-whole kind es h.1) (list-whole other h.2)))
-    statement-whole (repeat turns body) h = turns-whole turns.count (scratch_of_all bodies body) (list-whole body h.2)
+    statement-whole (repeat turns body) h =
+        both (flag_scratch (can_exit_all body)) (repeated turns.count (scratch_of_all bodies body)) (flag_scratch-whole (can_exit_all body)) (turns-whole turns.count (scratch_of_all bodies body) (list-whole body h.2))
     statement-whole (chart _ _ _) h = absurd h
+    statement-whole exit h = none
+    statement-whole return h = none
+    statement-whole (own_body ss) h = both (flag_scratch (can_return_all ss)) (scratch_of_all bodies ss) (flag_scratch-whole (can_return_all ss)) (list-whole ss h)
 
     list-whole : (ts : Statements) → AreTyped pous b ts → Whole (scratch_of_all bodies ts)
     list-whole no_statements h = none
@@ -145,6 +155,9 @@ module _ (bodies : Bodies) (instances : ℕ → List Scratch) (b : BodyScope) (k
   part-whole (chart steps all ts) h =
       both (scratch_of_actions bodies all) (scratch_of_moves bodies steps ts) (actions-whole (length steps) all h.2)
       (both (flags_of steps) (scratch_of_transitions bodies ts) (flags-whole steps) (transitions-whole (length steps) ts h.3))
+  part-whole exit h = none
+  part-whole return h = none
+  part-whole (own_body ss) h = statement-whole (own_body ss) h
 
   pub parts-whole : (ts : Statements) → AreTypedParts pous b ts → Whole (scratch_of_all bodies ts)
   parts-whole no_statements h = none

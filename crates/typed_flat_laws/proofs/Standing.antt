@@ -1,10 +1,11 @@
 -- Where the cells of a body stand among the places of a flat program, and what is known of the POUs before it.
 use Rattle.std.proofs.Common.{◌≡◌, ℕ, suc, zero, ◌+◌, ◌<◌, ◌≤◌, List, [], ◌∷◌, ◌++◌, length, refl, ap, subst, ◌∙◌, arith}
 use Rattle.std.specs.Prelude.{slice_index_or, All}
+use Rattle.plc_types.specs.declared.elementary.Elementary.TheVariants as types
 use Rattle.program_tree.specs.Tree.{Expressions, no_expressions, expression}
 use Rattle.program_tree.specs.declared.scratch.Scratch.{Scratch}
 use Rattle.program_tree.specs.OperandTypes.{arity}
-use Rattle.program_tree.specs.Places.{place_at, IsTypedPlace}
+use Rattle.program_tree.specs.Places.{whole_cell, place_at, IsTypedPlace}
 use Rattle.meaning.specs.Frames.{FrameData, scratch_at, counted_from}
 use Rattle.flat_form.specs.Frames.{other_scratch}
 use Rattle.flat_form.specs.Owners.{OwnerData}
@@ -68,10 +69,11 @@ pub record AreBefore (ps : List Scratch) (bodies : Bodies) (instances : ℕ → 
   pub calls : (f : ℕ) → f < n → 2 ≤ length (bodies.frame f).types → CallIsTyped ps bodies f
   pub runs : (block : ℕ) → block < n → RunIsTyped ps bodies instances block
 
--- A body whose named cells are an owner's, from a base on, which stand at their places.
+-- A body whose named cells are an owner's, from a base on, which stand at their places. FAULT stands before them all.
 pub record Standing : Type 0 where
   pub places : List Scratch
   pub typed : All IsTypedPlace places
+  pub fault : place_at places 0 ≡ whole_cell types.Bool
   pub bodies : Bodies
   pub instances : ℕ → List Scratch
   pub scope : BodyScope

@@ -1,10 +1,12 @@
--- When a program is typed: its cells and those of each POU that it may run and call have ranges of their types, and each body is typed over its places.
+-- When a program is typed: its cells and those of each POU that it may run and call have ranges of their types, each body is typed over its places, and
+-- no EXIT and no RETURN leaves a body.
 use Rattle.std.specs.Prelude.{◌≡◌, ◌≤◌, ◌<◌, ℕ, false, List, length, map, pos, slice_index_or, All}
 use Rattle.plc_types.specs.declared.data_type.DataType.{DataType}
 use Rattle.plc_types.specs.declared.data_type.DataType.TheVariants as kinds
 use Rattle.plc_types.specs.Types.{range_of}
 use Rattle.program_tree.specs.Tree.{CellData, CalledData, block, function, Statements, ProgramData}
 use Rattle.program_tree.specs.declared.scratch.Scratch.{Scratch}
+use Rattle.program_tree.specs.Leaving.{LeavesNothing}
 use Rattle.program_tree.specs.Places.{of_cell, place_at, IsTypedPlace}
 use Rattle.meaning.specs.Effects.{range_at}
 use Rattle.meaning.specs.Calls.{nothing}
@@ -37,11 +39,12 @@ pub record IsTypedFrame (frame : FrameData) : Type 0 where
   pub start_in_range : IsInRange frame.ranges frame.start
   pub places : All IsTypedPlace (frame_places frame)
 
--- a body over these places, the first of which that has a name is told, and behind so many POUs
+-- a body over these places, the first of which that has a name is told, and behind so many POUs; no EXIT and no RETURN leaves it
 pub record IsTypedBody (pous : Pous) (first : ℕ) (places : List Scratch) (before : ℕ) (body : Statements) : Type 0 where
   pub settable : ℕ
   pub within : settable ≤ length places
   pub typed : AreTypedParts pous (record { first = first; places = places; settable = settable; pous = before }) body
+  pub leaves_nothing : LeavesNothing body
 
 -- a POU behind so many others
 abbrev pub IsTypedPou : Pous → ℕ → CalledData → Type 0

@@ -7,7 +7,7 @@ use Rattle.plc_types.specs.Types.{range_of, in_range}
 use Rattle.program_tree.specs.declared.typed.TypedLabel.{TypedLabel}
 use Rattle.program_tree.specs.declared.typed.TypedLabel.TheVariants.{Single, Span}
 use Rattle.program_tree.specs.declared.typed.StepCells.{StepCells}
-use Rattle.program_tree.specs.Tree.{TransitionData, Statement, assign, call_block, choice, cases, repeat, chart, Statements, no_statements, statement, Choices, no_choices, choose, Entries, no_entries, entry, Actions, no_actions, action}
+use Rattle.program_tree.specs.Tree.{TransitionData, Statement, assign, call_block, choice, cases, repeat, chart, exit, return, own_body, Statements, no_statements, statement, Choices, no_choices, choose, Entries, no_entries, entry, Actions, no_actions, action}
 use Rattle.program_tree.specs.declared.scratch.Scratch.{Scratch}
 use Rattle.program_tree.specs.Places.{whole_cell, place_at}
 use Rattle.program_tree.specs.ChartPlaces.{chart_places, AreRisingFrom, AreSteps, NameSteps, IsAssociated}
@@ -43,6 +43,9 @@ module _ (pous : Pous) (b : BodyScope) where
     IsTyped (cases kind e es other) = IsOf pous b kind e × AreTypedEntries kind es × AreTyped other
     IsTyped (repeat turns body) = IsSettable b turns.control × (turns_stay turns (place_at b.places turns.control).range ≡ true) × AreTyped body
     IsTyped (chart _ _ _) = ⊥
+    IsTyped exit = Unit {0}
+    IsTyped return = Unit {0}
+    IsTyped (own_body ss) = AreTyped ss
 
     pub AreTyped : Statements → Type 0
     AreTyped no_statements = Unit {0}
@@ -74,6 +77,9 @@ module _ (pous : Pous) (b : BodyScope) where
   IsTypedPart (cases kind e es other) = IsTyped (cases kind e es other)
   IsTypedPart (repeat turns body) = IsTyped (repeat turns body)
   IsTypedPart (chart steps actions ts) = IsTypedChart steps actions ts
+  IsTypedPart exit = Unit {0}
+  IsTypedPart return = Unit {0}
+  IsTypedPart (own_body ss) = AreTyped ss
 
   abbrev pub AreTypedParts : Statements → Type 0
   AreTypedParts no_statements = Unit {0}

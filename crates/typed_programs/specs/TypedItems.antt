@@ -3,7 +3,7 @@ use Rattle.std.specs.Prelude.{List, All}
 use Rattle.plc_types.specs.declared.elementary.Elementary.TheVariants as types
 use Rattle.program_tree.specs.declared.typed.Turns.{Turns}
 use Rattle.program_tree.specs.Tree.{assign, call_block, repeat, no_statements}
-use Rattle.program_tree.specs.StatementItems.{StatementItem, assignment, invocation, condition, selector, labels, iteration, steps, associated, transition}
+use Rattle.program_tree.specs.StatementItems.{StatementItem, assignment, invocation, condition, selector, labels, iteration, steps, associated, transition, enclosed}
 use Rattle.typed_programs.specs.Scopes.{Pous, BodyScope}
 use Rattle.typed_programs.specs.Expressions.{IsOf}
 use Rattle.typed_programs.specs.Statements.{IsLabelOf, IsTyped}
@@ -19,3 +19,4 @@ IsTypedItem pous b around (iteration turns) = IsTyped pous b (repeat turns no_st
 IsTypedItem pous b around (steps cells) = ⊥
 IsTypedItem pous b around (associated latch associations) = ⊥
 IsTypedItem pous b around (transition t) = ⊥
+IsTypedItem pous b around (enclosed ss) = Unit {0}

@@ -1,6 +1,6 @@
 -- The labels of a CASE and its selector: what holds of every item holds of labels and their selector together.
 use Rattle.std.proofs.Common.{List, [], ◌∷◌}
-use Rattle.source_tree.specs.Syntax.{IterationData, Tree, LabelData, Stmt, empty, assign, invoke, branch, cases, iterate, Stmts, no_stmts, stmt, Arms, no_arms, arm, Entries, no_entries, entry, Otherwise, no_else, else_stmts, PartData, step_part, transition_part, action_part, BodyData, statements, chart}
+use Rattle.source_tree.specs.Syntax.{IterationData, Tree, LabelData, Stmt, empty, assign, invoke, branch, cases, iterate, exit, return, Stmts, no_stmts, stmt, Arms, no_arms, arm, Entries, no_entries, entry, Otherwise, no_else, else_stmts, PartData, step_part, transition_part, action_part, BodyData, statements, chart}
 use Rattle.source_tree.specs.StatementItems.{StatementItem, assignment, invocation, condition, selector, labels, iteration, every, folded, folded_stmts, folded_arms, folded_entries, folded_else, folded_parts, folded_body}
 
 module _ (P : List IterationData → StatementItem → Type 0) where
@@ -20,6 +20,8 @@ module _ (P : List IterationData → StatementItem → Type 0) where
     with_selector around (branch arms other) h = (with_arms around arms h.0, with_else around other h.1)
     with_selector around (cases e es other) h = (h.0, (with_entries around e h.0 [] es h.1.0, with_else around other h.1.1))
     with_selector around (iterate i ss) h = (h.0, with_selectors (i ∷ around) ss h.1)
+    with_selector around (exit at) h = tt
+    with_selector around return h = tt
 
     pub with_selectors : (around : List IterationData) (ss : Stmts) → folded_stmts (every P) around ss → folded_stmts (every WithSelector) around ss
     with_selectors around no_stmts h = tt

@@ -25,12 +25,12 @@ use Rattle.typing.specs.JudgedStatements.{is_assignable, judged_target, judged_a
 use Rattle.typing.specs.JudgedItems.{controls_in, seen_in}
 use Rattle.typing.proofs.JudgedItems.{whole_broken_by}
 use Rattle.typing.proofs.TypedItems.{turns_in, AreTypedAlike, typed_alike}
-use Rattle.typing.specs.TypedStatements.{cell_of, turns_of, typed_invoke, typed_stmts}
+use Rattle.typing.specs.TypedStatements.{cell_of, turns_of, typed_invoke, typed_stmts, typed_list}
 use Rattle.typed_programs.specs.Scopes.{Pous, BodyScope, IsSettable}
 use Rattle.typed_programs.specs.Expressions.{IsOf}
 use Rattle.typed_programs.specs.Statements.{IsTyped, AreTyped}
 use Rattle.typed_programs.specs.TypedItems.{IsTypedItem}
-use Rattle.typed_programs.proofs.TypedItems.{typed_statements}
+use Rattle.typed_programs.proofs.TypedItems.{typed_statements, typed_in_own_body}
 use Rattle.typed_scopes.specs.Uses.{Usable, IsWithin, AreStmtsWithin}
 use Rattle.typed_scopes.specs.Fitting.{ScopeFits}
 use Rattle.typed_scopes.proofs.Wholes.{whole_require, whole_and}
@@ -110,9 +110,16 @@ module _ (pous : Pous) (b : BodyScope) (last : ℕ → ℤ) (scope : Scope) (use
         ((turns.0, turns.1, tt), f h.1);
   }
 
-  pub sound_are : (outer : List ℕ) (ss : Stmts) → folded_stmts (every (IsSoundWithSelector scope uses outer)) [] ss → AreTyped pous b (typed_stmts scope ss)
-  sound_are outer ss sound =
+  sound_stmts_are : (outer : List ℕ) (ss : Stmts) → folded_stmts (every (IsSoundWithSelector scope uses outer)) [] ss → AreTyped pous b (typed_stmts scope ss)
+  sound_stmts_are outer ss sound =
       typed_statements pous b [] (typed_stmts scope ss) (typed_alike scope (every (IsSoundWithSelector scope uses outer)) (typed_every (IsTypedItem pous b)) (λ around A B. A → B) (item_is outer) [] ss sound)
 
+  -- the statements of a POU or of an action
+  pub sound_are : (outer : List ℕ) (ss : Stmts) → folded_stmts (every (IsSoundWithSelector scope uses outer)) [] ss → AreTyped pous b (typed_list scope ss)
+  sound_are outer ss sound = typed_in_own_body pous b (typed_stmts scope ss) (sound_stmts_are outer ss sound)
+
   pub stmts_are : (controls : List ℕ) (ss : Stmts) → AreStmtsWithin uses ss → AreStmtsLevelled ss → (judged_stmts scope controls ss).whole ≡ true → AreTyped pous b (typed_stmts scope ss)
-  stmts_are controls ss within levels whole = sound_are controls ss (sound_items scope uses controls ss within levels whole)
+  stmts_are controls ss within levels whole = sound_stmts_are controls ss (sound_items scope uses controls ss within levels whole)
+
+  pub list_is : (ss : Stmts) → AreStmtsWithin uses ss → AreStmtsLevelled ss → (judged_stmts scope [] ss).whole ≡ true → AreTyped pous b (typed_list scope ss)
+  list_is ss within levels whole = typed_in_own_body pous b (typed_stmts scope ss) (stmts_are [] ss within levels whole)

@@ -3,12 +3,15 @@ ghost use Rattle.std.specs.Prelude.{◌≡◌, ℕ, ℤ, List, Option, true, fal
 ghost use Rattle.plc_types.specs.declared.data_type.DataType.{DataType};
 ghost use Rattle.source_tree.specs.Syntax.{Tree, Stmts, PartData};
 ghost use Rattle.source_tree.specs.Levels.{IsLevelled, AreStmtsLevelled, ArePartsLevelled};
+ghost use Rattle.program_tree.specs.Tree.{no_statements, statement};
+ghost use Rattle.program_tree.specs.Leaving.{LeavesNothing};
 ghost use Rattle.typing.specs.Typing.{Scope, type_of, is_unknown};
 ghost use Rattle.typing.specs.Typed.{typed};
-ghost use Rattle.typing.specs.TypedStatements.{typed_stmts};
+ghost use Rattle.typing.specs.TypedStatements.{typed_stmts, typed_list};
 ghost use Rattle.typing.specs.TypedCharts.{typed_chart};
 ghost use Rattle.typing.specs.Judged.{judged};
 ghost use Rattle.typing.specs.JudgedStatements.{judged_stmts};
+ghost use Rattle.typing.specs.JudgedExits.{judged_exits};
 ghost use Rattle.typing.specs.JudgedCharts.{judged_parts};
 ghost use Rattle.typed_programs.specs.Scopes.{Pous, BodyScope};
 ghost use Rattle.typed_programs.specs.Statements.{IsTypedPart, AreTyped};
@@ -34,4 +37,10 @@ pub fn law_statements()
 pub fn law_charts()
     ensures { (pous : Pous) (b : BodyScope) (last : ℕ → ℤ) (scope : Scope) (uses : Usable) → ScopeFits pous b last scope uses
         → (ps : List PartData) → ChartFits b scope ps → ArePartsWithin uses ps → ArePartsLevelled ps → (judged_parts scope ps).whole ≡ true → IsTypedPart pous b (typed_chart scope ps) }
+{}
+
+/// No EXIT and no RETURN leaves the statements of a POU or of an action whose EXITs stand in FORs, nor a chart that breaks no rule.
+pub fn law_leaving()
+    ensures statements { (scope : Scope) (ss : Stmts) → (judged_exits ss).whole ≡ true → LeavesNothing (typed_list scope ss) }
+    ensures charts { (scope : Scope) (ps : List PartData) → (judged_parts scope ps).whole ≡ true → LeavesNothing (statement (typed_chart scope ps) no_statements) }
 {}

@@ -3,4 +3,4 @@
 
 mod laws;
 
-pub use laws::{law_charts, law_expressions, law_statements};
+pub use laws::{law_charts, law_expressions, law_leaving, law_statements};

@@ -1,16 +1,17 @@
--- The rules on types ask of a body what they ask of each of its items.
+-- The rules on types ask of a body what they ask of each of its items, and of its EXITs.
 use Rattle.std.proofs.Common.{◌≡◌, ℕ, Bool, true, false, true≢false, List, [], ◌∷◌, Option, Some, None, if◌then◌else◌, refl, ap, ◌∙◌, sym}
 use Rattle.std.proofs.lemmas.Bool.{and_parts, and_from}
 use Rattle.plc_types.specs.declared.data_type.DataType.{DataType}
 use Rattle.rules.specs.declared.rule.Rule.{Rule}
-use Rattle.rules.specs.declared.rule.Rule.TheVariants.{OperandType}
+use Rattle.rules.specs.declared.rule.Rule.TheVariants.{OperandType, ExitOutsideFor}
 use Rattle.rules.specs.Judgements.{Judgement, ok, and, breaks}
-use Rattle.source_tree.specs.Syntax.{IterationData, Tree, LabelData, Stmt, empty, assign, invoke, branch, cases, iterate, Stmts, no_stmts, stmt, Arms, no_arms, arm, Entries, no_entries, entry, Otherwise, no_else, else_stmts, PartData, step_part, transition_part, action_part, BodyData, statements, chart}
+use Rattle.source_tree.specs.Syntax.{IterationData, Tree, LabelData, Stmt, empty, assign, invoke, branch, cases, iterate, exit, return, Stmts, no_stmts, stmt, Arms, no_arms, arm, Entries, no_entries, entry, Otherwise, no_else, else_stmts, PartData, step_part, transition_part, action_part, BodyData, statements, chart}
 use Rattle.source_tree.specs.StatementItems.{StatementItem, condition, selector, labels, iteration, every, folded, folded_stmts, folded_arms, folded_entries, folded_else, folded_parts, folded_body}
 use Rattle.naming.specs.Broken.{alone}
 use Rattle.typing.specs.Typing.{Scope, by_path, type_of}
 use Rattle.typing.specs.Judged.{judged_condition}
 use Rattle.typing.specs.JudgedStatements.{judged_iteration, turns_rule, broken_by, with_control, judged_selector, judged_labels_if, judged_stmt, judged_stmts, judged_arms, judged_entries, judged_else}
+use Rattle.typing.specs.JudgedExits.{judged_exit, judged_exits, judged_exits_of_arms, judged_exits_of_entries, judged_exits_of_else}
 use Rattle.typing.specs.JudgedCharts.{judged_part, judged_parts}
 use Rattle.typing.specs.Pous.{judged_body}
 use Rattle.typing.specs.JudgedItems.{controls_in, seen_in, judged_item, IsWholeItem}
@@ -44,6 +45,8 @@ module _ (scope : Scope) (outer : List ℕ) (T : Judgement → Type 0) where
           given.both (judged_selector scope e) (and entries (judged_else scope controls other)) h.0 (given.both entries (judged_else scope controls other) (given_entries around e [] es h.1.0) (given_else around other h.1.1))
       given_item around (iterate i ss) h =
           given.behind (judged_iteration scope (controls_in scope outer around) i) (judged_stmts scope (controls_in scope outer (i ∷ around)) ss) (turns_rule scope i) i.at h.0 (given_items (i ∷ around) ss h.1)
+      given_item around (exit at) h = given.none
+      given_item around return h = given.none
 
       pub given_items : (around : List IterationData) (ss : Stmts) → folded_stmts (every Judges) around ss → T (judged_stmts scope (controls_in scope outer around) ss)
       given_items around no_stmts h = given.none
@@ -89,6 +92,8 @@ module _ (scope : Scope) (outer : List ℕ) (T : Judgement → Type 0) where
       shared_item around (iterate i ss) h =
           let two = shared.behind (judged_iteration scope (controls_in scope outer around) i) (judged_stmts scope (controls_in scope outer (i ∷ around)) ss) (turns_rule scope i) i.at h in
           (two.0, shared_items (i ∷ around) ss two.1)
+      shared_item around (exit at) h = tt
+      shared_item around return h = tt
 
       pub shared_items : (around : List IterationData) (ss : Stmts) → T (judged_stmts scope (controls_in scope outer around) ss) → folded_stmts (every Judges) around ss
       shared_items around no_stmts h = tt
@@ -120,18 +125,73 @@ module _ (scope : Scope) (outer : List ℕ) (T : Judgement → Type 0) where
       shared_else around no_else h = tt
       shared_else around (else_stmts ss) h = shared_items around ss h
 
+-- ---- EXITs
+
+-- the judgement of the EXITs of a body, or of those of each action of a chart, has a property
+abbrev pub HaveExits : (Judgement → Type 0) → List PartData → Type 0
+HaveExits T [] = Unit {0}
+HaveExits T (step_part s ∷ ps) = HaveExits T ps
+HaveExits T (transition_part t ∷ ps) = HaveExits T ps
+HaveExits T (action_part a ∷ ps) = T (judged_exits a.body) × HaveExits T ps
+
+abbrev pub HasExits : (Judgement → Type 0) → BodyData → Type 0
+HasExits T (statements ss) = T (judged_exits ss)
+HasExits T (chart ps) = HaveExits T ps
+
+-- a property that an EXIT outside of a FOR has too
+module _ (T : Judgement → Type 0) (given : IsGiven T) (broken : (at : ℕ) → T (breaks ExitOutsideFor at)) where
+  mutual
+    given_exit : (s : Stmt) → T (judged_exit s)
+    given_exit empty = given.none
+    given_exit (assign p e) = given.none
+    given_exit (invoke n at cs) = given.none
+    given_exit (branch arms other) = given.both (judged_exits_of_arms arms) (judged_exits_of_else other) (given_exits_of_arms arms) (given_exits_of_else other)
+    given_exit (cases e es other) = given.both (judged_exits_of_entries es) (judged_exits_of_else other) (given_exits_of_entries es) (given_exits_of_else other)
+    given_exit (iterate i ss) = given.none
+    given_exit (exit at) = broken at
+    given_exit return = given.none
+
+    given_exits : (ss : Stmts) → T (judged_exits ss)
+    given_exits no_stmts = given.none
+    given_exits (stmt s ss) = given.both (judged_exit s) (judged_exits ss) (given_exit s) (given_exits ss)
+
+    given_exits_of_arms : (arms : Arms) → T (judged_exits_of_arms arms)
+    given_exits_of_arms no_arms = given.none
+    given_exits_of_arms (arm e ss arms) = given.both (judged_exits ss) (judged_exits_of_arms arms) (given_exits ss) (given_exits_of_arms arms)
+
+    given_exits_of_entries : (es : Entries) → T (judged_exits_of_entries es)
+    given_exits_of_entries no_entries = given.none
+    given_exits_of_entries (entry ls ss es) = given.both (judged_exits ss) (judged_exits_of_entries es) (given_exits ss) (given_exits_of_entries es)
+
+    given_exits_of_else : (other : Otherwise) → T (judged_exits_of_else other)
+    given_exits_of_else no_else = given.none
+    given_exits_of_else (else_stmts ss) = given_exits ss
+
+  have_exits : (ps : List PartData) → HaveExits T ps
+  have_exits [] = tt
+  have_exits (step_part s ∷ ps) = have_exits ps
+  have_exits (transition_part t ∷ ps) = have_exits ps
+  have_exits (action_part a ∷ ps) = (given_exits a.body, have_exits ps)
+
+  pub has_exits : (b : BodyData) → HasExits T b
+  has_exits (statements ss) = given_exits ss
+  has_exits (chart ps) = have_exits ps
+
 -- in bodies no FOR is around
 module _ (scope : Scope) (T : Judgement → Type 0) where
   module _ (given : IsGiven T) where
-    pub given_parts : (ps : List PartData) → folded_parts (every (Judges scope [] T)) ps → T (judged_parts scope ps)
-    given_parts [] h = given.none
-    given_parts (step_part s ∷ ps) h = given.both ok (judged_parts scope ps) given.none (given_parts ps h)
-    given_parts (transition_part t ∷ ps) h = given.both (judged_part scope (transition_part t)) (judged_parts scope ps) h.0 (given_parts ps h.1)
-    given_parts (action_part a ∷ ps) h = given.both (judged_part scope (action_part a)) (judged_parts scope ps) (given_items scope [] T given [] a.body h.0) (given_parts ps h.1)
+    given_list : (ss : Stmts) → T (judged_exits ss) → folded_stmts (every (Judges scope [] T)) [] ss → T (and (judged_stmts scope [] ss) (judged_exits ss))
+    given_list ss exits h = given.both (judged_stmts scope [] ss) (judged_exits ss) (given_items scope [] T given [] ss h) exits
 
-    pub given_body : (b : BodyData) → folded_body (every (Judges scope [] T)) b → T (judged_body scope b)
-    given_body (statements ss) h = given_items scope [] T given [] ss h
-    given_body (chart ps) h = given_parts ps h
+    pub given_parts : (ps : List PartData) → HaveExits T ps → folded_parts (every (Judges scope [] T)) ps → T (judged_parts scope ps)
+    given_parts [] exits h = given.none
+    given_parts (step_part s ∷ ps) exits h = given.both ok (judged_parts scope ps) given.none (given_parts ps exits h)
+    given_parts (transition_part t ∷ ps) exits h = given.both (judged_part scope (transition_part t)) (judged_parts scope ps) h.0 (given_parts ps exits h.1)
+    given_parts (action_part a ∷ ps) exits h = given.both (judged_part scope (action_part a)) (judged_parts scope ps) (given_list a.body exits.0 h.0) (given_parts ps exits.1 h.1)
+
+    pub given_body : (b : BodyData) → HasExits T b → folded_body (every (Judges scope [] T)) b → T (judged_body scope b)
+    given_body (statements ss) exits h = given_list ss exits h
+    given_body (chart ps) exits h = given_parts ps exits h
 
   module _ (shared : IsShared T) where
     pub shared_parts : (ps : List PartData) → T (judged_parts scope ps) → folded_parts (every (Judges scope [] T)) ps
@@ -142,11 +202,23 @@ module _ (scope : Scope) (T : Judgement → Type 0) where
         (two.0, shared_parts ps two.1)
     shared_parts (action_part a ∷ ps) h =
         let two = shared.both (judged_part scope (action_part a)) (judged_parts scope ps) h in
-        (shared_items scope [] T shared [] a.body two.0, shared_parts ps two.1)
+        (shared_items scope [] T shared [] a.body (shared.both (judged_stmts scope [] a.body) (judged_exits a.body) two.0).0, shared_parts ps two.1)
 
     pub shared_body : (b : BodyData) → T (judged_body scope b) → folded_body (every (Judges scope [] T)) b
-    shared_body (statements ss) h = shared_items scope [] T shared [] ss h
+    shared_body (statements ss) h = shared_items scope [] T shared [] ss (shared.both (judged_stmts scope [] ss) (judged_exits ss) h).0
     shared_body (chart ps) h = shared_parts ps h
+
+    shared_exits_of_parts : (ps : List PartData) → T (judged_parts scope ps) → HaveExits T ps
+    shared_exits_of_parts [] h = tt
+    shared_exits_of_parts (step_part s ∷ ps) h = shared_exits_of_parts ps (shared.both (judged_part scope (step_part s)) (judged_parts scope ps) h).1
+    shared_exits_of_parts (transition_part t ∷ ps) h = shared_exits_of_parts ps (shared.both (judged_part scope (transition_part t)) (judged_parts scope ps) h).1
+    shared_exits_of_parts (action_part a ∷ ps) h =
+        let two = shared.both (judged_part scope (action_part a)) (judged_parts scope ps) h in
+        ((shared.both (judged_stmts scope [] a.body) (judged_exits a.body) two.0).1, shared_exits_of_parts ps two.1)
+
+    pub shared_exits : (b : BodyData) → T (judged_body scope b) → HasExits T b
+    shared_exits (statements ss) h = (shared.both (judged_stmts scope [] ss) (judged_exits ss) h).1
+    shared_exits (chart ps) h = shared_exits_of_parts ps h
 
 -- ---- what is whole
 

@@ -1,3 +1,4 @@
 pub mod PairLemmas
 pub mod JudgedItems
 pub mod TypedItems
+pub mod Exits

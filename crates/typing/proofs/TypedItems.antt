@@ -4,7 +4,7 @@ use Rattle.plc_types.specs.DataTypes.{carrier}
 use Rattle.program_tree.specs.declared.typed.Turns.{Turns}
 use Rattle.program_tree.specs.Tree.{Statements}
 use Rattle.program_tree.specs.StatementItems.{Fold as TypedFold, assignment as typed_assignment, condition as typed_condition, selector as typed_selector, labels as typed_labels, iteration as typed_iteration, folded_all, folded_choices, folded_entries as folded_typed_entries}
-use Rattle.source_tree.specs.Syntax.{Named, PathData, Tree, ConnectionData, LabelData, IterationData, Stmt, empty, assign, invoke, branch, cases, iterate, Stmts, no_stmts, stmt, Arms, no_arms, arm, Entries, no_entries, entry, Otherwise, no_else, else_stmts}
+use Rattle.source_tree.specs.Syntax.{Named, PathData, Tree, ConnectionData, LabelData, IterationData, Stmt, empty, assign, invoke, branch, cases, iterate, exit, return, Stmts, no_stmts, stmt, Arms, no_arms, arm, Entries, no_entries, entry, Otherwise, no_else, else_stmts}
 use Rattle.source_tree.specs.StatementItems.{Fold, assignment, invocation, condition, selector, labels, iteration, folded_stmts, folded_arms, folded_entries, folded_else}
 use Rattle.typing.specs.Typing.{Scope, by_path, kind_at, type_of}
 use Rattle.typing.specs.Typed.{typed}
@@ -43,6 +43,8 @@ module _ {ℓ κ ν} {A : Type ℓ} {B : Type κ} (scope : Scope) (a : Fold A) (
     typed_alike around (stmt (cases e es other) ss) =
         alike.both around _ _ _ _ (alike.both around _ _ _ _ (alike.selected around e) (alike.both around _ _ _ _ (typed_entries_alike around e [] es) (typed_else_alike around other))) (typed_alike around ss)
     typed_alike around (stmt (iterate i body) ss) = alike.both around _ _ _ _ (alike.inside around i _ _ (typed_alike (i ∷ around) body)) (typed_alike around ss)
+    typed_alike around (stmt (exit at) ss) = alike.both around _ _ _ _ (alike.none around) (typed_alike around ss)
+    typed_alike around (stmt return ss) = alike.both around _ _ _ _ (alike.none around) (typed_alike around ss)
 
     typed_arms_alike : (around : List IterationData) (arms : Arms) → R around (folded_arms a around arms) (folded_choices b (turns_in scope around) (typed_arms scope arms))
     typed_arms_alike around no_arms = alike.none around

@@ -10,7 +10,7 @@ use Rattle.rules.specs.declared.rule.Rule.{Rule}
 use Rattle.rules.specs.declared.rule.Rule.TheVariants.{OperandType, ValueType, ArgumentCount, NotAssignable, NotConstant}
 use Rattle.plc_types.specs.declared.range.Range.{Range}
 use Rattle.plc_types.specs.Types.{is_integer, range_of}
-use Rattle.source_tree.specs.Syntax.{Named, PathData, Tree, ConnectionData, input, output, Stmt, empty, assign, invoke, branch, cases, iterate, Stmts, no_stmts, stmt, Arms, no_arms, arm, Entries, no_entries, entry, Otherwise, no_else, else_stmts, LabelData, IterationData}
+use Rattle.source_tree.specs.Syntax.{Named, PathData, Tree, ConnectionData, input, output, Stmt, empty, assign, invoke, branch, cases, iterate, exit, return, Stmts, no_stmts, stmt, Arms, no_arms, arm, Entries, no_entries, entry, Otherwise, no_else, else_stmts, LabelData, IterationData}
 use Rattle.naming.specs.Broken.{alone}
 use Rattle.typing.specs.declared.scope.Place.{Place}
 use Rattle.typing.specs.declared.scope.Place.TheVariants as places
@@ -184,6 +184,8 @@ abbrev mutual
       (and (judged_entries scope controls (judged_selector scope e).whole (type_of scope None e) [] es) (judged_else scope controls other))
   judged_stmt scope controls (iterate i ss) =
       broken_by (and (judged_iteration scope controls i) (judged_stmts scope (with_control controls (scope.means (by_path (alone i.control)))) ss)) (turns_rule scope i) i.at
+  judged_stmt scope controls (exit at) = ok
+  judged_stmt scope controls return = ok
 
   pub judged_stmts : Scope → List ℕ → Stmts → Judgement
   judged_stmts scope controls no_stmts = ok

@@ -10,6 +10,7 @@ pub mod Variables
 pub mod Reached
 pub mod Places
 pub mod Members
+pub mod JudgedExits
 pub mod JudgedCharts
 pub mod Pous
 pub mod Programs

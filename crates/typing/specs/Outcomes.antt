@@ -9,7 +9,7 @@ use Rattle.naming.specs.Scopes.{Variable}
 use Rattle.naming.specs.Broken.{alone}
 use Rattle.rules.specs.declared.outcome.Outcome.{Outcome}
 use Rattle.rules.specs.Outcomes.{outcome_of, both, tried, ruled}
-use Rattle.source_tree.specs.Syntax.{Named, Tree, Links, no_links, link, Arguments, no_arguments, argument, ConnectionData, Stmt, empty, assign, invoke, branch, cases, iterate, Stmts, no_stmts, stmt, Arms, no_arms, arm, Entries, no_entries, entry, Otherwise, no_else, else_stmts, LabelData, IterationData, TypeDeclarationData, PouData, FileData}
+use Rattle.source_tree.specs.Syntax.{Named, Tree, Links, no_links, link, Arguments, no_arguments, argument, ConnectionData, Stmt, empty, assign, invoke, branch, cases, iterate, exit, return, Stmts, no_stmts, stmt, Arms, no_arms, arm, Entries, no_entries, entry, Otherwise, no_else, else_stmts, LabelData, IterationData, TypeDeclarationData, PouData, FileData}
 use Rattle.typing.specs.declared.scope.Meaning.{Meaning}
 use Rattle.typing.specs.declared.scope.Signature.{Signature}
 use Rattle.typing.specs.Typing.{Scope, by_path, kind_at, or_dint, type_of, takes, next_type, Parameter, fixed, common, amount, parameter_of, is_amount, place_of}
@@ -100,6 +100,8 @@ abbrev mutual
   stmt_outcome scope controls o (iterate i ss) =
       let m = scope.means (by_path (alone i.control)) in
       both o (ruled (stmts_outcome scope (with_control controls m) (outcome_of (judged_turns scope controls m i)) ss) (turns_rule scope i) i.at)
+  stmt_outcome scope controls o (exit at) = o
+  stmt_outcome scope controls o return = o
 
   pub stmts_outcome : Scope → List ℕ → Outcome → Stmts → Outcome
   stmts_outcome scope controls o no_stmts = o

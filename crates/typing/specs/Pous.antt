@@ -8,13 +8,14 @@ use Rattle.typing.specs.Typing.{Scope}
 use Rattle.rules.specs.Judgements.{Judgement, ok, and}
 use Rattle.typing.specs.Domains.{judged_types}
 use Rattle.typing.specs.JudgedStatements.{judged_stmts}
+use Rattle.typing.specs.JudgedExits.{judged_exits}
 use Rattle.typing.specs.JudgedCharts.{judged_parts}
 use Rattle.typing.specs.Variables.{judged_variables}
 use Rattle.typing.specs.Places.{variables_at, sizes_of, count_of_cells}
 use Rattle.typing.specs.Members.{scope_of}
 
 abbrev pub judged_body : Scope → BodyData → Judgement
-judged_body scope (statements ss) = judged_stmts scope [] ss
+judged_body scope (statements ss) = and (judged_stmts scope [] ss) (judged_exits ss)
 judged_body scope (chart_body ps) = judged_parts scope ps
 
 -- The POU of a number: its variables, its result among them, and its body. The rules on types ask for no places, so that no size of a

@@ -11,7 +11,7 @@ use Rattle.typing.specs.declared.scope.Place.TheVariants as places
 use Rattle.typing.specs.declared.scope.Meaning.{Meaning}
 use Rattle.typing.specs.Typing.{Scope, by_path}
 use Rattle.typing.specs.Typed.{typed}
-use Rattle.typing.specs.TypedStatements.{cell_of, typed_stmts}
+use Rattle.typing.specs.TypedStatements.{cell_of, typed_list}
 
 -- The name of a step stands for the first of its cells.
 abbrev pub step_cells : Scope → ChartStepData → StepCells
@@ -27,7 +27,7 @@ latch_of None = None
 latch_of (Some m) = latch_place m.place
 
 abbrev pub typed_action : Scope → List PartData → ChartActionData → ActionData
-typed_action scope ps a = (latch_of (scope.means (by_path (alone a.name))), associations_of ps a.name.text, typed_stmts scope a.body)
+typed_action scope ps a = (latch_of (scope.means (by_path (alone a.name))), associations_of ps a.name.text, typed_list scope a.body)
 
 abbrev pub typed_transition : Scope → List PartData → ChartTransitionData → TransitionData
 typed_transition scope ps t = record { from = step_numbers ps t.from; to = step_numbers ps t.to; condition = typed scope None t.condition }

@@ -3,8 +3,8 @@ use Rattle.std.specs.Prelude.{ℕ, ◌+◌, List, [], ◌∷◌, ◌++◌, map, 
 use Rattle.plc_types.specs.declared.data_type.DataType.{DataType}
 use Rattle.plc_types.specs.DataTypes.{carrier}
 use Rattle.plc_types.specs.declared.function.StandardFunction.{StandardFunction}
-use Rattle.source_tree.specs.Syntax.{Links, no_links, link, Arguments, no_arguments, argument, Stmt, Stmts, no_stmts, stmt, empty, assign, invoke, branch, cases, iterate, Arms, no_arms, arm, Entries, no_entries, entry}
-use Rattle.program_tree.specs.Tree.{Expression, Statement, assign as typed_assign, choice, cases as typed_cases, repeat}
+use Rattle.source_tree.specs.Syntax.{Links, no_links, link, Arguments, no_arguments, argument, Stmt, Stmts, no_stmts, stmt, empty, assign, invoke, branch, cases, iterate, exit, return, Arms, no_arms, arm, Entries, no_entries, entry}
+use Rattle.program_tree.specs.Tree.{Expression, Statement, assign as typed_assign, choice, cases as typed_cases, repeat, exit as typed_exit, return as typed_return}
 use Rattle.program_tree.specs.View.{OperandData, ChoiceData, EntryData}
 use Rattle.typing.specs.Typing.{Scope, by_path, kind_at, next_type, type_of, Parameter, fixed, common, amount, parameter_of}
 use Rattle.typing.specs.Judged.{expected_at}
@@ -37,6 +37,8 @@ statements_for scope (branch arms other) = choice (typed_arms scope arms) (typed
 statements_for scope (cases e es other) =
     typed_cases (carrier (type_of scope None e)) (typed scope None e) (typed_entries scope (type_of scope None e) es) (typed_else scope other) ∷ []
 statements_for scope (iterate i body) = repeat (turns_of scope i) (typed_stmts scope body) ∷ []
+statements_for scope (exit at) = typed_exit ∷ []
+statements_for scope return = typed_return ∷ []
 
 abbrev pub statement_list : Scope → Stmts → List Statement
 statement_list scope no_stmts = []

@@ -12,7 +12,7 @@ use Rattle.naming.specs.declared.role.Role.TheVariants as roles
 use Rattle.naming.specs.FileScope.{types_of, pous_of, pou_at}
 use Rattle.naming.specs.Scopes.{Variable, variables_in_pou, is_step, block_of}
 use Rattle.typing.specs.Typing.{Scope, bool_type}
-use Rattle.typing.specs.TypedStatements.{typed_stmts}
+use Rattle.typing.specs.TypedStatements.{typed_list}
 use Rattle.typing.specs.TypedCharts.{typed_chart}
 use Rattle.typing.specs.Variables.{domain_of_variable, initial_of}
 use Rattle.typing.specs.declared.next.Next.{Next}
@@ -153,7 +153,7 @@ begun f next (v ∷ vs) ss =
     else begun f (places_behind f (sizes_of f) next v) vs ss
 
 abbrev pub typed_body : Scope → BodyData → Statements
-typed_body scope (statements ss) = typed_stmts scope ss
+typed_body scope (statements ss) = typed_list scope ss
 typed_body scope (chart_body ps) = statement (typed_chart scope ps) no_statements
 
 -- what the POU of a number does, which begins with its VAR_TEMP variables

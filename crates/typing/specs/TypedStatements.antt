@@ -3,8 +3,9 @@ use Rattle.std.specs.Prelude.{ℕ, List, [], ◌∷◌, ◌++◌, map, Option, S
 use Rattle.plc_types.specs.declared.data_type.DataType.{DataType}
 use Rattle.plc_types.specs.DataTypes.{carrier}
 use Rattle.program_tree.specs.declared.typed.Turns.{Turns}
-use Rattle.source_tree.specs.Syntax.{Named, ConnectionData, input, output, empty, assign, invoke, branch, cases, iterate, Stmts, no_stmts, stmt, Arms, no_arms, arm, Entries, no_entries, entry, Otherwise, no_else, else_stmts, IterationData}
-use Rattle.program_tree.specs.Tree.{Statement, assign as typed_assign, call_block, choice, cases as typed_cases, repeat, Statements, no_statements, statement, Choices, no_choices, choose, Entries as TypedEntries, no_entries as no_typed_entries, entry as typed_entry}
+use Rattle.source_tree.specs.Syntax.{Named, ConnectionData, input, output, empty, assign, invoke, branch, cases, iterate, exit, return, Stmts, no_stmts, stmt, Arms, no_arms, arm, Entries, no_entries, entry, Otherwise, no_else, else_stmts, IterationData}
+use Rattle.program_tree.specs.Tree.{Statement, assign as typed_assign, call_block, choice, cases as typed_cases, repeat, exit as typed_exit, return as typed_return, Statements, no_statements, statement, Choices, no_choices, choose, Entries as TypedEntries, no_entries as no_typed_entries, entry as typed_entry}
+use Rattle.program_tree.specs.Leaving.{in_own_body}
 use Rattle.naming.specs.Broken.{alone}
 use Rattle.typing.specs.declared.scope.Place.{Place}
 use Rattle.typing.specs.declared.scope.Place.TheVariants as places
@@ -73,6 +74,8 @@ abbrev mutual
   typed_stmts scope (stmt (cases e es other) ss) =
       statement (typed_cases (carrier (type_of scope None e)) (typed scope None e) (typed_entries scope (type_of scope None e) es) (typed_else scope other)) (typed_stmts scope ss)
   typed_stmts scope (stmt (iterate i body) ss) = statement (repeat (turns_of scope i) (typed_stmts scope body)) (typed_stmts scope ss)
+  typed_stmts scope (stmt (exit at) ss) = statement typed_exit (typed_stmts scope ss)
+  typed_stmts scope (stmt return ss) = statement typed_return (typed_stmts scope ss)
 
   pub typed_arms : Scope → Arms → Choices
   typed_arms scope no_arms = no_choices
@@ -85,3 +88,7 @@ abbrev mutual
   pub typed_else : Scope → Otherwise → Statements
   typed_else scope no_else = no_statements
   typed_else scope (else_stmts ss) = typed_stmts scope ss
+
+-- the statements of a POU, or those of an action, which a RETURN in them ends
+abbrev pub typed_list : Scope → Stmts → Statements
+typed_list scope ss = in_own_body (typed_stmts scope ss)

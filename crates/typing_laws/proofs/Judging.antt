@@ -10,7 +10,7 @@ use Rattle.rules.specs.declared.rule.Refusal.{Refusal}
 use Rattle.plc_types.specs.declared.range.Range.{Range}
 use Rattle.source_tree.specs.declared.syntax.Literal.{Literal}
 use Rattle.plc_types.specs.declared.operator.UnaryOperator.{UnaryOperator}
-use Rattle.source_tree.specs.Syntax.{Named, PathData, Tree, unary, chain, Links, no_links, link, Arguments, no_arguments, argument, ConnectionData, Stmt, empty, assign, invoke, branch, cases, iterate, Stmts, no_stmts, stmt, Arms, no_arms, arm, Entries, no_entries, entry, Otherwise, no_else, else_stmts, LabelData, IterationData}
+use Rattle.source_tree.specs.Syntax.{Named, PathData, Tree, unary, chain, Links, no_links, link, Arguments, no_arguments, argument, ConnectionData, Stmt, empty, assign, invoke, branch, cases, iterate, exit, return, Stmts, no_stmts, stmt, Arms, no_arms, arm, Entries, no_entries, entry, Otherwise, no_else, else_stmts, LabelData, IterationData}
 use Rattle.std.proofs.Math.Bool.{and_assoc, and_comm}
 use Rattle.rules.proofs.Refusals.{earlier-assoc, earlier-swap, first_in-append}
 use Rattle.naming.specs.Broken.{alone}
@@ -271,6 +271,8 @@ mutual
       let body = judged_stmts scope inner ss in
       ap (λ (x : Outcome). both o (ruled x (turns_rule scope i) i.at)) (stmts_outcome-is scope inner (outcome_of head) ss ∙ outcome_and head body)
       ∙ ap (both o) (sym (outcome_of-broken_by (and head body) (turns_rule scope i) i.at))
+  stmt_outcome-is scope controls o (exit at) = sym (both_ok o)
+  stmt_outcome-is scope controls o return = sym (both_ok o)
 
   pub stmts_outcome-is : (scope : Scope) (controls : List ℕ) (o : Outcome) (ss : Stmts) → stmts_outcome scope controls o ss ≡ both o (outcome_of (judged_stmts scope controls ss))
   stmts_outcome-is scope controls o no_stmts = sym (both_ok o)

@@ -4,8 +4,8 @@ use Rattle.std.specs.Prelude.{Some, None}
 use Rattle.plc_types.specs.declared.data_type.DataType.{DataType}
 use Rattle.plc_types.specs.DataTypes.{carrier}
 use Rattle.plc_types.specs.declared.function.StandardFunction.{StandardFunction}
-use Rattle.source_tree.specs.Syntax.{Links, no_links, link, Arguments, no_arguments, argument, Stmts, no_stmts, stmt, empty, assign, invoke, branch, cases, iterate, Arms, no_arms, arm, Entries, no_entries, entry}
-use Rattle.program_tree.specs.Tree.{Expression, Statement, operand, assign as typed_assign, choice, cases as typed_cases, repeat, statement, choose, entry as typed_entry}
+use Rattle.source_tree.specs.Syntax.{Links, no_links, link, Arguments, no_arguments, argument, Stmts, no_stmts, stmt, empty, assign, invoke, branch, cases, iterate, exit, return, Arms, no_arms, arm, Entries, no_entries, entry}
+use Rattle.program_tree.specs.Tree.{Expression, Statement, operand, assign as typed_assign, choice, cases as typed_cases, repeat, exit as typed_exit, return as typed_return, statement, choose, entry as typed_entry}
 use Rattle.program_tree.specs.View.{operands_of, expressions_of, statements_of, choices_of, entries_of}
 use Rattle.typing.specs.Typing.{Scope, by_path, kind_at, next_type, type_of, Parameter, fixed, common, amount, parameter_of}
 use Rattle.typing.specs.Judged.{expected_at}
@@ -44,6 +44,8 @@ statements_of-list scope (stmt (branch arms other) ss) = ap (statement (choice (
 statements_of-list scope (stmt (cases e es other) ss) =
     ap (statement (typed_cases (carrier (type_of scope None e)) (typed scope None e) (typed_entries scope (type_of scope None e) es) (typed_else scope other))) (statements_of-list scope ss)
 statements_of-list scope (stmt (iterate i body) ss) = ap (statement (repeat (turns_of scope i) (typed_stmts scope body))) (statements_of-list scope ss)
+statements_of-list scope (stmt (exit at) ss) = ap (statement typed_exit) (statements_of-list scope ss)
+statements_of-list scope (stmt return ss) = ap (statement typed_return) (statements_of-list scope ss)
 
 pub choices_of-list : (scope : Scope) (arms : Arms) → choices_of (choice_list scope arms) ≡ typed_arms scope arms
 choices_of-list scope no_arms = refl

@@ -4,7 +4,7 @@ use Rattle.std.specs.List.{list_all}
 use Rattle.plc_types.specs.declared.data_type.DataType.{DataType}
 use Rattle.plc_types.specs.declared.range.Range.{Range}
 use Rattle.plc_types.specs.DataTypes.{is_same_type}
-use Rattle.rules.specs.declared.rule.Rule.TheVariants.{OperandType, ValueType, ArgumentCount, NotAssignable, NotConstant, OutsideType, Overlap}
+use Rattle.rules.specs.declared.rule.Rule.TheVariants.{OperandType, ValueType, ArgumentCount, NotAssignable, NotConstant, OutsideType, Overlap, ExitOutsideFor}
 use Rattle.rules.specs.Judgements.{and, require}
 use Rattle.source_tree.specs.Syntax.{Named, PathData, Tree, ConnectionData, input, output, LabelData, IterationData, BodyData}
 use Rattle.source_tree.specs.StatementItems.{StatementItem, assignment, invocation, condition, selector, labels, iteration}
@@ -18,13 +18,13 @@ use Rattle.typing.specs.Labels.{judged_high, is_of_type, high_is_of_type, label_
 use Rattle.typing.specs.JudgedStatements.{is_assignable, judged_target, judged_assign, member, judged_input, judged_output, judged_connections, connects_twice, has_right_arrow, judged_invoke, may_control, judged_control, judged_bound, judged_step, is_typed, step_is_typed, judged_iteration, turns_rule, may_select, judged_selector, judged_labels_if}
 use Rattle.typing.specs.JudgedItems.{controls_in, seen_in, judged_item}
 use Rattle.typing.specs.Pous.{judged_body}
-use Rattle.typing.proofs.JudgedItems.{given_body}
+use Rattle.typing.proofs.JudgedItems.{given_body, has_exits}
 use Rattle.alike_scopes.specs.typed_scopes.Uses.{Usable, IsWithin, IsOptionWithin, AreConnectionsWithin, AreLabelsWithin, IsIterationWithin, IsItemWithin}
 use Rattle.alike_scopes.specs.bound_names.BoundNames.{IsBodyWithin}
 use Rattle.alike_scopes.proofs.typed_scopes.EveryItem.{body_mapped}
 use Rattle.alike_scopes.proofs.typed_scopes.Selectors.{WithSelector, body_with_selectors}
 use Rattle.whole_files.specs.WholeScopes.{is_whole_meaning, IsWholeScope}
-use Rattle.whole_files.proofs.Told.{IsTold, told_ok, told_and, told_require, told_broken_by, told_given}
+use Rattle.whole_files.proofs.Told.{IsTold, told_ok, told_breaks, told_and, told_require, told_broken_by, told_given}
 use Rattle.whole_files.proofs.KnownTypes.{kind_known, dint_known, type_known}
 use Rattle.whole_files.proofs.ToldTrees.{meaning_told, tree_told, condition_told}
 
@@ -136,4 +136,4 @@ module _ (scope : Scope) (uses : Usable) (whole : IsWholeScope scope uses) where
   pub body_told : (b : BodyData) → IsBodyWithin uses b → IsTold (judged_body scope b)
   body_told b within =
       let told = body_mapped (WithSelector (IsItemWithin uses)) (λ around i. IsTold (judged_item scope [] around i)) item_told b (body_with_selectors (IsItemWithin uses) b within) in
-      given_body scope IsTold told_given b told
+      given_body scope IsTold told_given b (has_exits IsTold told_given (told_breaks ExitOutsideFor) b) told

@@ -12,7 +12,7 @@ where = importlib.util.module_from_spec(importlib.util.spec_from_loader("where",
 loader.exec_module(where)
 
 TEXT = "M1 L1 L2 L3 L4 L5 X1 G1 G2 "
-PROGRAM = TEXT + "N1 N2 N3 N4 N5 C1 C2 C3 C4 C5 Y1 Y2 Y3 Y4 Y5 K1 F1 F2 F3 F4 M2 M3 M5 M6"
+PROGRAM = TEXT + "N1 N2 N3 N4 N5 C1 C2 C3 C4 C5 Y1 Y2 Y3 Y4 Y5 K1 F1 F2 F3 F4 F5 M2 M3 M5 M6"
 RULES = {"OLD": PROGRAM, "NEW": PROGRAM, "REL": TEXT + "R1 R2 R3 R4 N2 N4 P1 P2 Y1 Y3 Y5 M4 M7", "TRACE": "M1 J1",
          "FINDING": "M8"}
 

@@ -1,5 +1,5 @@
-use Rattle.std.proofs.Common.{rules, tests, to_z, of_z, ◌∷◌, ◌≡◌, ◌≢◌, ◌+◌, ◌*◌, arith, sym, ap, ◌∙◌, length, take}
-use Rattle.std.specs.Int.{w64}
+use Rattle.std.proofs.Common.{rules, tests, to_z, of_z, ◌∷◌, ◌≡◌, ◌≢◌, ◌+◌, ◌*◌, ◌+ℤ◌, arith, refl, sym, ap, ◌∙◌, length, take}
+use Rattle.std.specs.Int.{w64, w128}
 use Rattle.std.proofs.lemmas.Int.{ints}
 use Rattle.std.proofs.lemmas.List.{length-take-le}
 use Rattle.program_tree.specs.declared.typed.TypedStmt.TheFolds.{fold-roll-TypedStmt}
@@ -7,7 +7,7 @@ use Rattle.program_tree.specs.declared.typed.TypedStmt.TheVariants.{rolls-Chart}
 use Rattle.program_tree.specs.Tree.{Statement, chart}
 use Rattle.program_tree.specs.View.{ActionData, ChoiceData, EntryData, stmt_step, action_step, arm_step, entry_step, expr_view, arguments_view, stmt_view, stmts_view, actions_view, transitions_view, called_view, all_called_view}
 use Rattle.meaning.specs.Values.{answer_in, fault_in, value_of, values_of}
-use Rattle.meaning.specs.Effects.{effect_of, effect_of_all}
+use Rattle.meaning.specs.Effects.{on, returned, effect_of, effect_of_all}
 use Rattle.meaning.specs.Calls.{given}
 use Rattle.meaning.specs.Room.{room_of, markings_in_all}
 use Rattle.interpreter.specs.Scopes.{callees_here, cells_read}
@@ -15,6 +15,7 @@ use Rattle.operations.proofs.Calls.{called_is}
 use Rattle.meaning.proofs.Sizes.{all_nodes, body_nodes, called_nodes}
 use Rattle.interpreter.proofs.Weights.{weight_here}
 use Rattle.meaning.proofs.Callees.{at-number, runs-unknown, ends-unknown, weight-call, room-call, function-ran, block-answers, block-ran, function-runs, effect_of_turns-turn, either-same}
+use Rattle.interpreter.proofs.Endings.{state-left}
 use Rattle.interpreter.proofs.Given.{given-more}
 use Rattle.meaning.proofs.Firing.{chart-ran, chart-same}
 use Rattle.interpreter.proofs.+run.Goals.{evaluation::evaluate_call-in_default-via-then-operands-lt1, evaluation::evaluate_call-in_default-via-else-operands-lt1+else-operands-lt2+then-operands-lt3, evaluation::evaluate_call-in_default-via-else-operands-lt1+else-operands-lt2+else-operands-lt3+else-operands-lt4}
@@ -67,7 +68,7 @@ answers::answer-returns-in-Function-clause-value t c =
     let is = at-number ps c.args.function c.index-reading-function.result _ (omega arith) (ap called_view c.in-Function.is) in
     let vs = values_of (callees_here scope) scope.base (arguments_view c.args.inputs.now) (cells_read c.args.reading.now) in
     let front : c.split_at_mut-own.result.0.now ≡ given c.as_slice-ranges.result.now 2 vs c.as_slice-start.result.now = c.split_at_mut-own.ensures.front ∙ c.fill-fault.ensures.state in
-    c.ended.ensures.value ∙ ap answer_in (function-ran (all_called_view ps) c.args.function scope.below _ _ _ _ _ _ _ _ _ vs c.if-function-reading.true is c.as_slice-ranges.ensures.value c.as_slice-start.ensures.value (ap stmts_view c.deref.ensures.value) front c.run_all.ensures.state)
+    c.ended.ensures.value ∙ ap answer_in (function-ran (all_called_view ps) c.args.function scope.below _ _ _ _ _ _ _ _ _ vs c.if-function-reading.true is c.as_slice-ranges.ensures.value c.as_slice-start.ensures.value (ap stmts_view c.deref.ensures.value) front (state-left _ _ _ c.run_all.ensures.effect))
 
 pub answers::answer-returns-in-Function-clause-fault : goal.answers::answer-returns-in-Function-clause-fault
 answers::answer-returns-in-Function-clause-fault t c =
@@ -76,7 +77,7 @@ answers::answer-returns-in-Function-clause-fault t c =
     let is = at-number ps c.args.function c.index-reading-function.result _ (omega arith) (ap called_view c.in-Function.is) in
     let vs = values_of (callees_here scope) scope.base (arguments_view c.args.inputs.now) (cells_read c.args.reading.now) in
     let front : c.split_at_mut-own.result.0.now ≡ given c.as_slice-ranges.result.now 2 vs c.as_slice-start.result.now = c.split_at_mut-own.ensures.front ∙ c.fill-fault.ensures.state in
-    c.ended.ensures.fault ∙ either-same _ _ _ _ c.fill-fault.ensures.fault (ap fault_in (function-ran (all_called_view ps) c.args.function scope.below _ _ _ _ _ _ _ _ _ vs c.if-function-reading.true is c.as_slice-ranges.ensures.value c.as_slice-start.ensures.value (ap stmts_view c.deref.ensures.value) front c.run_all.ensures.state))
+    c.ended.ensures.fault ∙ either-same _ _ _ _ c.fill-fault.ensures.fault (ap fault_in (function-ran (all_called_view ps) c.args.function scope.below _ _ _ _ _ _ _ _ _ vs c.if-function-reading.true is c.as_slice-ranges.ensures.value c.as_slice-start.ensures.value (ap stmts_view c.deref.ensures.value) front (state-left _ _ _ c.run_all.ensures.effect)))
 
 pub answers::answer-returns-in-Block-clause-value : goal.answers::answer-returns-in-Block-clause-value
 answers::answer-returns-in-Block-clause-value t c =
@@ -136,7 +137,7 @@ pub statements::run_block-returns-in-Block-clause-state : goal.statements::run_b
 statements::run_block-returns-in-Block-clause-state t c =
     let ps = c.args.scope.now.called.now in
     let is = at-number ps c.args.block c.index-scope-block.result _ (omega arith) (ap called_view c.in-Block.is) in
-    block-ran (all_called_view ps) c.args.block c.args.scope.now.below c.args.scope.now.ranges.now _ _ _ _ _ c.if-block-scope.true is (ap stmts_view c.deref.ensures.value) c.run_all.ensures.state
+    block-ran (all_called_view ps) c.args.block c.args.scope.now.below c.args.scope.now.ranges.now _ _ _ _ _ c.if-block-scope.true is (ap stmts_view c.deref.ensures.value) (state-left _ _ _ c.run_all.ensures.effect)
 
 pub statements::run_block-returns-in_default-clause-state : goal.statements::run_block-returns-in_default-clause-state
 statements::run_block-returns-in_default-clause-state t c =
@@ -148,8 +149,8 @@ pub statements::run_block-returns-else-block-scope-clause-state : goal.statement
 statements::run_block-returns-else-block-scope-clause-state t c =
     sym (runs-unknown (all_called_view c.args.scope.now.called.now) c.args.block c.args.scope.now.below _ _ _ c.if-block-scope.false)
 
-pub statements::run-returns-in-Chart-clause-state : goal.statements::run-returns-in-Chart-clause-state
-statements::run-returns-in-Chart-clause-state t c =
+pub statements::run-returns-in-Chart-clause-effect : goal.statements::run-returns-in-Chart-clause-effect
+statements::run-returns-in-Chart-clause-effect t c =
     let scope = c.args.scope.now in
     let ran = chart-same (callees_here scope) scope.ranges.now scope.base _ _ _ _ _ _ _ _ c.deref-in-Chart.ensures.value c.deref-in-Chart-2.ensures.value c.deref-in-Chart-3.ensures.value c.run_chart.ensures.state in
     let is : stmt_view c.args.stmt.now ≡ chart c.in-Chart.steps.items (actions_view c.in-Chart.actions.items) (transitions_view c.in-Chart.transitions.items) = ap stmt_view (c.in-Chart.is ∙ sym (rolls-Chart c.in-Chart.steps c.in-Chart.actions c.in-Chart.transitions)) ∙ fold-roll-TypedStmt Statement ActionData ChoiceData EntryData stmt_step action_step arm_step entry_step _ in
@@ -157,11 +158,16 @@ statements::run-returns-in-Chart-clause-state t c =
 
 pub turns::run_turns-loop-preserved : goal.turns::run_turns-loop-preserved
 turns::run_turns-loop-preserved t c = record {
-  rest = effect_of_turns-turn _ _ _ _ _ _ _ (effect_of_all (callees_here c.args.scope.now) c.args.scope.now.ranges.now c.args.scope.now.base (stmts_view c.args.body.now)) _ _ _ _ c.loop-test.true c.range_at-range.ensures (omega (arith, ints)) c.set_control.ensures c.run_all.ensures.state ∙ c.loop.invariant.rest;
+  rest = effect_of_turns-turn _ _ _ _ _ _ _ (effect_of_all (callees_here c.args.scope.now) c.args.scope.now.ranges.now c.args.scope.now.base (stmts_view c.args.body.now)) _ _ (on c.run_all.new.cells) _ c.loop-test.true c.range_at-range.ensures (omega (arith, ints)) c.set_control.ensures c.in-On.ensures.effect ∙ c.loop.invariant.rest;
   low = omega (arith, ints);
   high = omega (arith, ints);
   room = omega arith;
 }
+
+pub turns::run_turns-returns-in-Return-clause-effect : goal.turns::run_turns-returns-in-Return-clause-effect
+turns::run_turns-returns-in-Return-clause-effect t c =
+    effect_of_turns-turn _ _ _ _ _ (to_z w128 c.loop.value-bits +ℤ c.args.turns.step) c.args.turns.step (effect_of_all (callees_here c.args.scope.now) c.args.scope.now.ranges.now c.args.scope.now.base (stmts_view c.args.body.now)) _ _ (returned c.run_all.new.cells) _
+    c.loop-test.true c.range_at-range.ensures refl c.set_control.ensures c.in-Return.ensures.effect ∙ c.loop.invariant.rest
 
 pub charts::run_chart-returns-clause-state : goal.charts::run_chart-returns-clause-state
 charts::run_chart-returns-clause-state t c =

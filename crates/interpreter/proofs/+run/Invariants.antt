@@ -1,6 +1,6 @@
 use Rattle.std.proofs.Common.{◌≡◌, ◌≤◌, ◌+◌, ◌-◌, ◌*◌, ◌^◌, ◌||◌, pos, neg_ℤ, false, ◌≤ℤ◌, drop, length}
 use Rattle.program_tree.specs.View.{expr_view, operands_view, arguments_view, stmt_view, stmts_view, choices_view, entries_view, actions_view, transitions_view}
-use Rattle.meaning.specs.Values.{State, value_on, any_faults, values_of, one_faults}
+use Rattle.meaning.specs.Values.{value_on, any_faults, values_of, one_faults}
 use Rattle.operations.specs.Joined.{joined_on}
 use Rattle.meaning.specs.Charts.{holds_in, faults_in}
 use Rattle.meaning.specs.Effects.{effect_of_all, effect_of_choices, effect_of_entries, effect_of_turns, effect_of_actions}
@@ -43,7 +43,8 @@ invariant-statements::run_all-loop-stmt l = record {
 
 abbrev pub invariant-selection::run_arms-loop-arm : goal.invariant-selection::run_arms-loop-arm
 invariant-selection::run_arms-loop-arm l = record {
-  rest : (other : State → State) → effect_of_choices (callees_here l.scope) l.scope.ranges.now l.scope.base (choices_view (drop l.arm-index l.arms)) other l.cells ≡ effect_of_choices (callees_here l.scope) l.scope.ranges.now l.scope.base (choices_view l.arms) other l.initial.cells;
+  rest : effect_of_choices (callees_here l.scope) l.scope.ranges.now l.scope.base (choices_view (drop l.arm-index l.arms)) (effect_of_all (callees_here l.scope) l.scope.ranges.now l.scope.base (stmts_view l.other)) l.cells
+      ≡ effect_of_choices (callees_here l.scope) l.scope.ranges.now l.scope.base (choices_view l.arms) (effect_of_all (callees_here l.scope) l.scope.ranges.now l.scope.base (stmts_view l.other)) l.initial.cells;
   weighs : choice_nodes (choices_view (drop l.arm-index l.arms)) ≤ choice_nodes (choices_view l.arms);
   markings : markings_in_choices (choices_view (drop l.arm-index l.arms)) ≤ markings_in_choices (choices_view l.arms);
   room : length l.stack ≡ length l.initial.stack;
@@ -51,7 +52,8 @@ invariant-selection::run_arms-loop-arm l = record {
 
 abbrev pub invariant-selection::run_entries-loop-entry : goal.invariant-selection::run_entries-loop-entry
 invariant-selection::run_entries-loop-entry l = record {
-  rest : (other : State → State) → effect_of_entries (callees_here l.scope) l.scope.ranges.now l.scope.base l.value (entries_view (drop l.entry-index l.entries)) other l.cells ≡ effect_of_entries (callees_here l.scope) l.scope.ranges.now l.scope.base l.value (entries_view l.entries) other l.initial.cells;
+  rest : effect_of_entries (callees_here l.scope) l.scope.ranges.now l.scope.base l.value (entries_view (drop l.entry-index l.entries)) (effect_of_all (callees_here l.scope) l.scope.ranges.now l.scope.base (stmts_view l.other)) l.cells
+      ≡ effect_of_entries (callees_here l.scope) l.scope.ranges.now l.scope.base l.value (entries_view l.entries) (effect_of_all (callees_here l.scope) l.scope.ranges.now l.scope.base (stmts_view l.other)) l.initial.cells;
   weighs : entry_nodes (entries_view (drop l.entry-index l.entries)) ≤ entry_nodes (entries_view l.entries);
   markings : markings_in_entries (entries_view (drop l.entry-index l.entries)) ≤ markings_in_entries (entries_view l.entries);
   room : length l.stack ≡ length l.initial.stack;
@@ -121,10 +123,10 @@ abbrev pub decreases-statements::run_block : goal.decreases-statements::run_bloc
 decreases-statements::run_block l = weight_here l.scope.now
 
 abbrev pub decreases-selection::run_arms : goal.decreases-selection::run_arms
-decreases-selection::run_arms l = weight_here l.scope.now + 2 * choice_nodes (choices_view l.arms.now)
+decreases-selection::run_arms l = weight_here l.scope.now + 2 * (choice_nodes (choices_view l.arms.now) + body_nodes (stmts_view l.other.now)) + 1
 
 abbrev pub decreases-selection::run_entries : goal.decreases-selection::run_entries
-decreases-selection::run_entries l = weight_here l.scope.now + 2 * entry_nodes (entries_view l.entries.now)
+decreases-selection::run_entries l = weight_here l.scope.now + 2 * (entry_nodes (entries_view l.entries.now) + body_nodes (stmts_view l.other.now)) + 1
 
 abbrev pub decreases-turns::run_turns : goal.decreases-turns::run_turns
 decreases-turns::run_turns l = weight_here l.scope.now + 2 * body_nodes (stmts_view l.body.now) + 1

@@ -8,6 +8,7 @@ use Rattle.flat_core.specs.FlatView.{flats_of, flats_view}
 use Rattle.flat_form.specs.Owners.{program_owner}
 use Rattle.flat_form.specs.Pous.{bodies_of}
 use Rattle.flat_form.specs.FlatPrograms.{bodies_in, flat_program, flat_scan}
+use Rattle.flat_form.specs.Unless.{without_flags}
 use Rattle.flat_form.specs.FlatLists.{scratch_of_all, flat_of_all}
 use Rattle.fb_inline.proofs.PouLemmas.{idle-here}
 use Rattle.fb_inline.proofs.TypedForms.{form-typed}
@@ -51,10 +52,10 @@ invariant_of-result c =
     let first : flats_view c.put_number.new.out.items ≡ set 0 (number (pos 0)) ∷ [] = c.in_ok-put_number.ensures ∙ ap (λ before. flats_view before ++ (set 0 (number (pos 0)) ∷ [])) c.new-body.ensures.items in
     let body_is : b ≡ flat_scan p =
     c.in_ok-flatten_all.ensures.list
-    ∙ (ap (λ before. before ++ flat_of_all (bodies_of (all_called_view c.deref-2.result.now) c.len-2.result) program_owner 0 (stmts_view c.deref-4.result.now) (c.len.result + length c.new-scratch.result.items)) first
-    ∙ (ap (λ bodies. set 0 (number (pos 0)) ∷ flat_of_all bodies program_owner 0 (stmts_view c.deref-4.result.now) (c.len.result + length c.new-scratch.result.items)) bodies_are
-    ∙ (ap (λ list. set 0 (number (pos 0)) ∷ flat_of_all (bodies_in p) program_owner 0 list (c.len.result + length c.new-scratch.result.items)) body_stands
-    ∙ ap (λ k. set 0 (number (pos 0)) ∷ flat_of_all (bodies_in p) program_owner 0 p.body k) at))) in
+    ∙ (ap (λ before. before ++ flat_of_all (bodies_of (all_called_view c.deref-2.result.now) c.len-2.result) program_owner 0 without_flags (stmts_view c.deref-4.result.now) (c.len.result + length c.new-scratch.result.items)) first
+    ∙ (ap (λ bodies. set 0 (number (pos 0)) ∷ flat_of_all bodies program_owner 0 without_flags (stmts_view c.deref-4.result.now) (c.len.result + length c.new-scratch.result.items)) bodies_are
+    ∙ (ap (λ list. set 0 (number (pos 0)) ∷ flat_of_all (bodies_in p) program_owner 0 without_flags list (c.len.result + length c.new-scratch.result.items)) body_stands
+    ∙ ap (λ k. set 0 (number (pos 0)) ∷ flat_of_all (bodies_in p) program_owner 0 without_flags p.body k) at))) in
     let is : made ≡ flat_program p =
     ap (λ cs. record { cells = cs; scratch = s; body = flats_of b }) cells_are
     ∙ (ap (λ ss. record { cells = p.cells; scratch = ss; body = flats_of b }) scratch_is ∙ ap (λ bs. record { cells = p.cells; scratch = (flat_program p).scratch; body = flats_of bs }) body_is) in

@@ -3,10 +3,10 @@ use Rattle.program_tree.specs.View.{stmts_view, choices_view, entries_view, acti
 use Rattle.flat_count.specs.Counts.{count_of_all, count_of_choices, count_of_entries, count_of_actions, counting_here, capped}
 use Rattle.flat_count.proofs.count.+count.Given as goal
 
--- what is counted with what is left
-abbrev pub invariant-count_all-loop-stmt : goal.invariant-count_all-loop-stmt
-invariant-count_all-loop-stmt l = record {
-  all : capped (l.total + count_of_all (counting_here l.counts) (stmts_view (drop l.stmt-index l.list))) ≡ capped (count_of_all (counting_here l.counts) (stmts_view l.list));
+-- What is counted with what is left; of statements, those from a place on.
+abbrev pub invariant-count_all-loop-index : goal.invariant-count_all-loop-index
+invariant-count_all-loop-index l = record {
+  all : l.total ≡ capped (count_of_all (counting_here l.counts) (stmts_view (drop l.index l.list)));
   fits : l.total ≤ 200001;
 }
 

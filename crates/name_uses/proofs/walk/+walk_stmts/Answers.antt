@@ -1,7 +1,7 @@
 use Rattle.std.proofs.Common.{◌≡◌, ℕ, ◌+◌, Option, Some, None, OnOk, List, [], ◌∷◌, ◌++◌, Vec, drop, map, ap, sym, ◌∙◌, subst, append_assoc, arith}
 use Rattle.source_tree.specs.declared.syntax.Stmt.{Stmt as StmtTree}
 use Rattle.source_tree.specs.declared.syntax.Stmt.TheViews.{If, Case}
-use Rattle.source_tree.specs.declared.syntax.Stmt.TheVariants.{rolls-Empty, rolls-Assign, rolls-Call, rolls-For}
+use Rattle.source_tree.specs.declared.syntax.Stmt.TheVariants.{rolls-Empty, rolls-Assign, rolls-Call, rolls-For, rolls-Exit, rolls-Return}
 use Rattle.source_tree.specs.declared.syntax.Stmt.TheFolds.{fold-roll-Stmt}
 use Rattle.std.specs.declared.alloc.Global.{Global}
 use Rattle.std.proofs.lemmas.List.{drop_all, append-nil}
@@ -11,7 +11,7 @@ use Rattle.source_tree.specs.declared.syntax.Arm.{Arm}
 use Rattle.source_tree.specs.declared.syntax.Entry.{Entry}
 use Rattle.source_tree.specs.declared.syntax.Label.{Label}
 use Rattle.source_tree.specs.declared.syntax.Iteration.{Iteration}
-use Rattle.source_tree.specs.Syntax.{Stmt, empty, assign, invoke, branch, cases, iterate, no_else, else_stmts}
+use Rattle.source_tree.specs.Syntax.{Stmt, empty, assign, invoke, branch, cases, iterate, exit, return, no_else, else_stmts}
 use Rattle.source_tree.specs.SyntaxView.{name_view, connections_view, path_view, tree_view, stmt_view, stmts_view, stmts_of, ArmData, arm_view, arms_view, arms_of, EntryData, entry_view, entries_view, entries_of, labels_view, iteration_view, stmt_step, arm_step, entry_step}
 use Rattle.source_tree.proofs.Branches.{stmt_view-If, stmt_view-Case}
 use Rattle.naming.specs.Broken.{in_instance, instance_of, in_connections, in_target, in_tree, in_stmt, in_stmts, in_arms, in_labels, in_iteration, in_entries}
@@ -160,6 +160,20 @@ walk_stmt-returns-in-Empty-clause-judged t c =
     let f = file_in c.args.scope.now.names in
     let p = pou_in c.args.scope.now.names in
     let shape : stmt_view c.args.stmt.now ≡ empty = ap stmt_view (c.in-Empty.is ∙ sym rolls-Empty) ∙ fold-roll-Stmt Stmt ArmData EntryData stmt_step arm_step entry_step _ in
+    sym (both_ok c.args.outcome.now) ∙ ap (λ s. both c.args.outcome.now (outcome_of (in_stmt f p s))) (sym shape)
+
+pub walk_stmt-returns-in-Exit-clause-judged : goal.walk_stmt-returns-in-Exit-clause-judged
+walk_stmt-returns-in-Exit-clause-judged t c =
+    let f = file_in c.args.scope.now.names in
+    let p = pou_in c.args.scope.now.names in
+    let shape : stmt_view c.args.stmt.now ≡ exit c.in-Exit.field-0 = ap stmt_view (c.in-Exit.is ∙ sym (rolls-Exit c.in-Exit.field-0)) ∙ fold-roll-Stmt Stmt ArmData EntryData stmt_step arm_step entry_step _ in
+    sym (both_ok c.args.outcome.now) ∙ ap (λ s. both c.args.outcome.now (outcome_of (in_stmt f p s))) (sym shape)
+
+pub walk_stmt-returns-in-Return-clause-judged : goal.walk_stmt-returns-in-Return-clause-judged
+walk_stmt-returns-in-Return-clause-judged t c =
+    let f = file_in c.args.scope.now.names in
+    let p = pou_in c.args.scope.now.names in
+    let shape : stmt_view c.args.stmt.now ≡ return = ap stmt_view (c.in-Return.is ∙ sym rolls-Return) ∙ fold-roll-Stmt Stmt ArmData EntryData stmt_step arm_step entry_step _ in
     sym (both_ok c.args.outcome.now) ∙ ap (λ s. both c.args.outcome.now (outcome_of (in_stmt f p s))) (sym shape)
 
 pub walk_stmt-returns-in-Call-clause-judged : goal.walk_stmt-returns-in-Call-clause-judged

@@ -9,29 +9,32 @@ use Rattle.st_reader.proofs.statement.+statement.Given as goal
 abbrev pub decreases-nested : goal.decreases-nested
 decreases-nested l = 8 * l.depth
 
+abbrev pub decreases-marked : goal.decreases-marked
+decreases-marked l = 8 * l.depth + 1
+
 abbrev pub decreases-begun : goal.decreases-begun
-decreases-begun l = 8 * l.depth + 1
+decreases-begun l = 8 * l.depth + 2
 
 abbrev pub decreases-statements : goal.decreases-statements
-decreases-statements l = 8 * l.depth + 2
+decreases-statements l = 8 * l.depth + 3
 
 abbrev pub decreases-arms : goal.decreases-arms
-decreases-arms l = 8 * l.depth + 3
+decreases-arms l = 8 * l.depth + 4
 
 abbrev pub decreases-entries : goal.decreases-entries
-decreases-entries l = 8 * l.depth + 3
+decreases-entries l = 8 * l.depth + 4
 
 abbrev pub decreases-otherwise : goal.decreases-otherwise
-decreases-otherwise l = 8 * l.depth + 3
+decreases-otherwise l = 8 * l.depth + 4
 
 abbrev pub decreases-conditional : goal.decreases-conditional
-decreases-conditional l = 8 * l.depth + 4
+decreases-conditional l = 8 * l.depth + 5
 
 abbrev pub decreases-selection : goal.decreases-selection
-decreases-selection l = 8 * l.depth + 4
+decreases-selection l = 8 * l.depth + 5
 
 abbrev pub decreases-repetition : goal.decreases-repetition
-decreases-repetition l = 8 * l.depth + 4
+decreases-repetition l = 8 * l.depth + 5
 
 abbrev pub invariant-statements-loop-turn : goal.invariant-statements-loop-turn
 invariant-statements-loop-turn l = statements (length l.toks) l.depth l.labelled (ahead l.toks l.fn.at)
