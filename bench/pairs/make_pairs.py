@@ -3,6 +3,7 @@
 
 detectors N: N edge detectors, written out and by R_TRIG.
 counters N: N counters to 100, written out and by CTU.
+shared_counters N: the same to 101, 102 and so on, that all count one input; with 240 there are 3,130 candidates, and 4,564 of the others.
 sint_product: a product of two SINT, and its factors in the other order.
 dint_sum N: a sum of N DINT, and its terms in the other order.
 products N: N products of INT in a row on both sides, each of the one before and an input: 481 gates for each.
@@ -47,6 +48,20 @@ def counters(n):
     return old, new, lines + [f"INVARIANT old.m{i} = new.t{i}.M AND old.c{i} = new.t{i}.CV;" for i in each]
 
 
+def shared_counters(n):
+    each = range(1, n + 1)
+    inputs = "VAR_INPUT u, r : BOOL; END_VAR"
+    old = [inputs] + ["VAR_OUTPUT q{0} : BOOL; END_VAR VAR m{0} : BOOL; c{0} : INT; END_VAR".format(i) for i in each]
+    old += [
+        f"IF r THEN c{i} := 0; ELSIF u AND NOT m{i} AND c{i} < 32767 THEN c{i} := c{i} + 1; END_IF; m{i} := u; q{i} := c{i} >= {100 + i};"
+        for i in each
+    ]
+    new = [inputs] + ["VAR_OUTPUT q{0} : BOOL; END_VAR VAR t{0} : CTU; END_VAR".format(i) for i in each]
+    new += [f"t{i}(CU := u, R := r, PV := {100 + i}, Q => q{i});" for i in each]
+    lines = ["INPUT u = u;", "INPUT r = r;"] + [f"RELATE old.q{i} = new.q{i};" for i in each]
+    return old, new, lines + [f"INVARIANT old.m{i} = new.t{i}.M AND old.c{i} = new.t{i}.CV;" for i in each]
+
+
 def of_inputs(kind, names, old, new):
     cells = f"VAR_INPUT {', '.join(names)} : {kind}; END_VAR VAR_OUTPUT q : {kind}; END_VAR"
     lines = [f"INPUT {name} = {name};" for name in names] + ["RELATE old.q = new.q;"]
@@ -72,7 +87,7 @@ def powers(b):
     return of_inputs(f"INT (0..{2 ** b - 1})", ["x", "y"], "x * y", "y * x")
 
 
-KINDS = {kind.__name__: kind for kind in [detectors, counters, sint_product, dint_sum, products, powers]}
+KINDS = {kind.__name__: kind for kind in [detectors, counters, shared_counters, sint_product, dint_sum, products, powers]}
 
 
 def main():
