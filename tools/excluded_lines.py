@@ -4,7 +4,8 @@ import os
 import subprocess
 import tempfile
 
-from pair_scan import REGVER, input_line
+from pair_scan import input_line
+from verifier import run
 
 # With more ENV lines they are not tried one by one.
 MOST_LINES = 40
@@ -30,12 +31,11 @@ class Trials:
         path = os.path.join(self.room, "relation")
         with open(path, "w", encoding="latin-1") as file:
             file.write("RELATION 1; FAULTS FREE; DEPTH 1; CONFLICTS 100000; {} RELATE TRUE;".format(" ".join(lines)))
-        words = [REGVER, "verify", *self.names, path, os.path.join(self.room, "finding")]
         try:
-            ran = subprocess.run(words, stdout=subprocess.PIPE, stderr=subprocess.DEVNULL, timeout=MOST_SECONDS, check=False)
+            said = run("verify", *self.names, path, os.path.join(self.room, "finding"), seconds=MOST_SECONDS)[1]
         except subprocess.TimeoutExpired:
             return None
-        return {b"VACUOUS\n": True, b"RELATED": False}.get(ran.stdout if ran.returncode else ran.stdout[:len(b"RELATED")])
+        return {"VACUOUS": True, "RELATED": False}.get(said.split(" ")[0].strip())
 
 
 def excluding(units, relation):

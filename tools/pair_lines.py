@@ -6,7 +6,7 @@ from collections import namedtuple
 
 from clause_value import Judged, judged
 from pair_scan import SIDES, said
-from program_text import Trouble, VALUES
+from program_text import Trouble, VALUES, written
 
 # Stands for a space at which no line ends.
 WHOLE = "\u00a0"
@@ -28,9 +28,9 @@ def listed(head, parts):
 def cell_of(name, old, new):
     """A cell with its number, or with those that it has in OLD and in NEW."""
     if name in old and name in new and old[name] == new[name]:
-        return "{} {}".format(name, old[name])
+        return "{} {}".format(written(name), old[name])
     sides = [(side, cells[name]) for side, cells in zip(SIDES, (old, new)) if name in cells]
-    return "{} {}".format(name, " and ".join("{} in {}".format(number, side) for side, number in sides))
+    return "{} {}".format(written(name), " and ".join("{} in {}".format(number, side) for side, number in sides))
 
 
 def apart(old, new):
@@ -42,21 +42,24 @@ def apart(old, new):
 def input_of(name, number):
     """An input with its number; one that both revisions call alike has one name."""
     one, sign, other = name.partition("=")
-    return "{} {}".format(one if sign and one == other else name, number)
+    return "{} {}".format(one if sign and one.upper() == other.upper() else name, number)
 
 
 def named_state(units, state):
     """A state with the names of values in place of the numbers of enumerations and BOOL."""
-    types = {cell.path: cell.type for cell in units.cells()}
-    return {path: said(types[path], number) if path in types else str(number) for path, number in state.items()}
+    cells = {cell.path: cell for cell in units.cells()}
+    known = {path: cells[path] for path in state if path in cells}
+    return {known[path].path if path in known else path: said(known[path].type, number) if path in known else str(number)
+            for path, number in state.items()}
 
 
 def named_row(units, relation, row):
     """The inputs of a row by the names of reports, with the names of values."""
-    types = [{cell.path: cell.type for cell in one.cells()} for one in units]
+    cells = [{cell.path: cell for cell in one.cells()} for one in units]
     for one, number in zip(relation.inputs, row):
-        kind = types[0].get(one.old) or types[1].get(one.new)
-        yield one.name, said(kind, number) if kind else str(number)
+        known = [own[name] for own, name in zip(cells, (one.old, one.new)) if name in own]
+        name = "=".join(written(cell.path) for cell in known) if one.old and one.new else one.name
+        yield name, said(known[0].type, number) if known else str(number)
 
 
 def related_lines(relation):
@@ -76,11 +79,11 @@ def judged_line(line, cell):
 
 def read_cells(answer, cell, units):
     """The cells that a judged clause reads, each with its value."""
-    own = [{one.path: one.type for one in program.cells()} for program in units]
+    own = [{one.path: one for one in program.cells()} for program in units]
     for side, path in answer.cells:
-        kind, number = own[SIDES.index(side)].get(path) if side in SIDES else None, cell(side, path).number
-        if kind is not None:
-            yield "{}.{} is {}".format(side.lower(), path, "not known" if number is None else said(kind, number))
+        known, number = own[SIDES.index(side)].get(path) if side in SIDES else None, cell(side, path).number
+        if known:
+            yield "{}.{} is {}".format(side.lower(), written(known.path), "not known" if number is None else said(known.type, number))
 
 
 def states_of(units, numbers, source):
@@ -121,6 +124,6 @@ def fitting_number(kind, number):
 def range_of(kind):
     """The range of a type in words."""
     if isinstance(kind.base, tuple):
-        return "0 to {} ({})".format(len(kind.base) - 1, ", ".join(kind.base))
+        return "0 to {} ({})".format(len(kind.base) - 1, ", ".join(map(written, kind.base)))
     low, high = kind.bounds or (VALUES[kind.base][0], VALUES[kind.base][-1])
     return "{} to {}".format(low, high)

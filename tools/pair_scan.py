@@ -8,14 +8,13 @@ reader and decides nothing.
 import json
 import os
 import re
-import subprocess
 import tempfile
 
 from chart_text import PREFIX, flag, statements
 from clause_value import Value
-from program_text import Type
+from program_text import Type, written
+from verifier import run
 
-REGVER = os.environ.get("REGVER", os.path.join(os.path.dirname(os.path.realpath(__file__)), "..", "regver"))
 SIDES = ("OLD", "NEW")
 SCAN = re.compile(r"SCAN [0-9]+ OLD((?: -?[0-9]+)+) NEW((?: -?[0-9]+)+)")
 
@@ -101,7 +100,10 @@ def loaded(relation, states, row):
 
 def after_each(units, relation, states, rows):
     """Both states after each of these rows, as far as they are known: none where replay does not take the copies."""
-    copies = [Copy(one, state) for one, state in zip(units, states)]
+    try:
+        copies = [Copy(one, state) for one, state in zip(units, states)]
+    except IndexError:  # a text that ends within a chart is no program's
+        return []
     lines = " ".join(input_line(one) for one in relation.inputs)
     texts = [copy.text for copy in copies] + ["RELATION 1; FAULTS FREE; DEPTH 1; CONFLICTS 1; {} RELATE TRUE;".format(lines),
                                              json.dumps(rows)]
@@ -110,9 +112,9 @@ def after_each(units, relation, states, rows):
         for name, text in zip(names, texts):
             with open(name, "w", encoding="latin-1") as file:
                 file.write(text)
-        ran = subprocess.run([REGVER, "replay", *names], stdout=subprocess.PIPE, stderr=subprocess.DEVNULL, check=False)
+        said_lines = run("replay", *names)[1].splitlines()
     ends = []
-    for row, found in zip(rows, map(SCAN.fullmatch, ran.stdout.decode("ascii", "replace").splitlines())):
+    for row, found in zip(rows, map(SCAN.fullmatch, said_lines)):
         if not found:
             return []
         states = loaded(relation, states, row)
@@ -142,5 +144,5 @@ def said(cell_type, number):
     """A number as a reader wants it: the name of an enumeration's value, TRUE or FALSE."""
     base = cell_type.base if isinstance(cell_type, Type) else cell_type
     if isinstance(base, tuple) and 0 <= number < len(base):
-        return base[number]
+        return written(base[number])
     return ("FALSE", "TRUE")[number] if base == "BOOL" and number in (0, 1) else str(number)

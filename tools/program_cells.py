@@ -8,7 +8,7 @@ import os
 import re
 from collections import namedtuple
 
-from program_text import MOST_BYTES, Program, Token, Trouble, Type, Unreadable, read_bytes, text_of, tokens_of
+from program_text import MOST_BYTES, Named, Program, Token, Trouble, Type, Unreadable, read_bytes, text_of, tokens_of, written
 
 LANGUAGE = os.path.join(os.path.dirname(os.path.realpath(__file__)), "..", "docs", "LANGUAGE.md")
 BOOL = Type("BOOL", None)
@@ -16,7 +16,7 @@ SECTIONS = ("VAR", "VAR_INPUT", "VAR_OUTPUT", "VAR_TEMP")
 # Instances that stand deeper in one another are in a circle.
 MOST_DEEP = 200
 ENDS = {"PROGRAM": "END_PROGRAM", "FUNCTION_BLOCK": "END_FUNCTION_BLOCK"}
-# A cell: its path, its type, and the number that it begins with.
+# A cell: its path, which knows how the text writes it, its type, and the number that it begins with.
 Cell = namedtuple("Cell", "path type start")
 # The variables of one colon: the word of the section, whether they are constants, their names, what stands behind the colon
 # as it was read and as it is written, and the text of the initial value.
@@ -82,16 +82,15 @@ class Units(Program):
         for one in unit.declarations:
             block = self.block_of(one)
             for name in one.names if not one.constant else ():
-                path = prefix + name.upper()
                 if block:
-                    yield from self.cells_of(block, path + ".")
+                    yield from self.cells_of(block, prefix + name + ".")
                 else:
-                    yield Cell(path, self.type_of(one.kind), self.number_of(one))
+                    yield Cell(Named(prefix + name), self.type_of(one.kind), self.number_of(one))
         for step, initial in unit.steps.items():
-            yield Cell("{}{}.X".format(prefix, step), BOOL, int(initial))
-            yield Cell("{}{}.L".format(prefix, step), BOOL, 0)
+            yield Cell(Named("{}{}.X".format(prefix, written(step))), BOOL, int(initial))
+            yield Cell(Named("{}{}.L".format(prefix, written(step))), BOOL, 0)
         for action in unit.stored:
-            yield Cell("{}{}.S".format(prefix, action), BOOL, 0)
+            yield Cell(Named("{}{}.S".format(prefix, written(action))), BOOL, 0)
 
     def block_of(self, declaration):
         """The block that a declaration has instances of, None where it has none."""
@@ -110,7 +109,7 @@ def chart_of(body):
     """The steps of a chart, each with whether it is initial, and the actions that some step sets or resets."""
     steps, set_ones, actions, inside = {}, set(), [], False
     for place, token in enumerate(body[:-1]):
-        following = body[place + 1].upper
+        following = Named(body[place + 1].text)
         if token.upper in ("STEP", "INITIAL_STEP"):
             steps[following], inside = token.upper == "INITIAL_STEP", True
         elif token.upper == "END_STEP":

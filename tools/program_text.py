@@ -41,6 +41,20 @@ Type = namedtuple("Type", "base bounds")
 Variable = namedtuple("Variable", "name type")
 
 
+class Named(str):
+    """A name in upper case, by which names are compared, that knows how the text writes it."""
+
+    def __new__(cls, text):
+        name = super().__new__(cls, text.upper())
+        name.written = text
+        return name
+
+
+def written(name):
+    """A name as the text writes it, where that is known."""
+    return getattr(name, "written", name)
+
+
 class Unreadable(Exception):
     """The text is not as the language wants it, at this line."""
 
@@ -151,7 +165,7 @@ class Program:
             name = self.take("word").upper
             self.wants(":")
             if self.takes("("):
-                self.types[name] = Type(tuple(value.upper() for value in self.names()), None)
+                self.types[name] = Type(tuple(map(Named, self.names())), None)
                 self.wants(")")
             else:
                 self.types[name] = self.kind()

@@ -3,6 +3,8 @@
 from collections import namedtuple
 from html import escape
 
+from program_text import written
+
 # A row of the diagram: its name, what it is, its type or None, its numbers, and those that it is compared with or None.
 Lane = namedtuple("Lane", "name role type numbers other")
 # Sizes of the diagram: the width of a character, the height of a lane, of a signal in it and of the head.
@@ -26,7 +28,7 @@ svg .mark { fill: #a40000; font-weight: bold; text-anchor: middle; }
 def shown(number, kind):
     """A value as the page prints it: of an enumeration its name."""
     if kind and isinstance(kind.base, tuple) and 0 <= number < len(kind.base):
-        return cut(kind.base[number])
+        return cut(written(kind.base[number]))
     return str(number)
 
 

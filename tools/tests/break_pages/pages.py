@@ -5,7 +5,7 @@ import sys
 from html.parser import HTMLParser
 
 # Elements without an end.
-BARE = {"meta"}
+BARE = {"meta", "br"}
 # Attributes that would fetch something.
 FETCHING = {"src", "href", "srcset", "data", "action", "xlink:href"}
 # How wide a page of A4 is between margins of a centimeter, and how wide a character of a picture is, in pixels.

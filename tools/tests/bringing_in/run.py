@@ -7,8 +7,11 @@ import sys
 import tempfile
 
 TOOLS = os.environ["TOOLS"]
-BUILT = os.path.join(TOOLS, "..", "crates", "regver_cli", "out", "regver_cli")
-REGVER = os.environ.get("REGVER", BUILT if os.path.exists(BUILT) else os.path.join(TOOLS, "..", "regver"))
+sys.dont_write_bytecode = True
+sys.path.insert(0, TOOLS)
+from verifier import built
+
+REGVER = built()
 
 
 def answer(room, text):

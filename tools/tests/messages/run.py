@@ -10,9 +10,9 @@ TOOLS = os.environ["TOOLS"]
 sys.dont_write_bytecode = True
 sys.path.insert(0, TOOLS)
 from hints import sentence as hint
+from verifier import built
 
-BUILT = os.path.join(TOOLS, "..", "crates", "regver_cli", "out", "regver_cli")
-REGVER = os.environ.get("REGVER", BUILT if os.path.exists(BUILT) else os.path.join(TOOLS, "..", "regver"))
+REGVER = built()
 BODY = "PROGRAM M\nVAR_INPUT a : BOOL; n : INT; END_VAR\nVAR_OUTPUT q : BOOL; m : INT; END_VAR\n{}\nEND_PROGRAM\n"
 RELATION = "RELATION 1; FAULTS EQUAL; DEPTH 3; CONFLICTS 10; INPUT a = a; INPUT n = n; RELATE old.q = new.q;\n"
 ROLES = {"body": "OLD", "text": "OLD", "relation": "REL", "trace": "TRACE"}

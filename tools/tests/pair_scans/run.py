@@ -17,9 +17,9 @@ from program_cells import Units, prelude
 from program_text import text_of
 from relation_text import relation_of
 from row_lists import numbers_of
+from verifier import built
 
-BUILT = os.path.join(TOOLS, "..", "crates", "regver_cli", "out", "regver_cli")
-pair_scan.REGVER = os.environ.get("REGVER") or (BUILT if os.path.exists(BUILT) else os.path.join(TOOLS, "..", "regver"))
+REGVER = os.environ["REGVER"] = built()
 CASES = os.path.join(TOOLS, "..", "crates", "case_runner", "data", "replay", "*.case")
 # So many programs, each with so many rows; longer texts are left out, and so are programs with more cells than a copy may show.
 PROGRAMS, ROWS, MOST_BYTES, MOST_CELLS = 60, 5, 3000, 500
@@ -39,7 +39,7 @@ def replayed(text, relation, rows):
         for name, content in zip(names, (text, relation, json.dumps(rows).encode())):
             with open(name, "wb") as file:
                 file.write(content)
-        ran = subprocess.run([pair_scan.REGVER, "replay", names[0], *names], stdout=subprocess.PIPE, check=False)
+        ran = subprocess.run([REGVER, "replay", names[0], *names], stdout=subprocess.PIPE, check=False)
     lines = [pair_scan.SCAN.fullmatch(line) for line in ran.stdout.decode().splitlines()]
     return [list(map(int, line[1].split())) for line in lines if line]
 
@@ -64,7 +64,7 @@ def main():
     for text in texts:
         if count == PROGRAMS:
             break
-        if not accepted(pair_scan.REGVER, text):
+        if not accepted(REGVER, text):
             continue
         units = Units(text_of(text), blocks)
         if len(units.cells()) <= MOST_CELLS:
