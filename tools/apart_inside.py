@@ -6,8 +6,8 @@ from pair_scan import after_each, said
 from program_text import written
 
 # A variable that both revisions have by one name and that parts: the name, whether no output shows it, the first scan after which it
-# differs, and what it is then in OLD and in NEW.
-Parting = namedtuple("Parting", "name inside scan old new")
+# differs, what it is then in OLD and in NEW, and for each side its type and its numbers after all scans.
+Parting = namedtuple("Parting", "name inside scan old new types numbers")
 # So many variables of one scan are named.
 MOST_NAMES = 12
 UNKNOWN = "What comes apart inside cannot be told: ./regver replay does not take copies of the programs whose variables are all outputs."
@@ -31,17 +31,21 @@ def partings(units, states):
         scan = next((number for number, (old, new) in enumerate(states, 1) if old[path] != new[path]), None)
         if scan:
             old, new = states[scan - 1]
-            found.append(Parting(written(cell.path), path not in shown, scan, said(cell.type, old[path]),
-                                 said(others[path].type, new[path])))
+            found.append(Parting(written(cell.path), path not in shown, scan, said(cell.type, old[path]), said(others[path].type, new[path]),
+                                 (cell.type, others[path].type), list(zip(*((one[path], other[path]) for one, other in states)))))
     return sorted(found, key=lambda one: (one.scan, not one.inside))
 
 
-def told(units, relation, rows):
-    """The lines that say what parts, scan by scan."""
+def found_apart(units, relation, rows):
+    """The variables that part while the rows are run, None where that cannot be told."""
     states = states_after(units, relation, rows)
-    if len(states) < len(rows):
+    return partings(units, states) if len(states) == len(rows) else None
+
+
+def told(found):
+    """The lines that say what parts, scan by scan."""
+    if found is None:
         return [UNKNOWN]
-    found = partings(units, states)
     lines = [] if any(one.inside for one in found) else [NONE]
     for scan in sorted({one.scan for one in found}):
         ones = [one for one in found if one.scan == scan]

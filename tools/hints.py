@@ -7,7 +7,9 @@ nothing: where no sentence fits there is none, and the rule's own words stand.
 import re
 from collections import namedtuple
 
-from program_text import VALUES
+from program_text import VALUES, Trouble, Unreadable, text_of
+from relation_text import relation_of
+from trace_rows import AS_WANTED, fault_of
 
 TOKEN = re.compile(
     r"""(?P<gap> [\t\n\f\r ]+ | \(\*.*?\*\) | //[^\n]* )
@@ -17,8 +19,15 @@ TOKEN = re.compile(
     re.VERBOSE | re.DOTALL)
 Token = namedtuple("Token", "form text upper place end")
 NOTHING = Token("end", "", "", -1, -1)
-# The token at the place, those before it and behind it, the file's text and bytes, and the place.
-Spot = namedtuple("Spot", "token before behind text bytes place")
+# The token at the place, those before it and behind it, the file's text and bytes, the place, and the bytes of the other files by their roles.
+Spot = namedtuple("Spot", "token before behind text bytes place beside")
+COMPARISONS = ("=", "<>", "<", "<=", ">", ">=")
+# The types of what a standard block's instance has behind a point.
+MEMBERS = {"Q": "BOOL", "Q1": "BOOL", "QU": "BOOL", "QD": "BOOL", "CV": "INT"}
+# What functions of the library take.
+TAKEN = {"ABS": "a number", "SEL": "a BOOL first, and then two values of one type", "LIMIT": "three values of one type",
+         "MIN": "values of one type", "MAX": "values of one type",
+         **dict.fromkeys(("SHL", "SHR", "ROL", "ROR"), "a word of bits first, as BYTE or WORD, and then a number")}
 
 STARTS = {"", ";", "THEN", "ELSE", "DO", "OF", "END_VAR", ":", "END_IF", "END_CASE", "END_FOR"}
 STATEMENT_WORDS = {"IF", "CASE", "FOR", "ELSE", "ELSIF", "END_IF", "END_CASE", "END_FOR", "END_PROGRAM", "END_FUNCTION",
@@ -89,7 +98,7 @@ def iter_places(text):
         place = TOKEN.match(text, place).end()
 
 
-def spot_of(text, place):
+def spot_of(text, place, beside):
     """What stands at the place and beside it."""
     mark = b"\xef\xbb\xbf"
     shift = len(mark) if text.startswith(mark) else 0
@@ -98,7 +107,7 @@ def spot_of(text, place):
     tokens = tokens_of(characters)
     before = [token for token in tokens if token.end <= place]
     behind = [token for token in tokens if token.end > place]
-    return Spot(behind[0] if behind else NOTHING, before, behind[1:], characters, text, place)
+    return Spot(behind[0] if behind else NOTHING, before, behind[1:], characters, text, place, beside)
 
 
 def last(tokens, number=1):
@@ -109,16 +118,100 @@ def first(tokens, number=1):
     return tokens[number - 1] if len(tokens) >= number else NOTHING
 
 
-def declared(spot, name):
-    """What a variable is declared as, None where that is not to be seen."""
+def declared(spot, name, text=None):
+    """What a variable or a FUNCTION is declared as, None where that is not to be seen."""
     pattern = r"\b{}\b\s*(?:,\s*\w+\s*)*:\s*([A-Za-z_]\w*(?:\s*\([^()]*\))?)".format(re.escape(name))
-    found = re.search(pattern, re.sub(r"\(\*.*?\*\)|//[^\n]*", " ", spot.text, flags=re.DOTALL), re.IGNORECASE)
+    found = re.search(pattern, re.sub(r"\(\*.*?\*\)|//[^\n]*", " ", text or spot.text, flags=re.DOTALL), re.IGNORECASE)
     return found[1].upper() if found else None
 
 
+def value_before(spot):
+    """The tokens of the value that ends before the place: a name with its points, a number or what stands in parentheses."""
+    tokens = list(spot.before)
+    start = len(tokens)
+    if last(tokens).text == ")":
+        depth = 0
+        while start > 0:
+            start -= 1
+            depth += (tokens[start].text == ")") - (tokens[start].text == "(")
+            if depth == 0:
+                break
+    else:
+        start -= 1
+    while start > 1 and tokens[start - 1].text in (".", "#"):
+        start -= 2
+    if start > 0 and tokens[start].text == "(" and tokens[start - 1].form == "word" and tokens[start - 1].upper not in RESERVED:
+        start -= 1
+    return tokens[max(start, 0):]
+
+
+def value_behind(tokens):
+    """The tokens of the value that begins here."""
+    taken, depth = [], 0
+    for place, token in enumerate(tokens):
+        if depth == 0 and taken and not (token.text in (".", "#") or last(taken).text in (".", "#") or token.text == "(" and last(taken).form == "word"):
+            break
+        if depth == 0 and place == 0 and not (token.form in ("word", "number") or token.text == "("):
+            break
+        depth += (token.text == "(") - (token.text == ")")
+        taken.append(token)
+    return taken
+
+
+def inside_of(tokens):
+    """The parts between the commas of what stands in these tokens' parentheses."""
+    parts, depth = [[]], 0
+    for token in tokens:
+        depth += (token.text == "(") - (token.text == ")")
+        if depth < 0:
+            break
+        if token.text == "," and depth == 0:
+            parts.append([])
+        else:
+            parts[-1].append(token)
+    return [part[2:] if last(part[:2]).text == ":=" else part for part in parts]
+
+
+def kind_of(spot, tokens):
+    """The type of a value, None where that is not to be seen."""
+    if not tokens:
+        return None
+    words, depth = [token.upper for token in tokens], 0
+    for token in tokens:
+        depth += (token.text == "(") - (token.text == ")")
+        if depth == 0 and token.text in COMPARISONS:
+            return "BOOL"
+    if words[0] in ("TRUE", "FALSE"):
+        return "BOOL"
+    if words[0] in ("OLD", "NEW") and len(words) >= 3:
+        text = text_of(spot.beside[words[0]]) if words[0] in spot.beside else None
+        return declared(spot, words[2], text) if text and len(words) == 3 else None
+    if words[0] in ("(", "NOT", "-"):
+        return kind_of(spot, [token for token in tokens[1:] if token.text != ")"])
+    if tokens[0].form != "word":
+        return kind_of(spot, tokens[2:])
+    if words[1:2] == ["#"]:
+        return words[0]
+    if words[1:2] == ["."]:
+        return MEMBERS.get(words[2]) if len(words) == 3 else None
+    if words[1:2] == ["("]:
+        converted = re.fullmatch(r"[A-Z]+_TO_([A-Z]+)", words[0])
+        return converted[1] if converted else declared(spot, "FUNCTION " + tokens[0].text)
+    return declared(spot, tokens[0].text)
+
+
+def text_at(spot, tokens):
+    return " ".join(spot.text[tokens[0].place:tokens[-1].end].split())
+
+
+def said_of_value(spot, tokens):
+    """A value and its type, None where that is not to be seen."""
+    kind = kind_of(spot, tokens)
+    return "{} is {}".format(text_at(spot, tokens), kind) if kind else None
+
+
 def said_of(spot, token):
-    kind = declared(spot, token.text) if token.form == "word" else None
-    return "{} is {}".format(token.text, kind) if kind else None
+    return said_of_value(spot, [token]) if token.form == "word" else None
 
 
 def of_byte(spot):
@@ -416,33 +509,56 @@ def of_twice(spot):
 
 def of_operands(spot):
     """Operands of two types."""
-    token, sides = spot.token, [last(spot.before), first(spot.behind)]
-    said = [part for part in (said_of(spot, side) for side in sides) if part]
+    token, before = spot.token, last(spot.before)
+    sides = [value_before(spot), value_behind(spot.behind)]
+    said = [part for part in (said_of_value(spot, side) for side in sides) if part]
+    kinds = [kind_of(spot, side) for side in sides]
     tail = ": " + " and ".join(said) if said else ""
+    if len(said) == 2 and kinds[0] == kinds[1] in VALUES and token.upper in ("+", "-", "*", "/", "MOD"):
+        return "`{}` takes two numbers{}; convert them, as {}_TO_INT(x).".format(token.text, tail, kinds[0])
     if token.upper in ("AND", "OR", "XOR", "NOT", "&"):
         return "{} takes BOOLs, or words of bits of one type{}; compare a number, as n <> 0.".format(token.text, tail)
-    if token.form == "sign" and not ends_value(sides[0]):
+    if token.form == "sign" and token.text != "(" and not ends_value(before):
         return "`{}` takes a number{}.".format(token.text, tail)
-    if token.form == "sign" or token.upper == "MOD":
+    if token.form == "sign" and token.text != "(" or token.upper == "MOD":
         return "`{}` takes two values of one type{}; convert one, as INT_TO_DINT(x).".format(token.text, tail)
     if any(one.upper == "CASE" for one in spot.before[-2:]):
         return "A CASE selects by an integer or an enumeration{}.".format(": " + said_of(spot, token) if said_of(spot, token) else "")
     if first(spot.behind).text == "(":
-        return "{} is not given values of the types that it takes: convert them, as INT_TO_DINT(x).".format(token.text)
-    if last(spot.before).upper in ("IF", "ELSIF"):
+        return of_inputs(spot)
+    if before.upper in ("IF", "ELSIF"):
         kind = said_of(spot, token)
         return "A condition is BOOL{}: compare, as {} <> 0.".format(", and " + kind if kind else "", token.text)
     return None
 
 
+def of_inputs(spot):
+    """A function that is given values of other types."""
+    name = spot.token.upper
+    said = [part for part in (said_of_value(spot, value) for value in inside_of(spot.behind[1:])) if part]
+    converted = re.fullmatch(r"([A-Z]+)_TO_([A-Z]+)", name)
+    tail = ": " + " and ".join(said) if said else ""
+    if converted:
+        kind = said[0].rpartition(" ")[2] if said else None
+        instead = "; leave it out" if kind == converted[2] else "; write {}_TO_{}".format(kind, converted[2]) if kind in VALUES else ""
+        return "{} takes a value of {}{}{}.".format(spot.token.text, converted[1], tail, instead)
+    if name in TAKEN:
+        return "{} takes {}{}; convert what is another, as INT_TO_DINT(x).".format(spot.token.text, TAKEN[name], tail)
+    return "{} is not given values of the types that it takes{}; convert them, as INT_TO_DINT(x).".format(spot.token.text, tail)
+
+
 def of_target(spot):
     token = spot.token
-    target = said_of(spot, token)
+    target = said_of_value(spot, [token]) if first(spot.behind).text != "." else said_of_value(spot, [token, *spot.behind[:2]])
     place = next((number for number, one in enumerate(spot.behind) if one.text == ":="), None)
-    value = spot.behind[place + 1:place + 3] if place is not None else []
-    single = value and (len(value) < 2 or value[1].text in (";", ",", ")", "TO", "BY"))
-    other = said_of(spot, value[0]) if single else None
-    if target and other:
+    value, depth = [], 0
+    for one in spot.behind[place + 1:] if place is not None else []:
+        depth += (one.text == "(") - (one.text == ")")
+        if depth < 0 or depth == 0 and one.upper in (";", ",", "TO", "BY", "DO"):
+            break
+        value.append(one)
+    other = said_of_value(spot, value)
+    if target and other and target.rpartition(" ")[2] != other.rpartition(" ")[2]:
         return "{}, and {}: convert the value, as A_TO_B(x), or compare it.".format(target, other)
     if target:
         return "{}, and the value has another type: convert it, as A_TO_B(x).".format(target)
@@ -471,6 +587,39 @@ def of_no_program(spot):
     return "The file has no PROGRAM: a file has exactly one."
 
 
+def of_rows(spot):
+    """What is wrong with a trace: the row where that is to be seen."""
+    wanted = "A trace is a list of rows, each with one whole number for each INPUT line, as [[1,0],[0,0]]."
+    try:
+        count = len(relation_of(spot.beside["REL"]).inputs) if "REL" in spot.beside else None
+    except (Trouble, Unreadable):
+        count = None
+    said = fault_of(spot.bytes, count)
+    return wanted if said == AS_WANTED else said + " " + wanted
+
+
+def unlisted(spot):
+    """The inputs that no INPUT line names."""
+    try:
+        listed = relation_of(spot.bytes).inputs
+    except (Trouble, Unreadable):
+        listed = None
+    names = []
+    for side, place in (("OLD", 0), ("NEW", 1)) if listed is not None and {"OLD", "NEW"} <= set(spot.beside) else ():
+        named = {one[1 + place] for one in listed}
+        inputs = re.findall(r"\bVAR_INPUT\b(.*?)\bEND_VAR\b", re.sub(r"\(\*.*?\*\)|//[^\n]*", " ", of_program(text_of(spot.beside[side])), flags=re.DOTALL),
+                            re.IGNORECASE | re.DOTALL)
+        found = [name.strip() for part in inputs for line in part.split(";") if ":" in line for name in line.split(":")[0].split(",")]
+        names += ["{} of {}".format(name, side) for name in found if name.upper() not in named]
+    return ("{} is" if len(names) == 1 else "{} are").format(" and ".join(names)) if names else "one is"
+
+
+def of_program(text):
+    """The part of a text from its PROGRAM on."""
+    found = re.search(r"(?<![A-Za-z_0-9])PROGRAM(?![A-Za-z_0-9])", text, re.IGNORECASE)
+    return text[found.start():] if found else ""
+
+
 RULES = {
     "L1": of_byte, "L5": of_number, "X1": of_left_out, "G1": of_grammar, "N1": of_twice, "N2": of_unknown, "N4": of_wrong_use, "N5": of_no_program,
     "Y1": of_operands, "Y2": of_target, "Y4": of_protected,
@@ -495,17 +644,17 @@ RULES = {
     "Y5": lambda spot: "{} is not given each of its inputs once.".format(spot.token.text),
     "P1": lambda spot: "The two inputs have not one type with the same bounds: write INPUT OLD {0}; and INPUT NEW ..; apart.".format(spot.token.text),
     "P2": lambda spot: "Each input of both programs stands in exactly one INPUT line" + (
-        ": {} stands in two.".format(spot.token.text) if spot.token.form == "word" else ", and one is not listed."),
+        ": {} stands in two.".format(spot.token.text) if spot.token.form == "word" else ", and {} not listed.".format(unlisted(spot))),
     "R1": lambda spot: "The lines stand in the order RELATION, FAULTS, DEPTH, CONFLICTS, INPUT, ENV, RELATE, INVARIANT" + (
         "." if spot.token.form == "word" else ", and one that is needed is missing."),
     "R2": lambda spot: "The version is 1, DEPTH is from 1 to 64, and CONFLICTS from 1 to 1000000.",
     "R3": lambda spot: "{} says not of which revision: write old.{} or new.{}.".format(spot.token.text, spot.token.text, spot.token.text),
     "R4": lambda spot: "A clause is a condition: compare, as old.n = new.n.",
-    "J1": lambda spot: "A trace is a list of rows, each with one whole number for each INPUT line, as [[1,0],[0,0]].",
+    "J1": lambda spot: of_rows(spot),
 }
 
 
-def sentence(rule, text, place):
-    """The sentence on a refusal, or None."""
+def sentence(rule, text, place, beside=None):
+    """The sentence on a refusal, or None. The bytes of other files by their roles say more, as the types of what a relation names."""
     maker = RULES.get(rule)
-    return maker(spot_of(text, place)) if maker else None
+    return maker(spot_of(text, place, beside or {})) if maker else None

@@ -3,6 +3,9 @@
 import json
 import re
 
+# What is said of a trace in which no fault is found.
+AS_WANTED = "Each row has as many whole numbers as there are INPUT lines: is this the trace that was refused?"
+
 
 def rows_of(text):
     """The rows of a trace that is accepted."""
@@ -10,7 +13,8 @@ def rows_of(text):
 
 
 def fault_of(text, count):
-    """The first fault of a trace, in words. A number stands as its text, so that 1.0 and -0 are seen."""
+    """The first fault of a trace, in words. A number stands as its text, so that 1.0 and -0 are seen. The count of INPUT lines may be None, where
+    it is not known."""
     try:
         rows = json.loads(text.decode("utf-8-sig"), parse_int=lambda word: ("number", word), parse_float=lambda word: ("number", word))
     except UnicodeDecodeError:
@@ -29,7 +33,7 @@ def fault_of(text, count):
                 shown = one[1] if isinstance(one, tuple) else {list: "a list", dict: "an object"}.get(type(one)) or json.dumps(one)
                 hint = "; write 1 for TRUE and 0 for FALSE" if isinstance(one, bool) else ""
                 return "Number {} of row {} is no whole number of 64 bits: {}{}.".format(place, number, shown, hint)
-        if len(row) != count:
+        if count is not None and len(row) != count:
             return "Row {} has {} number{}, and the relation has {} INPUT line{}.".format(
                 number, len(row), "s" * (len(row) != 1), count, "s" * (count != 1))
-    return "Each row has as many whole numbers as there are INPUT lines: is this the trace that was refused?"
+    return AS_WANTED

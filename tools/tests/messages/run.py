@@ -46,8 +46,12 @@ def said_of(room, kind, text):
     found = re.fullmatch(r"REFUSED (\w+) (\w+) at (\d+)", answer)
     if not found or found[1] != ROLES[kind]:
         return answer, ""
-    with open(names[found[1]], "rb") as file:
-        return found[2], hint(found[2], file.read(), int(found[3]))
+    texts = {}
+    for role, name in names.items():
+        with open(name, "rb") as file:
+            texts[role] = file.read()
+    refused = texts.pop(found[1])
+    return found[2], hint(found[2], refused, int(found[3]), texts if kind in ("relation", "trace") else {})
 
 
 def main():
