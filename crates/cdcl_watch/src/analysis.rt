@@ -58,6 +58,49 @@ impl Analysis {
         Ok(())
     }
 
+    /// Learns from a false clause that not all the decisions stand together that it rests on. Where no decision stands nothing is left
+    /// of it.
+    pub fn negate_decisions(
+        &mut self,
+        propagator: &Propagator,
+        conflict: ClauseRef,
+    ) -> Result<(), AllocError> {
+        self.learned.clear();
+        self.back = 0;
+        if propagator.level() == 0 {
+            return Ok(());
+        }
+        self.learned.push(Code::NONE)?;
+        self.mark_all(propagator, conflict)?;
+        for place in 0..propagator.len() {
+            let Some(code) = self.marks.get(place) else {
+                break;
+            };
+            let cause = propagator.cause(code);
+            if cause.reason != ClauseRef::NONE {
+                self.mark_all(propagator, cause.reason)?;
+            } else if cause.level == propagator.level() {
+                write(self.learned.as_mut_slice(), 0, code);
+            } else {
+                self.learned.push(code)?;
+            }
+        }
+        self.marks.keep(0);
+        self.find_back(propagator);
+        Ok(())
+    }
+
+    /// Marks the variables of a clause that depend on a decision.
+    fn mark_all(&mut self, propagator: &Propagator, clause: ClauseRef) -> Result<(), AllocError> {
+        for number in propagator.codes(clause) {
+            let code = Code { number: *number };
+            if propagator.cause(code).level != 0 && !self.marks.has(code) {
+                self.marks.mark(code)?;
+            }
+        }
+        Ok(())
+    }
+
     /// Resolves along the trail, to the first unique implication point.
     fn find_point(
         &mut self,
@@ -98,7 +141,7 @@ impl Analysis {
                 continue;
             }
             self.marks.mark(code)?;
-            order.raise(low(code.variable()));
+            order.heap.raise(low(code.variable()));
             if level == propagator.level() {
                 count = count.wrapping_add(1);
             } else {
@@ -114,7 +157,7 @@ impl Analysis {
         for learned in self.learned.iter() {
             for number in propagator.codes(propagator.cause(*learned).reason) {
                 let code = Code { number: *number };
-                order.raise(low(code.variable()));
+                order.heap.raise(low(code.variable()));
             }
         }
     }

@@ -7,6 +7,8 @@ ghost use Rattle.cdcl_watch.specs.Kept.{Keeps, HasTaken};
 
 use crate::analysis::Analysis;
 use crate::explanation::Explanation;
+use crate::following::Following;
+use crate::guide::Guide;
 use crate::order::Order;
 use cdcl_core::{Proposal, Search};
 use clause_core::{Clause, Lit, Step, Truth};
@@ -18,16 +20,18 @@ use watched_propagation::{ClauseRef, Code, Propagator, low, read};
 const CONFLICTS_A_RESTART: u32 = 100;
 
 /// Decides, propagates, and at a conflict learns the clause of the first unique implication point, as
-/// Chaff and MiniSat; after each 100th conflict it begins anew, with activities and phases kept.
+/// Chaff and MiniSat; after each 100th conflict it begins anew, with activities and phases kept. Where there is a guide, its clauses are
+/// derived before all that.
 ///
 /// A clause that does not follow would cost time only: what is proposed is tested, and replaced where it fails.
 #[derive(Drop)]
-pub(crate) struct WatchSearch {
+pub(crate) struct WatchSearch<'g> {
     alloc: Global,
     propagator: Propagator,
     analysis: Analysis,
     explanation: Explanation,
     order: Order,
+    following: Following<'g>,
     /// How many of the held clauses were taken in.
     count: usize,
     /// Whether the next of them is the one that was learned last.
@@ -42,7 +46,7 @@ fn go_back(propagator: &mut Propagator, order: &mut Order, level: u32) -> Result
     for place in (propagator.start_above(level)..propagator.len()).rev() {
         let code = propagator.literal_at(place);
         order.keep_phase(code.variable(), !code.is_negative());
-        order.insert(low(code.variable()))?;
+        order.heap.insert(low(code.variable()))?;
     }
     propagator.go_back(level);
     Ok(())
@@ -88,7 +92,7 @@ fn decide(
         return Ok(true);
     }
     for _ in 0..propagator.values().len() {
-        let Some(variable) = order.pop() else {
+        let Some(variable) = order.heap.pop() else {
             break;
         };
         let negative = !order.phase(variable);
@@ -113,8 +117,13 @@ fn rising_clause(alloc: Global, codes: &[Code]) -> Result<Clause, AllocError> {
     Clause::from_slice(alloc, literals.as_slice())
 }
 
-impl WatchSearch {
-    pub fn new(alloc: Global, variables: u32, order: Order) -> Result<WatchSearch, AllocError>
+impl<'g> WatchSearch<'g> {
+    pub fn new(
+        alloc: Global,
+        variables: u32,
+        order: Order,
+        guide: Option<&'g Guide>,
+    ) -> Result<WatchSearch<'g>, AllocError>
         requires { variables < 2 ^ 31 }
         ensures taken { IfOk result (λ s. HasTaken s.propagator s.count []) }
         ensures places { IfOk result (λ s. length s.propagator.values ≡ variables + 1) }
@@ -127,6 +136,7 @@ impl WatchSearch {
             analysis: Analysis::new(alloc, variables)?,
             explanation: Explanation::new(alloc, variables)?,
             order,
+            following: Following::new(alloc, guide),
             count: 0,
             is_learned: false,
             conflicts: 0,
@@ -175,21 +185,45 @@ impl WatchSearch {
         Ok(conflict)
     }
 
+    /// Learns from a false clause: while a guide is followed, what of the decisions it rests on.
+    fn analyze(&mut self, conflict: ClauseRef) -> Result<(), AllocError>
+        ensures kept { Keeps self.old.propagator self.new.propagator }
+        ensures count { self.new.count ≡ self.old.count }
+    {
+        if self.following.is_done() {
+            let order = &mut self.order;
+            self.analysis.analyze(&self.propagator, order, conflict)?;
+            self.order.heap.end_conflict();
+            self.conflicts = self.conflicts.wrapping_add(1);
+            return Ok(());
+        }
+        self.analysis.negate_decisions(&self.propagator, conflict)
+    }
+
     /// Learns from a false clause, and takes the last decision back.
     fn derive(&mut self, conflict: ClauseRef) -> Result<Proposal, AllocError>
         ensures kept { Keeps self.old.propagator self.new.propagator }
         ensures count { self.new.count ≡ self.old.count }
     {
-        self.analysis
-            .analyze(&self.propagator, &mut self.order, conflict)?;
-        self.order.end_conflict();
+        self.analyze(conflict)?;
         let learned = self.analysis.learned();
         let hints = self.explanation.hints(&self.propagator, learned, conflict)?;
         let clause = rising_clause(self.alloc, learned)?;
         let below = self.propagator.level().saturating_sub(1);
-        go_back(&mut self.propagator, &mut self.order, below)?;
-        self.conflicts = self.conflicts.wrapping_add(1);
+        self.go_back(below)?;
         Ok(Proposal::Derivation(Step { clause, hints }))
+    }
+
+    /// Takes back the decisions above a level. What a guide's decisions led to is not kept.
+    fn go_back(&mut self, level: u32) -> Result<(), AllocError>
+        ensures kept { Keeps self.old.propagator self.new.propagator }
+        ensures count { self.new.count ≡ self.old.count }
+    {
+        if self.following.is_done() {
+            return go_back(&mut self.propagator, &mut self.order, level);
+        }
+        self.propagator.go_back(level);
+        Ok(())
     }
 
     /// Goes on to the next conflict, or to where no variable is open; begins anew where it is time to.
@@ -197,6 +231,10 @@ impl WatchSearch {
         ensures kept { Keeps self.old.propagator self.new.propagator }
         ensures count { self.new.count ≡ self.old.count }
     {
+        let conflict = self.following.go_on(&mut self.propagator)?;
+        if conflict.is_some() {
+            return Ok(conflict);
+        }
         for _ in 0..u64::MAX {
             let conflict = self.propagator.propagate()?;
             if conflict.is_some() {
@@ -214,7 +252,7 @@ impl WatchSearch {
     }
 }
 
-impl Search for WatchSearch {
+impl<'g> Search for WatchSearch<'g> {
     ghost has_taken = { λ s. HasTaken s.propagator s.count };
 
     ghost values = { λ s. s.propagator.values };
@@ -244,7 +282,8 @@ impl Search for WatchSearch {
 
     fn learn(&mut self) -> Result<(), AllocError> {
         self.is_learned = true;
-        go_back(&mut self.propagator, &mut self.order, self.analysis.back())
+        let back = self.analysis.back();
+        self.go_back(back)
     }
 
     fn restart(&mut self) -> Result<(), AllocError> {

@@ -3,6 +3,7 @@
 ghost use Rattle.std.specs.Prelude.{◌≡◌, ◌≤◌, ◌<◌, ◌+◌, ◌^◌, length, IfOk};
 ghost use Rattle.clause_core.specs.Decisions.{IsDecided};
 
+use crate::guide::Guide;
 use crate::order::Order;
 use crate::watch_search::WatchSearch;
 use cdcl_core::{Plain, decide_by};
@@ -77,9 +78,31 @@ impl Decider for Watched {
             Some(order) => order,
             None => Order::new(alloc),
         };
-        let mut search = WatchSearch::new(alloc, cnf.variables(), order)?;
+        let mut search = WatchSearch::new(alloc, cnf.variables(), order, None)?;
         let decided = decide_by(alloc, &mut search, cnf, limit, &mut self.refused)?;
         self.order = Some(search.take_order());
         Ok(decided)
     }
+}
+
+/// Decides a formula, and derives the clauses of a guide first.
+pub fn decide_guided(
+    alloc: Global,
+    cnf: &mut Cnf,
+    limit: u32,
+    guide: &Guide,
+) -> Result<Decided, AllocError>
+    requires limit { 1 ≤ limit }
+    requires few { length cnf.old.clauses + limit < 2 ^ 32 }
+    ensures decided { IfOk result (IsDecided cnf.old limit) }
+    ensures same { cnf.new ≡ cnf.old }
+{
+    if cnf.variables() >= MOST_VARIABLES {
+        let mut plain = Plain::new();
+        return plain.decide(alloc, cnf, limit);
+    }
+    let order = Order::new(alloc);
+    let mut search = WatchSearch::new(alloc, cnf.variables(), order, Some(guide))?;
+    let mut refused = 0;
+    decide_by(alloc, &mut search, cnf, limit, &mut refused)
 }

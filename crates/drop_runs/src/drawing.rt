@@ -1,9 +1,7 @@
 // Numbers drawn for all lanes at once, bit by bit.
 use crate::free::{bit_of, put_bit};
-use crate::lanes::{all_lanes, lanes_if, no_lane};
-use crate::random::Random;
 use clause_core::Lit;
-use lane_sim::choose_word;
+use lane_sim::{Random, all_lanes, choose_word, lanes_if, no_lane};
 use plc_types::{Range, Value};
 use query_formulas::CellShape;
 use std::simd::u64x4;

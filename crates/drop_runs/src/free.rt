@@ -1,11 +1,24 @@
 // The words of the free bits: the word of variable 2 stands first.
-use crate::lanes::{all_lanes, lanes_if, no_lane};
+ghost use Rattle.std.specs.Prelude.{◌<◌};
+
 use crate::scans::{Scanned, lanes_of};
 use clause_core::Lit;
-use lane_sim::choose_word;
+use lane_sim::{all_lanes, choose_word, is_set, lanes_if, no_lane};
 use plc_types::Value;
 use query_formulas::CellShape;
+use std::alloc::{AllocError, Global};
 use std::simd::u64x4;
+
+/// The free bits of a lane.
+pub(crate) fn lane_bits(alloc: Global, free: &[u64x4], lane: usize) -> Result<Vec<bool>, AllocError>
+    requires { lane < 256 }
+{
+    let mut bits = Vec::new(alloc);
+    for word in free {
+        bits.push(is_set(*word, lane))?;
+    }
+    Ok(bits)
+}
 
 /// The values of a free bit.
 pub(crate) fn bit_of(free: &[u64x4], bit: Lit) -> u64x4 {

@@ -3,22 +3,22 @@
 // - `drawing`: numbers drawn for all lanes at once, bit by bit
 // - `free`: the words of the free bits
 // - `guessing`: the rows that are proposed, each of which may drop a candidate
-// - `lanes`: sets of runs, a bit for each
 // - `near`: pairs near another
-// - `random`: numbers that follow from one another
 // - `runs`: the runs of all lanes, from a pair on, a scan at a time
 // - `scans`: one scan in all lanes
-// - `spelling`: the numbers that words of free bits spell in one lane
+// - `spelling`: the numbers that words of free bits spell
+// - `starting`: the start of both programs
 #![tactic(auto)]
 
 mod drawing;
 mod free;
 mod guessing;
-mod lanes;
 mod near;
-mod random;
 mod runs;
 mod scans;
 mod spelling;
+mod starting;
 
-pub use runs::Runs;
+pub use runs::{Runs, are_run};
+pub use spelling::spelled;
+pub use starting::start_bits;

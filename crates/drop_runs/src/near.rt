@@ -1,15 +1,9 @@
 // Pairs near another: some bits are changed in some lanes.
-use crate::lanes::all_lanes;
-use crate::random::Random;
+use lane_sim::{Random, all_lanes, is_empty};
 use std::simd::u64x4;
 
 /// How many times bits are changed.
 const CHANGES: u32 = 64;
-
-// Whether a word is set in no lane.
-fn is_empty(word: u64x4) -> bool {
-    word[0] | word[1] | word[2] | word[3] == 0
-}
 
 // Whether two words are equal or opposite in all lanes.
 fn are_alike(a: u64x4, b: u64x4) -> bool {

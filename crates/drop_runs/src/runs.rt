@@ -2,13 +2,12 @@ ghost use Rattle.std.specs.Prelude.{◌<◌, IfSome};
 ghost use Rattle.gates.specs.Order.{IsOrdered};
 
 use crate::drawing::draw;
-use crate::free::{put_first, put_numbers, take_words};
-use crate::lanes::{all_lanes, first_lane, no_lane, one_lane};
+use crate::free::{lane_bits, put_numbers, take_words};
 use crate::near::change_some;
-use crate::random::Random;
 use crate::scans::{Scanned, allowed, failing, read_literals, run};
 use crate::spelling::spelled;
-use lane_sim::RunPlan;
+use crate::starting::put_start;
+use lane_sim::{Random, RunPlan, all_lanes, first_lane, no_lane, one_lane};
 use pair_circuits::{PairParts, Product};
 use queries::{CandidateSet, Decoded};
 use std::alloc::{AllocError, Global};
@@ -51,8 +50,8 @@ pub struct Runs<'p> {
     ghost ordered: { IsOrdered product.now.circuit },
 }
 
-// Whether scans are run: not where there are too many bits or gates, or no candidate.
-fn are_run(parts: &PairParts, product: &Product) -> bool {
+/// Whether scans are run: not where there are too many bits or gates, or no candidate.
+pub fn are_run(parts: &PairParts, product: &Product) -> bool {
     let circuit = &product.circuit;
     circuit.first() as usize <= MOST && circuit.count() <= MOST && !parts.candidates.is_empty()
 }
@@ -79,7 +78,7 @@ impl<'p> Runs<'p> {
     }
 
     /// Makes room for the runs and puts them at the start, the first time that it is called.
-    pub(crate) fn begin(&mut self, alloc: Global) -> Result<(), AllocError> {
+    pub(crate) fn make_room(&mut self, alloc: Global) -> Result<(), AllocError> {
         if self.has_begun {
             return Ok(());
         }
@@ -97,10 +96,7 @@ impl<'p> Runs<'p> {
 
     // Puts all runs at the start, each with a row of its own.
     fn start(&mut self) {
-        let (parts, pair) = (self.parts, &self.product.pair);
-        let free = self.free.as_mut_slice();
-        put_first(free, pair.old.as_slice(), parts.old.as_slice());
-        put_first(free, pair.new.as_slice(), parts.new.as_slice());
+        put_start(self.free.as_mut_slice(), self.parts, self.product);
         self.draw_rows();
     }
 
@@ -182,7 +178,8 @@ impl<'p> Runs<'p> {
     {
         let others = one_lane(lane) ^ all_lanes();
         self.untried = (u64x4::from_array(self.untried) & others).to_array();
-        spelled(alloc, self.parts, self.product, self.free.as_slice(), lane)
+        let bits = lane_bits(alloc, self.free.as_slice(), lane)?;
+        spelled(alloc, self.parts, self.product, bits.as_slice())
     }
 
     /// Puts all runs at a pair that was found: the first with the row that was found, others with rows or cells changed.

@@ -1,7 +1,6 @@
 // One scan in all lanes.
-use crate::lanes::{all_lanes, no_lane};
 use clause_core::Lit;
-use lane_sim::{RunPlan, literal_word};
+use lane_sim::{RunPlan, all_lanes, lanes_of as lanes_in, no_lane};
 use pair_circuits::{Product, ProductLits};
 use queries::CandidateSet;
 use std::alloc::{AllocError, Global};
@@ -49,11 +48,7 @@ pub(crate) fn lanes_of(scanned: &Scanned, lit: Lit) -> u64x4 {
     let Some(place) = scanned.plan.place(lit) else {
         return no_lane();
     };
-    if (place.variable as usize) < scanned.words.len() {
-        literal_word(scanned.words, place)
-    } else {
-        no_lane()
-    }
+    lanes_in(scanned.words, place)
 }
 
 // The lanes where all literals are true.

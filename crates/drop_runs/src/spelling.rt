@@ -1,64 +1,57 @@
-// The numbers that words of free bits spell in one lane.
-ghost use Rattle.std.specs.Prelude.{◌<◌};
-
-use crate::free::bit_of;
+// The numbers that words of free bits spell.
 use clause_core::Lit;
-use lane_sim::is_set;
 use operations::wrap_short;
 use pair_circuits::{PairParts, Product};
 use plc_types::{Elementary, Value};
 use queries::{Decoded, Row};
 use query_formulas::CellShape;
 use std::alloc::{AllocError, Global};
-use std::simd::u64x4;
+
+// The value of a free bit, the first being that of variable 2.
+fn value_of(bits: &[bool], bit: Lit) -> bool {
+    let place = (bit.variable as usize).wrapping_sub(2);
+    bits.get(place).copied().unwrap_or(false)
+}
 
 // The number of a type that a word spells, of which at most 32 bits are read.
-fn number(free: &[u64x4], kind: Elementary, word: &[Lit], lane: usize) -> Value
-    requires { lane < 256 }
-{
-    let mut bits = 0u32;
+fn number(bits: &[bool], kind: Elementary, word: &[Lit]) -> Value {
+    let mut number = 0u32;
     let count = word.len().min(32);
     for i in 0..count {
-        if is_set(bit_of(free, word[i]), lane) {
-            bits |= 1 << i;
+        if value_of(bits, word[i]) {
+            number |= 1 << i;
         }
     }
-    wrap_short(kind, Value::from(bits))
+    wrap_short(kind, Value::from(number))
 }
 
 // The numbers that the words of cells spell.
 fn numbers(
     alloc: Global,
-    free: &[u64x4],
+    bits: &[bool],
     cells: &[CellShape],
     words: &[Vec<Lit>],
-    lane: usize,
-) -> Result<Vec<Value>, AllocError>
-    requires { lane < 256 }
-{
+) -> Result<Vec<Value>, AllocError> {
     let mut numbers = Vec::new(alloc);
     let count = cells.len().min(words.len());
     for i in 0..count {
-        numbers.push(number(free, cells[i].kind, words[i].as_slice(), lane))?;
+        numbers.push(number(bits, cells[i].kind, words[i].as_slice()))?;
     }
     Ok(numbers)
 }
 
-/// The pair and the row of a lane, from the words of the free bits.
-pub(crate) fn spelled(
+/// The pair and the row that free bits spell, the first being that of variable 2.
+pub fn spelled(
     alloc: Global,
     parts: &PairParts,
     product: &Product,
-    free: &[u64x4],
-    lane: usize,
-) -> Result<Decoded, AllocError>
-    requires { lane < 256 }
-{
+    bits: &[bool],
+) -> Result<Decoded, AllocError> {
     let pair = &product.pair;
-    let old = numbers(alloc, free, parts.old.as_slice(), pair.old.as_slice(), lane)?;
-    let new = numbers(alloc, free, parts.new.as_slice(), pair.new.as_slice(), lane)?;
+    let old = numbers(alloc, bits, parts.old.as_slice(), pair.old.as_slice())?;
+    let new = numbers(alloc, bits, parts.new.as_slice(), pair.new.as_slice())?;
     let lines = parts.lines.as_slice();
-    let inputs = numbers(alloc, free, lines, product.inputs.as_slice(), lane)?;
+    let inputs = numbers(alloc, bits, lines, product.inputs.as_slice())?;
     let mut row = Row::new(alloc);
     for number in inputs.as_slice() {
         row.push(*number)?;

@@ -115,7 +115,7 @@ pub fn prune<D: Decider, Q: Queries, G: Guesses, S: Shelf>(
     let limit = limit_of(trial);
     'rows: loop {
         drop_guessed(alloc, trial, guesses, writer, shelf, &mut set)?;
-        match next_drop(alloc, decider, queries, kept, &set, limit)? {
+        match next_drop(alloc, decider, queries, kept, guesses, &set, limit)? {
             Answer::Found(found) => {
                 drop_by(alloc, trial, writer, shelf, &found, &mut set)?;
                 guesses.found(alloc, &found)?;

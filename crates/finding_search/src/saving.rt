@@ -55,12 +55,13 @@ fn write_pair<S: Shelf>(
 }
 
 // From the set that is kept on.
-fn save_from_kept<D: Decider, Q: Queries, S: Shelf>(
+fn save_from_kept<D: Decider, Q: Queries, G: Guesses, S: Shelf>(
     alloc: Global,
     decider: &mut D,
     trial: &Trial,
     queries: &Q,
     kept: &mut Option<Cnf>,
+    guesses: &mut G,
     writer: &mut FindingWriter,
     shelf: &mut S,
     set: &CandidateSet,
@@ -72,7 +73,7 @@ fn save_from_kept<D: Decider, Q: Queries, S: Shelf>(
         (desk (S.state shelf.new) writer.new) finished result }
 {
     let limit = limit_of(trial);
-    match goal(alloc, decider, queries, kept, set, limit)? {
+    match goal(alloc, decider, queries, kept, guesses, set, limit)? {
         Answer::Found(found) => {
             // What the formulas of the queries to come begin with is another.
             *kept = None;
@@ -87,7 +88,7 @@ fn save_from_kept<D: Decider, Q: Queries, S: Shelf>(
     }
 }
 
-// From the set of what holds at the start on.
+// From the set of what holds at the start on, with a first row that is allowed.
 fn save_from_start<D: Decider, Q: Queries, G: Guesses, S: Shelf>(
     alloc: Global,
     decider: &mut D,
@@ -96,19 +97,21 @@ fn save_from_start<D: Decider, Q: Queries, G: Guesses, S: Shelf>(
     guesses: &mut G,
     writer: &mut FindingWriter,
     shelf: &mut S,
+    seen: &Decoded,
 ) -> Result<Conclusion, WriteErr>
     requires compared { Q.compared queries.now ≡ comparison_of trial.old }
     requires comparison { IsComparison (comparison_of trial.old) }
     ensures { Writes (setting_in trial.old) (Q.formula queries.now) (desk (S.state shelf.old) writer.old) (at_drops (first_set (setting_in trial.old)))
         (desk (S.state shelf.new) writer.new) finished result }
 {
+    guesses.begin(alloc, seen, limit_of(trial))?;
     let set = first_set(alloc, trial)?;
     let mut kept = None;
     match prune(
         alloc, decider, trial, queries, &mut kept, guesses, writer, shelf, set,
     )? {
         Pruned::Kept(set) => save_from_kept(
-            alloc, decider, trial, queries, &mut kept, writer, shelf, &set,
+            alloc, decider, trial, queries, &mut kept, guesses, writer, shelf, &set,
         ),
         Pruned::Spent(verdict) => Ok(verdict),
     }
@@ -150,7 +153,9 @@ fn save_from_header<D: Decider, Q: Queries, G: Guesses, S: Shelf>(
     match first(alloc, decider, queries, limit)? {
         Answer::Found(found) => {
             write_seen(alloc, writer, shelf, &found)?;
-            save_from_start(alloc, decider, trial, queries, guesses, writer, shelf)
+            save_from_start(
+                alloc, decider, trial, queries, guesses, writer, shelf, &found,
+            )
         }
         Answer::Refuted(log) => {
             write_refutation(alloc, writer, shelf, Asked::First, &log)?;

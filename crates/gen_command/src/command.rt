@@ -15,7 +15,7 @@ use crate::made::{Made, make};
 use crate::saved::answer_accepted;
 use clause_core::Decider;
 use command_answers::{Status, put_last};
-use drop_runs::Runs;
+use inductive_search::InductiveSearch;
 use outside::{Shelf, Sink};
 use std::alloc::Global;
 use verify_command::{Compared, Scans, StatedTexts, accept_texts, circuits_of, put_fault};
@@ -47,9 +47,17 @@ fn answer_compared<D: Decider, S: Shelf, K: Sink>(
 {
     match circuits_of(alloc, compared, scans) {
         Ok(circuits) => {
-            let mut runs = Runs::new(alloc, circuits.parts(), circuits.product());
+            let mut search = InductiveSearch::new(alloc, circuits.parts(), circuits.product());
             answer_accepted(
-                alloc, decider, count, made, compared, &circuits, &mut runs, shelf, out,
+                alloc,
+                decider,
+                count,
+                made,
+                compared,
+                &circuits,
+                &mut search,
+                shelf,
+                out,
             )
         }
         Err(fault) => put_fault(alloc, fault, out),

@@ -10,6 +10,7 @@ mod held;
 mod line;
 mod plan;
 mod random;
+mod reached;
 mod reading;
 mod rows;
 mod runs;

@@ -33,6 +33,6 @@ impl Plan {
 
     /// How many scans a run has, by its number: some are long.
     pub fn scans(&self, run: usize) -> usize {
-        if run % 8 == 0 { 400 } else { 40 }
+        if run % 4 == 0 { 400 } else { 40 }
     }
 }

@@ -1,35 +1,39 @@
 // All forms, the strongest first.
-use crate::bounds::add_bounds;
-use crate::equal::{add_equal, add_last_own, add_opposite};
-use crate::exclusive::add_exclusive;
-use crate::facts::{Facts, facts_of};
-use crate::flags::add_flags;
 use crate::guarded::add_guarded;
-use crate::junctions::add_junctions;
 use crate::maps::add_maps;
-use crate::proposal::Proposal;
-use crate::subject::Subject;
-use crate::sums::{add_counts, add_sums, add_sums_of_two};
 use plc_types::Value;
+use proposal_forms::{
+    Proposal, add_apart, add_bits, add_bounds, add_counts, add_equal, add_exclusive, add_flags,
+    add_junctions, add_last_own, add_opposite, add_reaches, add_shapes, add_sums, add_sums_of_two,
+    add_sums_of_types, add_unions,
+};
 use scan_model::Side;
-use seen_values::Seen;
+use seen_values::{Facts, Seen, Subject, facts_of};
 use std::alloc::{AllocError, Global};
 
 // The forms that tie the cells of one program to those of the other; in a second round, behind the last own cells.
 fn add_ties(
     facts: &mut Facts<'_>,
+    edges: &[Value],
     is_second: bool,
     found: &mut Vec<Proposal>,
 ) -> Result<(), AllocError> {
     add_equal(facts, is_second, found)?;
     add_opposite(facts, found)?;
     add_flags(facts, found)?;
+    add_bits(facts, found)?;
     add_maps(facts, found)?;
     let mut left = Vec::new(facts.alloc);
     add_sums_of_two(facts, &mut left, found)?;
+    add_sums_of_types(facts, found)?;
     add_sums(facts, left.as_slice(), found)?;
+    add_shapes(facts, left.as_slice(), edges, found)?;
     add_junctions(facts, Side::New, found)?;
-    add_junctions(facts, Side::Old, found)
+    add_junctions(facts, Side::Old, found)?;
+    add_reaches(facts, edges, Side::Old, Side::New, found)?;
+    add_reaches(facts, edges, Side::New, Side::Old, found)?;
+    add_unions(facts, Side::Old, Side::New, found)?;
+    add_unions(facts, Side::New, Side::Old, found)
 }
 
 // The forms on one program.
@@ -41,6 +45,7 @@ fn add_others(
     add_counts(facts, Side::Old, found)?;
     add_counts(facts, Side::New, found)?;
     add_bounds(facts, edges, 0, found)?;
+    add_apart(facts, found)?;
     add_exclusive(facts, Side::Old, found)?;
     add_exclusive(facts, Side::New, found)?;
     add_bounds(facts, edges, 1, found)
@@ -57,7 +62,7 @@ pub fn proposals(
 ) -> Result<Vec<Proposal>, AllocError> {
     let mut found = Vec::new(alloc);
     let mut facts = facts_of(alloc, seen, subjects)?;
-    add_ties(&mut facts, false, &mut found)?;
+    add_ties(&mut facts, edges, false, &mut found)?;
     add_others(&facts, edges, &mut found)?;
     if found.len() <= room {
         add_guarded(&facts, edges, room, &mut found)?;
@@ -66,7 +71,7 @@ pub fn proposals(
     let mut first = Vec::new(alloc);
     let mut facts = facts_of(alloc, seen, subjects)?;
     add_last_own(&facts, &mut first)?;
-    add_ties(&mut facts, true, &mut first)?;
+    add_ties(&mut facts, edges, true, &mut first)?;
     add_others(&facts, edges, &mut first)?;
     add_guarded(&facts, edges, room, &mut first)?;
     Ok(first)

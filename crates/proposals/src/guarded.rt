@@ -1,12 +1,9 @@
 // Lines that held where a guard did, though not on all pairs.
-use crate::facts::{Facts, facts_of};
 use crate::guards::{Guard, guards_of, part_of};
-use crate::proposal::{GuardedLine, HeldValue, Proposal};
-use crate::subject::Sort;
-use crate::sums::can_be_written;
 use plc_types::Value;
+use proposal_forms::{GuardedLine, HeldValue, Proposal, can_be_written};
 use scan_model::Side;
-use seen_values::{Seen, Signature, indicator};
+use seen_values::{Facts, Seen, Signature, Sort, facts_of, indicator};
 use std::alloc::AllocError;
 
 // How many lines are proposed.
@@ -76,7 +73,7 @@ fn is_said(look: &Look<'_>, class: usize, cell: usize) -> bool {
 fn add_equal(look: &Look<'_>, class: usize, found: &mut Vec<Ranked>) -> Result<(), AllocError> {
     for cell in look.part.classes.members(class) {
         let other = look.part.across(class, *cell);
-        if look.all.side(other) == look.all.side(*cell)
+        if is_at_home(look, *cell, other)
             || look.all.class_of(other) == look.all.class_of(*cell)
             || !is_standing(look.all, *cell)
             || !is_said(look, class, *cell)
@@ -139,7 +136,14 @@ fn add_sum(
     push(look, 1, are_tied, line, found)
 }
 
-// Sums of the cells of a class and those of later classes of its type, a cell of each program.
+// Whether two cells and the guard are all of one program.
+fn is_at_home(look: &Look<'_>, cell: usize, other: usize) -> bool {
+    let side = look.all.side(cell);
+    look.all.side(other) == side && look.all.member_of(look.guard.class, side).is_some()
+}
+
+// Sums of the cells of a class and those of later classes of its type, a cell of each program, or two of one where the guard is of the
+// other.
 fn add_sums(look: &Look<'_>, class: usize, found: &mut Vec<Ranked>) -> Result<(), AllocError> {
     let part = look.part;
     for other in class.saturating_add(1)..part.classes.len() {
@@ -152,7 +156,7 @@ fn add_sums(look: &Look<'_>, class: usize, found: &mut Vec<Ranked>) -> Result<()
         let first = part.first(class);
         let second = part.across(other, first);
         let first = part.across(class, second);
-        if part.side(first) != part.side(second) {
+        if !is_at_home(look, first, second) {
             add_sum(look, first, second, factor, found)?;
         }
     }
@@ -219,7 +223,8 @@ fn add_one(
         return Ok(());
     };
     if !part.is_constant() {
-        return if look.all.sort(class) == Sort::Integer {
+        // Away from the start, bounds say little.
+        return if look.all.sort(class) == Sort::Integer && !look.guard.is_turned {
             add_bounds(look, cell, whole, part, edges, found)
         } else {
             Ok(())
@@ -297,6 +302,7 @@ pub fn add_guarded(
             if one.rank == rank && found.len() < most {
                 found.push(Proposal::Guarded {
                     guard: one.guard.held,
+                    is_turned: one.guard.is_turned,
                     line: one.line,
                     seen: one.guard.seen,
                 })?;

@@ -1,8 +1,6 @@
 // Values of cells with few values, and what was seen where a cell had one.
-use crate::facts::Facts;
-use crate::proposal::HeldValue;
-use crate::subject::Sort;
-use seen_values::{Classes, Seen, few_values, indicator};
+use proposal_forms::HeldValue;
+use seen_values::{Classes, Facts, Seen, Sort, few_values, indicator};
 use std::alloc::AllocError;
 
 // A cell with more values guards nothing, and none of its values is compared with those of others.
@@ -14,10 +12,11 @@ const MOST_GUARDS: usize = 128;
 // On how many pairs a guard holds, at least, for it to tell something what is seen there.
 const LEAST_PAIRS: usize = 20;
 
-/// A value of a cell, on how many pairs the cell had it, and a checksum of these pairs.
+/// A value of a cell, or, turned, all others; on how many pairs the cell had it, or one of them, and a checksum of these pairs.
 #[derive(Clone, Copy)]
 pub struct Guard {
     pub held: HeldValue,
+    pub is_turned: bool,
     pub class: usize,
     pub sum: u64,
     pub seen: usize,
@@ -51,6 +50,7 @@ pub fn add_values(
         };
         found.push(Guard {
             held,
+            is_turned: false,
             class,
             sum: indicator(facts.seen, cell, *value, false),
             seen: count_of(facts, held),
@@ -78,7 +78,35 @@ fn add_guards(
     Ok(())
 }
 
-/// The guards, each set of pairs once: values of enumerations and of integer cells first, and then those of BOOL cells.
+// Adds, of an integer cell that is no input, that it is away from where it was at the start.
+fn add_away(
+    facts: &Facts<'_>,
+    class: usize,
+    sums: &mut Classes,
+    found: &mut Vec<Guard>,
+) -> Result<(), AllocError> {
+    let cell = facts.first(class);
+    let held = HeldValue {
+        cell,
+        value: facts.seen.value(0, cell),
+    };
+    let sum = indicator(facts.seen, cell, held.value, true);
+    let seen = facts.seen.rows().saturating_sub(count_of(facts, held));
+    if sums.find(sum).is_none() && seen >= LEAST_PAIRS && found.len() < MOST_GUARDS {
+        sums.add(sum, found.len())?;
+        found.push(Guard {
+            held,
+            is_turned: true,
+            class,
+            sum,
+            seen,
+        })?;
+    }
+    Ok(())
+}
+
+/// The guards, each set of pairs once: values of enumerations and of integer cells first, then those of BOOL cells, and that integer
+/// cells are away from where they were at the start.
 pub fn guards_of(facts: &Facts<'_>) -> Result<Vec<Guard>, AllocError> {
     let mut sums = Classes::new(facts.alloc);
     let mut found = Vec::new(facts.alloc);
@@ -97,6 +125,11 @@ pub fn guards_of(facts: &Facts<'_>) -> Result<Vec<Guard>, AllocError> {
             add_guards(facts, class, &mut sums, &mut found)?;
         }
     }
+    for class in 0..facts.classes.len() {
+        if facts.sort(class) == Sort::Integer && !facts.is_of_inputs(class) {
+            add_away(facts, class, &mut sums, &mut found)?;
+        }
+    }
     Ok(found)
 }
 
@@ -104,7 +137,8 @@ pub fn guards_of(facts: &Facts<'_>) -> Result<Vec<Guard>, AllocError> {
 pub fn part_of(facts: &Facts<'_>, guard: &Guard) -> Result<Seen, AllocError> {
     let mut part = Seen::new(facts.alloc, facts.seen.width());
     for number in 0..facts.seen.rows() {
-        if facts.seen.value(number, guard.held.cell) == guard.held.value {
+        let has = facts.seen.value(number, guard.held.cell) == guard.held.value;
+        if has != guard.is_turned {
             part.add(facts.seen.row(number), &[])?;
         }
     }

@@ -1,21 +1,18 @@
 // Values of two cells that went together: which step number is which value of an enumeration.
-use crate::facts::Facts;
 use crate::guards::{Guard, add_values};
-use crate::proposal::{HeldValue, Proposal};
-use crate::subject::Sort;
+use proposal_forms::{HeldValue, Proposal};
 use scan_model::Side;
-use seen_values::Classes;
+use seen_values::{Classes, Facts, Sort};
 use std::alloc::AllocError;
 
 // How many pairs of values are said.
 const MOST_MAPS: usize = 256;
 
-// The values of integer cells and of enumerations that are no inputs.
+// The values of integer cells, of enumerations and of words that are no inputs.
 fn values_of(facts: &Facts<'_>) -> Result<Vec<Guard>, AllocError> {
     let mut values = Vec::new(facts.alloc);
     for class in 0..facts.classes.len() {
-        let is_named = matches!(facts.sort(class), Sort::Integer | Sort::Enumeration);
-        if is_named && !facts.is_of_inputs(class) {
+        if facts.sort(class) != Sort::Bool && !facts.is_of_inputs(class) {
             add_values(facts, class, &mut values)?;
         }
     }

@@ -1,5 +1,5 @@
 // Cells and values of both programs, as clauses name them.
-use plc_types::{DataType, Elementary, Value};
+use plc_types::{DataType, Elementary, Range, Value};
 use program_tree::{Cell, Program};
 use std::alloc::{AllocError, Global};
 
@@ -33,6 +33,51 @@ pub fn add_cell(names: &Names<'_>, number: usize, text: &mut String) -> Result<(
         text.push_str(cell.path.as_str())?;
     }
     Ok(())
+}
+
+/// The elementary type of a cell; of one of an enumeration none.
+pub fn kind_at(names: &Names<'_>, number: usize) -> Option<Elementary> {
+    match cell_at(names, number) {
+        Some(
+            (
+                _,
+                Cell {
+                    kind: DataType::Elementary(kind),
+                    ..
+                },
+            ),
+        ) => Some(*kind),
+        _ => None,
+    }
+}
+
+/// The range of a cell; where there is no such cell, 0 alone.
+pub fn range_at(names: &Names<'_>, number: usize) -> Range {
+    match cell_at(names, number) {
+        Some((_, cell)) => cell.range,
+        None => Range { low: 0, high: 0 },
+    }
+}
+
+/// Adds a cell as a value of a type, where one is given.
+pub fn add_cell_as(
+    names: &Names<'_>,
+    number: usize,
+    kind: Option<Elementary>,
+    text: &mut String,
+) -> Result<(), AllocError> {
+    let (Some(own), Some(kind)) = (kind_at(names, number), kind) else {
+        return add_cell(names, number, text);
+    };
+    if own == kind {
+        return add_cell(names, number, text);
+    }
+    text.push_str(own.name())?;
+    text.push_str("_TO_")?;
+    text.push_str(kind.name())?;
+    text.push_str("(")?;
+    add_cell(names, number, text)?;
+    text.push_str(")")
 }
 
 /// Adds a number in decimal digits.
@@ -78,6 +123,11 @@ pub fn add_value(
     }
 }
 
+/// Whether a cell is a BOOL one.
+pub fn is_bool(names: &Names<'_>, number: usize) -> bool {
+    kind_at(names, number) == Some(Elementary::Bool)
+}
+
 /// Adds that a cell has a value, or that it has not: a BOOL cell by its name alone.
 pub fn add_held(
     names: &Names<'_>,
@@ -86,16 +136,13 @@ pub fn add_held(
     negated: bool,
     text: &mut String,
 ) -> Result<(), AllocError> {
-    let Some((_, cell)) = cell_at(names, number) else {
-        return Ok(());
-    };
-    let is_bool = matches!(cell.kind, DataType::Elementary(Elementary::Bool));
+    let is_flag = is_bool(names, number);
     let is_true = value == 1;
-    if is_bool && is_true == negated {
+    if is_flag && is_true == negated {
         text.push_str("NOT ")?;
     }
     add_cell(names, number, text)?;
-    if is_bool {
+    if is_flag {
         return Ok(());
     }
     text.push_str(if negated { " <> " } else { " = " })?;

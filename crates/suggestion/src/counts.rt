@@ -1,7 +1,7 @@
 // Counts of BOOL cells that are TRUE.
 use crate::cells::{Names, add_cell};
-use crate::sums::add_sum;
-use plc_types::Value;
+use crate::sums::add_sum_as;
+use plc_types::{Elementary, Value};
 use std::alloc::AllocError;
 
 // How many terms have this factor.
@@ -61,5 +61,5 @@ pub fn add_count(
     if are_units && constant == 1 && others == 0 {
         return add_cells(names, terms, 1, text);
     }
-    add_sum(names, terms, constant, ("BOOL_TO_USINT(", ")"), text)
+    add_sum_as(names, terms, constant, Some(Elementary::Usint), text)
 }

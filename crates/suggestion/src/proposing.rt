@@ -7,9 +7,9 @@ use crate::stated_line::lines_of;
 use line_trials::{InvariantLine, Plan, try_runs};
 use plc_types::Value;
 use program_tree::Program;
-use proposals::{proposals, subjects_of};
+use proposals::proposals;
 use scan_model::Relation;
-use seen_values::Seen;
+use seen_values::{Seen, subjects_of};
 use std::alloc::{AllocError, Global};
 
 // How many candidates a relation may have.

@@ -19,7 +19,7 @@ use command_answers::{Status, put_last};
 use comparison_files::{
     Compared, KeptTexts, Scans, StatedTexts, accept_texts, circuits_of, put_fault, read_texts,
 };
-use drop_runs::Runs;
+use inductive_search::InductiveSearch;
 use outside::{OutErr, Shelf, Sink};
 use std::alloc::Global;
 
@@ -48,9 +48,16 @@ fn answer_compared<D: Decider, S: Shelf, K: Sink>(
 {
     match circuits_of(alloc, compared, scans) {
         Ok(circuits) => {
-            let mut runs = Runs::new(alloc, circuits.parts(), circuits.product());
+            let mut search = InductiveSearch::new(alloc, circuits.parts(), circuits.product());
             answer_finding(
-                alloc, decider, compared, &circuits, &mut runs, finding, shelf, out,
+                alloc,
+                decider,
+                compared,
+                &circuits,
+                &mut search,
+                finding,
+                shelf,
+                out,
             )
         }
         Err(fault) => put_fault(alloc, fault, out),
