@@ -7,8 +7,8 @@ use clause_core::Truth;
 use std::alloc::{AllocError, Global};
 use watched_propagation::{ClauseRef, Code, Propagator, read, write};
 
-/// In how many orders the literals of a clause are made false at most.
-const MOST_ORDERS: usize = 8;
+/// In how many orders the literals of a clause are made false at most. With eight, long clauses are passed over that later ones want.
+const MOST_ORDERS: usize = 100;
 
 /// How far a guide was gone through.
 #[derive(Drop)]

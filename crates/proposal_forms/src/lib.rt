@@ -8,7 +8,6 @@
 // - `proposal`: what may be proposed
 // - `shapes`: integer cells that follow one of the other program up to a bound, or its remainder or quotient
 // - `sums`: sums of integer cells, also of two types, and counts of BOOL cells
-// - `unions`: values of cells that came exactly where one of several values of cells of the other program did
 // - `words`: bits of words
 #![tactic(auto)]
 
@@ -21,7 +20,6 @@ mod junctions;
 mod proposal;
 mod shapes;
 mod sums;
-mod unions;
 mod words;
 
 pub use bounds::add_bounds;
@@ -35,5 +33,4 @@ pub use shapes::add_shapes;
 pub use sums::{
     add_counts, add_sums, add_sums_of_two, add_sums_of_types, can_be_written, is_number,
 };
-pub use unions::add_unions;
 pub use words::add_bits;

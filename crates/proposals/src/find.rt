@@ -1,11 +1,12 @@
 // All forms, the strongest first.
 use crate::guarded::add_guarded;
 use crate::maps::add_maps;
+use crate::unions::add_unions;
 use plc_types::Value;
 use proposal_forms::{
     Proposal, add_apart, add_bits, add_bounds, add_counts, add_equal, add_exclusive, add_flags,
     add_junctions, add_last_own, add_opposite, add_reaches, add_shapes, add_sums, add_sums_of_two,
-    add_sums_of_types, add_unions,
+    add_sums_of_types,
 };
 use scan_model::Side;
 use seen_values::{Facts, Seen, Subject, facts_of};

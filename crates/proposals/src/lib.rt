@@ -5,5 +5,6 @@ mod find;
 mod guarded;
 mod guards;
 mod maps;
+mod unions;
 
 pub use find::proposals;

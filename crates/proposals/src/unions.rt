@@ -1,7 +1,6 @@
 // Values of cells that came exactly where one of several values of cells of the other program did: states as one program and the
 // other one keep them.
-use crate::proposal::{HeldValue, Proposal};
-use plc_types::Value;
+use proposal_forms::{HeldValue, Proposal};
 use scan_model::Side;
 use seen_values::{Classes, Facts, Seen, Sort, few_values, mixed};
 use std::alloc::AllocError;
