@@ -12,7 +12,7 @@ from program_text import Trouble, VALUES, written
 WHOLE = "\u00a0"
 # A clause as reports name it: RELATE 2, and its text and tokens.
 Line = namedtuple("Line", "name text tokens")
-ROW_LINE = re.compile(rb"(SEEN|DROP|PAIR|SCAN)((?: -?[0-9]{1,20})*)\n")
+ROW_LINE = re.compile(rb"(SEEN|WALK|DROP|PAIR|SCAN)((?: -?[0-9]{1,20})*)\n")
 # The lines of a finding that hold rows are no longer.
 MOST_BYTES = 1_048_576
 

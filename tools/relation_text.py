@@ -11,8 +11,9 @@ from program_text import MOST_BYTES, Trouble, Unreadable, read_bytes, text_of, t
 Input = namedtuple("Input", "name old new")
 # A clause as it stands in the text, without comments, and its tokens.
 Clause = namedtuple("Clause", "text tokens")
-# The clauses of the RELATE lines, of the ENV lines and of the INVARIANT lines, each in the order of the text.
-Relation = namedtuple("Relation", "inputs clauses faults_equal environments invariants")
+# The clauses of the RELATE lines, of the ENV lines and of the INVARIANT lines, each in the order of the text, and the numbers of DEPTH and
+# CONFLICTS, None where there is no such line.
+Relation = namedtuple("Relation", "inputs clauses faults_equal environments invariants depth conflicts")
 
 
 def lines_of(tokens):
@@ -47,6 +48,11 @@ def input_of(line):
     raise Unreadable(line[0].line if line else 0, "this is no INPUT line: INPUT " + printed(line))
 
 
+def number_of(lines, wanted):
+    """The number of a line that begins with this word, None where there is none."""
+    return next((int(line[0].text) for word, line in lines if word == wanted and len(line) == 1 and line[0].text.isdigit()), None)
+
+
 def relation_of(text):
     """The relation that a file's bytes state."""
     lines = [line for line in lines_of(tokens_of(text_of(text))) if line]
@@ -59,7 +65,7 @@ def relation_of(text):
             clauses[word].append(Clause(printed(line), line))
     return Relation([input_of(line) for word, line in behind if word == "INPUT"], clauses["RELATE"],
                     any(word == "FAULTS" and line and line[0].upper == "EQUAL" for word, line in behind),
-                    clauses["ENV"], clauses["INVARIANT"])
+                    clauses["ENV"], clauses["INVARIANT"], number_of(behind, "DEPTH"), number_of(behind, "CONFLICTS"))
 
 
 def read_relation(path):

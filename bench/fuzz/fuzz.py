@@ -159,9 +159,17 @@ class Changes:
         what = self.random.choice(("tokens", "tokens", "tokens", "bytes"))
         return what, {"tokens": self.token_soup, "bytes": self.bytes}[what](text)
 
+    def deletions(self, text):
+        """Puts X lines with numbers that stand in the text, or with the numbers behind these, in front of lines."""
+        lines, numbers = text.split("\n"), [int(word) for word in text.split() if word.isdigit()] or [1]
+        for _ in range(self.random.randint(1, 2)):
+            clauses = sorted({self.random.choice(numbers) + self.random.randint(0, 2) for _ in range(self.random.randint(1, 3))})
+            lines.insert(self.random.randint(1, len(lines)), " ".join(["X", *map(str, clauses), "0"]))
+        return "\n".join(lines).encode("utf-8")
+
     def finding(self, text):
-        what = self.random.choice(("lines", "lines", "lines", "bits", "bytes"))
-        return what, {"lines": self.lines, "bits": self.bits, "bytes": self.bytes}[what](text)
+        what = self.random.choice(("lines", "lines", "lines", "deletions", "bits", "bytes"))
+        return what, {"lines": self.lines, "deletions": self.deletions, "bits": self.bits, "bytes": self.bytes}[what](text)
 
 
 class Over(Exception):
@@ -238,6 +246,12 @@ def is_same(first, second):
 
 def is_spent(run):
     return run[0].startswith(b"SPENT")
+
+
+def is_decided_so(first, second):
+    """Whether both say the same of a pair; how far the rows go may be open in one of them."""
+    verdicts = [run[0].split(b"\n")[0] for run in (first, second)]
+    return is_same(first, second) or first[1] == second[1] and verdicts[0] == verdicts[1] and any(b" spent\n" in run[0] for run in (first, second))
 
 
 class Round:
@@ -336,7 +350,7 @@ class Round:
         self.count(form, first)
         if second[1] is None and first[1] is None:
             return
-        if first[1] not in STATUSES or second[1] is not None and not is_spent(first) and not is_spent(second) and not is_same(first, second):
+        if first[1] not in STATUSES or second[1] is not None and not is_spent(first) and not is_spent(second) and not is_decided_so(first, second):
             self.differ(form, files, first, second)
         elif self.programs.finding() is not None:
             judged = self.programs.run(1, "check", "old", "new", "relation", "finding")

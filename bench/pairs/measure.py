@@ -1,6 +1,6 @@
 #!/usr/bin/env python3
 """Runs programs on the same words, one after the other and some times over, and prints for each the least processor time (user and
-system), the most memory, and the last line that it put; for all but the first the ratio of the first's time to its own. Memory is that
+system), the most memory, and the last line that it put but for the one on the reach; for all but the first the ratio of the first's time to its own. Memory is that
 which GNU time tells, since what this script holds itself counts for each process that it starts; where there is none, no memory is told.
 
 A program is written NAME=PATH. The word FINDING stands for a file of the program's own, which is named NAME.finding.
@@ -22,7 +22,7 @@ def run(path, words):
         child = os.posix_spawn(called[0], called, os.environ, file_actions=[(os.POSIX_SPAWN_DUP2, out.fileno(), 1)])
         _, _, usage = os.wait4(child, 0)
         out.seek(0)
-        lines = out.read().decode(errors="replace").split("\n")
+        lines = [line for line in out.read().decode(errors="replace").split("\n") if not line.startswith("REACH ")]
         memory = int(told.read().split()[-1]) / 1024 if TIME else 0.0
     return usage.ru_utime + usage.ru_stime, memory, (lines[-2] if len(lines) > 1 else "")
 

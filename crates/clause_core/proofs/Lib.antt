@@ -8,3 +8,4 @@ pub mod Sets
 pub mod Fronts
 pub mod Refuting
 pub mod Undone
+pub mod Always

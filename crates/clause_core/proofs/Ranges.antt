@@ -1,5 +1,5 @@
 -- Clauses whose variables rise have variables below one more than the number of variables.
-use Rattle.std.proofs.Common.{◌≡◌, ℕ, zero, suc, ◌<◌, ◌+◌, Bool, true, ◌&&◌, ◌||◌, List, [], ◌∷◌, ◌++◌, refl, ◌∙◌, ap, arith, nat_lt, nat_le, sym, take}
+use Rattle.std.proofs.Common.{◌≡◌, ℕ, zero, suc, ◌<◌, ◌≤◌, ◌+◌, Bool, true, ◌&&◌, ◌||◌, List, [], ◌∷◌, ◌++◌, refl, ◌∙◌, ap, arith, nat_lt, nat_le, sym, take, set}
 use Rattle.std.proofs.Math.Bool.{or-false, or_assoc}
 use Rattle.std.proofs.lemmas.Bool.{and_parts, and_from}
 use Rattle.std.specs.List.{list_any, list_all}
@@ -7,6 +7,7 @@ use Rattle.std.proofs.lemmas.Bool.Decides.{nat_tests}
 use Rattle.std.proofs.lemmas.List.Elements.{All-nil, All-cons}
 use Rattle.clause_core.specs.declared.literal.Lit.{Lit}
 use Rattle.clause_core.specs.Clauses.{rises, fits_in, is_inside, is_within}
+use Rattle.clause_core.specs.Deletions.{always}
 use Rattle.clause_core.specs.Steps.{VariablesBelow, AllVariablesBelow}
 
 at_most : (a b : ℕ) → nat_le a b ≡ true → a < b + 1
@@ -71,3 +72,18 @@ list_all-take p (suc n) (x ∷ xs) h =
 pub list_any-push : {X : Type 0} (p : X → Bool) (xs : List X) (y : X) → list_any p (xs ++ y ∷ []) ≡ (list_any p xs || p y)
 list_any-push p [] y = or-false (p y)
 list_any-push p (x ∷ xs) y = ap (λ z. p x || z) (list_any-push p xs y) ∙ sym (or_assoc (p x) (list_any p xs) (p y))
+
+pub list_all-set : {X : Type 0} (p : X → Bool) (xs : List X) (i : ℕ) (y : X) → list_all p xs ≡ true → p y ≡ true → list_all p (set xs i y) ≡ true
+list_all-set p [] i y h k = h
+list_all-set p (x ∷ xs) zero y h k =
+    let q = and_parts (p x) (list_all p xs) h in
+    and_from (p y) (list_all p xs) k q.1
+list_all-set p (x ∷ xs) (suc i) y h k =
+    let q = and_parts (p x) (list_all p xs) h in
+    and_from (p x) (list_all p (set xs i y)) q.0 (list_all-set p xs i y q.1 k)
+
+at_least_one : (n : ℕ) → 1 ≤ n → nat_le 1 n ≡ true
+at_least_one n h = grind (arith, nat_tests)
+
+pub is_within-always : (variables : ℕ) → 1 ≤ variables → is_within variables always ≡ true
+is_within-always variables h = ap (λ z. z && (z && true)) (at_least_one variables h)

@@ -34,7 +34,7 @@ same_literal v w false false h = (omega arith, refl)
 same_literal v w true false h = absurd (omega arith)
 same_literal v w false true h = absurd (omega arith)
 
-rank-same : (l m : Lit) → rank l ≡ rank m → l ≡ m
+pub rank-same : (l m : Lit) → rank l ≡ rank m → l ≡ m
 rank-same l m h =
     let s = same_literal l.variable m.variable l.negative m.negative h in
     let make : ℕ → Bool → Lit = λ v n. record { variable = v; negative = n } in

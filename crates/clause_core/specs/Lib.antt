@@ -8,4 +8,5 @@ pub mod Logs
 pub mod Decisions
 pub mod Propagation
 pub mod Undoing
+pub mod Deletions
 pub mod Inside

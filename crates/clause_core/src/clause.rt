@@ -2,6 +2,7 @@ ghost use Rattle.std.specs.Prelude.{◌≡◌, ℕ, Bool, List, ◌<◌, ◌≤�
 ghost use Rattle.std.specs.List.{list_any};
 ghost use Rattle.clause_core.specs.declared.literal.Lit.{Lit};
 ghost use Rattle.clause_core.specs.Clauses.{is_set, rises, is_within, set_of, inserted, place_in};
+ghost use Rattle.clause_core.specs.Deletions.{always};
 
 use crate::literal::Lit;
 use smallvec::SmallVec;
@@ -31,6 +32,22 @@ impl Clause {
         Clause {
             literals: SmallVec::new(alloc),
         }
+    }
+
+    /// Variable 1 or its negation, which takes no memory.
+    pub fn always(alloc: Global) -> Self
+        ensures { result ≡ always }
+    {
+        let mut literals = SmallVec::new(alloc);
+        literals.push_reserved(Lit {
+            variable: 1,
+            negative: false,
+        });
+        literals.push_reserved(Lit {
+            variable: 1,
+            negative: true,
+        });
+        Clause { literals }
     }
 
     /// The literals, in the order in which they are kept.

@@ -1,7 +1,8 @@
-ghost use Rattle.std.specs.Prelude.{◌≡◌, ℕ, ◌<◌, ◌+◌, ◌-◌, ◌^◌, ◌++◌, ◌∷◌, [], IsTrue, OnErr, OnOk, length};
+ghost use Rattle.std.specs.Prelude.{◌≡◌, ℕ, ◌<◌, ◌≤◌, ◌+◌, ◌-◌, ◌^◌, ◌++◌, ◌∷◌, [], IsTrue, OnErr, OnOk, length};
 ghost use Rattle.std.specs.List.{list_all};
 ghost use Rattle.clause_core.specs.Clauses.{is_within, is_set, set_of, rises};
 ghost use Rattle.clause_core.specs.Formula.{with_clause, first_clauses};
+ghost use Rattle.clause_core.specs.Deletions.{without_clause};
 
 use crate::clause::Clause;
 use crate::literal::Lit;
@@ -99,5 +100,16 @@ impl Cnf {
         ensures { self.new ≡ first_clauses count self.old }
     {
         self.clauses.truncate(count);
+    }
+
+    /// Holds the clause at a place, from 0, no more: what is always true stands there from now on, and the clause's memory is given
+    /// back. A place past the last clause changes nothing.
+    pub fn let_go(&mut self, place: usize)
+        requires { 1 ≤ self.old.variables }
+        ensures { self.new ≡ without_clause place self.old }
+    {
+        if place < self.clauses.len() {
+            self.clauses[place] = Clause::always(self.alloc);
+        }
     }
 }

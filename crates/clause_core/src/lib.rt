@@ -3,6 +3,7 @@
 // - `check`: whether a step of a derivation is right
 // - `clause`: clauses as rising lists of literals
 // - `cnf`: formulas: clauses over so many variables
+// - `covering`: clauses that are a part of another, and what stands for one that is held no more
 // - `decider`: what a decider of formulas owes
 // - `freshness`: whether a step's clause is fresh: no held one is a part of it, and unit propagation alone does not derive it
 // - `gate`: AND, XOR and MUX of literals
@@ -19,6 +20,7 @@ mod assignment;
 mod check;
 mod clause;
 mod cnf;
+mod covering;
 mod decider;
 mod freshness;
 mod gate;
@@ -34,6 +36,7 @@ pub use assignment::Assignment;
 pub use check::{Outcome, check_step, clause_at, follow_hints};
 pub use clause::{Clause, is_rising, is_within, law_set_of};
 pub use cnf::Cnf;
+pub use covering::{is_always, is_covered, is_part};
 pub use decider::{Decided, Decider};
 pub use freshness::{is_fresh, is_unit, shows_fresh};
 pub use gate::Gate;

@@ -14,7 +14,7 @@ fn is_verdict(status: Status) -> bool {
 }
 
 /// Adds a mismatch where a finding was saved that `check` judges otherwise than valid with the verdict, or one without a verdict. The names
-/// are those of OLD, NEW, the relation and the finding, and the verdict is a line.
+/// are those of OLD, NEW, the relation and the finding, and the verdict is its line and what is put behind it.
 pub(crate) fn compare_judged(
     alloc: Global,
     names: [&str; 4],

@@ -1,10 +1,10 @@
 -- What a checker holds, and what a step does to it.
-use Rattle.std.specs.Prelude.{◌≡◌, List, [], ◌∷◌, ◌++◌}
+use Rattle.std.specs.Prelude.{◌≡◌, ℕ, List, [], ◌∷◌, ◌++◌, drop}
 use Rattle.clause_core.specs.declared.literal.Lit.{Lit}
 use Rattle.clause_core.specs.declared.step.Step.{Step}
 use Rattle.clause_core.specs.declared.check.Outcome.{Outcome}
 use Rattle.clause_core.specs.declared.check.Outcome.TheVariants.{Accepted, UnknownHint as HintUnknown, NotUnit as HintNotUnit, NoConflict as HintsNoConflict}
-use Rattle.clause_core.specs.Formula.{Formula}
+use Rattle.clause_core.specs.Formula.{Formula, first_clauses}
 use Rattle.clause_core.specs.Steps.{outcome}
 use Rattle.derivation_check.specs.declared.fault.StepFault.{StepFault}
 use Rattle.derivation_check.specs.declared.fault.StepFault.TheVariants.{UnknownHint, NotUnit, NoConflict, Memory}
@@ -13,6 +13,10 @@ use Rattle.derivation_check.specs.declared.fault.StepFault.TheVariants.{UnknownH
 pub record Derivation : Type 0 where
   pub formula : Formula
   pub derived : List (List Lit)
+
+-- the first `given` clauses are the formula's
+abbrev pub derivation_from : ℕ → Formula → Derivation
+derivation_from given f = record { formula = first_clauses given f; derived = drop given f.clauses }
 
 abbrev pub held_of : Derivation → List (List Lit)
 held_of d = d.formula.clauses ++ d.derived

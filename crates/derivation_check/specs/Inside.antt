@@ -3,15 +3,13 @@ use Rattle.std.specs.Prelude.{◌≡◌, ℕ, ◌+◌, ◌≤◌, Bool, true, fa
 use Rattle.std.specs.List.{list_any}
 use Rattle.clause_core.specs.declared.literal.Lit.{Lit}
 use Rattle.clause_core.specs.declared.truth.Truth.TheVariants.{Open}
-use Rattle.clause_core.specs.Formula.{first_clauses}
 use Rattle.clause_core.specs.Satisfaction.{formula_true}
 use Rattle.derivation_check.specs.declared.checker.Checker.TheInside.{Inside}
-use Rattle.derivation_check.specs.Checks.{Derivation}
+use Rattle.derivation_check.specs.Checks.{Derivation, derivation_from}
 use Rattle.derivation_check.specs.Tests.{IsTestOf}
 
--- the first `given` clauses are the formula's
 abbrev pub derivation_of : Inside → Derivation
-derivation_of c = record { formula = first_clauses c.given c.held; derived = drop c.given c.held.clauses }
+derivation_of c = derivation_from c.given c.held
 
 abbrev pub is_empty : List Lit → Bool
 is_empty [] = true

@@ -1,23 +1,27 @@
-ghost use Rattle.std.specs.Prelude.{◌≡◌, ℕ, Bool, true, [], ◌↔◌, Contains, IsTrue, IfOk, IfErr, OnOk, OnErr};
+ghost use Rattle.std.specs.Prelude.{◌≡◌, ℕ, Bool, true, false, [], ◌↔◌, Contains, IsTrue, IfOk, IfErr, OnOk, OnErr};
 ghost use Rattle.clause_core.specs.Clauses.{rises};
 ghost use Rattle.clause_core.specs.Satisfaction.{Satisfies, HasNoSolution, clause_true};
 ghost use Rattle.clause_core.specs.Logs.{Accepts};
 ghost use Rattle.clause_core.specs.Freshness.{IsFresh};
 ghost use Rattle.derivation_check.specs.Checks.{held_of, Holds, FaultFits};
+ghost use Rattle.derivation_check.specs.Deletions.{may_delete, without};
 
-use crate::fault::StepFault;
+use crate::cover_index::CoverIndex;
+use crate::deletion::{Gone, is_refuted, judge_deletion};
+use crate::fault::{DelFault, StepFault};
 use crate::implication_graph::ImplicationGraph;
-use crate::lazy_test::{add, shows};
+use crate::lazy_test::{add, let_go, shows};
 use clause_core::{Cnf, Outcome, Step, Truth, check_step, clear, is_fresh, unassigned};
 use std::alloc::{AllocError, Global};
 use std::marker::Model;
 use watched_propagation::Propagator;
 
-/// A step was accepted.
+/// A step or a deletion was accepted.
 #[derive(Clone, Copy)]
 pub struct Ack;
 
-/// Holds the clauses of a formula and those derived from it, in this order and numbered from 1.
+/// Holds the clauses of a formula and those derived from it, in this order and numbered from 1. A derived clause that is deleted
+/// keeps its number; what is always true stands in its place.
 #[derive(Drop)]
 pub struct Checker {
     alloc: Global,
@@ -27,6 +31,8 @@ pub struct Checker {
     values: Vec<Truth>,
     test: Option<Propagator>,
     graph: ImplicationGraph,
+    covers: CoverIndex,
+    gone: Gone,
     is_refuted: bool,
 }
 
@@ -56,6 +62,8 @@ impl Checker {
             values,
             test: None,
             graph: ImplicationGraph::new(alloc),
+            covers: CoverIndex::new(alloc),
+            gone: Gone::NONE,
             is_refuted: false,
         })
     }
@@ -95,6 +103,7 @@ impl Checker {
                 self.is_refuted = self.is_refuted | step.clause.literals().is_empty();
                 // Where memory is wanting here, `fresh` is as right as ever, and takes longer.
                 add(&mut self.test, step.clause.literals(), step.hints.numbers());
+                self.covers.take_in(step.clause.literals());
                 Ok(Ack)
             }
             Outcome::UnknownHint(number) => Err(StepFault::UnknownHint(number)),
@@ -132,7 +141,25 @@ impl Checker {
         answer
     }
 
-    /// Whether an accepted step's clause was empty.
+    /// Holds a derived clause no more, where another that is held is a part of it. Its number stays, and no hint may name it any
+    /// more. It fails for no want of memory. In most cases it takes time in proportion to the literals of the clause and of those
+    /// that begin with one of them, and at most one pass over what is held.
+    pub fn delete(&mut self, number: usize) -> Result<Ack, DelFault>
+        ensures deleted { OnOk result
+            (IsTrue (may_delete self.old number) × (self.new ≡ without self.old number)) }
+        ensures refused { OnErr result (may_delete self.old number ≡ false) }
+        ensures unchanged { OnErr result (self.new ≡ self.old) }
+    {
+        judge_deletion(&mut self.covers, &self.held, self.given, number)?;
+        self.held.let_go(number - 1);
+        let derived = self.held.clauses().len().wrapping_sub(self.given);
+        let is_stale = self.gone.note(self.test.is_some(), derived);
+        let_go(&mut self.test, is_stale);
+        self.is_refuted = is_refuted(self.is_refuted, &self.held, self.given);
+        Ok(Ack)
+    }
+
+    /// Whether an accepted step's clause was empty, and is held.
     pub fn refuted(&self) -> bool
         ensures exact { IsTrue result ↔ Contains self.now.derived [] }
         ensures unsatisfiable { IsTrue result → HasNoSolution self.now.formula.clauses }

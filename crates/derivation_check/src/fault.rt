@@ -12,3 +12,12 @@ pub enum StepFault {
     #[error("out of memory")]
     Memory,
 }
+
+/// Why a clause is not deleted.
+#[derive(Debug, Drop, Error)]
+pub enum DelFault {
+    #[error("no derived clause of that number is held")]
+    NotHeld,
+    #[error("no other clause that is held is a part of it")]
+    NotCovered,
+}

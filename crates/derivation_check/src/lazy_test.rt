@@ -42,6 +42,15 @@ pub(crate) fn add(test: &mut Option<Propagator>, literals: &[Lit], hints: &[u32]
     }
 }
 
+/// Lets the test go where it holds too much that is held no more; one that stays is as right as before.
+pub(crate) fn let_go(test: &mut Option<Propagator>, is_stale: bool)
+    ensures { (f : Formula) → IsTestOf f test.old → IsTestOf f test.new }
+{
+    if is_stale {
+        *test = None;
+    }
+}
+
 // Takes the test out, or makes it where there is memory.
 fn take_or_make(alloc: Global, test: &mut Option<Propagator>, cnf: &Cnf) -> Option<Propagator>
     requires { IsTestOf cnf.now test.old }

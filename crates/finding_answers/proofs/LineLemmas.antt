@@ -1,18 +1,12 @@
--- The status of what is said of a finding.
-use Rattle.std.proofs.Common.{◌≡◌, ◌≢◌, refl, sym, ◌∙◌}
-use Rattle.judgement.specs.declared.answers.Judged.{Judged}
-use Rattle.judgement.specs.declared.answers.Judged.TheVariants as judgements
+-- Statuses and texts that were put.
+use Rattle.std.proofs.Common.{◌≡◌, ◌≢◌, ◌==◌, ℕ, List, [], ◌∷◌, true, length, refl, sym, ◌∙◌, arith}
 use Rattle.command_answers.specs.declared.status.Status.{Status}
-use Rattle.command_answers.specs.declared.status.Status.TheVariants.{Valid, Invalid, WriteFault, Memory}
-use Rattle.command_answers.specs.Answers.{extent_of, all_put}
-use Rattle.finding_answers.specs.Lines.{judged_status}
+use Rattle.command_answers.specs.declared.status.Status.TheVariants.{WriteFault, Memory}
 
-pub whole-judged_status : (j : Judged) → extent_of (judged_status j) ≡ all_put
-whole-judged_status (judgements.Valid v) = refl
-whole-judged_status (judgements.Bad line reason) = refl
+-- the status of what was put is no other than the one that was meant, where the sink and memory did not give up
+pub no_other : (status result other : Status) → (result ≢ WriteFault → result ≢ Memory → result ≡ status) → other ≢ WriteFault → other ≢ Memory → status ≢ other → result ≢ other
+no_other status result other ends w m a e = a (sym (ends (λ h. w (sym e ∙ h)) (λ h. m (sym e ∙ h))) ∙ e)
 
--- the status of what was put is no other than that of what is said, where the sink and memory did not give up
-pub no_other : (j : Judged) (status result other : Status) → status ≡ judged_status j → (result ≢ WriteFault → result ≢ Memory → result ≡ status)
-    → other ≢ WriteFault → other ≢ Memory → other ≢ Valid → other ≢ Invalid → result ≢ other
-no_other (judgements.Valid v) status result other s ends w m a b e = a (sym e ∙ ends (λ h. w (sym e ∙ h)) (λ h. m (sym e ∙ h)) ∙ s)
-no_other (judgements.Bad line reason) status result other s ends w m a b e = b (sym e ∙ ends (λ h. w (sym e ∙ h)) (λ h. m (sym e ∙ h)) ∙ s)
+pub nil-test : (text : List ℕ) → (length text == 0) ≡ true → text ≡ []
+nil-test [] h = refl
+nil-test (x ∷ xs) h = absurd (grind arith)

@@ -1,11 +1,9 @@
-// What is said of a finding, as text.
+// What is said of a finding that is not valid, as text.
 ghost use Rattle.std.specs.Prelude.{◌≡◌, IfOk, string_bytes};
-ghost use Rattle.finding_answers.specs.Lines.{reason_name, invalid_line, judged_line, judged_status};
+ghost use Rattle.finding_answers.specs.Lines.{reason_name, invalid_line};
 
-use crate::verdict::valid_line;
-use command_answers::Status;
 use itoa::Buffer;
-use judgement::{Judged, Reason};
+use judgement::Reason;
 use std::alloc::{AllocError, Global};
 
 fn reason_name(reason: Reason) -> &'static str
@@ -25,10 +23,12 @@ fn reason_name(reason: Reason) -> &'static str
         Reason::B11 => "B11",
         Reason::B12 => "B12",
         Reason::B13 => "B13",
+        Reason::B14 => "B14",
     }
 }
 
-fn invalid_line(alloc: Global, number: u64, reason: Reason) -> Result<String, AllocError>
+/// The line on a finding of which a line fails a test.
+pub(crate) fn invalid_line(alloc: Global, number: u64, reason: Reason) -> Result<String, AllocError>
     ensures { IfOk result (λ line. string_bytes line ≡ invalid_line number reason) }
 {
     let mut digits = Buffer::new();
@@ -38,24 +38,4 @@ fn invalid_line(alloc: Global, number: u64, reason: Reason) -> Result<String, Al
     line.push_str(reason_name(reason))?;
     line.push_str("\n")?;
     Ok(line)
-}
-
-/// The line on what is said of a finding.
-pub(crate) fn judged_line(alloc: Global, judged: Judged) -> Result<String, AllocError>
-    ensures { IfOk result (λ line. string_bytes line ≡ judged_line judged) }
-{
-    match judged {
-        Judged::Valid(verdict) => valid_line(alloc, verdict),
-        Judged::Bad { line, reason } => invalid_line(alloc, line, reason),
-    }
-}
-
-/// The status of what is said of a finding.
-pub(crate) fn judged_status(judged: Judged) -> Status
-    ensures { result ≡ judged_status judged }
-{
-    match judged {
-        Judged::Valid(_) => Status::Valid,
-        Judged::Bad { .. } => Status::Invalid,
-    }
 }

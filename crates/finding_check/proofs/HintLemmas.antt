@@ -13,15 +13,13 @@ use Rattle.clause_core.specs.Clauses.{fits_in, rises}
 use Rattle.clause_core.specs.Steps.{clause_at, clause_status, after_status, at_hint, follow_hints, outcome}
 use Rattle.clause_core.specs.Values.{put_true}
 use Rattle.clause_core.specs.declared.step.Step.{Step}
-use Rattle.finding_lines.specs.declared.line.Asked.{Asked}
 use Rattle.finding_lines.specs.declared.line.Line.TheVariants as lines
 use Rattle.derivation_check.specs.Checks.{Derivation, held_of}
-use Rattle.queries.specs.Settings.{Setting}
 use Rattle.judgement.specs.Steps.{clause_of, hint_of, hints_of, step_of, with_derived, is_accepted, is_empty}
-use Rattle.judgement.specs.Places.{Place, in_log, in_query, goes, fails}
-use Rattle.judgement.specs.Tests.{when, in_log_next, in_query_next}
+use Rattle.judgement.specs.Places.{Place, in_log, goes, fails}
+use Rattle.judgement.specs.Tests.{when, in_log_next}
 use Rattle.judgement.specs.declared.answers.Reason.TheVariants.{B2, B6, B10}
-use Rattle.finding_check.specs.StepMoves.{log_moved, query_moved}
+use Rattle.finding_check.specs.StepMoves.{log_moved, spent_moved, spent_next}
 use Rattle.finding_check.specs.Numbers.{short_hint, short_hints}
 
 -- past what is held there is no clause
@@ -90,15 +88,15 @@ log_moved-short d behind literals hints step few clause short ordered =
     (accepted_same d.formula.variables (held_of d) (clause_of literals) hints few)
     ∙ ap (λ b. when b B2 (log_moved d behind (step_of literals hints))) (sym ordered)
 
-pub query_moved-short : (s : Setting) (asked : Asked) (d : Derivation) (left : ℕ) (fresh : Bool) (literals hints : List ℤ) (step : Step) → length (held_of d) < 2 ^ 32
+pub spent_moved-short : (place : Derivation → ℕ → Place) (d : Derivation) (left : ℕ) (fresh : Bool) (literals hints : List ℤ) (step : Step) → length (held_of d) < 2 ^ 32
     → step.clause ≡ clause_of literals → step.hints ≡ short_hints hints → rises d.formula.variables (clause_of literals) ≡ true
-    → query_moved asked d left fresh step ≡ in_query_next s asked d left fresh (lines.Derived literals hints)
-query_moved-short s asked d left fresh literals hints step few clause short ordered =
+    → spent_moved place d left fresh step ≡ spent_next place d left fresh literals hints
+spent_moved-short place d left fresh literals hints step few clause short ordered =
     let is : step ≡ record { clause = clause_of literals; hints = short_hints hints } = same_step step (clause_of literals) (short_hints hints) clause short in
-    ap (query_moved asked d left fresh) is
-    ∙ ap (λ b. when b B6 (when (not (is_empty (clause_of literals)) && (fresh && nat_lt 0 left)) B10 (goes (in_query asked (with_derived d (clause_of literals)) (left - 1)))))
+    ap (spent_moved place d left fresh) is
+    ∙ ap (λ b. when b B6 (when (not (is_empty (clause_of literals)) && (fresh && nat_lt 0 left)) B10 (goes (place (with_derived d (clause_of literals)) (left - 1)))))
     (accepted_same d.formula.variables (held_of d) (clause_of literals) hints few)
-    ∙ ap (λ b. when b B2 (query_moved asked d left fresh (step_of literals hints))) (sym ordered)
+    ∙ ap (λ b. when b B2 (spent_moved place d left fresh (step_of literals hints))) (sym ordered)
 
 -- a step whose variables are not the formula's
 pub in_log-unordered : (d : Derivation) (behind : Place) (literals hints : List ℤ) → rises d.formula.variables (clause_of literals) ≡ false
@@ -106,10 +104,10 @@ pub in_log-unordered : (d : Derivation) (behind : Place) (literals hints : List 
 in_log-unordered d behind literals hints e =
     ap (λ b. when b B2 (log_moved d behind (step_of literals hints))) (sym e)
 
-pub in_query-unordered : (s : Setting) (asked : Asked) (d : Derivation) (left : ℕ) (told : Bool) (literals hints : List ℤ) → rises d.formula.variables (clause_of literals) ≡ false
-    → fails B2 ≡ in_query_next s asked d left told (lines.Derived literals hints)
-in_query-unordered s asked d left told literals hints e =
-    ap (λ b. when b B2 (query_moved asked d left told (step_of literals hints))) (sym e)
+pub spent-unordered : (place : Derivation → ℕ → Place) (d : Derivation) (left : ℕ) (told : Bool) (literals hints : List ℤ) → rises d.formula.variables (clause_of literals) ≡ false
+    → fails B2 ≡ spent_next place d left told literals hints
+spent-unordered place d left told literals hints e =
+    ap (λ b. when b B2 (spent_moved place d left told (step_of literals hints))) (sym e)
 
 pub IfOk-map : {A E : Type 0} {P Q : A → Type 0} → (r : Result A E) → ((x : A) → P x → Q x) → IfOk r P → IfOk r Q
 IfOk-map (Ok x) h p = h x p

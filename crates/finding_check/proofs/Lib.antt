@@ -1,3 +1,5 @@
 pub mod HintLemmas
 pub mod RoomLemmas
 pub mod Standing
+pub mod VersionLemmas
+pub mod WalkLemmas

@@ -75,7 +75,7 @@ module _ (s : Setting) (formula : QueryData → Formula) (limit : ℕ) (file : L
   -- a line fails by its tests
   fails_by : (place : Place) (rest more : List ℕ) (line : Line) (reason : Reason) → ahead rest ≡ ended (spelled line) more → IsLine line
       → Moves s formula place line (fails reason) → Fails s formula place rest reason
-  fails_by (finished verdict) rest more line reason e form moves = (some-ahead rest (spelled line) more e, (let same : fails reason ≡ fails B12 = moves.2 in cc))
+  fails_by (finished reach verdict) rest more line reason e form moves = (some-ahead rest (spelled line) more e, (let same : fails reason ≡ fails B12 = moves.2 in cc))
   fails_by place rest more line reason e form moves =
       subst (λ a. FailsAhead s formula place a reason) (sym e) (inr (line, form, refl, moves))
 
@@ -94,7 +94,7 @@ module _ (s : Setting) (formula : QueryData → Formula) (limit : ℕ) (file : L
 
   ends_by : (place : Place) (lines : List Line) (before : ℕ) (rest : List ℕ) → Stands s formula limit file lines place rest → before ≡ length lines → rest ≡ []
       → ¬ IsTooLong s formula limit lines rest → IsJudged s formula limit file (Ok (end_of_file place (before + 1)))
-  ends_by (finished verdict) lines before rest stands counted none short = (lines, subst (Stands s formula limit file lines (finished verdict)) none stands)
+  ends_by (finished reach verdict) lines before rest stands counted none short = (lines, subst (Stands s formula limit file lines (finished reach verdict)) none stands)
   ends_by place lines before rest stands counted none short =
       (lines, place, rest, stands, ap (λ n. n + 1) counted, short, subst (λ bytes. Fails s formula place bytes B13) (sym none) refl)
 
@@ -104,7 +104,7 @@ module _ (s : Setting) (formula : QueryData → Formula) (limit : ℕ) (file : L
       ends_by place r.lines before (rest_of reader file) r.stands r.counted (nothing-ahead _ answer.1) (λ long. let within = answer.0 in absurd (omega (arith, long, within, same, r.at)))
 
   broken_by : (place : Place) (rest : List ℕ) (reason : Reason) → rest ≢ [] → FailsAhead s formula place (ahead rest) reason → Fails s formula place rest (reason_at place reason)
-  broken_by (finished verdict) rest reason some h = (some, refl)
+  broken_by (finished reach verdict) rest reason some h = (some, refl)
   broken_by place rest reason some h = h
 
   pub judged_stopped : (reader : Reading) (before : ℕ) (place : Place) (error : ReadErr) → IsReadTo s formula limit file reader before place → reader.limit ≡ limit
@@ -138,7 +138,7 @@ module _ (s : Setting) (formula : QueryData → Formula) (limit : ℕ) (file : L
 
 module _ (c : Comparison) (formula : QueryData → Formula) where
   pub shows_end : (place : Place) (line : ℕ) → Known c formula place → ShowsVerdict c formula (Ok (end_of_file place line))
-  shows_end (finished verdict) line k = k
+  shows_end (finished reach verdict) line k = k
   shows_end place line k = tt
 
   pub shows_stopped : (place : Place) (line : ℕ) (error : ReadErr) → ShowsVerdict c formula (stopped place line error)

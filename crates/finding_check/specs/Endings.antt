@@ -12,11 +12,11 @@ use Rattle.judgement.specs.declared.answers.JudgeErr.TheVariants.{Fault, Memory,
 
 -- behind the END line a line that is broken fails as any byte does
 abbrev pub reason_at : Place → Reason → Reason
-reason_at (finished verdict) reason = B12
+reason_at (finished reach verdict) reason = B12
 reason_at place reason = reason
 
 abbrev pub end_of_file : Place → ℕ → Judged
-end_of_file (finished verdict) line = Valid verdict
+end_of_file (finished reach verdict) line = Valid verdict reach
 end_of_file place line = Bad line B13
 
 abbrev pub stopped : Place → ℕ → ReadErr → Result Judged JudgeErr

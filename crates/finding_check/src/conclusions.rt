@@ -1,5 +1,5 @@
-// Verdicts with the numbers of a set.
-ghost use Rattle.std.specs.Prelude.{◌≡◌};
+// Verdicts: with the numbers of a set, and compared.
+ghost use Rattle.std.specs.Prelude.{◌≡◌, ◌↔◌, IsTrue};
 ghost use Rattle.queries.specs.Sets.{members};
 ghost use Rattle.pair_trial.specs.Trials.{setting_in};
 ghost use Rattle.judgement.specs.Tests.{related_by, open_by};
@@ -29,4 +29,17 @@ pub fn open_by(trial: &Trial, set: &CandidateSet) -> Conclusion
         candidates as i64,
         trial.depth() as i64,
     )
+}
+
+/// Whether a verdict is that one, numbers and all.
+pub fn is_same(conclusion: Conclusion, verdict: Conclusion) -> bool
+    ensures { IsTrue result ↔ conclusion ≡ verdict }
+{
+    match verdict {
+        Conclusion::Vacuous => conclusion == Conclusion::Vacuous,
+        Conclusion::Related(kept, of) => conclusion == Conclusion::Related(kept, of),
+        Conclusion::Different(scans) => conclusion == Conclusion::Different(scans),
+        Conclusion::Open(kept, of, depth) => conclusion == Conclusion::Open(kept, of, depth),
+        Conclusion::Spent(asked, count) => conclusion == Conclusion::Spent(asked, count),
+    }
 }

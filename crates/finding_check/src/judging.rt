@@ -28,7 +28,7 @@ fn reason_at(stage: &Stage, reason: Reason) -> Reason
     ensures { (pair : Pair) → result ≡ reason_at (place_of stage.now pair) reason }
 {
     match stage {
-        Stage::Finished(_) => Reason::B12,
+        Stage::Finished(_, _) => Reason::B12,
         _ => reason,
     }
 }
@@ -38,7 +38,7 @@ fn end_of_file(stage: &Stage, line: u64) -> Judged
     ensures { (pair : Pair) → result ≡ end_of_file (place_of stage.now pair) line }
 {
     match stage {
-        Stage::Finished(verdict) => Judged::Valid(*verdict),
+        Stage::Finished(reach, verdict) => Judged::Valid(*verdict, *reach),
         _ => Judged::Bad {
             line,
             reason: Reason::B13,

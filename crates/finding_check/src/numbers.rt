@@ -1,8 +1,8 @@
-// The numbers of a D line as a step.
+// The numbers of a D line as a step, and those of an X line.
 ghost use Rattle.std.specs.Prelude.{◌≡◌, ◌<◌, true, false, length, pos, slice_index_or, IfOk, MatchOption};
 ghost use Rattle.std.specs.Int.RustNames.{unsigned_abs};
 ghost use Rattle.clause_core.specs.Clauses.{rises};
-ghost use Rattle.judgement.specs.Steps.{literal_of, clause_of};
+ghost use Rattle.judgement.specs.Steps.{literal_of, clause_of, hint_of};
 ghost use Rattle.finding_check.specs.Numbers.{short_hint, short_hints};
 
 use clause_core::{Clause, Hints, Lit, Step, is_rising};
@@ -70,6 +70,13 @@ fn short_hint(number: Value) -> u32
     } else {
         0
     }
+}
+
+/// The number of a clause, as an X line gives it: one that is not above 0 is that of none.
+pub fn number_of(number: Value) -> usize
+    ensures { result ≡ hint_of number }
+{
+    if 0 <= number { number as usize } else { 0 }
 }
 
 /// The hints of some numbers.

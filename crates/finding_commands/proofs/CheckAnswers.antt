@@ -13,12 +13,14 @@ use Rattle.finding_commands.specs.Checks.{CheckReports, judged, too_long, ShowsV
 -- where the status is VALID, a verdict was put that is shown
 valid_shown : (t : Texts) (r : Report) (old new : Option (List ℕ)) → CheckReports t r → Valid ≡ r.status → new ≡ extended old r.text → ShowsValid t old new
 valid_shown t r old new (not_compared h) s put = absurd (let g : Valid ≡ Refused = s ∙ refusal_status t r h in cc)
-valid_shown t r old new (on_finding c accepted (judged (judgements.Valid verdict) is shown e)) s put = record {
+valid_shown t r old new (on_finding c accepted (judged (judgements.Valid verdict reach) is (shown, reached) e)) s put = record {
   compared = c;
   verdict = verdict;
+  reach = reach;
   accepted = accepted;
   judged = is;
   shown = shown;
+  reached = reached;
   put = put ∙ ap (λ x. extended old x.text) e;
 }
 valid_shown t r old new (on_finding c accepted (judged (judgements.Bad line reason) is shown e)) s put = absurd (let g : Valid ≡ Invalid = s ∙ ap (λ x. x.status) e in cc)

@@ -22,16 +22,17 @@ use Rattle.finding_commands.specs.Explanations.{ExplainReports, ReportsExplained
 pub reported : (c : Comparison) (formula : QueryData → Formula) (file : List ℕ) (said : Explained) (r : Report) → IsExplained c formula most_bytes file (Ok said) → r ≡ explained_report said
     → ReportsExplained c formula file r
 reported c formula file (explanations.Valid text) r is e =
-    explained is.0 is.1 is.2 is.3 (e ∙ ap (λ (l : List ℕ). record { text = l ++ codes "\n"; status = Valid }) is.4)
+    explained is.0 is.1 is.2 is.3 is.4 (e ∙ ap (λ (l : List ℕ). record { text = l ++ codes "\n"; status = Valid }) is.5)
 reported c formula file (explanations.Bad line reason) r is e = invalid line reason is e
 
 -- where the status is that of VALID, a report was put that is shown
 explained_shown : (t : Texts) (r : Report) (old new : Option (List ℕ)) → ExplainReports t r → Valid ≡ r.status → new ≡ extended old r.text → ShowsExplained t old new
 explained_shown t r old new (not_compared h) s put = absurd (let g : Valid ≡ Refused = s ∙ refusal_status t r h in cc)
-explained_shown t r old new (on_finding c accepted (explained ls verdict stands shown e)) s put = record {
+explained_shown t r old new (on_finding c accepted (explained ls verdict reach stands shown e)) s put = record {
   compared = c;
   lines = ls;
   verdict = verdict;
+  reach = reach;
   accepted = accepted;
   stands = stands;
   shown = shown;

@@ -15,18 +15,18 @@ use Rattle.finding_answers.specs.Lines.{most_bytes, judged_report, too_long_repo
 use Rattle.finding_commands.proofs.Once as of_four
 use Rattle.finding_commands.specs.Checks.{CheckReports, ReportsFinding, judged, too_long}
 
--- the report on what is said of a finding
-abbrev report_of : Result Judged JudgeErr → Report
-report_of (Ok said) = judged_report said
-report_of (Err e) = too_long_report
+-- the report on what is said of a finding, on a relation of such a DEPTH
+abbrev report_of : ℕ → Result Judged JudgeErr → Report
+report_of depth (Ok said) = judged_report depth said
+report_of depth (Err e) = too_long_report
 
 finding_once : (c : Comparison) (formula : QueryData → Formula) (finding : List ℕ) (r s : Report) → ReportsFinding c formula finding r → ReportsFinding c formula finding s → r ≡ s
 finding_once c formula finding r s (judged a is shown e) (judged b is' shown' d) =
-    e ∙ ap report_of (one_judgement_is (setting_of c) formula most_bytes finding (Ok a) (Ok b) is is' tt tt) ∙ sym d
+    e ∙ ap (report_of c.relation.depth) (one_judgement_is (setting_of c) formula most_bytes finding (Ok a) (Ok b) is is' tt tt) ∙ sym d
 finding_once c formula finding r s (judged a is shown e) (too_long is' d) =
-    e ∙ ap report_of (one_judgement_is (setting_of c) formula most_bytes finding (Ok a) (Err M8) is is' tt tt) ∙ sym d
+    e ∙ ap (report_of c.relation.depth) (one_judgement_is (setting_of c) formula most_bytes finding (Ok a) (Err M8) is is' tt tt) ∙ sym d
 finding_once c formula finding r s (too_long is e) (judged b is' shown' d) =
-    e ∙ ap report_of (one_judgement_is (setting_of c) formula most_bytes finding (Err M8) (Ok b) is is' tt tt) ∙ sym d
+    e ∙ ap (report_of c.relation.depth) (one_judgement_is (setting_of c) formula most_bytes finding (Err M8) (Ok b) is is' tt tt) ∙ sym d
 finding_once c formula finding r s (too_long is e) (too_long is' d) = e ∙ sym d
 
 pub reports_once : (t : Texts) (r s : Report) → CheckReports t r → CheckReports t s → AreAlike r s

@@ -3,13 +3,12 @@ use Rattle.std.specs.Prelude.{ℕ, List, ◌++◌, codes, string_bytes}
 use Rattle.finding_lines.specs.declared.line.Line.{Line}
 use Rattle.finding_lines.specs.declared.line.Conclusion.{Conclusion}
 use Rattle.queries.specs.Comparisons.{Comparison}
-use Rattle.judgement.specs.declared.answers.Judged.TheVariants as judgements
 use Rattle.finding_report.specs.Reports.{report_text}
 use Rattle.finding_explain.specs.declared.answers.Explained.{Explained}
 use Rattle.finding_explain.specs.declared.answers.Explained.TheVariants as explanations
 use Rattle.command_answers.specs.declared.status.Status.TheVariants.{Valid}
 use Rattle.command_answers.specs.Reports.{Report}
-use Rattle.finding_answers.specs.Lines.{judged_report}
+use Rattle.finding_answers.specs.Lines.{invalid_report}
 
 -- the report on the lines of a finding and its verdict, and a line feed
 abbrev pub report_line : Comparison → List Line → Conclusion → List ℕ
@@ -21,4 +20,4 @@ report_on c ls verdict = record { text = report_line c ls verdict; status = Vali
 -- what is said of a finding
 abbrev pub explained_report : Explained → Report
 explained_report (explanations.Valid text) = record { text = string_bytes text ++ codes "\n"; status = Valid }
-explained_report (explanations.Bad line reason) = judged_report (judgements.Bad line reason)
+explained_report (explanations.Bad line reason) = invalid_report line reason

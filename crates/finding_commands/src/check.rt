@@ -31,7 +31,8 @@ pub fn answer_check<S: Shelf, K: Sink>(
     ensures ends { Ends (asking_to_check old.now new.now relation.now finding.now) result (change (S.state shelf.old) (S.state shelf.new)) (K.state out.old) (K.state out.new) }
     ensures usage { result ≢ Status.Usage }
 
-    // Where the answer is VALID and a verdict, that is the verdict of the model on what the texts state, or SPENT with its log.
+    // Where the answer is VALID and a verdict, that is the verdict of the model on what the texts state, or SPENT with its log; and where a line
+    // on reach is behind it, that is the reach of the model, or the query for one row more is spent.
     ensures shown { (t : Texts) → (asking_to_check old.now new.now relation.now finding.now).Tells (S.state shelf.old) t
         → result ≡ Status.Valid → ShowsValid t (K.state out.old).taken (K.state out.new).taken }
 

@@ -68,7 +68,7 @@ impl FindingCommand for Checking {
         out: &mut K,
     ) -> Status {
         match judge_finding(alloc, compared, queries, finding, shelf) {
-            Ok(judged) => put_judged(alloc, judged, out),
+            Ok(judged) => put_judged(alloc, compared.relation().depth, judged, out),
             Err(error) => put_unjudged(alloc, error, out),
         }
     }

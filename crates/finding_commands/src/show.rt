@@ -5,9 +5,8 @@ ghost use Rattle.command_answers.specs.Answers.{Answers};
 ghost use Rattle.finding_commands.specs.Lines.{explained_report};
 
 use command_answers::{Status, put_report};
-use finding_answers::put_judged;
+use finding_answers::put_invalid;
 use finding_explain::Explained;
-use judgement::Judged;
 use outside::Sink;
 use std::alloc::{AllocError, Global};
 
@@ -31,6 +30,6 @@ pub(crate) fn put_explained<K: Sink>(alloc: Global, explained: Explained, out: &
 {
     match explained {
         Explained::Valid(text) => put_report(out, line_of(text), Status::Valid),
-        Explained::Bad { line, reason } => put_judged(alloc, Judged::Bad { line, reason }, out),
+        Explained::Bad { line, reason } => put_invalid(alloc, line, reason, out),
     }
 }

@@ -12,6 +12,7 @@ use Rattle.queries.specs.Questions.{QueryData}
 use Rattle.judgement.specs.Places.{finished}
 use Rattle.judgement.specs.Findings.{IsJudged}
 use Rattle.judgement.specs.Shown.{IsShown}
+use Rattle.judgement.specs.declared.answers.Reach.{Reach}
 use Rattle.judgement.specs.declared.answers.Judged.TheVariants as judged
 use Rattle.judgement.specs.declared.answers.JudgeErr.{JudgeErr}
 use Rattle.judgement.specs.declared.answers.JudgeErr.TheVariants.{Fault, Memory, M8}
@@ -52,22 +53,22 @@ module _ (c : Comparison) where
   unread_has_verdict verdict (read.Unended n) = tt
 
 module _ (c : Comparison) (formula : QueryData → Formula) where
-  explained_by : (limit : ℕ) (file : List ℕ) (verdict : Conclusion) (result : Result Explained JudgeErr) → IsJudged (setting_of c) formula limit file (Ok (judged.Valid verdict)) → IsShown c formula verdict
+  explained_by : (limit : ℕ) (file : List ℕ) (verdict : Conclusion) (reach : Reach) (result : Result Explained JudgeErr) → IsJudged (setting_of c) formula limit file (Ok (judged.Valid verdict reach)) → IsShown c formula verdict
       → ((ls : List Line) → IsFileOf (setting_of c) limit file ls → IsReported c ls verdict result) → IsExplained c formula limit file result
-  explained_by limit file verdict (Ok (Valid text)) j shown h = (j.0, verdict, j.1, shown, h j.0 (finding_lines (setting_of c) formula limit file j.0 (finished verdict) j.1))
-  explained_by limit file verdict (Ok (Bad line reason)) j shown h = absurd (h j.0 (finding_lines (setting_of c) formula limit file j.0 (finished verdict) j.1))
-  explained_by limit file verdict (Err Fault) j shown h = tt
-  explained_by limit file verdict (Err Memory) j shown h = tt
-  explained_by limit file verdict (Err M8) j shown h = absurd (h j.0 (finding_lines (setting_of c) formula limit file j.0 (finished verdict) j.1))
+  explained_by limit file verdict reach (Ok (Valid text)) j shown h = (j.0, verdict, reach, j.1, shown, h j.0 (finding_lines (setting_of c) formula limit file j.0 (finished reach verdict) j.1))
+  explained_by limit file verdict reach (Ok (Bad line reason)) j shown h = absurd (h j.0 (finding_lines (setting_of c) formula limit file j.0 (finished reach verdict) j.1))
+  explained_by limit file verdict reach (Err Fault) j shown h = tt
+  explained_by limit file verdict reach (Err Memory) j shown h = tt
+  explained_by limit file verdict reach (Err M8) j shown h = absurd (h j.0 (finding_lines (setting_of c) formula limit file j.0 (finished reach verdict) j.1))
 
   -- a valid finding, and the report on its lines
-  pub told_explained : (limit : ℕ) (told : Option (List ℕ)) (verdict : Conclusion) (result : Result Explained JudgeErr)
-      → IfSome told (λ file. IsJudged (setting_of c) formula limit file (Ok (judged.Valid verdict)))
+  pub told_explained : (limit : ℕ) (told : Option (List ℕ)) (verdict : Conclusion) (reach : Reach) (result : Result Explained JudgeErr)
+      → IfSome told (λ file. IsJudged (setting_of c) formula limit file (Ok (judged.Valid verdict reach)))
       → IsShown c formula verdict
       → IfSome told (λ file. (ls : List Line) → IsFileOf (setting_of c) limit file ls → IsReported c ls verdict result)
       → IfSome told (λ file. IsExplained c formula limit file result)
-  told_explained limit None verdict result j shown h = tt
-  told_explained limit (Some file) verdict result j shown h = explained_by limit file verdict result j shown h
+  told_explained limit None verdict reach result j shown h = tt
+  told_explained limit (Some file) verdict reach result j shown h = explained_by limit file verdict reach result j shown h
 
   pub shows_report : (verdict : Conclusion) (result : Result Explained JudgeErr) → HasVerdict c verdict result → IsShown c formula verdict → ShowsReport c formula result
   shows_report verdict (Ok (Valid text)) h shown = (verdict, h, shown)

@@ -15,6 +15,7 @@ use Rattle.judgement.specs.Places.{finished}
 use Rattle.judgement.specs.Findings.{Stands, IsJudged}
 use Rattle.judgement.specs.Shown.{IsShown}
 use Rattle.judgement.specs.declared.answers.Reason.TheVariants.{B1, B13}
+use Rattle.judgement.specs.declared.answers.Reach.{Reach}
 use Rattle.judgement.specs.declared.answers.Judged.TheVariants as judged
 use Rattle.judgement.specs.declared.answers.JudgeErr.{JudgeErr}
 use Rattle.judgement.specs.declared.answers.JudgeErr.TheVariants.{Fault, Memory, M8}
@@ -25,7 +26,7 @@ use Rattle.finding_explain.specs.declared.answers.Explained.TheVariants.{Valid, 
 -- What is said of a file: it is a finding, its verdict is shown, and this is the report on its lines and its verdict; else what the judge says.
 abbrev pub IsExplained : Comparison → (QueryData → Formula) → ℕ → List ℕ → Result Explained JudgeErr → Type 0
 IsExplained c formula limit file (Ok (Valid text)) =
-    (ls : List Line) × (verdict : Conclusion) × Stands (setting_of c) formula limit file ls (finished verdict) [] × IsShown c formula verdict × (string_bytes text ≡ report_text c ls verdict)
+    (ls : List Line) × (verdict : Conclusion) × (reach : Reach) × Stands (setting_of c) formula limit file ls (finished reach verdict) [] × IsShown c formula verdict × (string_bytes text ≡ report_text c ls verdict)
 IsExplained c formula limit file (Ok (Bad line reason)) = IsJudged (setting_of c) formula limit file (Ok (judged.Bad line reason))
 IsExplained c formula limit file (Err error) = IsJudged (setting_of c) formula limit file (Err error)
 

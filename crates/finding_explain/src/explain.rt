@@ -115,6 +115,6 @@ pub fn explain_finding<Q: Queries, S: Shelf>(
         shelf,
     )? {
         Judged::Bad { line, reason } => Ok(Explained::Bad { line, reason }),
-        Judged::Valid(verdict) => report_file(alloc, compared, finding, shelf, verdict),
+        Judged::Valid(verdict, _) => report_file(alloc, compared, finding, shelf, verdict),
     }
 }

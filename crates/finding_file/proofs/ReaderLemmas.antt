@@ -2,8 +2,9 @@
 use Rattle.std.proofs.Common.{◌≡◌, ℕ, ◌+◌, ◌<◌, List, [], ◌∷◌, ◌++◌, length, take, drop, Option, Some, None, ap, sym, ◌∙◌, arith, append_assoc, length-append}
 use Rattle.std.specs.Prelude.{IfSome}
 use Rattle.std.proofs.lemmas.List.{length-take-le}
+use Rattle.finding_lines.specs.declared.line.Version.TheVariants.{One, Two}
 use Rattle.finding_lines.specs.declared.line.Line.{Line}
-use Rattle.finding_lines.specs.declared.line.Line.TheVariants.{Header, Seen, Dropping, Pair, Scan, Log, Query, Derived, End}
+use Rattle.finding_lines.specs.declared.line.Line.TheVariants.{Header, Seen, Walk, Dropping, Pair, Scan, Log, Query, Derived, Deleted, End}
 use Rattle.finding_lines.specs.Spelling.{spelled, written}
 use Rattle.finding_file.specs.Reading.{Reading, IsSamePlace, IsPast}
 use Rattle.finding_file.specs.Searching.{IsFirstFeed}
@@ -21,14 +22,17 @@ told-both (Some b) P Q R p q f = f b p q
 
 -- a line has a byte or more
 pub spelled-some : (l : Line) → 0 < length (spelled l)
-spelled-some Header = omega arith
+spelled-some (Header One) = omega arith
+spelled-some (Header Two) = omega arith
 spelled-some (Seen ns) = omega arith
+spelled-some (Walk ns) = omega arith
 spelled-some (Dropping ns) = omega arith
 spelled-some (Pair ns) = omega arith
 spelled-some (Scan ns) = omega arith
 spelled-some (Log q) = omega arith
 spelled-some (Query q) = omega arith
 spelled-some (Derived ls hs) = omega arith
+spelled-some (Deleted ids) = omega arith
 spelled-some (End v) = omega arith
 
 -- how many bytes a line has that was held

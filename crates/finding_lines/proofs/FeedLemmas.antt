@@ -8,11 +8,12 @@ use Rattle.std.proofs.lemmas.List.Elements.{All-nil, All-cons, All-head, All-tai
 use Rattle.std.proofs.lemmas.Str.Parse.{digit_from_value}
 use Rattle.std.proofs.lemmas.Fmt.{decimal_is_IsNumeral}
 use Rattle.finding_lines.specs.declared.line.Asked.{Asked}
-use Rattle.finding_lines.specs.declared.line.Asked.TheVariants.{First, Step, Goal, Deep}
+use Rattle.finding_lines.specs.declared.line.Asked.TheVariants as questions
 use Rattle.finding_lines.specs.declared.line.Conclusion.{Conclusion}
 use Rattle.finding_lines.specs.declared.line.Conclusion.TheVariants.{Vacuous, Related, Different, Open, Spent}
+use Rattle.finding_lines.specs.declared.line.Version.TheVariants.{One, Two}
 use Rattle.finding_lines.specs.declared.line.Line.{Line}
-use Rattle.finding_lines.specs.declared.line.Line.TheVariants.{Header, Seen, Dropping, Pair, Scan, Log, Query, Derived, End}
+use Rattle.finding_lines.specs.declared.line.Line.TheVariants.{Header, Seen, Walk, Dropping, Pair, Scan, Log, Query, Derived, Deleted, End}
 use Rattle.finding_lines.specs.Form.{IsNumber, AreNumbers, AskedFits, ConclusionFits, IsLine}
 use Rattle.finding_lines.specs.Spelling.{spaced, spaced_all, asked, concluded, ended, derived, spelled}
 use Rattle.finding_lines.specs.Reading.{LacksFeed}
@@ -54,10 +55,11 @@ all-lacks (n ∷ ns) good = joined (spaced n) (spaced_all ns) (spaced-lacks n (A
 
 asked-lacks : (q : Asked) → AskedFits q → LacksFeed (asked q)
 unfolding has_none
-asked-lacks First fits = literal (codes " FIRST") refl
-asked-lacks Step fits = literal (codes " STEP") refl
-asked-lacks Goal fits = literal (codes " GOAL") refl
-asked-lacks (Deep d) fits = joined (codes " DEEP") (spaced d) (literal (codes " DEEP") refl) (spaced-lacks d fits)
+asked-lacks questions.First fits = literal (codes " FIRST") refl
+asked-lacks questions.Step fits = literal (codes " STEP") refl
+asked-lacks questions.Goal fits = literal (codes " GOAL") refl
+asked-lacks (questions.Deep d) fits = joined (codes " DEEP") (spaced d) (literal (codes " DEEP") refl) (spaced-lacks d fits)
+asked-lacks (questions.Walk r) fits = joined (codes " WALK") (spaced r) (literal (codes " WALK") refl) (spaced-lacks r fits)
 
 concluded-lacks : (v : Conclusion) → ConclusionFits v → LacksFeed (concluded v)
 unfolding has_none
@@ -84,8 +86,10 @@ ended-lacks ns good = joined (spaced_all ns) (codes " 0") (all-lacks ns good) (l
 
 pub spelled-lacks_feed : (l : Line) → IsLine l → LacksFeed (spelled l)
 unfolding has_none
-spelled-lacks_feed Header good = literal (codes "REGVER FINDING 1") refl
+spelled-lacks_feed (Header One) good = literal (codes "REGVER FINDING 1") refl
+spelled-lacks_feed (Header Two) good = literal (codes "REGVER FINDING 2") refl
 spelled-lacks_feed (Seen ns) good = joined (codes "SEEN") (spaced_all ns) (literal (codes "SEEN") refl) (all-lacks ns good.fits)
+spelled-lacks_feed (Walk ns) good = joined (codes "WALK") (spaced_all ns) (literal (codes "WALK") refl) (all-lacks ns good.fits)
 spelled-lacks_feed (Dropping ns) good = joined (codes "DROP") (spaced_all ns) (literal (codes "DROP") refl) (all-lacks ns good.fits)
 spelled-lacks_feed (Pair ns) good = joined (codes "PAIR") (spaced_all ns) (literal (codes "PAIR") refl) (all-lacks ns good.fits)
 spelled-lacks_feed (Scan ns) good = joined (codes "SCAN") (spaced_all ns) (literal (codes "SCAN") refl) (all-lacks ns good.fits)
@@ -94,4 +98,5 @@ spelled-lacks_feed (Query q) good = joined (codes "QUERY") (asked q) (literal (c
 spelled-lacks_feed (Derived ls hs) good =
     joined (codes "D") (derived ls hs) (literal (codes "D") refl)
     (joined (ended ls) (ended hs) (ended-lacks ls good.fits.0) (ended-lacks hs good.fits.1))
+spelled-lacks_feed (Deleted ids) good = joined (codes "X") (ended ids) (literal (codes "X") refl) (ended-lacks ids good.fits)
 spelled-lacks_feed (End v) good = joined (codes "END") (concluded v) (literal (codes "END") refl) (concluded-lacks v good.fits)

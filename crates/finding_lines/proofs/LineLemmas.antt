@@ -1,18 +1,20 @@
 -- A line has one spelling.
-use Rattle.std.proofs.Common.{◌≡◌, ℕ, ℤ, List, [], ◌∷◌, ◌++◌, Option, Some, None, get_or, length, arith, refl, ap, sym, ◌∙◌}
+use Rattle.std.proofs.Common.{◌≡◌, ◌≢◌, ℕ, ℤ, List, [], ◌∷◌, ◌++◌, Option, Some, None, get_or, length, arith, refl, ap, sym, ◌∙◌}
 use Rattle.std.specs.Prelude.{codes}
 use Rattle.std.proofs.lemmas.List.{append-nil, append_cancel_left}
 use Rattle.std.proofs.lemmas.List.Elements.{All-head, All-tail}
 use Rattle.finding_lines.specs.declared.line.Asked.{Asked}
 use Rattle.finding_lines.specs.declared.line.Conclusion.{Conclusion}
 use Rattle.finding_lines.specs.declared.line.Conclusion.TheVariants.{Vacuous, Related, Different, Open, Spent}
+use Rattle.finding_lines.specs.declared.line.Version.TheVariants.{One, Two}
+use Rattle.finding_lines.specs.declared.line.Version.{Version}
 use Rattle.finding_lines.specs.declared.line.Line.{Line}
-use Rattle.finding_lines.specs.declared.line.Line.TheVariants.{Header, Seen, Dropping, Pair, Scan, Log, Query, Derived, End}
+use Rattle.finding_lines.specs.declared.line.Line.TheVariants.{Header, Seen, Walk, Dropping, Pair, Scan, Log, Query, Derived, Deleted, End}
 use Rattle.finding_lines.specs.Form.{IsNumber, AreNumbers, AskedFits, ConclusionFits, IsLine}
 use Rattle.finding_lines.specs.Spelling.{spaced, spaced_all, asked, concluded, ended, derived, spelled}
 use Rattle.finding_lines.specs.Reading.{ReadsLine}
 use Rattle.finding_lines.proofs.SpellingLemmas.{spaced-split, spaced-alone, Opens-spaced_all, asked-alone, asked-split}
-use Rattle.finding_lines.proofs.RowLemmas.{Opens-ended, ended-split, literals-nonzero, hints-nonzero}
+use Rattle.finding_lines.proofs.RowLemmas.{Opens-ended, ended-split, literals-nonzero, hints-nonzero, ids-nonzero}
 
 numbers-one : (ms ns : List ℤ) → AreNumbers ms → AreNumbers ns → spaced_all ms ≡ spaced_all ns → ms ≡ ns
 numbers-one [] [] gm gn e = refl
@@ -30,7 +32,7 @@ asked-one p q fp fq e = (asked-alone p q [] fp fq tt (append-nil (asked p) ∙ e
 number-one : (m n : ℤ) → IsNumber m → IsNumber n → spaced m ≡ spaced n → m ≡ n
 number-one m n fm fn e = (spaced-alone m n [] fm fn tt (append-nil (spaced m) ∙ e)).0
 
-concluded-one : (v w : Conclusion) → ConclusionFits v → ConclusionFits w → concluded v ≡ concluded w → v ≡ w
+pub concluded-one : (v w : Conclusion) → ConclusionFits v → ConclusionFits w → concluded v ≡ concluded w → v ≡ w
 concluded-one Vacuous Vacuous fv fw e = refl
 concluded-one (Related k c) (Related l d) fv fw e =
     let tails : spaced k ++ (codes " of" ++ spaced c) ≡ spaced l ++ (codes " of" ++ spaced d) = cc in
@@ -66,9 +68,26 @@ derived-one ls ks hs gs good also e =
     let more = ended-split hs gs [] [] (hints-nonzero hs good.fits.1 good.form.1) (hints-nonzero gs also.fits.1 also.form.1) tt tt (append-nil (ended hs) ∙ parts.1 ∙ sym (append-nil (ended gs))) in
     (parts.0, more.0)
 
+deleted-one : (ns ms : List ℤ) → IsLine (Deleted ns) → IsLine (Deleted ms) → ended ns ≡ ended ms → ns ≡ ms
+deleted-one ns ms good also e =
+    (ended-split ns ms [] [] (ids-nonzero ns good.fits good.form) (ids-nonzero ms also.fits also.form) tt tt (append-nil (ended ns) ∙ e ∙ sym (append-nil (ended ms)))).0
+
+-- two headers are told apart by their last letter, a header and another line by their first
+header-one : (v w : Version) → spelled (Header v) ≡ spelled (Header w) → v ≡ w
+header-one One One e = refl
+header-one Two Two e = refl
+header-one v w e = let letters = ap (λ (s : List ℕ). get_or s 15 0) e in absurd (omega (arith, letters))
+
+header-apart : (v : Version) (l : Line) → get_or (spelled l) 0 0 ≢ 82 → spelled (Header v) ≢ spelled l
+header-apart One l apart e = apart (sym (ap (λ (s : List ℕ). get_or s 0 0) e))
+header-apart Two l apart e = apart (sym (ap (λ (s : List ℕ). get_or s 0 0) e))
+
 pub one_spelling : (l m : Line) → IsLine l → IsLine m → spelled l ≡ spelled m → l ≡ m
-one_spelling Header Header gl gm e = refl
+one_spelling (Header v) (Header w) gl gm e = ap Header (header-one v w e)
+one_spelling (Header v) m gl gm e = absurd (header-apart v m (λ letter. omega (arith, letter)) e)
+one_spelling l (Header w) gl gm e = absurd (header-apart w l (λ letter. omega (arith, letter)) (sym e))
 one_spelling (Seen a) (Seen b) gl gm e = ap Seen (numbers-one a b gl.fits gm.fits (append_cancel_left (codes "SEEN") (spaced_all a) (spaced_all b) e))
+one_spelling (Walk a) (Walk b) gl gm e = ap Walk (numbers-one a b gl.fits gm.fits (append_cancel_left (codes "WALK") (spaced_all a) (spaced_all b) e))
 one_spelling (Dropping a) (Dropping b) gl gm e = ap Dropping (numbers-one a b gl.fits gm.fits (append_cancel_left (codes "DROP") (spaced_all a) (spaced_all b) e))
 one_spelling (Pair a) (Pair b) gl gm e = ap Pair (numbers-one a b gl.fits gm.fits (append_cancel_left (codes "PAIR") (spaced_all a) (spaced_all b) e))
 one_spelling (Scan a) (Scan b) gl gm e = ap Scan (numbers-one a b gl.fits gm.fits (append_cancel_left (codes "SCAN") (spaced_all a) (spaced_all b) e))
@@ -79,6 +98,7 @@ one_spelling (Derived ls hs) (Derived ks gs) gl gm e =
     let one : ls ≡ ks = parts.0 in
     let two : hs ≡ gs = parts.1 in
     cc
+one_spelling (Deleted a) (Deleted b) gl gm e = ap Deleted (deleted-one a b gl gm (append_cancel_left (codes "X") (ended a) (ended b) e))
 one_spelling (End v) (End w) gl gm e = ap End (concluded-one v w gl.fits gm.fits (append_cancel_left (codes "END") (concluded v) (concluded w) e))
 one_spelling (Dropping a) (Derived ks gs) gl gm e =
     let second = ap (λ (s : List ℕ). get_or s 1 0) (e ∙ ap (λ s. codes "D" ++ s) (derived-first ks gs).1) in

@@ -6,16 +6,18 @@ use Rattle.std.proofs.lemmas.Bool.{eqb-false}
 use Rattle.std.proofs.lemmas.Bool.Decides.{Decides-eqb}
 use Rattle.std.proofs.lemmas.List.{append-nil, append_cancel_left, nil_from_length}
 use Rattle.finding_lines.specs.declared.line.Asked.{Asked}
-use Rattle.finding_lines.specs.declared.line.Asked.TheVariants.{First, Step, Goal, Deep}
+use Rattle.finding_lines.specs.declared.line.Asked.TheVariants as questions
 use Rattle.finding_lines.specs.declared.line.Conclusion.{Conclusion}
 use Rattle.finding_lines.specs.declared.line.Conclusion.TheVariants.{Vacuous, Related, Different, Open, Spent}
+use Rattle.finding_lines.specs.declared.line.Version.TheVariants.{One, Two}
 use Rattle.finding_lines.specs.declared.line.Line.{Line}
-use Rattle.finding_lines.specs.declared.line.Line.TheVariants.{Header, Seen, Dropping, Pair, Scan, Log, Query, Derived, End}
-use Rattle.finding_lines.specs.Form.{IsNumber, AreNumbers, AskedFits, ConclusionFits, IsLine, rises_from, all_positive}
+use Rattle.finding_lines.specs.declared.line.Line.TheVariants.{Header, Seen, Walk, Dropping, Pair, Scan, Log, Query, Derived, Deleted, End}
+use Rattle.finding_lines.specs.Form.{IsNumber, AreNumbers, AskedFits, ConclusionFits, IsEnding, IsLine, rises_from, all_positive, are_ids}
 use Rattle.finding_lines.specs.Spelling.{spaced, spaced_all, asked, concluded, ended, derived, spelled}
 use Rattle.finding_lines.specs.Reading.{Opens, IsLabel, IsTaken, NoneTaken, AreNonzero, HasNoRow, Reads}
 use Rattle.finding_lines.proofs.SpellingLemmas.{spaced-split, spaced-alone, Opens-label, asked-split, asked-alone}
-use Rattle.finding_lines.proofs.RowLemmas.{Opens-ended, ended-split, literals-nonzero, hints-nonzero}
+use Rattle.finding_lines.proofs.RowLemmas.{Opens-ended, ended-split, literals-nonzero, hints-nonzero, ids-nonzero}
+use Rattle.finding_lines.proofs.LineLemmas.{concluded-one}
 
 -- whether something is left
 pub some-left : (rest : List ℕ) (b : Bool) → b ≡ eqb (length rest) 0 → b ≡ false → 0 < length rest
@@ -82,11 +84,13 @@ pub asked-none : (bytes : List ℕ)
     → ((more : List ℕ) → Opens more → bytes ≢ codes " STEP" ++ more)
     → ((more : List ℕ) → Opens more → bytes ≢ codes " GOAL" ++ more)
     → ((n : ℤ) (more : List ℕ) → IsNumber n → Opens more → bytes ≢ codes " DEEP" ++ (spaced n ++ more))
+    → ((n : ℤ) (more : List ℕ) → IsNumber n → Opens more → bytes ≢ codes " WALK" ++ (spaced n ++ more))
     → NoneTaken AskedFits asked bytes
-asked-none bytes first step goal deep First more fits opens e = first more opens e
-asked-none bytes first step goal deep Step more fits opens e = step more opens e
-asked-none bytes first step goal deep Goal more fits opens e = goal more opens e
-asked-none bytes first step goal deep (Deep d) more fits opens e = deep d more fits opens e
+asked-none bytes first step goal deep walk questions.First more fits opens e = first more opens e
+asked-none bytes first step goal deep walk questions.Step more fits opens e = step more opens e
+asked-none bytes first step goal deep walk questions.Goal more fits opens e = goal more opens e
+asked-none bytes first step goal deep walk (questions.Deep d) more fits opens e = deep d more fits opens e
+asked-none bytes first step goal deep walk (questions.Walk r) more fits opens e = walk r more fits opens e
 
 pub query-none : (bytes keyword rest : List ℕ) → bytes ≡ keyword ++ rest → NoneTaken AskedFits asked rest → (q : Asked) → AskedFits q → bytes ≢ keyword ++ asked q
 query-none bytes keyword rest whole none q fits e =
@@ -142,6 +146,15 @@ conclusion-none bytes vacuous related different opened spent (Different d) fits 
 conclusion-none bytes vacuous related different opened spent (Open k c n) fits e = opened k c n fits.0 fits.1 fits.2 e
 conclusion-none bytes vacuous related different opened spent (Spent q n) fits e = spent q n fits.0 fits.1 e
 
+-- a verdict that was read and cannot stand in an END line
+pub ending-none : (bytes rest : List ℕ) (w : Conclusion) → bytes ≡ codes "END" ++ rest → ConclusionFits w → rest ≡ concluded w → (IsEnding w → ⊥) → (v : Conclusion) → ConclusionFits v → IsEnding v → bytes ≢ codes "END" ++ concluded v
+ending-none bytes rest w whole good is apart v fits ends e =
+    let tails = append_cancel_left (codes "END") rest (concluded v) (sym whole ∙ e) in
+    apart (subst IsEnding (concluded-one v w fits good (sym tails ∙ is)) ends)
+
+pub conclusion-behind : (bytes rest : List ℕ) → bytes ≡ codes "END" ++ rest → ((v : Conclusion) → ConclusionFits v → rest ≢ concluded v) → (v : Conclusion) → ConclusionFits v → IsEnding v → bytes ≢ codes "END" ++ concluded v
+conclusion-behind bytes rest whole none v fits ends e = none v fits (append_cancel_left (codes "END") rest (concluded v) (sym whole ∙ e))
+
 -- what a reader of a row of numbers answers
 abbrev pub ReadsRow : List ℕ → List ℕ → Option (List ℤ) → Type 0
 ReadsRow bytes keyword o = MatchOption o ((ns : List ℤ) → AreNumbers ns → bytes ≢ keyword ++ spaced_all ns) (λ ns. AreNumbers ns × (bytes ≡ keyword ++ spaced_all ns))
@@ -173,22 +186,39 @@ pub derived-some : (bytes rest back end : List ℕ) (ls hs : List ℤ) → bytes
 derived-some bytes rest back end ls hs whole first second e =
     whole ∙ ap (λ r. codes "D" ++ r) (first.whole ∙ ap (λ b. ended ls ++ b) (second.whole ∙ ap (λ m. ended hs ++ m) e ∙ append-nil (ended hs)))
 
+-- the numbers of clauses
+pub deleted-list : (bytes rest : List ℕ) → bytes ≡ codes "X" ++ rest → NoneTaken AreNonzero ended rest → (ns : List ℤ) → AreNumbers ns → IsTrue (are_ids ns) → bytes ≢ codes "X" ++ ended ns
+deleted-list bytes rest whole none ns good form e =
+    none ns [] (ids-nonzero ns good form) tt (append_cancel_left (codes "X") rest (ended ns) (sym whole ∙ e) ∙ sym (append-nil (ended ns)))
+
+pub deleted-taken : (bytes rest end : List ℕ) (ms : List ℤ) → bytes ≡ codes "X" ++ rest → IsTaken AreNonzero ended rest ms end → (ns : List ℤ) → AreNumbers ns → IsTrue (are_ids ns) → bytes ≡ codes "X" ++ ended ns → (ms ≡ ns) × (end ≡ [])
+deleted-taken bytes rest end ms whole taken ns good form e =
+    let tails = append_cancel_left (codes "X") rest (ended ns) (sym whole ∙ e) in
+    ended-split ms ns end [] taken.good (ids-nonzero ns good form) taken.opens tt (sym taken.whole ∙ tails ∙ sym (append-nil (ended ns)))
+
+pub deleted-some : (bytes rest end : List ℕ) (ns : List ℤ) → bytes ≡ codes "X" ++ rest → IsTaken AreNonzero ended rest ns end → end ≡ [] → bytes ≡ codes "X" ++ ended ns
+deleted-some bytes rest end ns whole taken e = whole ∙ ap (λ r. codes "X" ++ r) (taken.whole ∙ ap (λ m. ended ns ++ m) e ∙ append-nil (ended ns))
+
 -- no line without a row
 pub short-none : (bytes : List ℕ)
     → bytes ≢ codes "REGVER FINDING 1"
+    → bytes ≢ codes "REGVER FINDING 2"
     → ((q : Asked) → AskedFits q → bytes ≢ codes "LOG" ++ asked q)
     → ((q : Asked) → AskedFits q → bytes ≢ codes "QUERY" ++ asked q)
-    → ((v : Conclusion) → ConclusionFits v → bytes ≢ codes "END" ++ concluded v)
+    → ((v : Conclusion) → ConclusionFits v → IsEnding v → bytes ≢ codes "END" ++ concluded v)
     → (l : Line) → IsLine l → HasNoRow l → bytes ≢ spelled l
-short-none bytes header logged queried ends Header good bare e = header e
-short-none bytes header logged queried ends (Seen ns) good bare e = absurd bare
-short-none bytes header logged queried ends (Dropping ns) good bare e = absurd bare
-short-none bytes header logged queried ends (Pair ns) good bare e = absurd bare
-short-none bytes header logged queried ends (Scan ns) good bare e = absurd bare
-short-none bytes header logged queried ends (Log q) good bare e = logged q good.fits e
-short-none bytes header logged queried ends (Query q) good bare e = queried q good.fits e
-short-none bytes header logged queried ends (Derived ls hs) good bare e = absurd bare
-short-none bytes header logged queried ends (End v) good bare e = ends v good.fits e
+short-none bytes header second logged queried ends (Header One) good bare e = header e
+short-none bytes header second logged queried ends (Header Two) good bare e = second e
+short-none bytes header second logged queried ends (Seen ns) good bare e = absurd bare
+short-none bytes header second logged queried ends (Walk ns) good bare e = absurd bare
+short-none bytes header second logged queried ends (Dropping ns) good bare e = absurd bare
+short-none bytes header second logged queried ends (Pair ns) good bare e = absurd bare
+short-none bytes header second logged queried ends (Scan ns) good bare e = absurd bare
+short-none bytes header second logged queried ends (Log q) good bare e = logged q good.fits e
+short-none bytes header second logged queried ends (Query q) good bare e = queried q good.fits e
+short-none bytes header second logged queried ends (Derived ls hs) good bare e = absurd bare
+short-none bytes header second logged queried ends (Deleted ns) good bare e = absurd bare
+short-none bytes header second logged queried ends (End v) good bare e = ends v good.fits good.form e
 
 -- no line
 pub line-none : (bytes : List ℕ)
@@ -197,14 +227,18 @@ pub line-none : (bytes : List ℕ)
     → ((ns : List ℤ) → AreNumbers ns → bytes ≢ codes "SCAN" ++ spaced_all ns)
     → ((ns : List ℤ) → AreNumbers ns → bytes ≢ codes "SEEN" ++ spaced_all ns)
     → ((ns : List ℤ) → AreNumbers ns → bytes ≢ codes "PAIR" ++ spaced_all ns)
+    → ((ns : List ℤ) → AreNumbers ns → bytes ≢ codes "WALK" ++ spaced_all ns)
+    → ((ns : List ℤ) → AreNumbers ns → IsTrue (are_ids ns) → bytes ≢ codes "X" ++ ended ns)
     → ((l : Line) → IsLine l → HasNoRow l → bytes ≢ spelled l)
     → (l : Line) → IsLine l → bytes ≢ spelled l
-line-none bytes derives drops scans sees pairs short Header good e = short Header good tt e
-line-none bytes derives drops scans sees pairs short (Seen ns) good e = sees ns good.fits e
-line-none bytes derives drops scans sees pairs short (Dropping ns) good e = drops ns good.fits e
-line-none bytes derives drops scans sees pairs short (Pair ns) good e = pairs ns good.fits e
-line-none bytes derives drops scans sees pairs short (Scan ns) good e = scans ns good.fits e
-line-none bytes derives drops scans sees pairs short (Log q) good e = short (Log q) good tt e
-line-none bytes derives drops scans sees pairs short (Query q) good e = short (Query q) good tt e
-line-none bytes derives drops scans sees pairs short (Derived ls hs) good e = derives ls hs good.fits.0 good.fits.1 good.form.0 good.form.1 e
-line-none bytes derives drops scans sees pairs short (End v) good e = short (End v) good tt e
+line-none bytes derives drops scans sees pairs walks deletes short (Header version) good e = short (Header version) good tt e
+line-none bytes derives drops scans sees pairs walks deletes short (Seen ns) good e = sees ns good.fits e
+line-none bytes derives drops scans sees pairs walks deletes short (Walk ns) good e = walks ns good.fits e
+line-none bytes derives drops scans sees pairs walks deletes short (Dropping ns) good e = drops ns good.fits e
+line-none bytes derives drops scans sees pairs walks deletes short (Pair ns) good e = pairs ns good.fits e
+line-none bytes derives drops scans sees pairs walks deletes short (Scan ns) good e = scans ns good.fits e
+line-none bytes derives drops scans sees pairs walks deletes short (Log q) good e = short (Log q) good tt e
+line-none bytes derives drops scans sees pairs walks deletes short (Query q) good e = short (Query q) good tt e
+line-none bytes derives drops scans sees pairs walks deletes short (Derived ls hs) good e = derives ls hs good.fits.0 good.fits.1 good.form.0 good.form.1 e
+line-none bytes derives drops scans sees pairs walks deletes short (Deleted ns) good e = deletes ns good.fits good.form e
+line-none bytes derives drops scans sees pairs walks deletes short (End v) good e = short (End v) good tt e

@@ -1,13 +1,14 @@
 -- Rows of numbers, read from the left.
 use Rattle.std.proofs.Common.{◌≡◌, ◌≢◌, ℕ, ◌<◌, ℤ, pos, negsuc, List, [], ◌∷◌, ◌++◌, length, true, refl, ap, sym, ◌∙◌, arith, append_assoc, lit<, of_z, w64}
-use Rattle.std.specs.Prelude.{codes, nat_lt, int_lt}
+use Rattle.std.specs.Prelude.{codes, nat_lt, int_lt, ◌<ℤ◌, ◌≤ℤ◌}
 use Rattle.std.specs.Int.RustNames.{unsigned_abs}
 use Rattle.std.specs.List.{All}
 use Rattle.std.proofs.lemmas.List.{append-nil}
 use Rattle.std.proofs.lemmas.List.Elements.{All-nil, All-cons, All-head, All-tail, All-push}
 use Rattle.std.proofs.lemmas.Fmt.{decimal_digit}
+use Rattle.std.proofs.lemmas.Int.{ints}
 use Rattle.std.proofs.lemmas.Bool.{false≢true, ltb-true, and_parts}
-use Rattle.finding_lines.specs.Form.{IsNumber, AreNumbers, rises_from, all_positive}
+use Rattle.finding_lines.specs.Form.{IsNumber, AreNumbers, rises_from, all_positive, rises_above, are_ids}
 use Rattle.finding_lines.specs.Spelling.{spaced, spaced_all, ended}
 use Rattle.finding_lines.specs.Reading.{Opens, IsTaken, NoneTaken, AreNonzero}
 use Rattle.finding_lines.proofs.SpellingLemmas.{spaced-split, Opens-spaced_all}
@@ -158,6 +159,21 @@ literals-nonzero ls good h = record { numbers = good; nonzero = rises-nonzero 0 
 
 pub hints-nonzero : (hs : List ℤ) → AreNumbers hs → all_positive hs ≡ true → AreNonzero hs
 hints-nonzero hs good h = record { numbers = good; nonzero = positive-nonzero hs h }
+
+-- and so are numbers that rise from above 0
+lt_above : (x y : ℤ) → int_lt x y ≡ true → x <ℤ y
+lt_above x y h = grind (arith, ints)
+
+above-nonzero : (low : ℤ) (ns : List ℤ) → pos 0 ≤ℤ low → rises_above low ns ≡ true → All (λ n. n ≢ pos 0) ns
+above-nonzero low [] from h = All-nil _
+above-nonzero low (n ∷ ns) from h =
+    let parts = and_parts (int_lt low n) (rises_above n ns) h in
+    let above : low <ℤ n = lt_above low n parts.0 in
+    All-cons (λ k. k ≢ pos 0) n ns (λ e. omega (arith, ints)) (above-nonzero n ns (omega (arith, ints)) parts.1)
+
+pub ids-nonzero : (ns : List ℤ) → AreNumbers ns → are_ids ns ≡ true → AreNonzero ns
+ids-nonzero [] good h = absurd (false≢true h)
+ids-nonzero (n ∷ ns) good h = record { numbers = good; nonzero = above-nonzero (pos 0) (n ∷ ns) (omega (arith, ints)) h }
 
 -- the test whether a number is 0
 pub zero-from : (n : ℤ) → IsNumber n → of_z w64 n ≡ 0 → n ≡ pos 0

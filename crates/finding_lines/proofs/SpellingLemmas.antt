@@ -7,7 +7,7 @@ use Rattle.std.proofs.lemmas.List.Elements.{All-nil, All-cons, All-head, All-tai
 use Rattle.std.proofs.lemmas.Str.Parse.{digit_from_value}
 use Rattle.std.proofs.lemmas.Fmt.{decimal_is_IsNumeral, signed_decimal_injective}
 use Rattle.finding_lines.specs.declared.line.Asked.{Asked}
-use Rattle.finding_lines.specs.declared.line.Asked.TheVariants.{First, Step, Goal, Deep}
+use Rattle.finding_lines.specs.declared.line.Asked.TheVariants as questions
 use Rattle.finding_lines.specs.Form.{IsNumber, AskedFits}
 use Rattle.finding_lines.specs.Spelling.{spaced, spaced_all, asked}
 use Rattle.finding_lines.specs.Reading.{LacksSpace, Opens, IsLabel}
@@ -61,13 +61,17 @@ Opens-spaced_all (n ∷ ns) = refl
 
 -- a query before a space or the end, and what follows it
 pub asked-split : (p q : Asked) (a b : List ℕ) → AskedFits p → AskedFits q → Opens a → Opens b → asked p ++ a ≡ asked q ++ b → (p ≡ q) × (a ≡ b)
-asked-split First First a b fp fq oa ob e = (refl, cc)
-asked-split Step Step a b fp fq oa ob e = (refl, cc)
-asked-split Goal Goal a b fp fq oa ob e = (refl, cc)
-asked-split (Deep m) (Deep n) a b fp fq oa ob e =
+asked-split questions.First questions.First a b fp fq oa ob e = (refl, cc)
+asked-split questions.Step questions.Step a b fp fq oa ob e = (refl, cc)
+asked-split questions.Goal questions.Goal a b fp fq oa ob e = (refl, cc)
+asked-split (questions.Deep m) (questions.Deep n) a b fp fq oa ob e =
     let tails : spaced m ++ a ≡ spaced n ++ b = cc in
     let parts = spaced-split m n a b fp fq oa ob tails in
-    (ap Deep parts.0, parts.1)
+    (ap questions.Deep parts.0, parts.1)
+asked-split (questions.Walk m) (questions.Walk n) a b fp fq oa ob e =
+    let tails : spaced m ++ a ≡ spaced n ++ b = cc in
+    let parts = spaced-split m n a b fp fq oa ob tails in
+    (ap questions.Walk parts.0, parts.1)
 asked-split p q a b fp fq oa ob e = let letters = ap (λ (s : List ℕ). get_or s 1 0) e in absurd (omega (arith, letters))
 
 pub asked-alone : (p q : Asked) (a : List ℕ) → AskedFits p → AskedFits q → Opens a → asked p ++ a ≡ asked q → (p ≡ q) × (a ≡ [])

@@ -1,13 +1,13 @@
 -- Which lines have the form of a finding's line.
-use Rattle.std.specs.Prelude.{ℕ, ◌≤◌, ◌^◌, ℤ, pos, Bool, true, ◌&&◌, nat_lt, int_lt, IsTrue, List, [], ◌∷◌, All, FitsSigned}
+use Rattle.std.specs.Prelude.{ℕ, ◌≤◌, ◌^◌, ℤ, pos, Bool, true, false, ◌&&◌, nat_lt, int_lt, IsTrue, List, [], ◌∷◌, All, FitsSigned}
 use Rattle.std.specs.Int.{w64}
 use Rattle.std.specs.Int.RustNames.{unsigned_abs}
 use Rattle.finding_lines.specs.declared.line.Asked.{Asked}
-use Rattle.finding_lines.specs.declared.line.Asked.TheVariants.{First, Step, Goal, Deep}
+use Rattle.finding_lines.specs.declared.line.Asked.TheVariants as questions
 use Rattle.finding_lines.specs.declared.line.Conclusion.{Conclusion}
 use Rattle.finding_lines.specs.declared.line.Conclusion.TheVariants.{Vacuous, Related, Different, Open, Spent}
 use Rattle.finding_lines.specs.declared.line.Line.{Line}
-use Rattle.finding_lines.specs.declared.line.Line.TheVariants.{Header, Seen, Dropping, Pair, Scan, Log, Query, Derived, End}
+use Rattle.finding_lines.specs.declared.line.Line.TheVariants.{Header, Seen, Walk, Dropping, Pair, Scan, Log, Query, Derived, Deleted, End}
 
 -- a number of 64 bits with its sign
 abbrev pub IsNumber : ℤ → Type 0
@@ -21,10 +21,11 @@ abbrev pub AreNumbers : List ℤ → Type 0
 AreNumbers ns = All IsNumber ns
 
 abbrev pub AskedFits : Asked → Type 0
-AskedFits First = Unit {0}
-AskedFits Step = Unit {0}
-AskedFits Goal = Unit {0}
-AskedFits (Deep d) = IsNumber d
+AskedFits questions.First = Unit {0}
+AskedFits questions.Step = Unit {0}
+AskedFits questions.Goal = Unit {0}
+AskedFits (questions.Deep d) = IsNumber d
+AskedFits (questions.Walk r) = IsNumber r
 
 abbrev pub ConclusionFits : Conclusion → Type 0
 ConclusionFits Vacuous = Unit {0}
@@ -35,14 +36,16 @@ ConclusionFits (Spent q n) = AskedFits q × IsNumber n
 
 -- each number of the line has 64 bits with its sign, as every number of a Line that a program holds
 abbrev pub Fits : Line → Type 0
-Fits Header = Unit {0}
+Fits (Header version) = Unit {0}
 Fits (Seen inputs) = AreNumbers inputs
+Fits (Walk inputs) = AreNumbers inputs
 Fits (Dropping numbers) = AreNumbers numbers
 Fits (Pair numbers) = AreNumbers numbers
 Fits (Scan inputs) = AreNumbers inputs
 Fits (Log q) = AskedFits q
 Fits (Query q) = AskedFits q
 Fits (Derived literals hints) = AreNumbers literals × AreNumbers hints
+Fits (Deleted ids) = AreNumbers ids
 Fits (End v) = ConclusionFits v
 
 -- the variables of the literals rise from above `low`
@@ -55,17 +58,34 @@ abbrev pub all_positive : List ℤ → Bool
 all_positive [] = true
 all_positive (n ∷ ns) = int_lt (pos 0) n && all_positive ns
 
--- the variables of literals are above 0 and rise, and hints are above 0
+-- each number is above the one before it
+abbrev pub rises_above : ℤ → List ℤ → Bool
+rises_above low [] = true
+rises_above low (n ∷ ns) = int_lt low n && rises_above n ns
+
+-- at least one number; they are above 0 and rise
+abbrev pub are_ids : List ℤ → Bool
+are_ids [] = false
+are_ids (n ∷ ns) = rises_above (pos 0) (n ∷ ns)
+
+-- a verdict that can stand in an END line: a query for allowed rows gives none, where it is spent
+abbrev pub IsEnding : Conclusion → Type 0
+IsEnding (Spent (questions.Walk r) n) = ⊥
+IsEnding conclusion = Unit {0}
+
+-- the variables of literals are above 0 and rise, and hints are above 0; so are the numbers of clauses that are deleted
 abbrev pub HasForm : Line → Type 0
-HasForm Header = Unit {0}
+HasForm (Header version) = Unit {0}
 HasForm (Seen inputs) = Unit {0}
+HasForm (Walk inputs) = Unit {0}
 HasForm (Dropping numbers) = Unit {0}
 HasForm (Pair numbers) = Unit {0}
 HasForm (Scan inputs) = Unit {0}
 HasForm (Log q) = Unit {0}
 HasForm (Query q) = Unit {0}
 HasForm (Derived literals hints) = IsTrue (rises_from 0 literals) × IsTrue (all_positive hints)
-HasForm (End v) = Unit {0}
+HasForm (Deleted ids) = IsTrue (are_ids ids)
+HasForm (End v) = IsEnding v
 
 -- a line that can stand in a finding
 pub record IsLine (l : Line) : Type 0 where

@@ -1,7 +1,7 @@
 -- What it is to read some bytes: the line, the number or the part that is spelled so, or none where nothing is.
 use Rattle.std.specs.Prelude.{◌≡◌, ◌≢◌, ℕ, ℤ, pos, List, [], ◌∷◌, ◌++◌, Option, All, MatchOption}
 use Rattle.finding_lines.specs.declared.line.Line.{Line}
-use Rattle.finding_lines.specs.declared.line.Line.TheVariants.{Header, Seen, Dropping, Pair, Scan, Log, Query, Derived, End}
+use Rattle.finding_lines.specs.declared.line.Line.TheVariants.{Header, Seen, Walk, Dropping, Pair, Scan, Log, Query, Derived, Deleted, End}
 use Rattle.finding_lines.specs.Spelling.{spelled}
 use Rattle.finding_lines.specs.Form.{IsLine, AreNumbers}
 
@@ -44,14 +44,16 @@ pub record AreNonzero (ns : List ℤ) : Type 0 where
 
 -- the line is one that has no row of numbers
 abbrev pub HasNoRow : Line → Type 0
-HasNoRow Header = Unit {0}
+HasNoRow (Header version) = Unit {0}
 HasNoRow (Seen inputs) = ⊥
+HasNoRow (Walk inputs) = ⊥
 HasNoRow (Dropping numbers) = ⊥
 HasNoRow (Pair numbers) = ⊥
 HasNoRow (Scan inputs) = ⊥
 HasNoRow (Log q) = Unit {0}
 HasNoRow (Query q) = Unit {0}
 HasNoRow (Derived literals hints) = ⊥
+HasNoRow (Deleted ids) = ⊥
 HasNoRow (End v) = Unit {0}
 
 -- no byte is a line feed

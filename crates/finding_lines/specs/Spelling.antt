@@ -2,11 +2,12 @@
 use Rattle.std.specs.Prelude.{ℕ, ℤ, List, [], ◌∷◌, ◌++◌, codes}
 use Rattle.std.specs.Fmt.{signed_decimal}
 use Rattle.finding_lines.specs.declared.line.Asked.{Asked}
-use Rattle.finding_lines.specs.declared.line.Asked.TheVariants.{First, Step, Goal, Deep}
+use Rattle.finding_lines.specs.declared.line.Asked.TheVariants as questions
+use Rattle.finding_lines.specs.declared.line.Version.TheVariants.{One, Two}
 use Rattle.finding_lines.specs.declared.line.Conclusion.{Conclusion}
 use Rattle.finding_lines.specs.declared.line.Conclusion.TheVariants.{Vacuous, Related, Different, Open, Spent}
 use Rattle.finding_lines.specs.declared.line.Line.{Line}
-use Rattle.finding_lines.specs.declared.line.Line.TheVariants.{Header, Seen, Dropping, Pair, Scan, Log, Query, Derived, End}
+use Rattle.finding_lines.specs.declared.line.Line.TheVariants.{Header, Seen, Walk, Dropping, Pair, Scan, Log, Query, Derived, Deleted, End}
 
 -- a number with the space before it
 abbrev pub spaced : ℤ → List ℕ
@@ -19,10 +20,11 @@ spaced_all (n ∷ ns) = spaced n ++ spaced_all ns
 
 -- a query with the space before it
 abbrev pub asked : Asked → List ℕ
-asked First = codes " FIRST"
-asked Step = codes " STEP"
-asked Goal = codes " GOAL"
-asked (Deep d) = codes " DEEP" ++ spaced d
+asked questions.First = codes " FIRST"
+asked questions.Step = codes " STEP"
+asked questions.Goal = codes " GOAL"
+asked (questions.Deep d) = codes " DEEP" ++ spaced d
+asked (questions.Walk r) = codes " WALK" ++ spaced r
 
 -- a verdict with the space before it
 abbrev pub concluded : Conclusion → List ℕ
@@ -42,14 +44,17 @@ derived literals hints = ended literals ++ ended hints
 
 -- the text of a line, without its line feed
 abbrev pub spelled : Line → List ℕ
-spelled Header = codes "REGVER FINDING 1"
+spelled (Header One) = codes "REGVER FINDING 1"
+spelled (Header Two) = codes "REGVER FINDING 2"
 spelled (Seen inputs) = codes "SEEN" ++ spaced_all inputs
+spelled (Walk inputs) = codes "WALK" ++ spaced_all inputs
 spelled (Dropping numbers) = codes "DROP" ++ spaced_all numbers
 spelled (Pair numbers) = codes "PAIR" ++ spaced_all numbers
 spelled (Scan inputs) = codes "SCAN" ++ spaced_all inputs
 spelled (Log q) = codes "LOG" ++ asked q
 spelled (Query q) = codes "QUERY" ++ asked q
 spelled (Derived literals hints) = codes "D" ++ derived literals hints
+spelled (Deleted ids) = codes "X" ++ ended ids
 spelled (End v) = codes "END" ++ concluded v
 
 -- a line as it stands in a finding, with its line feed

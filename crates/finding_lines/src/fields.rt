@@ -63,8 +63,11 @@ pub fn take_asked(bytes: &[u8]) -> Option<(Asked, &[u8])>
     if let Some(rest) = take_label(bytes, b" GOAL") {
         return Some((Asked::Goal, rest));
     }
-    let (depth, rest) = take_labelled(bytes, b" DEEP")?;
-    Some((Asked::Deep(depth), rest))
+    if let Some((depth, rest)) = take_labelled(bytes, b" DEEP") {
+        return Some((Asked::Deep(depth), rest));
+    }
+    let (rows, rest) = take_labelled(bytes, b" WALK")?;
+    Some((Asked::Walk(rows), rest))
 }
 
 /// The query behind a keyword, where nothing follows.

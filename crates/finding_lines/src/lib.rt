@@ -21,7 +21,7 @@ mod show;
 mod words;
 
 pub use laws::{law_one_spelling, law_read_back};
-pub use line::{Asked, Conclusion, Line};
+pub use line::{Asked, Conclusion, Line, Version};
 pub use numbers::Numbers;
 pub use read::read_line;
 pub use show::{show_conclusion, show_line};

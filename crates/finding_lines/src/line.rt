@@ -1,6 +1,15 @@
 // The forms of a line.
 use crate::numbers::Numbers;
 
+/// Which version a finding is of.
+#[derive(Clone, Copy, PartialEq, Eq)]
+pub enum Version {
+    /// Without the lines of reach and of deletions.
+    One,
+    /// With them.
+    Two,
+}
+
 /// Which query a line speaks of.
 #[derive(Clone, Copy, PartialEq, Eq)]
 pub enum Asked {
@@ -12,6 +21,8 @@ pub enum Asked {
     Goal,
     /// For a break after that many scans.
     Deep(i64),
+    /// For that many rows which are allowed, one after the other from the start.
+    Walk(i64),
 }
 
 /// The verdict at a finding's end, with its numbers as they are written.
@@ -33,9 +44,11 @@ pub enum Conclusion {
 #[derive(Drop)]
 pub enum Line {
     /// The first line.
-    Header,
+    Header(Version),
     /// The inputs of a row that is allowed at the start.
     Seen(Numbers),
+    /// The inputs of the next row of an allowed list from the start.
+    Walk(Numbers),
     /// The cells of OLD, those of NEW and the inputs of a scan that drops candidates.
     Dropping(Numbers),
     /// The same of a scan out of the relation.
@@ -48,6 +61,8 @@ pub enum Line {
     Query(Asked),
     /// A derived clause: its literals, a negative number for a negative one, and its hints.
     Derived(Numbers, Numbers),
+    /// The numbers of derived clauses that are held no more, one after the other.
+    Deleted(Numbers),
     /// The verdict.
     End(Conclusion),
 }

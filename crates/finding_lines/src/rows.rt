@@ -1,6 +1,6 @@
 // Rows of numbers.
-ghost use Rattle.std.specs.Prelude.{◌≡◌, ◌≢◌, ◌↔◌, ◌++◌, ℕ, ℤ, List, codes, IfOk, IsTrue, MatchOption};
-ghost use Rattle.finding_lines.specs.Form.{AreNumbers, rises_from, all_positive};
+ghost use Rattle.std.specs.Prelude.{◌≡◌, ◌≢◌, ◌↔◌, ◌++◌, ℕ, ℤ, pos, List, codes, IfOk, IsTrue, MatchOption};
+ghost use Rattle.finding_lines.specs.Form.{AreNumbers, rises_from, all_positive, rises_above, are_ids};
 ghost use Rattle.finding_lines.specs.Spelling.{spaced, spaced_all, ended, derived};
 ghost use Rattle.finding_lines.specs.Reading.{Reads, AreNonzero, IsTaken, NoneTaken};
 
@@ -85,6 +85,27 @@ fn are_positive(numbers: &[Value]) -> bool
     true
 }
 
+/// Whether each number is above the one before it, and the first above 0.
+fn rise(numbers: &[Value]) -> bool
+    ensures { result ≡ rises_above (pos 0) numbers.now }
+{
+    let mut last = 0;
+    for number in numbers {
+        if *number <= last {
+            return false;
+        }
+        last = *number;
+    }
+    true
+}
+
+fn name_clauses(ids: &Numbers) -> bool
+    ensures { result ≡ are_ids ids.now }
+{
+    let numbers = ids.as_slice();
+    !numbers.is_empty() && rise(numbers)
+}
+
 fn has_form(literals: &Numbers, hints: &Numbers) -> bool
     ensures { IsTrue result ↔ (IsTrue (rises_from 0 literals.now) × IsTrue (all_positive hints.now)) }
 {
@@ -111,6 +132,28 @@ pub fn read_derived(alloc: Global, bytes: &[u8]) -> Result<Option<(Numbers, Numb
     }
     if has_form(&literals, &hints) {
         Ok(Some((literals, hints)))
+    } else {
+        Ok(None)
+    }
+}
+
+/// The numbers of clauses that are deleted.
+pub fn read_deleted(alloc: Global, bytes: &[u8]) -> Result<Option<Numbers>, AllocError>
+    ensures { IfOk result (λ o. MatchOption o
+        ((ns : List ℤ) → AreNumbers ns → IsTrue (are_ids ns) → bytes.now ≢ codes "X" ++ ended ns)
+        (λ ns. AreNumbers ns × IsTrue (are_ids ns) × (bytes.now ≡ codes "X" ++ ended ns))) }
+{
+    let Some(rest) = after(bytes, b"X") else {
+        return Ok(None);
+    };
+    let Some((ids, rest)) = take_list(alloc, rest)? else {
+        return Ok(None);
+    };
+    if !rest.is_empty() {
+        return Ok(None);
+    }
+    if name_clauses(&ids) {
+        Ok(Some(ids))
     } else {
         Ok(None)
     }

@@ -1,8 +1,8 @@
 // Lines as text.
 ghost use Rattle.std.specs.Prelude.{◌≡◌, ◌++◌, OnOk, string_bytes};
-ghost use Rattle.finding_lines.specs.Spelling.{spaced, spaced_all, asked, concluded, derived, spelled};
+ghost use Rattle.finding_lines.specs.Spelling.{spaced, spaced_all, asked, concluded, ended, derived, spelled};
 
-use crate::line::{Asked, Conclusion, Line};
+use crate::line::{Asked, Conclusion, Line, Version};
 use itoa::Buffer;
 use plc_types::Value;
 use std::alloc::AllocError;
@@ -76,6 +76,7 @@ fn show_asked(text: &mut String, keyword: &str, query: Asked) -> Result<(), Allo
         Asked::Step => text.push_str(" STEP"),
         Asked::Goal => text.push_str(" GOAL"),
         Asked::Deep(depth) => show_labelled(text, " DEEP", depth),
+        Asked::Walk(rows) => show_labelled(text, " WALK", rows),
     }
 }
 
@@ -111,6 +112,13 @@ pub fn show_conclusion(text: &mut String, conclusion: Conclusion) -> Result<(), 
     }
 }
 
+fn show_deleted(text: &mut String, ids: &[Value]) -> Result<(), AllocError>
+    ensures { OnOk result (string_bytes text.new ≡ string_bytes text.old ++ ended ids.now) }
+{
+    show_numbers(text, ids)?;
+    text.push_str(" 0")
+}
+
 fn show_derived(text: &mut String, literals: &[Value], hints: &[Value]) -> Result<(), AllocError>
     ensures { OnOk result (string_bytes text.new ≡ string_bytes text.old ++ derived literals.now hints.now) }
 {
@@ -125,8 +133,10 @@ pub fn show_line(text: &mut String, line: &Line) -> Result<(), AllocError>
     ensures { OnOk result (string_bytes text.new ≡ string_bytes text.old ++ spelled line.now) }
 {
     match line {
-        Line::Header => text.push_str("REGVER FINDING 1"),
+        Line::Header(Version::One) => text.push_str("REGVER FINDING 1"),
+        Line::Header(Version::Two) => text.push_str("REGVER FINDING 2"),
         Line::Seen(inputs) => show_row(text, "SEEN", inputs.as_slice()),
+        Line::Walk(inputs) => show_row(text, "WALK", inputs.as_slice()),
         Line::Dropping(numbers) => show_row(text, "DROP", numbers.as_slice()),
         Line::Pair(numbers) => show_row(text, "PAIR", numbers.as_slice()),
         Line::Scan(inputs) => show_row(text, "SCAN", inputs.as_slice()),
@@ -135,6 +145,10 @@ pub fn show_line(text: &mut String, line: &Line) -> Result<(), AllocError>
         Line::Derived(literals, hints) => {
             text.push_str("D")?;
             show_derived(text, literals.as_slice(), hints.as_slice())
+        }
+        Line::Deleted(ids) => {
+            text.push_str("X")?;
+            show_deleted(text, ids.as_slice())
         }
         Line::End(conclusion) => {
             text.push_str("END")?;

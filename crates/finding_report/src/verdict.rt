@@ -14,6 +14,7 @@ fn spent_text(alloc: Global, asked: Asked, conflicts: i64) -> Result<String, All
         Asked::Step => format!(in alloc; "SPENT query STEP conflicts {conflicts}"),
         Asked::Goal => format!(in alloc; "SPENT query GOAL conflicts {conflicts}"),
         Asked::Deep(scans) => format!(in alloc; "SPENT query DEEP {scans} conflicts {conflicts}"),
+        Asked::Walk(rows) => format!(in alloc; "SPENT query WALK {rows} conflicts {conflicts}"),
     }
 }
 

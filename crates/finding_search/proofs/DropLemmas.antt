@@ -10,13 +10,14 @@ use Rattle.scan_model.specs.Verdicts.{CandidateSet, size_below}
 use Rattle.verdict_laws.specs.Evidence.{LeavesSet}
 use Rattle.scan_replay.specs.Duos.{Compared, with_pair}
 use Rattle.queries.specs.Comparisons.{IsComparison}
-use Rattle.queries.specs.Settings.{left_of}
+use Rattle.queries.specs.Settings.{first_set, left_of}
 use Rattle.queries.specs.Questions.{QueryData, step}
 use Rattle.queries.specs.Meaning.{Answers}
 use Rattle.queries.specs.declared.decoded.Decoded.{Decoded}
 use Rattle.queries.proofs.SettingLemmas.{test-IsPairInRange}
 use Rattle.pair_trial.specs.Trials.{comparison_of, setting_in}
 use Rattle.judgement.specs.Places.{Place, at_drops}
+use Rattle.judgement.specs.declared.answers.Reach.{Reach}
 use Rattle.invariant_prune.specs.Answers.{pair_of}
 use Rattle.finding_search.specs.Desks.{Desk}
 use Rattle.finding_search.specs.Passing.{Passes}
@@ -26,12 +27,27 @@ use Rattle.finding_search.proofs.Going.{Writes-then}
 use Rattle.finding_search.proofs.RowPasses.{allowed-setting, drop_passes, drop_found, read_row, leaves_fewer, same_pair}
 
 -- what is written behind lines that were written with another pair on trial
-pub drops_then : {T : Type 0} (formula : QueryData → Formula) (first trial : Compared) (old mid new : Desk) (from set : CandidateSet) (to : T → Place) (result : Result T WriteErr)
-    → trial ≡ with_pair trial.pair first → Writes (setting_in first) formula old (at_drops from) mid (λ (x : Unit {0}). at_drops set) (let r : Result (Unit {0}) WriteErr = Ok tt in r)
-    → Writes (setting_in trial) formula mid (at_drops set) new to result → Writes (setting_in first) formula old (at_drops from) new to result
-drops_then formula first trial old mid new from set to result same before after =
-    Writes-then (setting_in first) formula old mid new (at_drops from) (λ (x : Unit {0}). at_drops set) to tt result before
-    (subst (λ (d : Compared). Writes (setting_in d) formula mid (at_drops set) new to result) same after)
+pub drops_then : {T : Type 0} (formula : QueryData → Formula) (first trial : Compared) (old mid new : Desk) (reach : Reach) (from set : CandidateSet) (to : T → Place) (result : Result T WriteErr)
+    → trial ≡ with_pair trial.pair first → Writes (setting_in first) formula old (at_drops reach from) mid (λ (x : Unit {0}). at_drops reach set) (let r : Result (Unit {0}) WriteErr = Ok tt in r)
+    → Writes (setting_in trial) formula mid (at_drops reach set) new to result → Writes (setting_in first) formula old (at_drops reach from) new to result
+drops_then formula first trial old mid new reach from set to result same before after =
+    Writes-then (setting_in first) formula old mid new (at_drops reach from) (λ (x : Unit {0}). at_drops reach set) to tt result before
+    (subst (λ (d : Compared). Writes (setting_in d) formula mid (at_drops reach set) new to result) same after)
+
+-- what is written from the first set on, with another pair on trial
+pub starts_then : {T : Type 0} (formula : QueryData → Formula) (first trial : Compared) (old new : Desk) (reach : Reach) {to : T → Place} (result : Result T WriteErr)
+    → trial ≡ with_pair trial.pair first → Writes (setting_in trial) formula old (at_drops reach (first_set (setting_in trial))) new to result
+    → Writes (setting_in first) formula old (at_drops reach (first_set (setting_in first))) new to result
+starts_then formula first trial old new reach {to = to} result same w =
+    subst (λ (d : Compared). Writes (setting_in d) formula old (at_drops reach (first_set (setting_in d))) new to result) same w
+
+-- the same where the set is another name of the first
+pub starts_from : {T : Type 0} (formula : QueryData → Formula) (first trial : Compared) (old new : Desk) (reach : Reach) (set : CandidateSet) (pair : Pair) {to : T → Place}
+    (result : Result T WriteErr) → trial ≡ with_pair pair first → set ≡ first_set (setting_in first) → Writes (setting_in trial) formula old (at_drops reach set) new to result
+    → Writes (setting_in first) formula old (at_drops reach (first_set (setting_in first))) new to result
+starts_from formula first trial old new reach set pair {to = to} result same is w =
+    subst (λ (held : CandidateSet). Writes (setting_in first) formula old (at_drops reach held) new to result) is
+    (subst (λ (d : Compared). Writes (setting_in d) formula old (at_drops reach set) new to result) same w)
 
 -- only the pair on trial is another
 pub still : (first mid last : Compared) → mid ≡ with_pair mid.pair first → last ≡ with_pair last.pair mid → last ≡ with_pair last.pair first
@@ -48,11 +64,11 @@ module _ (trial : Compared) (is : IsComparison (comparison_of trial)) (set : Can
       drop_found (comparison_of trial) set (pair_of found) found.rows.items answers row
       (read_row found.rows.items row (ap (λ (rows : List Row). length rows) answers.1) read)
 
-  pub passes_read : (formula : QueryData → Formula) (numbers : List ℤ) → numbers ≡ numbers_of (pair_of found) row
-      → Passes (setting_in trial) formula (at_drops set) (lines.Dropping numbers) (at_drops (left_by trial set found row))
-  passes_read formula numbers e =
-      subst (λ (n : List ℤ). Passes (setting_in trial) formula (at_drops set) (lines.Dropping n) (at_drops (left_by trial set found row))) (sym e)
-      (drop_passes (comparison_of trial) formula is set (pair_of found) row leaves)
+  pub passes_read : (reach : Reach) (formula : QueryData → Formula) (numbers : List ℤ) → numbers ≡ numbers_of (pair_of found) row
+      → Passes (setting_in trial) formula (at_drops reach set) (lines.Dropping numbers) (at_drops reach (left_by trial set found row))
+  passes_read reach formula numbers e =
+      subst (λ (n : List ℤ). Passes (setting_in trial) formula (at_drops reach set) (lines.Dropping n) (at_drops reach (left_by trial set found row))) (sym e)
+      (drop_passes (comparison_of trial) formula is reach set (pair_of found) row leaves)
 
   pub fewer_read : (kept : CandidateSet) → kept ≡ left_by trial set found row → size_below (setting_in trial).candidates kept < size_below (setting_in trial).candidates set
   fewer_read kept e =

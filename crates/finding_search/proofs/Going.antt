@@ -14,13 +14,16 @@ use Rattle.finding_file.specs.Writing.{Writing, all_written}
 use Rattle.finding_file.specs.declared.errors.WriteErr.{WriteErr}
 use Rattle.finding_file.specs.declared.errors.WriteErr.TheVariants.{Fault, Memory, M8}
 use Rattle.finding_file.proofs.WritingLemmas.{all_written-append}
-use Rattle.queries.specs.Settings.{Setting}
+use Rattle.derivation_check.specs.Checks.{Derivation}
+use Rattle.queries.specs.Settings.{Setting, first_set}
 use Rattle.queries.specs.Questions.{QueryData}
-use Rattle.judgement.specs.Places.{Place}
-use Rattle.judgement.specs.Findings.{on}
+use Rattle.judgement.specs.Places.{Place, at_drops, in_walk}
+use Rattle.judgement.specs.Findings.{Leads, on}
+use Rattle.judgement.specs.declared.answers.Reach.TheVariants.{AtLeast}
 use Rattle.finding_search.specs.Desks.{Desk, finding}
 use Rattle.finding_search.specs.Passing.{Passes, Runs, IsPartOfFinding}
 use Rattle.finding_search.specs.Writes.{StandsAt, StopsAt, Writes}
+use Rattle.finding_search.proofs.Alike.{passes_alike, in_walk_alike}
 
 length-all_written : (lines : List Line) (line : Line) → length (all_written (lines ++ line ∷ [])) ≡ length (all_written lines) + length (written line)
 length-all_written lines line = ap length (all_written-append lines line) ∙ length-append (all_written lines) (written line)
@@ -51,7 +54,9 @@ module _ (s : Setting) (formula : QueryData → Formula) where
         → old.writer.size + length (written line) ≤ old.writer.limit → StandsAt s formula old from → StandsAt s formula new to
     line_ok all sized within st = record {
       all = st.all ++ line ∷ [];
-      leads = on st.all line from to st.leads form passes.moves;
+      there = to;
+      leads = on st.all line st.there to st.leads form (passes_alike s formula st.there from line to st.alike passes).moves;
+      alike = inl refl;
       told = told-extended (λ bytes. bytes ≡ all_written st.all) (λ bytes. bytes ≡ all_written (st.all ++ line ∷ [])) (finding old) (finding new) (written line) (same_finding ∙ all)
           (λ bytes e. ap (λ b. b ++ written line) e ∙ sym (all_written-append st.all line)) st.told;
       counted = omega (arith, sized, st.counted, length-all_written st.all line);
@@ -62,16 +67,16 @@ module _ (s : Setting) (formula : QueryData → Formula) where
         → (error ≡ M8 → (old.writer.limit < old.writer.size + length (written line)) × (new.shelf.file ≡ old.shelf.file)) → StandsAt s formula old from → StopsAt s formula new error
     line_err error count part past st = record {
       part = told-extended (λ bytes. bytes ≡ all_written st.all) (IsPartOfFinding s formula) (finding old) (finding new) (take count (written line)) (same_finding ∙ part)
-          (λ bytes e. inr (st.all, from, st.leads, line, to, form, passes.moves, count, ap (λ b. b ++ take count (written line)) e)) st.told;
+          (λ bytes e. inr (st.all, st.there, st.leads, line, to, form, (passes_alike s formula st.there from line to st.alike passes).moves, count, ap (λ b. b ++ take count (written line)) e)) st.told;
       past = λ is. (
         st.all,
-        from,
+        st.there,
         st.leads,
         subst (λ o. IfSome o (λ bytes. bytes ≡ all_written st.all)) (sym (same_finding ∙ ap (λ files. files old.writer.name) (past is).1)) st.told,
         line,
         to,
         form,
-        passes,
+        passes_alike s formula st.there from line to st.alike passes,
         (let long = (past is).0 in omega (arith, long, st.counted, limited)),
       );
     }
@@ -138,6 +143,26 @@ module _ (s : Setting) (formula : QueryData → Formula) where
     reads = w.reads;
   }
 
+  -- behind the log that spends the query for allowed rows candidates are dropped
+  pub Writes-spent : {A B : Type 0} (old new : Desk) (from : Place) (rows : ℕ) (d : Derivation) (x : A) (to : B → Place) (y : B) → to y ≡ at_drops (AtLeast rows) (first_set s)
+      → Writes s formula old from new (λ (_ : A). in_walk rows d 0) (Ok x) → Writes s formula old from new to (Ok y)
+  Writes-spent old new from rows d x to y same w = record {
+    stands = λ st. let now = w.stands st in record {
+      all = now.all;
+      there = in_walk rows d 0;
+      leads = subst (λ (place : Place). Leads s formula now.all place) (in_walk_alike s now.there rows d now.alike) now.leads;
+      alike = inr (rows, d, refl, same);
+      told = now.told;
+      counted = now.counted;
+      within = now.within;
+    };
+    name = w.name;
+    limit = w.limit;
+    others = w.others;
+    cause = record { later = w.cause.later; failed = λ e. absurd cc };
+    reads = w.reads;
+  }
+
   -- nothing is written
   pub Writes-nothing : {A : Type 0} (d : Desk) (at : A → Place) (x : A) → Writes s formula d (at x) d at (Ok x)
   Writes-nothing d at x = record {
@@ -152,7 +177,7 @@ module _ (s : Setting) (formula : QueryData → Formula) where
   -- memory wants before anything is written
   pub Writes-memory : {B : Type 0} (d : Desk) (from : Place) (to : B → Place) → Writes s formula d from d to (Err Memory)
   Writes-memory d from to = record {
-    stands = λ st. record { part = IfSome-map (finding d) (λ bytes e. inl (st.all, from, st.leads, e)) st.told; past = λ e. absurd cc };
+    stands = λ st. record { part = IfSome-map (finding d) (λ bytes e. inl (st.all, st.there, st.leads, e)) st.told; past = λ e. absurd cc };
     name = refl;
     limit = refl;
     others = λ other ne. refl;

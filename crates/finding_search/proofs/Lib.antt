@@ -1,3 +1,4 @@
+pub mod Alike
 pub mod Going
 pub mod StepLines
 pub mod LogRuns
@@ -6,3 +7,4 @@ pub mod Openings
 pub mod Whole
 pub mod DropLemmas
 pub mod GuessLemmas
+pub mod WalkRuns

@@ -18,10 +18,11 @@ use Rattle.derivation_check.specs.Checks.{Derivation, held_of}
 use Rattle.queries.specs.Settings.{Setting}
 use Rattle.queries.specs.Questions.{QueryData}
 use Rattle.judgement.specs.Steps.{clause_of, hints_of, step_of, opened, with_derived, is_accepted, accepts, is_empty}
-use Rattle.judgement.specs.Places.{Place, in_log, in_query, Moved, goes}
-use Rattle.judgement.specs.Tests.{when}
+use Rattle.judgement.specs.Places.{Place, in_log, in_query, in_walk, reach_at, Moved, goes}
+use Rattle.judgement.specs.Tests.{when, is_first_version}
+use Rattle.judgement.specs.declared.answers.Reach.{Reach}
 use Rattle.judgement.specs.declared.answers.Reason.{Reason}
-use Rattle.judgement.specs.declared.answers.Reason.TheVariants.{B2, B6, B10}
+use Rattle.judgement.specs.declared.answers.Reason.TheVariants.{B1, B2, B6, B10}
 use Rattle.judgement.proofs.LogLemmas.{held_of-with_derived}
 use Rattle.finding_search.specs.Passing.{Passes, Runs}
 use Rattle.finding_search.specs.Shown.{number_of, line_of, lines_of}
@@ -32,6 +33,11 @@ use Rattle.finding_search.proofs.StepLines.{clause_back, rises_back, hints_back,
 pub when-true : (b : Bool) (r : Reason) (m n : Moved) → b ≡ true → m ≡ n → m ≡ when b r n
 when-true true r m n e same = same
 when-true false r m n e same = absurd (false≢true e)
+
+-- a line that both versions have a form for
+pub either_version : (is_first : Bool) → not (is_first && false) ≡ true
+either_version true = refl
+either_version false = refl
 
 is_empty-nil : (c : List Lit) → c ≡ [] → is_empty c ≡ true
 is_empty-nil c e = ap is_empty e
@@ -72,30 +78,47 @@ module _ (s : Setting) (formula : QueryData → Formula) where
       moves = (
         true,
         (λ _. (λ _. tt, λ _. refl)),
-        when-true _ B2 _ _ ordered (when-true _ B6 _ _ taken
+        when-true _ B1 _ _ (either_version (is_first_version (reach_at behind))) (when-true _ B2 _ _ ordered (when-true _ B6 _ _ taken
             (ap (λ t. goes (if t then behind else in_log (with_derived d step.clause) behind)) (sym e)
-            ∙ ap (λ c. goes (if is_empty c then behind else in_log (with_derived d c) behind)) (sym same_clause))),
+            ∙ ap (λ c. goes (if is_empty c then behind else in_log (with_derived d c) behind)) (sym same_clause)))),
       );
       tight = tight;
     }
 
-    -- in a log that is to spend its query
-    step_spends : (asked : Asked) (left : ℕ) → step.clause ≢ [] → IsFresh (held_of d) step.clause
-        → Passes s formula (in_query asked d (suc left)) (line_of (Derived step)) (in_query asked (with_derived d step.clause) left)
-    step_spends asked left some fresh = record {
+    more : (b : Bool) (left : ℕ) → b ≡ false → (not b && (true && nat_lt 0 (suc left))) ≡ true
+    more true left e = absurd (false≢true (sym e))
+    more false left e = lt-ltb 0 (suc left) (omega arith)
+
+    -- in a log that is to spend its query one step fewer is to come
+    one_fewer : (at : Derivation → ℕ → Place) (left : ℕ) → step.clause ≢ [] → goes (at (with_derived d step.clause) left) ≡
+        when (rises d.formula.variables (clause_of (map number_of step.clause))) B2 (when (accepts d (step_of (map number_of step.clause) (map pos step.hints))) B6
+        (when (not (is_empty (clause_of (map number_of step.clause))) && (true && nat_lt 0 (suc left))) B10
+        (goes (at (with_derived d (clause_of (map number_of step.clause))) (suc left - 1)))))
+    one_fewer at left some =
+        when-true _ B2 _ _ ordered (when-true _ B6 _ _ taken (when-true _ B10 _ _ (more (is_empty (clause_of (map number_of step.clause))) left
+        (ap is_empty same_clause ∙ is_empty-some step.clause some)) (ap (λ n. goes (at (with_derived d step.clause) n)) (let e : left ≡ suc left - 1 = omega arith in e)
+        ∙ ap (λ c. goes (at (with_derived d c) (suc left - 1))) (sym same_clause))))
+
+    step_spends : (reach : Reach) (asked : Asked) (left : ℕ) → step.clause ≢ [] → IsFresh (held_of d) step.clause
+        → Passes s formula (in_query reach asked d (suc left)) (line_of (Derived step)) (in_query reach asked (with_derived d step.clause) left)
+    step_spends reach asked left some fresh = record {
       form = (rises_back d.formula.variables 0 step.clause good.rises, hints_positive d.formula.variables (held_of d) step good);
       moves = (
         true,
         (λ _. (λ _. subst (IsFresh (held_of d)) (sym same_clause) fresh, λ _. refl)),
-        when-true _ B2 _ _ ordered (when-true _ B6 _ _ taken (when-true _ B10 _ _ (more (is_empty (clause_of (map number_of step.clause)))
-            (ap is_empty same_clause ∙ is_empty-some step.clause some)) (ap (λ n. goes (in_query asked (with_derived d step.clause) n)) (let e : left ≡ suc left - 1 = omega arith in e)
-            ∙ ap (λ c. goes (in_query asked (with_derived d c) (suc left - 1))) (sym same_clause)))),
+        when-true _ B1 _ _ (either_version (is_first_version reach)) (one_fewer (λ e n. in_query reach asked e n) left some),
       );
       tight = tight;
-    } where
-      more : (b : Bool) → b ≡ false → (not b && (true && nat_lt 0 (suc left))) ≡ true
-      more true e = absurd (false≢true (sym e))
-      more false e = lt-ltb 0 (suc left) (omega arith)
+    }
+
+    -- and so for allowed rows
+    step_spends_walk : (rows left : ℕ) → step.clause ≢ [] → IsFresh (held_of d) step.clause
+        → Passes s formula (in_walk rows d (suc left)) (line_of (Derived step)) (in_walk rows (with_derived d step.clause) left)
+    step_spends_walk rows left some fresh = record {
+      form = (rises_back d.formula.variables 0 step.clause good.rises, hints_positive d.formula.variables (held_of d) step good);
+      moves = (true, (λ _. (λ _. subst (IsFresh (held_of d)) (sym same_clause) fresh, λ _. refl)), one_fewer (λ e n. in_walk rows e n) left some);
+      tight = tight;
+    }
 
   log_runs : (d : Derivation) (behind : Place) (front : List Entry) (last : Step) → IsGoodLog d.formula.variables (held_of d) (front ++ Derived last ∷ []) → last.clause ≡ []
       → IsFreshLog (held_of d) front → Runs s formula (in_log d behind) (lines_of (front ++ Derived last ∷ [])) behind
@@ -118,20 +141,36 @@ module _ (s : Setting) (formula : QueryData → Formula) where
       (subst (λ held. IsGoodLog f.variables held (front ++ Derived last ∷ [])) (sym (append-nil f.clauses)) (subst (IsGoodLog f.variables f.clauses) r.ends.2 r.good)) r.ends.3
       (subst (λ held. IsFreshLog held front) (sym (append-nil f.clauses)) r.ends.4))
 
-  query_runs : (asked : Asked) (d : Derivation) (log : List Entry) → IsGoodLog d.formula.variables (held_of d) log → IsFreshLog (held_of d) log
-      → Runs s formula (in_query asked d (length log)) (lines_of log) (in_query asked (after_all d log) 0)
-  query_runs asked d [] good fresh = refl
-  query_runs asked d (Derived step ∷ more) good fresh = (
-    in_query asked (with_derived d step.clause) (length more),
-    step_spends d step good.0 asked (length more) fresh.0.1 fresh.0.0,
-    query_runs asked (with_derived d step.clause) more (subst (λ held. IsGoodLog d.formula.variables held more) (held_of-with_derived d step.clause) good.1)
+  -- a step leads on in a log that is to spend its query
+  abbrev IsSpending : (Derivation → ℕ → Place) → Type 0
+  IsSpending at =
+      (d : Derivation) (step : Step) → IsGoodStep d.formula.variables (held_of d) step → (left : ℕ) → step.clause ≢ [] → IsFresh (held_of d) step.clause
+      → Passes s formula (at d (suc left)) (line_of (Derived step)) (at (with_derived d step.clause) left)
+
+  spending_runs : (at : Derivation → ℕ → Place) → IsSpending at → (d : Derivation) (log : List Entry) → IsGoodLog d.formula.variables (held_of d) log → IsFreshLog (held_of d) log
+      → Runs s formula (at d (length log)) (lines_of log) (at (after_all d log) 0)
+  spending_runs at steps d [] good fresh = refl
+  spending_runs at steps d (Derived step ∷ more) good fresh = (
+    at (with_derived d step.clause) (length more),
+    steps d step good.0 (length more) fresh.0.1 fresh.0.0,
+    spending_runs at steps (with_derived d step.clause) more (subst (λ held. IsGoodLog d.formula.variables held more) (held_of-with_derived d step.clause) good.1)
         (subst (λ held. IsFreshLog held more) (held_of-with_derived d step.clause) fresh.1),
   )
 
-  -- a log that spends a formula leads to where no step is to come
-  pub spent_runs : (f : Formula) (limit : ℕ) (log : List Entry) (asked : Asked) → IsSpent f limit log
-      → Runs s formula (in_query asked (opened f) limit) (lines_of log) (in_query asked (after_all (opened f) log) 0)
-  spent_runs f limit log asked p =
-      subst (λ n. Runs s formula (in_query asked (opened f) n) (lines_of log) (in_query asked (after_all (opened f) log) 0)) p.all
-      (query_runs asked (opened f) log (subst (λ held. IsGoodLog f.variables held log) (sym (append-nil f.clauses)) p.good)
+  all_spent : (at : Derivation → ℕ → Place) → IsSpending at → (f : Formula) (limit : ℕ) (log : List Entry) → IsSpent f limit log
+      → Runs s formula (at (opened f) limit) (lines_of log) (at (after_all (opened f) log) 0)
+  all_spent at steps f limit log p =
+      subst (λ n. Runs s formula (at (opened f) n) (lines_of log) (at (after_all (opened f) log) 0)) p.all
+      (spending_runs at steps (opened f) log (subst (λ held. IsGoodLog f.variables held log) (sym (append-nil f.clauses)) p.good)
       (subst (λ held. IsFreshLog held log) (sym (append-nil f.clauses)) p.fresh))
+
+  -- a log that spends a formula leads to where no step is to come
+  pub spent_runs : (f : Formula) (limit : ℕ) (log : List Entry) (reach : Reach) (asked : Asked) → IsSpent f limit log
+      → Runs s formula (in_query reach asked (opened f) limit) (lines_of log) (in_query reach asked (after_all (opened f) log) 0)
+  spent_runs f limit log reach asked p =
+      all_spent (λ d n. in_query reach asked d n) (λ d step good left some fresh. step_spends d step good reach asked left some fresh) f limit log p
+
+  pub walk_spent_runs : (f : Formula) (limit : ℕ) (log : List Entry) (rows : ℕ) → IsSpent f limit log
+      → Runs s formula (in_walk rows (opened f) limit) (lines_of log) (in_walk rows (after_all (opened f) log) 0)
+  walk_spent_runs f limit log rows p =
+      all_spent (λ d n. in_walk rows d n) (λ d step good left some fresh. step_spends_walk d step good rows left some fresh) f limit log p

@@ -15,17 +15,19 @@ use Rattle.scan_model.proofs.Keeping.{IsInRange-length}
 use Rattle.program_tree.specs.Tree.{CellData}
 use Rattle.verdict_laws.specs.Evidence.{LeavesSet, LeavesRelation}
 use Rattle.queries.specs.Comparisons.{Comparison, IsComparison}
-use Rattle.queries.specs.Settings.{Setting, setting_of, meets, first_set, left_of}
+use Rattle.queries.specs.Settings.{Setting, setting_of, meets, left_of}
 use Rattle.queries.specs.Questions.{QueryData, first, step, goal}
 use Rattle.queries.specs.Meaning.{Answers}
 use Rattle.queries.proofs.SettingLemmas.{test-IsPairInRange, test-Meets, meets-fails_at, candidates-setting, holds-setting}
 use Rattle.judgement.specs.Steps.{pair_in, row_in}
-use Rattle.judgement.specs.Places.{Place, at_header, at_drops, at_kept, at_deep, at_scans, at_end, goes}
-use Rattle.judgement.specs.Tests.{drop_row, pair_row, scan_row}
-use Rattle.judgement.specs.declared.answers.Reason.TheVariants.{B2, B3, B4, B5, B8}
+use Rattle.judgement.specs.Places.{Place, at_header, at_walks, at_drops, at_kept, at_deep, at_scans, at_end, goes}
+use Rattle.judgement.specs.Tests.{drop_row, pair_row, scan_row, is_first_version}
+use Rattle.judgement.specs.declared.answers.Reason.TheVariants.{B1, B2, B3, B4, B5, B8}
+use Rattle.judgement.specs.declared.answers.Reach.{Reach}
+use Rattle.judgement.specs.declared.answers.Reach.TheVariants.{Unwalked}
 use Rattle.finding_search.specs.Passing.{Passes, Runs}
 use Rattle.finding_search.specs.Shown.{numbers_of, scans_of}
-use Rattle.finding_search.proofs.LogRuns.{when-true}
+use Rattle.finding_search.proofs.LogRuns.{when-true, either_version}
 
 module _ (c : Comparison) where
   pub allowed-setting : (row : Row) (pair : Pair) → is_allowed c.relation row pair ≡ true → (setting_of c).allowed row pair ≡ true
@@ -40,11 +42,11 @@ module _ (c : Comparison) where
   unfolding setting_of
   after-setting row pair = refl
 
-  related-setting : (pair : Pair) (b : Bool) → is_related c.relation pair ≡ b → (setting_of c).related pair ≡ b
+  pub related-setting : (pair : Pair) (b : Bool) → is_related c.relation pair ≡ b → (setting_of c).related pair ≡ b
   unfolding setting_of
   related-setting pair b h = h
 
-  start-setting : start c.old c.new ≡ (setting_of c).start
+  pub start-setting : start c.old c.new ≡ (setting_of c).start
   unfolding setting_of
   start-setting = refl
 
@@ -92,7 +94,7 @@ fails_after c is set pair row leaves =
 module _ (c : Comparison) (formula : QueryData → Formula) (is : IsComparison c) where
   -- a first row
   pub seen_passes : (row : Row) → is_allowed c.relation row (start c.old c.new) ≡ true
-      → Passes (setting_of c) formula at_header (lines.Seen row) (at_drops (first_set (setting_of c)))
+      → Passes (setting_of c) formula (at_header Unwalked) (lines.Seen row) (at_walks 0 (setting_of c).start)
   seen_passes row ok = record {
     form = tt;
     moves = (
@@ -107,13 +109,13 @@ module _ (c : Comparison) (formula : QueryData → Formula) (is : IsComparison c
   not-false b e = ap not e
 
   -- a row that drops candidates
-  pub drop_passes : (set : CandidateSet) (pair : Pair) (row : Row) → LeavesSet c.old c.new c.relation set pair row
-      → Passes (setting_of c) formula (at_drops set) (lines.Dropping (numbers_of pair row)) (at_drops (left_of (setting_of c) set ((setting_of c).after row pair)))
-  drop_passes set pair row leaves =
+  pub drop_passes : (reach : Reach) (set : CandidateSet) (pair : Pair) (row : Row) → LeavesSet c.old c.new c.relation set pair row
+      → Passes (setting_of c) formula (at_drops reach set) (lines.Dropping (numbers_of pair row)) (at_drops reach (left_of (setting_of c) set ((setting_of c).after row pair)))
+  drop_passes reach set pair row leaves =
       let s = setting_of c in
       let old = old_length c pair leaves.in_range.0 in
       let new = new_length c pair leaves.in_range.1 in
-      let passes : goes (at_drops (left_of (setting_of c) set ((setting_of c).after row pair))) ≡ drop_row (setting_of c) set pair row =
+      let passes : goes (at_drops reach (left_of (setting_of c) set ((setting_of c).after row pair))) ≡ drop_row (setting_of c) reach set pair row =
       when-true _ B2 _ _ (and_from ((setting_of c).in_range pair) ((setting_of c).fits row) (test-IsPairInRange c pair leaves.in_range) (fits-setting c row pair leaves.allowed))
       (when-true _ B3 _ _ (allowed-setting c row pair leaves.allowed) (when-true _ B4 _ _ (test-Meets c is set pair leaves.meets)
       (when-true _ B5 _ _ (not-false (meets (setting_of c) set ((setting_of c).after row pair)) (fails_after c is set pair row leaves)) refl)))
@@ -123,22 +125,22 @@ module _ (c : Comparison) (formula : QueryData → Formula) (is : IsComparison c
         moves = (
           true,
           (λ _. (λ _. tt, λ _. refl)),
-          passes ∙ ap (λ p. drop_row (setting_of c) set p row) (sym (pair_back (setting_of c) pair row old new))
-              ∙ ap (λ r. drop_row (setting_of c) set (pair_in (setting_of c) (numbers_of pair row)) r) (sym (row_back (setting_of c) pair row old new)),
+          when-true _ B1 _ _ (either_version (is_first_version reach)) (passes ∙ ap (λ p. drop_row (setting_of c) reach set p row) (sym (pair_back (setting_of c) pair row old new))
+              ∙ ap (λ r. drop_row (setting_of c) reach set (pair_in (setting_of c) (numbers_of pair row)) r) (sym (row_back (setting_of c) pair row old new))),
         );
         tight = tt;
       }
 
   -- a row that leads out of the relation
-  pub pair_passes : (set : CandidateSet) (pair : Pair) (row : Row) → LeavesRelation c.old c.new c.relation set pair row
-      → Passes (setting_of c) formula (at_kept set) (lines.Pair (numbers_of pair row)) (at_deep set 0)
-  pair_passes set pair row leaves =
+  pub pair_passes : (reach : Reach) (set : CandidateSet) (pair : Pair) (row : Row) → LeavesRelation c.old c.new c.relation set pair row
+      → Passes (setting_of c) formula (at_kept reach set) (lines.Pair (numbers_of pair row)) (at_deep reach set 0)
+  pair_passes reach set pair row leaves =
       let old = old_length c pair leaves.in_range.0 in
       let new = new_length c pair leaves.in_range.1 in
       let apart : (setting_of c).related ((setting_of c).after row pair) ≡ false =
       subst (λ p. (setting_of c).related p ≡ false) (after-setting c row pair) (related-setting c (after_row c.old c.new c.relation row pair) false leaves.unrelated)
       in
-      let passes : goes (at_deep set 0) ≡ pair_row (setting_of c) set pair row =
+      let passes : goes (at_deep reach set 0) ≡ pair_row (setting_of c) reach set pair row =
       when-true _ B2 _ _ (and_from ((setting_of c).in_range pair) ((setting_of c).fits row) (test-IsPairInRange c pair leaves.in_range) (fits-setting c row pair leaves.allowed))
       (when-true _ B3 _ _ (allowed-setting c row pair leaves.allowed) (when-true _ B4 _ _ (test-Meets c is set pair leaves.meets)
       (when-true _ B8 _ _ (not-false ((setting_of c).related ((setting_of c).after row pair)) apart) refl)))
@@ -148,54 +150,59 @@ module _ (c : Comparison) (formula : QueryData → Formula) (is : IsComparison c
         moves = (
           true,
           (λ _. (λ _. tt, λ _. refl)),
-          passes ∙ ap (λ p. pair_row (setting_of c) set p row) (sym (pair_back (setting_of c) pair row old new))
-              ∙ ap (λ r. pair_row (setting_of c) set (pair_in (setting_of c) (numbers_of pair row)) r) (sym (row_back (setting_of c) pair row old new)),
+          when-true _ B1 _ _ (either_version (is_first_version reach)) (passes ∙ ap (λ p. pair_row (setting_of c) reach set p row) (sym (pair_back (setting_of c) pair row old new))
+              ∙ ap (λ r. pair_row (setting_of c) reach set (pair_in (setting_of c) (numbers_of pair row)) r) (sym (row_back (setting_of c) pair row old new))),
         );
         tight = tt;
       }
 
-  scan_last : (scans : ℕ) (pair : Pair) (row : Row) → IsBreakFrom c.old c.new c.relation pair (row ∷ [])
-      → goes (at_end (Different (pos scans))) ≡ scan_row (setting_of c) scans 0 pair row
-  scan_last scans pair row b =
+  scan_last : (reach : Reach) (scans : ℕ) (pair : Pair) (row : Row) → IsBreakFrom c.old c.new c.relation pair (row ∷ [])
+      → goes (at_end reach (Different (pos scans))) ≡ scan_row (setting_of c) reach scans 0 pair row
+  scan_last reach scans pair row b =
       let apart : (setting_of c).related ((setting_of c).after row pair) ≡ false =
       subst (λ p. (setting_of c).related p ≡ false) (after-setting c row pair) (related-setting c (after_row c.old c.new c.relation row pair) false b.1)
       in
       when-true _ B2 _ _ (fits-setting c row pair b.0) (when-true _ B3 _ _ (allowed-setting c row pair b.0) (when-true _ B8 _ _ (not-false _ apart) refl))
 
-  scan_more : (scans more : ℕ) (pair : Pair) (row : Row) → is_allowed c.relation row pair ≡ true → is_related c.relation (after_row c.old c.new c.relation row pair) ≡ true
-      → goes (at_scans scans more (after_row c.old c.new c.relation row pair)) ≡ scan_row (setting_of c) scans (suc more) pair row
-  scan_more scans more pair row ok related =
+  scan_more : (reach : Reach) (scans more : ℕ) (pair : Pair) (row : Row) → is_allowed c.relation row pair ≡ true → is_related c.relation (after_row c.old c.new c.relation row pair) ≡ true
+      → goes (at_scans reach scans more (after_row c.old c.new c.relation row pair)) ≡ scan_row (setting_of c) reach scans (suc more) pair row
+  scan_more reach scans more pair row ok related =
       let same : (setting_of c).related ((setting_of c).after row pair) ≡ true =
       subst (λ p. (setting_of c).related p ≡ true) (after-setting c row pair) (related-setting c (after_row c.old c.new c.relation row pair) true related)
       in
       when-true _ B2 _ _ (fits-setting c row pair ok) (when-true _ B3 _ _ (allowed-setting c row pair ok)
-      (when-true _ B8 _ _ same (ap (λ p. goes (at_scans scans more p)) (after-setting c row pair))))
+      (when-true _ B8 _ _ same (ap (λ p. goes (at_scans reach scans more p)) (after-setting c row pair))))
 
   -- rows that are a break, from a place where the next is tested so
-  scans_run : (scans more : ℕ) (pair : Pair) (place : Place)
-      → ((row : Row) (after : Place) → goes after ≡ scan_row (setting_of c) scans more pair row → Passes (setting_of c) formula place (lines.Scan row) after)
+  scans_run : (reach : Reach) (scans more : ℕ) (pair : Pair) (place : Place)
+      → ((row : Row) (after : Place) → goes after ≡ scan_row (setting_of c) reach scans more pair row → Passes (setting_of c) formula place (lines.Scan row) after)
       → (rows : List Row) → length rows ≡ more + 1 → IsBreakFrom c.old c.new c.relation pair rows
-      → Runs (setting_of c) formula place (scans_of rows) (at_end (Different (pos scans)))
-  scans_run scans more pair place passes [] long b = absurd b
-  scans_run scans zero pair place passes (row ∷ []) long b = (at_end (Different (pos scans)), passes row _ (scan_last scans pair row b), refl)
-  scans_run scans (suc more) pair place passes (row ∷ []) long b = absurd (omega (arith, long))
-  scans_run scans zero pair place passes (row ∷ next ∷ rows) long b = absurd (omega (arith, long))
-  scans_run scans (suc more) pair place passes (row ∷ next ∷ rows) long b =
+      → Runs (setting_of c) formula place (scans_of rows) (at_end reach (Different (pos scans)))
+  scans_run reach scans more pair place passes [] long b = absurd b
+  scans_run reach scans zero pair place passes (row ∷ []) long b = (at_end reach (Different (pos scans)), passes row _ (scan_last reach scans pair row b), refl)
+  scans_run reach scans (suc more) pair place passes (row ∷ []) long b = absurd (omega (arith, long))
+  scans_run reach scans zero pair place passes (row ∷ next ∷ rows) long b = absurd (omega (arith, long))
+  scans_run reach scans (suc more) pair place passes (row ∷ next ∷ rows) long b =
       let after = after_row c.old c.new c.relation row pair in (
-        at_scans scans more after,
-        passes row _ (scan_more scans more pair row b.0 b.1),
-        scans_run scans more after (at_scans scans more after) (λ r place e. record { form = tt; moves = (true, (λ _. (λ _. tt, λ _. refl)), e); tight = tt }) (next ∷ rows)
-            (omega (arith, long)) b.2,
+        at_scans reach scans more after,
+        passes row _ (scan_more reach scans more pair row b.0 b.1),
+        scans_run reach scans more after (at_scans reach scans more after)
+            (λ r place e. record { form = tt; moves = (true, (λ _. (λ _. tt, λ _. refl)), when-true _ B1 _ _ (either_version (is_first_version reach)) e); tight = tt })
+            (next ∷ rows) (omega (arith, long)) b.2,
       )
 
   -- a break of one scan more than searched so far
-  pub break_runs : (set : CandidateSet) (none : ℕ) (rows : List Row) → length rows ≡ none + 1 → IsBreakFrom c.old c.new c.relation (start c.old c.new) rows
-      → Runs (setting_of c) formula (at_deep set none) (scans_of rows) (at_end (Different (pos (none + 1))))
-  break_runs set none rows long b =
-      scans_run (none + 1) none (start c.old c.new) (at_deep set none)
+  pub break_runs : (reach : Reach) (set : CandidateSet) (none : ℕ) (rows : List Row) → length rows ≡ none + 1 → IsBreakFrom c.old c.new c.relation (start c.old c.new) rows
+      → Runs (setting_of c) formula (at_deep reach set none) (scans_of rows) (at_end reach (Different (pos (none + 1))))
+  break_runs reach set none rows long b =
+      scans_run reach (none + 1) none (start c.old c.new) (at_deep reach set none)
       (λ row place e. record {
         form = tt;
-        moves = (true, (λ _. (λ _. tt, λ _. refl)), e ∙ ap (λ p. scan_row (setting_of c) (none + 1) none p row) (start-setting c));
+        moves = (
+          true,
+          (λ _. (λ _. tt, λ _. refl)),
+          when-true _ B1 _ _ (either_version (is_first_version reach)) (e ∙ ap (λ p. scan_row (setting_of c) reach (none + 1) none p row) (start-setting c)),
+        );
         tight = tt;
       })
       rows long b
@@ -255,13 +262,18 @@ drop_found c set pair rows a row e = subst (λ r. LeavesSet c.old c.new c.relati
 
 module _ (c : Comparison) (formula : QueryData → Formula) (is : IsComparison c) where
   pub seen_found : (pair : Pair) (rows : List Row) → Answers c first pair rows → (row : Row) → rows ≡ row ∷ []
-      → Passes (setting_of c) formula at_header (lines.Seen row) (at_drops (first_set (setting_of c)))
+      → Passes (setting_of c) formula (at_header Unwalked) (lines.Seen row) (at_walks 0 (setting_of c).start)
   seen_found pair rows a row e = seen_passes c formula is row (subst (λ r. is_allowed c.relation r (start c.old c.new) ≡ true) (only_row rows a.0 row a.1 e) a.2)
 
-  pub pair_found : (set : CandidateSet) (pair : Pair) (rows : List Row) → Answers c (goal set) pair rows → (row : Row) → rows ≡ row ∷ []
-      → Passes (setting_of c) formula (at_kept set) (lines.Pair (numbers_of pair row)) (at_deep set 0)
-  pair_found set pair rows a row e =
-      pair_passes c formula is set pair row (subst (λ r. LeavesRelation c.old c.new c.relation set pair r) (only_row rows a.0 row a.1 e) a.2)
+  pub seen_allowed : (pair : Pair) (rows : List Row) → Answers c first pair rows → (row : Row) → rows ≡ row ∷ [] → (setting_of c).allowed row (setting_of c).start ≡ true
+  seen_allowed pair rows a row e =
+      subst (λ p. (setting_of c).allowed row p ≡ true) (start-setting c)
+      (allowed-setting c row (start c.old c.new) (subst (λ r. is_allowed c.relation r (start c.old c.new) ≡ true) (only_row rows a.0 row a.1 e) a.2))
+
+  pub pair_found : (reach : Reach) (set : CandidateSet) (pair : Pair) (rows : List Row) → Answers c (goal set) pair rows → (row : Row) → rows ≡ row ∷ []
+      → Passes (setting_of c) formula (at_kept reach set) (lines.Pair (numbers_of pair row)) (at_deep reach set 0)
+  pair_found reach set pair rows a row e =
+      pair_passes c formula is reach set pair row (subst (λ r. LeavesRelation c.old c.new c.relation set pair r) (only_row rows a.0 row a.1 e) a.2)
 
 -- the row that is read where there is one
 pub read_row : (rows : List Row) (r : Row) → length rows ≡ 1 → r ≡ get_or rows 0 r → rows ≡ r ∷ []

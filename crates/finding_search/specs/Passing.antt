@@ -11,14 +11,15 @@ use Rattle.finding_file.specs.Writing.{all_written}
 use Rattle.queries.specs.Settings.{Setting}
 use Rattle.queries.specs.Questions.{QueryData}
 use Rattle.judgement.specs.Steps.{step_of}
-use Rattle.judgement.specs.Places.{Place, in_log, in_query, goes}
+use Rattle.judgement.specs.Places.{Place, in_log, in_query, in_walk, goes}
 use Rattle.judgement.specs.Tests.{Moves}
 use Rattle.judgement.specs.Findings.{Leads, IsPrefixOfFinding}
 
 -- no hint of a step stands behind the one that decides
 abbrev pub IsTight : Place → Line → Type 0
 IsTight (in_log d behind) (lines.Derived literals hints) = LastDecides d.formula.variables (held_of d) (step_of literals hints)
-IsTight (in_query asked d left) (lines.Derived literals hints) = LastDecides d.formula.variables (held_of d) (step_of literals hints)
+IsTight (in_query reach asked d left) (lines.Derived literals hints) = LastDecides d.formula.variables (held_of d) (step_of literals hints)
+IsTight (in_walk rows d left) (lines.Derived literals hints) = LastDecides d.formula.variables (held_of d) (step_of literals hints)
 IsTight place line = Unit {0}
 
 module _ (s : Setting) (formula : QueryData → Formula) where

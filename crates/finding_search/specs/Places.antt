@@ -11,6 +11,7 @@ use Rattle.queries.specs.Sets.{members}
 use Rattle.judgement.specs.Steps.{with_derived}
 use Rattle.judgement.specs.Places.{Place, at_kept, finished}
 use Rattle.judgement.specs.Shown.{IsShown}
+use Rattle.judgement.specs.declared.answers.Reach.{Reach}
 use Rattle.finding_search.specs.declared.dropping.Pruned.{Pruned}
 use Rattle.finding_search.specs.declared.dropping.Pruned.TheVariants.{Kept, Spent}
 
@@ -24,7 +25,7 @@ abbrev pub IsPruned : Comparison → (QueryData → Formula) → Pruned → Type
 IsPruned c formula (Kept set) = IsGreatest c.old c.new c.relation (members set)
 IsPruned c formula (Spent verdict) = IsShown c formula verdict
 
--- behind the log of the set that is kept, or behind the END line
-abbrev pub place_of : Pruned → Place
-place_of (Kept set) = at_kept (members set)
-place_of (Spent verdict) = finished verdict
+-- behind the log of the set that is kept, or behind the END line, with what has been said of reach
+abbrev pub place_of : Reach → Pruned → Place
+place_of reach (Kept set) = at_kept reach (members set)
+place_of reach (Spent verdict) = finished reach verdict

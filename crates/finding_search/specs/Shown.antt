@@ -1,4 +1,4 @@
--- Steps and scans as they are written.
+-- Steps, scans and allowed rows as they are written.
 use Rattle.std.specs.Prelude.{ℤ, pos, neg_ℤ, ◌++◌, List, map, if◌then◌else◌}
 use Rattle.clause_core.specs.declared.literal.Lit.{Lit}
 use Rattle.clause_core.specs.declared.log.Entry.{Entry}
@@ -24,3 +24,6 @@ numbers_of pair row = pair.old ++ (pair.new ++ row)
 
 abbrev pub scans_of : List Row → List Line
 scans_of rows = map lines.Scan rows
+
+abbrev pub walks_of : List Row → List Line
+walks_of rows = map lines.Walk rows

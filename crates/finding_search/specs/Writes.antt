@@ -1,5 +1,5 @@
 -- What a call does that writes lines of a finding.
-use Rattle.std.specs.Prelude.{◌≡◌, ◌≤◌, List, length, IfSome, Result, MatchResult}
+use Rattle.std.specs.Prelude.{◌≡◌, ◌≤◌, ℕ, List, length, IfSome, Result, MatchResult, ◌⊎◌}
 use Rattle.outside.specs.Causes.{NoneFell}
 use Rattle.outside.specs.Contents.{OthersStay}
 use Rattle.clause_core.specs.Formula.{Formula}
@@ -8,18 +8,26 @@ use Rattle.finding_file.specs.Causes.{IsCausedBy}
 use Rattle.finding_file.specs.Writing.{all_written}
 use Rattle.finding_file.specs.declared.errors.WriteErr.{WriteErr}
 use Rattle.finding_file.specs.declared.errors.WriteErr.TheVariants.{Fault, M8}
-use Rattle.queries.specs.Settings.{Setting}
+use Rattle.derivation_check.specs.Checks.{Derivation}
+use Rattle.queries.specs.Settings.{Setting, first_set}
 use Rattle.queries.specs.Questions.{QueryData}
-use Rattle.judgement.specs.Places.{Place}
+use Rattle.judgement.specs.Places.{Place, at_drops, in_walk}
 use Rattle.judgement.specs.Findings.{Leads}
+use Rattle.judgement.specs.declared.answers.Reach.TheVariants.{AtLeast}
 use Rattle.finding_search.specs.Desks.{Desk, finding}
 use Rattle.finding_search.specs.Passing.{IsPartOfFinding, IsFull}
 
+-- Behind the log that spends the query for allowed rows a line that is no part of it is judged as where candidates are dropped.
+abbrev pub GoesOnAs : Setting → Place → Place → Type 0
+GoesOnAs s there place = (there ≡ place) ⊎ ((rows : ℕ) × (d : Derivation) × (there ≡ in_walk rows d 0) × (place ≡ at_drops (AtLeast rows) (first_set s)))
+
 module _ (s : Setting) (formula : QueryData → Formula) where
-  -- the lines written so far all pass and lead to the place; where the finding is told it holds them alone
+  -- the lines written so far all pass and lead to the place, or to one from where it goes on alike; where the finding is told it holds them alone
   pub record StandsAt (d : Desk) (place : Place) : Type 0 where
     pub all : List Line
-    pub leads : Leads s formula all place
+    pub there : Place
+    pub leads : Leads s formula all there
+    pub alike : GoesOnAs s there place
     pub told : IfSome (finding d) (λ bytes. bytes ≡ all_written all)
     pub counted : d.writer.size ≡ length (all_written all)
     pub within : length (all_written all) ≤ d.writer.limit

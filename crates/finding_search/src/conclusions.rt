@@ -1,8 +1,8 @@
 // Verdicts and queries with their numbers.
-ghost use Rattle.std.specs.Prelude.{◌≡◌, ◌≤◌, pos};
+ghost use Rattle.std.specs.Prelude.{◌≡◌, ◌≤◌, ◌+◌, pos};
 ghost use Rattle.finding_lines.specs.declared.line.Asked.TheVariants as questions;
 ghost use Rattle.finding_lines.specs.declared.line.Conclusion.TheVariants as conclusions;
-ghost use Rattle.finding_lines.specs.Form.{AskedFits, ConclusionFits};
+ghost use Rattle.finding_lines.specs.Form.{AskedFits, ConclusionFits, IsEnding};
 ghost use Rattle.queries.specs.Comparisons.{IsComparison};
 ghost use Rattle.queries.specs.Sets.{members};
 ghost use Rattle.pair_trial.specs.Trials.{comparison_of, setting_in};
@@ -29,6 +29,7 @@ pub fn related_by(trial: &Trial, set: &CandidateSet) -> Conclusion
     requires { IsComparison (comparison_of trial.now) }
     ensures same { result ≡ related_by (setting_in trial.now) (members set.now) }
     ensures fits { ConclusionFits result }
+    ensures ending { IsEnding result }
 {
     let candidates = trial.candidates();
     Conclusion::Related(set.size(candidates) as i64, candidates as i64)
@@ -40,6 +41,7 @@ pub fn open_by(trial: &Trial, set: &CandidateSet) -> Conclusion
     requires { IsComparison (comparison_of trial.now) }
     ensures same { result ≡ open_by (setting_in trial.now) (members set.now) }
     ensures fits { ConclusionFits result }
+    ensures ending { IsEnding result }
 {
     let candidates = trial.candidates();
     Conclusion::Open(
@@ -54,6 +56,7 @@ pub fn different_at(scans: u64) -> Conclusion
     requires { scans ≤ 64 }
     ensures same { result ≡ conclusions.Different (pos scans) }
     ensures fits { ConclusionFits result }
+    ensures ending { IsEnding result }
 {
     Conclusion::Different(scans as i64)
 }
@@ -74,4 +77,13 @@ pub fn deep_at(scans: u64) -> Asked
     ensures fits { AskedFits result }
 {
     Asked::Deep(scans as i64)
+}
+
+/// The query for one row more than so many.
+pub fn walk_behind(rows: u64) -> Asked
+    requires { rows ≤ 64 }
+    ensures same { result ≡ questions.Walk (pos (rows + 1)) }
+    ensures fits { AskedFits result }
+{
+    Asked::Walk(rows as i64 + 1)
 }

@@ -9,6 +9,7 @@ ghost use Rattle.queries.specs.Meaning.{Answers};
 ghost use Rattle.queries.specs.Sets.{members};
 ghost use Rattle.pair_trial.specs.Trials.{comparison_of, setting_in};
 ghost use Rattle.judgement.specs.Places.{at_drops};
+ghost use Rattle.judgement.specs.declared.answers.Reach.{Reach};
 ghost use Rattle.invariant_prune.specs.Answers.{pair_of};
 ghost use Rattle.invariant_prune.specs.Kept.{IsKept};
 ghost use Rattle.finding_search.specs.Desks.{desk};
@@ -49,8 +50,8 @@ fn drop_by<S: Shelf>(
 ) -> Result<(), WriteErr>
     requires comparison { IsComparison (comparison_of trial.old) }
     requires found { Answers (comparison_of trial.old) (step (members set.old)) (pair_of found.now) found.now.rows.items }
-    ensures writes { (formula : QueryData → Formula) → Writes (setting_in trial.old) formula (desk (S.state shelf.old) writer.old) (at_drops (members set.old))
-        (desk (S.state shelf.new) writer.new) (λ _. at_drops (members set.new)) result }
+    ensures writes { (reach : Reach) (formula : QueryData → Formula) → Writes (setting_in trial.old) formula (desk (S.state shelf.old) writer.old) (at_drops reach (members set.old))
+        (desk (S.state shelf.new) writer.new) (λ _. at_drops reach (members set.new)) result }
     ensures fewer { OnOk result (size_below (setting_in trial.old).candidates (members set.new) < size_below (setting_in trial.old).candidates (members set.old)) }
     ensures trial { trial.new ≡ with_pair trial.new.pair trial.old }
 {
@@ -73,8 +74,8 @@ fn drop_guessed<G: Guesses, S: Shelf>(
     set: &mut CandidateSet,
 ) -> Result<(), WriteErr>
     requires comparison { IsComparison (comparison_of trial.old) }
-    ensures writes { (formula : QueryData → Formula) → Writes (setting_in trial.old) formula (desk (S.state shelf.old) writer.old) (at_drops (members set.old))
-        (desk (S.state shelf.new) writer.new) (λ _. at_drops (members set.new)) result }
+    ensures writes { (reach : Reach) (formula : QueryData → Formula) → Writes (setting_in trial.old) formula (desk (S.state shelf.old) writer.old) (at_drops reach (members set.old))
+        (desk (S.state shelf.new) writer.new) (λ _. at_drops reach (members set.new)) result }
     ensures no_more { OnOk result (size_below (setting_in trial.old).candidates (members set.new) ≤ size_below (setting_in trial.old).candidates (members set.old)) }
     ensures trial { trial.new ≡ with_pair trial.new.pair trial.old }
 {
@@ -103,11 +104,11 @@ pub fn prune<D: Decider, Q: Queries, G: Guesses, S: Shelf>(
     requires compared { Q.compared queries.now ≡ comparison_of trial.old }
     requires comparison { IsComparison (comparison_of trial.old) }
     requires kept { IsKept (Q.front queries.now) kept.old }
-    ensures writes { Writes (setting_in trial.old) (Q.formula queries.now) (desk (S.state shelf.old) writer.old) (at_drops (members set))
-        (desk (S.state shelf.new) writer.new) place_of result }
+    ensures writes { (reach : Reach) → Writes (setting_in trial.old) (Q.formula queries.now) (desk (S.state shelf.old) writer.old) (at_drops reach (members set))
+        (desk (S.state shelf.new) writer.new) (place_of reach) result }
     ensures kept { IsKept (Q.front queries.now) kept.new }
     // Where the lines before it pass, the set that is kept is the greatest inductive one.
-    ensures greatest { StandsAt (setting_in trial.old) (Q.formula queries.now) (desk (S.state shelf.old) writer.old) (at_drops (members set))
+    ensures greatest { (reach : Reach) → StandsAt (setting_in trial.old) (Q.formula queries.now) (desk (S.state shelf.old) writer.old) (at_drops reach (members set))
         → IfOk result (IsPruned (comparison_of trial.old) (Q.formula queries.now)) }
     ensures trial { trial.new ≡ with_pair trial.new.pair trial.old }
 {

@@ -1,17 +1,18 @@
 // Logs: the line that opens one, its steps, and what follows a spent one.
-ghost use Rattle.std.specs.Prelude.{◌≡◌, ℕ, pos, Some};
+ghost use Rattle.std.specs.Prelude.{◌≡◌, ℕ, pos};
 ghost use Rattle.clause_core.specs.Formula.{Formula};
 ghost use Rattle.clause_core.specs.Decisions.{IsRefutation, IsSpent};
 ghost use Rattle.finding_lines.specs.declared.line.Line.TheVariants as lines;
-ghost use Rattle.finding_lines.specs.Form.{AskedFits};
+ghost use Rattle.finding_lines.specs.declared.line.Conclusion.TheVariants as conclusions;
+ghost use Rattle.finding_lines.specs.Form.{AskedFits, IsEnding};
 ghost use Rattle.queries.specs.Settings.{Setting};
 ghost use Rattle.queries.specs.Questions.{QueryData};
 ghost use Rattle.judgement.specs.Steps.{opened};
 ghost use Rattle.judgement.specs.Places.{Place, in_log, in_query, finished};
+ghost use Rattle.judgement.specs.declared.answers.Reach.{Reach};
 ghost use Rattle.finding_search.specs.Desks.{desk};
 ghost use Rattle.finding_search.specs.Passing.{Passes, Runs};
 ghost use Rattle.finding_search.specs.Shown.{lines_of};
-ghost use Rattle.finding_search.specs.Places.{after_all};
 ghost use Rattle.finding_search.specs.Writes.{Writes};
 
 use crate::conclusions::spent_by;
@@ -59,8 +60,8 @@ pub fn write_refutation<S: Shelf>(
     write_steps(alloc, writer, shelf, log.entries())
 }
 
-// The log that spends a query, with the QUERY line before it.
-fn write_spent_log<S: Shelf>(
+/// The log that is to spend a query, with the QUERY line before it.
+pub fn write_spent_log<S: Shelf>(
     alloc: Global,
     writer: &mut FindingWriter,
     shelf: &mut S,
@@ -68,10 +69,10 @@ fn write_spent_log<S: Shelf>(
     log: &Log,
 ) -> Result<(), WriteErr>
     requires { AskedFits asked }
-    ensures { (s : Setting) (formula : QueryData → Formula) (f : Formula) (from : Place)
-        → Passes s formula from (lines.Query asked) (in_query asked (opened f) s.conflicts) → IsSpent f s.conflicts log.now
+    ensures { (s : Setting) (formula : QueryData → Formula) (from inside to : Place)
+        → Passes s formula from (lines.Query asked) inside → Runs s formula inside (lines_of log.now) to
         → Writes s formula (desk (S.state shelf.old) writer.old) from
-        (desk (S.state shelf.new) writer.new) (λ _. in_query asked (after_all (opened f) log.now) 0) result }
+        (desk (S.state shelf.new) writer.new) (λ _. to) result }
 {
     write_line(writer, shelf, &Line::Query(asked))?;
     write_steps(alloc, writer, shelf, log.entries())
@@ -87,10 +88,11 @@ pub fn write_spent<S: Shelf>(
     limit: u32,
 ) -> Result<Conclusion, WriteErr>
     requires { AskedFits asked }
-    ensures { (s : Setting) (formula : QueryData → Formula) (f : Formula) (from : Place) → s.conflicts ≡ limit
-        → Passes s formula from (lines.Query asked) (in_query asked (opened f) s.conflicts) → IsSpent f s.conflicts log.now
+    ensures { (s : Setting) (formula : QueryData → Formula) (f : Formula) (from : Place) (reach : Reach) → s.conflicts ≡ limit
+        → IsEnding (conclusions.Spent asked (pos limit))
+        → Passes s formula from (lines.Query asked) (in_query reach asked (opened f) s.conflicts) → IsSpent f s.conflicts log.now
         → Writes s formula (desk (S.state shelf.old) writer.old) from
-        (desk (S.state shelf.new) writer.new) finished result }
+        (desk (S.state shelf.new) writer.new) (finished reach) result }
 {
     write_spent_log(alloc, writer, shelf, asked, log)?;
     write_end(writer, shelf, spent_by(asked, limit))

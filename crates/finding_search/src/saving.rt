@@ -1,5 +1,5 @@
 // A whole finding.
-ghost use Rattle.std.specs.Prelude.{◌≡◌, ◌∷◌, [], length, IfOk, IfSome, OnErr};
+ghost use Rattle.std.specs.Prelude.{◌≡◌, ◌≢◌, ◌∷◌, [], length, Result, IfOk, IfSome, OnErr};
 ghost use Rattle.outside.specs.Causes.{NoneFell};
 ghost use Rattle.outside.specs.Contents.{OthersStay};
 ghost use Rattle.clause_core.specs.Formula.{Formula};
@@ -9,15 +9,19 @@ ghost use Rattle.scan_model.specs.InRange.{Row};
 ghost use Rattle.queries.specs.Comparisons.{IsComparison};
 ghost use Rattle.queries.specs.Settings.{Setting, first_set};
 ghost use Rattle.queries.specs.Questions.{QueryData};
+ghost use Rattle.queries.specs.Questions as questions;
+ghost use Rattle.queries.specs.Meaning.{Answers};
 ghost use Rattle.queries.specs.Sets.{members};
 ghost use Rattle.pair_trial.specs.Trials.{comparison_of, setting_in};
 ghost use Rattle.invariant_prune.specs.Answers.{pair_of};
 ghost use Rattle.invariant_prune.specs.Kept.{IsKept};
-ghost use Rattle.judgement.specs.Places.{Place, at_top, at_header, at_drops, at_kept, finished};
+ghost use Rattle.judgement.specs.Places.{Place, at_top, at_header, at_walks, at_drops, at_kept, finished, finished_by};
 ghost use Rattle.judgement.specs.Findings.{IsJudged};
-ghost use Rattle.judgement.specs.Shown.{IsShown};
+ghost use Rattle.judgement.specs.Shown.{IsShown, IsReachShown};
 ghost use Rattle.judgement.specs.declared.answers.Judged.TheVariants.{Valid};
-ghost use Rattle.finding_search.specs.Desks.{desk};
+ghost use Rattle.judgement.specs.declared.answers.Reach.{Reach};
+ghost use Rattle.judgement.specs.declared.answers.Reach.TheVariants.{Untold, Unwalked};
+ghost use Rattle.finding_search.specs.Desks.{Desk, desk};
 ghost use Rattle.finding_search.specs.Passing.{Passes, IsPartOfFinding, IsFull};
 ghost use Rattle.finding_search.specs.Shown.{numbers_of};
 ghost use Rattle.finding_search.specs.Writes.{Writes};
@@ -27,14 +31,17 @@ use crate::deepening::search;
 use crate::dropping::{Pruned, prune};
 use crate::logs::{write_refutation, write_spent};
 use crate::numbers::{pair_numbers, row_numbers};
+use crate::walks::write_walk;
 use crate::writing::{write_end, write_line};
 use clause_core::{Cnf, Decider};
 use finding_file::{FindingWriter, WriteErr};
-use finding_lines::{Asked, Conclusion, Line};
+use finding_lines::{Asked, Conclusion, Line, Version};
 use invariant_prune::{Answer, Guesses, first, goal};
+use judgement::{Concluded, Reach};
 use outside::Shelf;
 use pair_trial::{Trial, first_set};
 use queries::{CandidateSet, Decoded, Queries};
+use reach_search::reach;
 use std::alloc::Global;
 
 // The row that leads out of the relation.
@@ -69,8 +76,8 @@ fn save_from_kept<D: Decider, Q: Queries, G: Guesses, S: Shelf>(
     requires compared { Q.compared queries.now ≡ comparison_of trial.now }
     requires comparison { IsComparison (comparison_of trial.now) }
     requires kept { IsKept (Q.front queries.now) kept.old }
-    ensures { Writes (setting_in trial.now) (Q.formula queries.now) (desk (S.state shelf.old) writer.old) (at_kept (members set.now))
-        (desk (S.state shelf.new) writer.new) finished result }
+    ensures { (reach : Reach) → Writes (setting_in trial.now) (Q.formula queries.now) (desk (S.state shelf.old) writer.old) (at_kept reach (members set.now))
+        (desk (S.state shelf.new) writer.new) (finished reach) result }
 {
     let limit = limit_of(trial);
     match goal(alloc, decider, queries, kept, guesses, set, limit)? {
@@ -88,7 +95,7 @@ fn save_from_kept<D: Decider, Q: Queries, G: Guesses, S: Shelf>(
     }
 }
 
-// From the set of what holds at the start on, with a first row that is allowed.
+// From the set of what holds at the start on.
 fn save_from_start<D: Decider, Q: Queries, G: Guesses, S: Shelf>(
     alloc: Global,
     decider: &mut D,
@@ -97,14 +104,12 @@ fn save_from_start<D: Decider, Q: Queries, G: Guesses, S: Shelf>(
     guesses: &mut G,
     writer: &mut FindingWriter,
     shelf: &mut S,
-    seen: &Decoded,
 ) -> Result<Conclusion, WriteErr>
     requires compared { Q.compared queries.now ≡ comparison_of trial.old }
     requires comparison { IsComparison (comparison_of trial.old) }
-    ensures { Writes (setting_in trial.old) (Q.formula queries.now) (desk (S.state shelf.old) writer.old) (at_drops (first_set (setting_in trial.old)))
-        (desk (S.state shelf.new) writer.new) finished result }
+    ensures { (reach : Reach) → Writes (setting_in trial.old) (Q.formula queries.now) (desk (S.state shelf.old) writer.old) (at_drops reach (first_set (setting_in trial.old)))
+        (desk (S.state shelf.new) writer.new) (finished reach) result }
 {
-    guesses.begin(alloc, seen, limit_of(trial))?;
     let set = first_set(alloc, trial)?;
     let mut kept = None;
     match prune(
@@ -115,6 +120,44 @@ fn save_from_start<D: Decider, Q: Queries, G: Guesses, S: Shelf>(
         ),
         Pruned::Spent(verdict) => Ok(verdict),
     }
+}
+
+// A verdict, and what its finding says of reach.
+fn concluded(verdict: Result<Conclusion, WriteErr>, reach: Reach) -> Result<Concluded, WriteErr>
+    ensures writes { (s : Setting) (formula : QueryData → Formula) (old new : Desk) (from : Place) → Writes s formula old from new (finished reach) verdict
+        → Writes s formula old from new finished_by result }
+    ensures told { IfOk result (λ a. a.reach ≡ reach) }
+{
+    match verdict {
+        Ok(verdict) => Ok(Concluded { verdict, reach }),
+        Err(error) => Err(error),
+    }
+}
+
+// Behind a first row: from the rows that are allowed one after the other on.
+fn save_from_seen<D: Decider, Q: Queries, G: Guesses, S: Shelf>(
+    alloc: Global,
+    decider: &mut D,
+    trial: &mut Trial,
+    queries: &Q,
+    guesses: &mut G,
+    writer: &mut FindingWriter,
+    shelf: &mut S,
+    seen: &Decoded,
+) -> Result<Concluded, WriteErr>
+    requires compared { Q.compared queries.now ≡ comparison_of trial.old }
+    requires comparison { IsComparison (comparison_of trial.old) }
+    requires seen { Answers (comparison_of trial.old) questions.first (pair_of seen.now) seen.now.rows.items }
+    ensures writes { Writes (setting_in trial.old) (Q.formula queries.now) (desk (S.state shelf.old) writer.old) (at_walks 0 (setting_in trial.old).start)
+        (desk (S.state shelf.new) writer.new) finished_by result }
+    ensures told { IfOk result (λ a. a.reach ≢ Untold) }
+{
+    let limit = limit_of(trial);
+    guesses.begin(alloc, seen, limit)?;
+    let walk = reach(alloc, decider, trial, queries, &seen.rows[0], limit)?;
+    let told = write_walk(alloc, writer, shelf, &walk)?;
+    let verdict = save_from_start(alloc, decider, trial, queries, guesses, writer, shelf);
+    concluded(verdict, told)
 }
 
 // The first row.
@@ -143,25 +186,30 @@ fn save_from_header<D: Decider, Q: Queries, G: Guesses, S: Shelf>(
     guesses: &mut G,
     writer: &mut FindingWriter,
     shelf: &mut S,
-) -> Result<Conclusion, WriteErr>
+) -> Result<Concluded, WriteErr>
     requires compared { Q.compared queries.now ≡ comparison_of trial.old }
     requires comparison { IsComparison (comparison_of trial.old) }
-    ensures { Writes (setting_in trial.old) (Q.formula queries.now) (desk (S.state shelf.old) writer.old) at_header
-        (desk (S.state shelf.new) writer.new) finished result }
+    ensures writes { Writes (setting_in trial.old) (Q.formula queries.now) (desk (S.state shelf.old) writer.old) (at_header Unwalked)
+        (desk (S.state shelf.new) writer.new) finished_by result }
+    ensures told { IfOk result (λ a. a.reach ≢ Untold) }
 {
     let limit = limit_of(trial);
     match first(alloc, decider, queries, limit)? {
         Answer::Found(found) => {
             write_seen(alloc, writer, shelf, &found)?;
-            save_from_start(
+            save_from_seen(
                 alloc, decider, trial, queries, guesses, writer, shelf, &found,
             )
         }
         Answer::Refuted(log) => {
             write_refutation(alloc, writer, shelf, Asked::First, &log)?;
-            write_end(writer, shelf, Conclusion::Vacuous)
+            let verdict = write_end(writer, shelf, Conclusion::Vacuous);
+            concluded(verdict, Reach::Unwalked)
         }
-        Answer::Spent(log) => write_spent(alloc, writer, shelf, Asked::First, &log, limit),
+        Answer::Spent(log) => {
+            let verdict = write_spent(alloc, writer, shelf, Asked::First, &log, limit);
+            concluded(verdict, Reach::Unwalked)
+        }
     }
 }
 
@@ -174,19 +222,21 @@ fn save_from_top<D: Decider, Q: Queries, G: Guesses, S: Shelf>(
     guesses: &mut G,
     writer: &mut FindingWriter,
     shelf: &mut S,
-) -> Result<Conclusion, WriteErr>
+) -> Result<Concluded, WriteErr>
     requires compared { Q.compared queries.now ≡ comparison_of trial.old }
     requires comparison { IsComparison (comparison_of trial.old) }
-    ensures { Writes (setting_in trial.old) (Q.formula queries.now) (desk (S.state shelf.old) writer.old) at_top
-        (desk (S.state shelf.new) writer.new) finished result }
+    ensures writes { Writes (setting_in trial.old) (Q.formula queries.now) (desk (S.state shelf.old) writer.old) at_top
+        (desk (S.state shelf.new) writer.new) finished_by result }
+    ensures told { IfOk result (λ a. a.reach ≢ Untold) }
 {
-    write_line(writer, shelf, &Line::Header)?;
+    write_line(writer, shelf, &Line::Header(Version::Two))?;
     save_from_header(alloc, decider, trial, queries, guesses, writer, shelf)
 }
 
 /// Searches for the verdict, and writes the finding that shows it into a file that is empty, line by line: each answer of the
-/// decider is written before the next is asked for. It asks one query for a first row, at most one for each candidate and one
-/// more for the set, one for the relation, and at most DEPTH for breaks.
+/// decider is written before the next is asked for, but those for allowed rows, which are written as one list. It asks one query for
+/// a first row, at most DEPTH - 1 for more allowed rows, at most one for each candidate and one more for the set, one for the
+/// relation, and at most DEPTH for breaks.
 pub fn save_finding<D: Decider, Q: Queries, G: Guesses, S: Shelf>(
     alloc: Global,
     decider: &mut D,
@@ -195,14 +245,16 @@ pub fn save_finding<D: Decider, Q: Queries, G: Guesses, S: Shelf>(
     guesses: &mut G,
     writer: &mut FindingWriter,
     shelf: &mut S,
-) -> Result<Conclusion, WriteErr>
+) -> Result<Concluded, WriteErr>
     requires compared { Q.compared queries.now ≡ comparison_of trial.old }
     requires comparison { IsComparison (comparison_of trial.old) }
     requires empty { IfSome ((S.state shelf.old).file writer.old.name) (λ file. file ≡ []) }
     requires unwritten { writer.old.size ≡ 0 }
-    ensures valid { IfOk result (λ verdict. IfSome ((S.state shelf.new).file writer.old.name)
-        (λ file. IsJudged (setting_in trial.old) (Q.formula queries.now) writer.old.limit file (Ok (Valid verdict)))) }
-    ensures shown { IfOk result (IsShown (comparison_of trial.old) (Q.formula queries.now)) }
+    ensures valid { IfOk result (λ a. IfSome ((S.state shelf.new).file writer.old.name)
+        (λ file. IsJudged (setting_in trial.old) (Q.formula queries.now) writer.old.limit file (Ok (Valid a.verdict a.reach)))) }
+    ensures shown { IfOk result (λ a. IsShown (comparison_of trial.old) (Q.formula queries.now) a.verdict) }
+    ensures reached { IfOk result (λ a. IsReachShown (comparison_of trial.old) (Q.formula queries.now) a.reach) }
+    ensures told { IfOk result (λ a. a.reach ≢ Untold) }
     ensures part { OnErr result (IfSome ((S.state shelf.new).file writer.old.name) (IsPartOfFinding (setting_in trial.old) (Q.formula queries.now))) }
     ensures past { result ≡ Err WriteErr.M8 → IsFull (setting_in trial.old) (Q.formula queries.now) ((S.state shelf.new).file writer.old.name) writer.old.limit }
     ensures others { OthersStay (S.state shelf.old).file (S.state shelf.new).file writer.old.name }

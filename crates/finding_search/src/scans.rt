@@ -5,6 +5,7 @@ ghost use Rattle.finding_lines.specs.declared.line.Conclusion.TheVariants as con
 ghost use Rattle.queries.specs.Settings.{Setting};
 ghost use Rattle.queries.specs.Questions.{QueryData};
 ghost use Rattle.judgement.specs.Places.{Place, at_end, finished};
+ghost use Rattle.judgement.specs.declared.answers.Reach.{Reach};
 ghost use Rattle.finding_search.specs.Desks.{desk};
 ghost use Rattle.finding_search.specs.Passing.{Runs};
 ghost use Rattle.finding_search.specs.Shown.{scans_of};
@@ -46,9 +47,10 @@ pub fn write_break<S: Shelf>(
     scans: u64,
 ) -> Result<Conclusion, WriteErr>
     requires { scans ≤ 64 }
-    ensures { (s : Setting) (formula : QueryData → Formula) (from : Place) → Runs s formula from (scans_of rows.now) (at_end (conclusions.Different (pos scans)))
+    ensures { (s : Setting) (formula : QueryData → Formula) (from : Place) (reach : Reach)
+        → Runs s formula from (scans_of rows.now) (at_end reach (conclusions.Different (pos scans)))
         → Writes s formula (desk (S.state shelf.old) writer.old) from
-        (desk (S.state shelf.new) writer.new) finished result }
+        (desk (S.state shelf.new) writer.new) (finished reach) result }
 {
     write_scans(alloc, writer, shelf, rows)?;
     write_end(writer, shelf, different_at(scans))

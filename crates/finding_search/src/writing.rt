@@ -5,6 +5,7 @@ ghost use Rattle.finding_lines.specs.Form.{Fits, ConclusionFits};
 ghost use Rattle.queries.specs.Settings.{Setting};
 ghost use Rattle.queries.specs.Questions.{QueryData};
 ghost use Rattle.judgement.specs.Places.{Place, finished};
+ghost use Rattle.judgement.specs.declared.answers.Reach.{Reach};
 ghost use Rattle.finding_search.specs.Desks.{desk};
 ghost use Rattle.finding_search.specs.Passing.{Passes};
 ghost use Rattle.finding_search.specs.Writes.{Writes};
@@ -34,9 +35,10 @@ pub fn write_end<S: Shelf>(
     verdict: Conclusion,
 ) -> Result<Conclusion, WriteErr>
     requires { ConclusionFits verdict }
-    ensures { (s : Setting) (formula : QueryData → Formula) (from : Place) → Passes s formula from (lines.End verdict) (finished verdict)
+    ensures { (s : Setting) (formula : QueryData → Formula) (from : Place) (reach : Reach)
+        → Passes s formula from (lines.End verdict) (finished reach verdict)
         → Writes s formula (desk (S.state shelf.old) writer.old) from
-        (desk (S.state shelf.new) writer.new) finished result }
+        (desk (S.state shelf.new) writer.new) (finished reach) result }
 {
     write_line(writer, shelf, &Line::End(verdict))?;
     Ok(verdict)

@@ -1,2 +1,4 @@
 pub mod Refuted
 pub mod Parts
+pub mod Thinnings
+pub mod Hinted

@@ -1,1 +1,2 @@
 pub mod FreshClauses
+pub mod Deletions

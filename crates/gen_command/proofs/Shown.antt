@@ -25,9 +25,9 @@ module _ (count : ℕ) (k : Change) (status : Status) (old new : Option (List �
 
   last_shown : (c : Comparison) (r last : Report) → AreAccepted (texts_of count) c → HoldTexts count k.after.file → ReportsVerdict c (formulas_of c) k (finding_name count) last → r ≡ behind (made_line count c) last
       → status ≡ r.status → new ≡ extended old r.text → ShowsMade count k status old new
-  last_shown c r last accepted hold (decided verdict saves shown d) e is put = record {
+  last_shown c r last accepted hold (decided a saves shown d) e is put = record {
     compared = c;
-    verdict = verdict;
+    concluded = a;
     accepted = accepted;
     texts = hold;
     saved = saves;

@@ -36,7 +36,7 @@ module _ (count : ℕ) (first before after : ShelfState) where
   -- ---- reports
 
   verdict_since : (c : Comparison) (formula : QueryData → Formula) (r : Report) → NoneFell first.write_faults before.write_faults → ReportsVerdict c formula late name r → ReportsVerdict c formula whole name r
-  verdict_since c formula r later (decided verdict is shown e) = decided verdict is shown e
+  verdict_since c formula r later (decided a is shown e) = decided a is shown e
   verdict_since c formula r later (too_long full e) = too_long full e
   verdict_since c formula r later (not_written failed e) = not_written (failed_since later failed) e
 

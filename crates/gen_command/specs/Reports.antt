@@ -3,10 +3,9 @@ use Rattle.std.specs.Prelude.{◌≡◌, ◌≢◌, ◌⊎◌, ℕ, List, ◌++�
 use Rattle.outside.specs.Contents.{extended}
 use Rattle.outside.specs.States.{Change}
 use Rattle.clause_core.specs.Formula.{Formula}
-use Rattle.finding_lines.specs.declared.line.Conclusion.{Conclusion}
 use Rattle.queries.specs.Comparisons.{Comparison}
 use Rattle.queries.specs.Questions.{QueryData}
-use Rattle.judgement.specs.Shown.{IsShown}
+use Rattle.judgement.specs.declared.answers.Concluded.{Concluded}
 use Rattle.command_answers.specs.declared.status.Status.{Status}
 use Rattle.command_answers.specs.Reports.{Report}
 use Rattle.command_answers.specs.Ends.{Asking}
@@ -16,9 +15,9 @@ use Rattle.verify_command.specs.comparison_files.Refusals.{ReportsRefusal}
 use Rattle.verify_command.specs.comparison_files.Texts.{Texts}
 use Rattle.generated_texts.specs.Names.{old_name, new_name, relation_name, finding_name}
 use Rattle.generated_texts.specs.Files.{HoldTexts, LeaveTexts, OneTextFailed}
-use Rattle.finding_answers.specs.Verdicts.{verdict_line, verdict_status}
+use Rattle.finding_answers.specs.Verdicts.{verdict_line, verdict_status, reach_line}
 use Rattle.finding_answers.specs.Lines.{write_fault_report}
-use Rattle.verify_command.specs.Reports.{HasFailed, IsSaved, ReportsVerdict, IsLeft}
+use Rattle.verify_command.specs.Reports.{HasFailed, IsSaved, AreShown, ReportsVerdict, IsLeft}
 use Rattle.gen_command.specs.Made.{texts_of}
 use Rattle.gen_command.specs.Lines.{made_line, behind, memory_report}
 
@@ -63,13 +62,13 @@ asking_to_generate count = record {
 }
 
 -- A verdict was put behind GEN's line, with its status: the texts are saved, and where the finding is told it is judged so by what they
--- state, and the verdict is the model's, or SPENT with its log.
+-- state, the verdict is the model's, or SPENT with its log, and so is the reach, or the query for one row more is spent.
 pub record ShowsMade (count : ℕ) (k : Change) (status : Status) (old new : Option (List ℕ)) : Type 0 where
   pub compared : Comparison
-  pub verdict : Conclusion
+  pub concluded : Concluded
   pub accepted : AreAccepted (texts_of count) compared
   pub texts : HoldTexts count k.after.file
-  pub saved : IsSaved compared (formulas_of compared) k (finding_name count) verdict
-  pub shown : IsShown compared (formulas_of compared) verdict
-  pub is : status ≡ verdict_status verdict
-  pub put : new ≡ extended old (made_line count compared ++ verdict_line verdict)
+  pub saved : IsSaved compared (formulas_of compared) k (finding_name count) concluded
+  pub shown : AreShown compared (formulas_of compared) concluded
+  pub is : status ≡ verdict_status concluded.verdict
+  pub put : new ≡ extended old (made_line count compared ++ (verdict_line concluded.verdict ++ reach_line compared.relation.depth concluded.reach))

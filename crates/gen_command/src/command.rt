@@ -139,7 +139,8 @@ pub fn answer_gen<D: Decider, S: Shelf, K: Sink>(
     ensures read_fault { result ≢ Status.ReadFault }
 
     // Where the status is that of a verdict, the files have the texts, the finding was saved and is judged valid with it, and it is the
-    // verdict of the model on what the texts state, or SPENT with its log.
+    // verdict of the model on what the texts state, or SPENT with its log; and where a line on reach is behind it, that is the reach of the model,
+    // or the query for one row more is spent.
     ensures saved { IsOfVerdict result → ShowsMade count (change (S.state shelf.old) (S.state shelf.new)) result (K.state out.old).taken (K.state out.new).taken }
 
     // Where no count rose, the answer is a whole report, or memory was wanting.

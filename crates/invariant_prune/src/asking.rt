@@ -204,3 +204,19 @@ pub fn search_at<D: Decider, Q: Queries>(
 {
     ask(alloc, decider, queries, &Query::Deep(scans), limit)
 }
+
+/// So many rows that are allowed, one after the other from the start; or there are none; or the query is spent.
+pub fn walk_at<D: Decider, Q: Queries>(
+    alloc: Global,
+    decider: &mut D,
+    queries: &Q,
+    rows: u64,
+    limit: u32,
+) -> Result<Answer, AllocError>
+    requires rows { IsQueryOf (Q.compared queries.now) (questions.walk rows) }
+    requires some { 1 ≤ limit }
+    requires most { limit ≤ 1000000 }
+    ensures { IfOk result (IsAnswer (Q.compared queries.now) (Q.formula queries.now) limit (questions.walk rows)) }
+{
+    ask(alloc, decider, queries, &Query::Walk(rows), limit)
+}

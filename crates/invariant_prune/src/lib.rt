@@ -7,5 +7,5 @@ mod asking;
 mod guesses;
 
 pub use answer::Answer;
-pub use asking::{first, goal, next_drop, search_at};
+pub use asking::{first, goal, next_drop, search_at, walk_at};
 pub use guesses::{Guesses, NoGuesses};

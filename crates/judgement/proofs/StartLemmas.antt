@@ -1,18 +1,22 @@
 -- Tests in a row, and logs that begin.
-use Rattle.std.proofs.Common.{◌≡◌, ℕ, ◌+◌, ◌<◌, ◌≤◌, Bool, true, false, List, [], ◌∷◌, ◌++◌, length, refl, sym, ap, ◌∙◌, subst, append-nil, arith}
+use Rattle.std.proofs.Common.{◌≡◌, Bool, true, false, [], refl, sym, ◌∙◌, subst, append-nil, arith}
 use Rattle.std.proofs.lemmas.Bool.{false≢true}
+use Rattle.std.specs.List.{list_all}
+use Rattle.clause_core.specs.Clauses.{is_set}
+use Rattle.clause_core.specs.Deletions.{Thinned, whole}
 use Rattle.clause_core.specs.Formula.{Formula}
 use Rattle.clause_core.specs.Satisfaction.{Satisfies, HasNoSolution}
 use Rattle.finding_lines.specs.declared.line.Asked.{Asked}
-use Rattle.queries.specs.Comparisons.{Comparison, IsComparison}
+use Rattle.queries.specs.Comparisons.{Comparison}
 use Rattle.queries.specs.Settings.{setting_of}
 use Rattle.queries.specs.Questions.{QueryData, IsQueryOf}
 use Rattle.queries.specs.Meaning.{HasAnswer, Means}
+use Rattle.judgement.specs.declared.answers.Reach.{Reach}
 use Rattle.judgement.specs.declared.answers.Reason.{Reason}
 use Rattle.judgement.specs.Steps.{opened}
 use Rattle.judgement.specs.Places.{Place, Moved}
 use Rattle.judgement.specs.Tests.{when, open_log, open_query}
-use Rattle.judgement.specs.Shown.{asked_of}
+use Rattle.judgement.specs.Shown.{asked_of, IsReachShown}
 use Rattle.judgement.specs.Known.{KnownInQuery, Known, KnownAfter}
 
 module _ (c : Comparison) (formula : QueryData → Formula) where
@@ -33,20 +37,19 @@ module _ (c : Comparison) (formula : QueryData → Formula) where
   )
 
   -- no step of the log of a query
-  pub no_step : (asked : Asked) (query : QueryData) → asked ≡ asked_of query → IsQueryOf c query
-      → KnownInQuery c formula asked (opened (formula query)) (setting_of c).conflicts []
+  pub no_step : (query : QueryData) → IsQueryOf c query → list_all is_set (formula query).clauses ≡ true
+      → KnownInQuery c formula query (opened (formula query)) (setting_of c).conflicts []
   unfolding setting_of
-  no_step asked query named is_query = record {
-    query = query;
-    named = named;
+  no_step query is_query sets = record {
     is_query = is_query;
     opened = refl;
-    held = append-nil (formula query).clauses;
+    held = subst (Thinned (formula query).clauses) (sym (append-nil (formula query).clauses)) (whole (formula query).clauses);
+    sets = sets;
     accepted = tt;
     fresh = tt;
     counted = omega arith;
   }
 
-  pub known_open_query : (asked : Asked) (query : QueryData) → asked ≡ asked_of query → IsQueryOf c query
-      → KnownAfter c formula (open_query (setting_of c) asked (formula query))
-  known_open_query asked query named is_query = ([], no_step asked query named is_query)
+  pub known_open_query : (reach : Reach) (asked : Asked) (query : QueryData) → asked ≡ asked_of query → IsQueryOf c query → list_all is_set (formula query).clauses ≡ true
+      → IsReachShown c formula reach → KnownAfter c formula (open_query (setting_of c) reach asked (formula query))
+  known_open_query reach asked query named is_query sets shown = ((query, named, ([], no_step query is_query sets)), shown)

@@ -9,7 +9,7 @@ use Rattle.finding_file.specs.Answering.{IsNoSpelling}
 use Rattle.finding_file.specs.Writing.{all_written}
 use Rattle.queries.specs.Settings.{Setting}
 use Rattle.queries.specs.Questions.{QueryData}
-use Rattle.judgement.specs.Places.{Place, at_top, at_header, at_drops, at_kept, at_deep, at_scans, at_end, finished, in_log, in_query, Moved, goes, fails}
+use Rattle.judgement.specs.Places.{Place, at_top, finished, goes, fails}
 use Rattle.judgement.specs.Tests.{Moves}
 use Rattle.judgement.specs.declared.answers.Reason.{Reason}
 use Rattle.judgement.specs.declared.answers.Reason.TheVariants.{B1, B12, B13}
@@ -40,17 +40,17 @@ module _ (s : Setting) (formula : QueryData → Formula) where
 
   -- behind the END line any byte fails, and else the next line fails by its tests
   abbrev pub Fails : Place → List ℕ → Reason → Type 0
-  Fails (finished verdict) rest reason = (rest ≢ []) × (reason ≡ B12)
+  Fails (finished reach verdict) rest reason = (rest ≢ []) × (reason ≡ B12)
   Fails place rest reason = FailsAhead place (ahead rest) reason
 
   -- the line that follows holds the first byte past the limit
   abbrev pub IsTooLong : ℕ → List Line → List ℕ → Type 0
   IsTooLong limit lines rest = limit < length (all_written lines) + size (ahead rest)
 
-  -- What is said of a file: it is a finding and its verdict; or the first line that fails, and the test; or that a line that
+  -- What is said of a file: it is a finding, its verdict, and what it says of reach; or the first line that fails, and the test; or that a line that
   -- follows lines which all pass is too long.
   abbrev pub IsJudged : ℕ → List ℕ → Result Judged JudgeErr → Type 0
-  IsJudged limit file (Ok (Valid verdict)) = (lines : List Line) × Stands limit file lines (finished verdict) []
+  IsJudged limit file (Ok (Valid verdict reach)) = (lines : List Line) × Stands limit file lines (finished reach verdict) []
   IsJudged limit file (Ok (Bad line reason)) =
       (lines : List Line) × (place : Place) × (rest : List ℕ) × Stands limit file lines place rest
       × (line ≡ length lines + 1) × (¬ IsTooLong limit lines rest) × Fails place rest reason

@@ -32,13 +32,35 @@ pub enum Reason {
     B12,
     /// The file ends before its line feed.
     B13,
+    /// A clause that is to be held no more is no held derived clause, or no other held clause is a part of it.
+    B14,
+}
+
+/// What a finding says of how many rows are allowed, one after the other from the start.
+#[derive(Clone, Copy, PartialEq, Eq)]
+pub enum Reach {
+    /// Nothing: the finding is of version 1.
+    Untold,
+    /// Nothing so far: the finding is of version 2, and no row of the list has been read.
+    Unwalked,
+    /// So many, and no more up to DEPTH.
+    Greatest(u64),
+    /// So many at least; the query for one more is spent.
+    AtLeast(u64),
+}
+
+/// A verdict, and what its finding says of reach.
+#[derive(Clone, Copy)]
+pub struct Concluded {
+    pub verdict: Conclusion,
+    pub reach: Reach,
 }
 
 /// What is said of a finding.
 #[derive(Clone, Copy)]
 pub enum Judged {
     /// Every line passes; the verdict is that of the END line.
-    Valid(Conclusion),
+    Valid(Conclusion, Reach),
     /// The first line that fails, from 1, and the first test that it fails.
     Bad { line: u64, reason: Reason },
 }

@@ -10,7 +10,8 @@ ghost use Rattle.judgement.specs.Shown.{ShowsVerdict};
 ghost use Rattle.judgement.specs.declared.answers.Judged.{Judged};
 ghost use Rattle.judgement.specs.declared.answers.JudgeErr.{JudgeErr};
 
-/// The verdict of a finding that is judged valid is the model's, or SPENT with its log.
+/// The verdict of a finding that is judged valid is the model's, or SPENT with its log; what it says of reach is the model's, or the query for
+/// one row more is spent.
 pub fn law_sound()
     ensures { (c : Comparison) (formula : QueryData → Formula) → IsComparison c
         → ((query : QueryData) → IsQueryOf c query → Means c query (formula query))

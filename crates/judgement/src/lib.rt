@@ -4,5 +4,5 @@
 mod answers;
 mod laws;
 
-pub use answers::{JudgeErr, Judged, Reason};
+pub use answers::{Concluded, JudgeErr, Judged, Reach, Reason};
 pub use laws::law_sound;

@@ -14,6 +14,7 @@ use Rattle.queries.specs.Questions.{QueryData}
 use Rattle.judgement.specs.Places.{Place, finished, goes, fails}
 use Rattle.judgement.specs.Tests.{Moves}
 use Rattle.judgement.specs.Findings.{Fails, FailsAhead}
+use Rattle.judgement.specs.declared.answers.Reach.{Reach}
 use Rattle.judgement.specs.declared.answers.Reason.{Reason}
 use Rattle.judgement.specs.declared.answers.Judged.{Judged}
 use Rattle.judgement.specs.declared.answers.Judged.TheVariants.{Valid, Bad}
@@ -35,25 +36,24 @@ module _ (s : Setting) (formula : QueryData → Formula) where
       cc
 
   one_reason : (place : Place) (rest : List ℕ) (r t : Reason) → Fails s formula place rest r → Fails s formula place rest t → r ≡ t
-  one_reason (finished verdict) rest r t p q = p.1 ∙ sym q.1
+  one_reason (finished reach verdict) rest r t p q = p.1 ∙ sym q.1
   one_reason place rest r t p q = one_reason_ahead place (ahead rest) r t p q
+
+  behind_end : (verdict : Conclusion) (reach : Reach) (rest : List ℕ) (reason : Reason) → Fails s formula (finished reach verdict) rest reason → rest ≡ [] → ⊥
+  behind_end verdict reach rest reason f none = f.0 none
 
   pub one_end : (limit : ℕ) (place : Place) (at count : ℕ) (rest : List ℕ) (a b : Result Judged JudgeErr) → at ≤ limit
       → Ends s formula limit place at count rest a → Ends s formula limit place at count rest b → a ≡ b
-  one_end limit place at count rest (Ok (Valid v)) (Ok (Valid w)) within p q = let same : finished v ≡ finished w = sym p.0 ∙ q.0 in cc
-  one_end limit place at count rest (Ok (Valid v)) (Ok (Bad line reason)) within p q = absurd (behind (finished v) v refl (subst (λ x. Fails s formula x rest reason) p.0 q.2) p.1) where
-    behind : (x : Place) (u : Conclusion) → x ≡ finished u → Fails s formula x rest reason → rest ≡ [] → ⊥
-    behind x u e f none = (subst (λ y. Fails s formula y rest reason) e f).0 none
-  one_end limit place at count rest (Ok (Valid v)) (Err M8) within p q = absurd (let long : limit < at + size (ahead []) = subst (λ bytes. limit < at + size (ahead bytes)) p.1 q in omega (arith, long))
-  one_end limit place at count rest (Ok (Bad line reason)) (Ok (Valid w)) within p q = absurd (behind (finished w) w refl (subst (λ x. Fails s formula x rest reason) q.0 p.2) q.1) where
-    behind : (x : Place) (u : Conclusion) → x ≡ finished u → Fails s formula x rest reason → rest ≡ [] → ⊥
-    behind x u e f none = (subst (λ y. Fails s formula y rest reason) e f).0 none
+  one_end limit place at count rest (Ok (Valid v x)) (Ok (Valid w y)) within p q = let same : finished x v ≡ finished y w = sym p.0 ∙ q.0 in cc
+  one_end limit place at count rest (Ok (Valid v r)) (Ok (Bad line reason)) within p q = absurd (behind_end v r rest reason (subst (λ x. Fails s formula x rest reason) p.0 q.2) p.1)
+  one_end limit place at count rest (Ok (Valid v r)) (Err M8) within p q = absurd (let long : limit < at + size (ahead []) = subst (λ bytes. limit < at + size (ahead bytes)) p.1 q in omega (arith, long))
+  one_end limit place at count rest (Ok (Bad line reason)) (Ok (Valid w r)) within p q = absurd (behind_end w r rest reason (subst (λ x. Fails s formula x rest reason) q.0 p.2) q.1)
   one_end limit place at count rest (Ok (Bad line reason)) (Ok (Bad other test)) within p q =
       let numbers : line ≡ other = p.0 ∙ sym q.0 in
       let reasons : reason ≡ test = one_reason place rest reason test p.2 q.2 in
       cc
   one_end limit place at count rest (Ok (Bad line reason)) (Err M8) within p q = absurd (p.1 q)
-  one_end limit place at count rest (Err M8) (Ok (Valid w)) within p q = absurd (let long : limit < at + size (ahead []) = subst (λ bytes. limit < at + size (ahead bytes)) q.1 p in omega (arith, long))
+  one_end limit place at count rest (Err M8) (Ok (Valid w r)) within p q = absurd (let long : limit < at + size (ahead []) = subst (λ bytes. limit < at + size (ahead bytes)) q.1 p in omega (arith, long))
   one_end limit place at count rest (Err M8) (Ok (Bad other test)) within p q = absurd (q.1 p)
   one_end limit place at count rest (Err M8) (Err M8) within p q = refl
   one_end limit place at count rest (Err Fault) b within p q = absurd p
@@ -73,13 +73,13 @@ module _ (s : Setting) (formula : QueryData → Formula) where
 
   fails_here : (place after : Place) (rest more : List ℕ) (line : Line) (reason : Reason) → IsLine line → Moves s formula place line (goes after) → ahead rest ≡ ended (spelled line) more
       → Fails s formula place rest reason → ⊥
-  fails_here (finished verdict) after rest more line reason form moves e f = nothing_behind s formula (finished verdict) after verdict line refl moves
+  fails_here (finished reach verdict) after rest more line reason form moves e f = nothing_behind s formula (finished reach verdict) after verdict line refl moves
   fails_here place after rest more line reason form moves e f = passes_or_fails place after rest more line reason form moves e f
 
   -- a judgement does not end where a line passes
   pub no_end : (limit : ℕ) (place after : Place) (at count : ℕ) (rest more : List ℕ) (line : Line) (a : Result Judged JudgeErr) → IsLine line → Moves s formula place line (goes after)
       → rest ≡ written line ++ more → at + length (written line) ≤ limit → Ends s formula limit place at count rest a → ⊥
-  no_end limit place after at count rest more line (Ok (Valid v)) form moves is within p = nothing_behind s formula place after v line p.0 moves
+  no_end limit place after at count rest more line (Ok (Valid v r)) form moves is within p = nothing_behind s formula place after v line p.0 moves
   no_end limit place after at count rest more line (Ok (Bad number reason)) form moves is within p =
       fails_here place after rest more line reason form moves (ap ahead is ∙ ahead-written line more form) p.2
   no_end limit place after at count rest more line (Err M8) form moves is within p =

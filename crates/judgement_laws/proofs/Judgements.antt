@@ -102,7 +102,7 @@ module _ (s : Setting) (formula : QueryData → Formula) (limit : ℕ) where
   }
 
   judged_ends : (file : List ℕ) (a : Result Judged JudgeErr) → IsJudged s formula limit file a → IsSaid a → (all : List Line) × EndsBehind at_top 0 0 file all a
-  judged_ends file (Ok (Valid verdict)) j said = (j.0, stands_behind file j.0 (finished verdict) [] (Ok (Valid verdict)) j.1 (refl, refl))
+  judged_ends file (Ok (Valid verdict reach)) j said = (j.0, stands_behind file j.0 (finished reach verdict) [] (Ok (Valid verdict reach)) j.1 (refl, refl))
   judged_ends file (Ok (Bad line reason)) j said = (j.0, stands_behind file j.0 j.1 j.2 (Ok (Bad line reason)) j.3 (j.4, j.5, j.6))
   judged_ends file (Err M8) j said = (j.0, stands_behind file j.0 j.1 j.2 (Err M8) j.3 j.4)
   judged_ends file (Err Fault) j said = absurd said
@@ -118,4 +118,4 @@ pub one_judgement_is : OneJudgement
 one_judgement_is s formula limit file a b j k said told = one_judgement_of s formula limit file a b j k said told
 
 pub written_is_valid : WrittenIsValid
-written_is_valid s formula limit all verdict leads within = (all, record { leads = leads; whole = sym (append-nil (all_written all)); within = within })
+written_is_valid s formula limit all verdict reach leads within = (all, record { leads = leads; whole = sym (append-nil (all_written all)); within = within })

@@ -18,6 +18,7 @@ use Rattle.queries.specs.Questions.{QueryData}
 use Rattle.judgement.specs.Places.{Place, finished, goes}
 use Rattle.judgement.specs.Tests.{Moves}
 use Rattle.judgement.specs.Findings.{Leads, nowhere, on, Fails, IsJudged}
+use Rattle.judgement.specs.declared.answers.Reach.{Reach}
 use Rattle.judgement.specs.declared.answers.Reason.TheVariants.{B13}
 use Rattle.judgement.specs.declared.answers.Judged.TheVariants.{Valid, Bad}
 use Rattle.judgement_laws.specs.Laws.{PrefixIsCutOff}
@@ -108,15 +109,15 @@ module _ (s : Setting) (formula : QueryData → Formula) where
 
   -- where a line would pass, one that lacks its end fails by B13
   lacks_end : (place after : Place) (line : Line) (part : List ℕ) → Moves s formula place line (goes after) → LacksFeed part → Fails s formula place part B13
-  lacks_end (finished verdict) after line part moves lacks = absurd (nothing_behind s formula (finished verdict) after verdict line refl moves)
+  lacks_end (finished reach verdict) after line part moves lacks = absurd (nothing_behind s formula (finished reach verdict) after verdict line refl moves)
   lacks_end place after line part moves lacks = ⊎_elim (λ e. rw e refl) (λ e. rw e refl) (ahead_of_part part lacks)
 
-  pub prefix_judged : (limit : ℕ) (file front behind : List ℕ) (verdict : Conclusion) → IsJudged s formula limit file (Ok (Valid verdict)) → file ≡ front ++ behind → behind ≢ []
+  pub prefix_judged : (limit : ℕ) (file front behind : List ℕ) (verdict : Conclusion) (reach : Reach) → IsJudged s formula limit file (Ok (Valid verdict reach)) → file ≡ front ++ behind → behind ≢ []
       → (line : ℕ) × IsJudged s formula limit front (Ok (Bad line B13))
-  prefix_judged limit file front behind verdict judged split some =
+  prefix_judged limit file front behind verdict reach judged split some =
       let stands = judged.1 in
       let all : all_written judged.0 ≡ front ++ behind = sym (append-nil (all_written judged.0)) ∙ sym stands.whole ∙ split in
-      let c = cut judged.0 (finished verdict) stands.leads front behind all some in
+      let c = cut judged.0 (finished reach verdict) stands.leads front behind all some in
       let long = ap (λ (l : List ℕ). length l) c.whole ∙ length-append (all_written c.lines) c.part in
       let longer = ap (λ (l : List ℕ). length l) all ∙ length-append front behind in
       let within = stands.within in
@@ -133,4 +134,4 @@ module _ (s : Setting) (formula : QueryData → Formula) where
       (length c.lines + 1, test)
 
 pub prefix_is_cut_off : PrefixIsCutOff
-prefix_is_cut_off s formula limit file front behind verdict judged split some = prefix_judged s formula limit file front behind verdict judged split some
+prefix_is_cut_off s formula limit file front behind verdict reach judged split some = prefix_judged s formula limit file front behind verdict reach judged split some

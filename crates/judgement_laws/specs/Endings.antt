@@ -13,7 +13,7 @@ use Rattle.judgement.specs.declared.answers.JudgeErr.TheVariants.{Fault, Memory,
 
 -- behind so many bytes and lines that lead to a place, with this rest, the judgement ends so
 abbrev pub Ends : Setting → (QueryData → Formula) → ℕ → Place → ℕ → ℕ → List ℕ → Result Judged JudgeErr → Type 0
-Ends s formula limit place at count rest (Ok (Valid verdict)) = (place ≡ finished verdict) × (rest ≡ [])
+Ends s formula limit place at count rest (Ok (Valid verdict reach)) = (place ≡ finished reach verdict) × (rest ≡ [])
 Ends s formula limit place at count rest (Ok (Bad line reason)) = (line ≡ count + 1) × (¬ (limit < at + size (ahead rest))) × Fails s formula place rest reason
 Ends s formula limit place at count rest (Err M8) = limit < at + size (ahead rest)
 Ends s formula limit place at count rest (Err Fault) = ⊥

@@ -5,5 +5,6 @@
 mod laws;
 
 pub use laws::{
-    law_one_judgement, law_prefix_is_cut_off, law_spent_is_logged, law_written_is_valid,
+    law_one_judgement, law_prefix_is_cut_off, law_reach_spent_is_logged, law_spent_is_logged,
+    law_written_is_valid,
 };

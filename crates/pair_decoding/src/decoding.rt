@@ -71,5 +71,6 @@ pub fn decode(
         Query::First => decode_scans(alloc, parts, breaks, 1, found),
         Query::Step(_) | Query::Goal(_) => decode_product(alloc, parts, product, found),
         Query::Deep(scans) => decode_scans(alloc, parts, breaks, *scans, found),
+        Query::Walk(rows) => decode_scans(alloc, parts, breaks, *rows, found),
     }
 }

@@ -5,5 +5,6 @@ mod ranges;
 mod sets;
 mod trial;
 
+pub use ranges::range_of_line;
 pub use sets::{first_set, keep, meets};
 pub use trial::Trial;

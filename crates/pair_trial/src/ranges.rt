@@ -31,7 +31,8 @@ pub fn are_in_range(cells: &[Cell], values: &[Value]) -> bool
     true
 }
 
-fn range_of_line(line: InputLine) -> Range
+/// The range of an input.
+pub fn range_of_line(line: InputLine) -> Range
     ensures { result ≡ range_of_line line }
 {
     match line {

@@ -6,7 +6,7 @@ ghost use Rattle.pair_trial.specs.Trials.{setting_in};
 use crate::ranges::{are_in_range, fits_lines};
 use plc_types::Value;
 use program_tree::Program;
-use scan_model::Relation;
+use scan_model::{InputLine, Relation};
 use scan_replay::Duo;
 use std::alloc::{AllocError, Global};
 use std::marker::Model;
@@ -78,6 +78,13 @@ impl<'p> Trial<'p> {
         ensures { result ≡ (setting_in self.now).candidates }
     {
         self.relation.candidates.len()
+    }
+
+    /// The inputs, of each of which a row has one number.
+    pub fn inputs(&self) -> &[InputLine]
+        ensures { result.now ≡ self.now.relation.inputs.items }
+    {
+        &self.relation.inputs
     }
 
     /// How many scans are searched from the start.

@@ -20,6 +20,7 @@ use Rattle.queries.specs.Questions.{QueryData}
 use Rattle.judgement.specs.Places.{Place, at_top, finished, goes}
 use Rattle.judgement.specs.Tests.{Moves}
 use Rattle.judgement.specs.Findings.{Leads, nowhere, on, FailsAhead, IsJudged}
+use Rattle.judgement.specs.declared.answers.Reach.{Reach}
 use Rattle.judgement.specs.declared.answers.Reason.TheVariants.{B13}
 use Rattle.judgement.specs.declared.answers.Judged.TheVariants.{Valid, Bad}
 use Rattle.judgement.specs.declared.answers.JudgeErr.TheVariants.{M8}
@@ -45,7 +46,7 @@ module _ (s : Setting) (formula : QueryData → Formula) where
     pub leads : Leads s formula lines place
     pub whole : file ≡ all_written lines ++ part
     pub lacks : LacksFeed part
-    pub more : (part ≡ []) ⊎ ((verdict : Conclusion) → place ≡ finished verdict → ⊥)
+    pub more : (part ≡ []) ⊎ ((reach : Reach) (verdict : Conclusion) → place ≡ finished reach verdict → ⊥)
 
   part_of_lines : (file : List ℕ) (all : List Line) (place : Place) → Leads s formula all place → file ≡ all_written all → Part file
   part_of_lines file all place leads whole = record {
@@ -72,7 +73,7 @@ module _ (s : Setting) (formula : QueryData → Formula) where
         leads = leads;
         whole = whole ∙ ap (λ bytes. all_written all ++ bytes) (take-append-le count (spelled line) (codes "\n") within);
         lacks = All-take (λ b. b ≢ 10) count (spelled line) (spelled-lacks_feed line form);
-        more = inr (λ verdict ends. nothing_behind s formula place then verdict line ends moves);
+        more = inr (λ reach verdict ends. nothing_behind s formula place then verdict line ends moves);
       })
       (cases_lt (length (spelled line)) count)
 
@@ -85,13 +86,13 @@ module _ (s : Setting) (formula : QueryData → Formula) where
       ap (λ (l : List ℕ). length l) p.whole ∙ length-append (all_written p.lines) p.part ∙ ap (λ n. length (all_written p.lines) + n) (sym (size_of_part p.part p.lacks))
 
   judged_at : (limit : ℕ) (file : List ℕ) (lines : List Line) (place : Place) (part : List ℕ) → Leads s formula lines place → file ≡ all_written lines ++ part → LacksFeed part
-      → (part ≡ []) ⊎ ((verdict : Conclusion) → place ≡ finished verdict → ⊥) → length file ≡ length (all_written lines) + size (ahead part) → length file ≤ limit
+      → (part ≡ []) ⊎ ((reach : Reach) (verdict : Conclusion) → place ≡ finished reach verdict → ⊥) → length file ≡ length (all_written lines) + size (ahead part) → length file ≤ limit
       → IsValidOrCutOff s formula limit file
-  judged_at limit file lines (finished verdict) part leads whole lacks (inl none) long within =
-      let found : IsJudged s formula limit file (Ok (Valid verdict)) =
+  judged_at limit file lines (finished reach verdict) part leads whole lacks (inl none) long within =
+      let found : IsJudged s formula limit file (Ok (Valid verdict reach)) =
       (lines, record { leads = leads; whole = whole ∙ ap (λ bytes. all_written lines ++ bytes) none; within = omega (arith, long, within) }) in
-      inl (verdict, found)
-  judged_at limit file lines (finished verdict) part leads whole lacks (inr more) long within = absurd (more verdict refl)
+      inl (verdict, reach, found)
+  judged_at limit file lines (finished reach verdict) part leads whole lacks (inr more) long within = absurd (more reach verdict refl)
   judged_at limit file lines place part leads whole lacks more long within =
       let test : IsJudged s formula limit file (Ok (Bad (length lines + 1) B13)) = (
         lines,

@@ -11,6 +11,7 @@ use Rattle.finding_file.specs.Writing.{all_written}
 use Rattle.queries.specs.Settings.{Setting}
 use Rattle.queries.specs.Questions.{QueryData}
 use Rattle.judgement.specs.Findings.{IsJudged}
+use Rattle.judgement.specs.declared.answers.Reach.{Reach}
 use Rattle.judgement.specs.declared.answers.Judged.TheVariants.{Valid, Bad}
 use Rattle.judgement.specs.declared.answers.Reason.TheVariants.{B13}
 use Rattle.judgement.specs.declared.answers.JudgeErr.TheVariants.{M8}
@@ -19,7 +20,7 @@ use Rattle.finding_search.specs.Passing.{IsPartOfFinding}
 -- a finding, or what lacks the end of a line where it ends
 abbrev pub IsValidOrCutOff : Setting → (QueryData → Formula) → ℕ → List ℕ → Type 0
 IsValidOrCutOff s formula limit file =
-    ((verdict : Conclusion) × IsJudged s formula limit file (Ok (Valid verdict))) ⊎ ((line : ℕ) × IsJudged s formula limit file (Ok (Bad line B13)))
+    ((verdict : Conclusion) × (reach : Reach) × IsJudged s formula limit file (Ok (Valid verdict reach))) ⊎ ((line : ℕ) × IsJudged s formula limit file (Ok (Bad line B13)))
 
 -- lines that all pass, or such lines and a prefix of one more that would pass, are a finding, or lack the end of a line where they end
 abbrev pub PartIsValidOrCutOff : Type 0
@@ -36,10 +37,10 @@ abbrev pub PartWithEndIsValid : Type 0
 PartWithEndIsValid =
     (s : Setting) (formula : QueryData → Formula) (limit : ℕ) (file : List ℕ) → IsPartOfFinding s formula file → length file ≤ limit
     → (front : List Line) (verdict : Conclusion) (behind : List ℕ) → All IsLine front → IsLine (lines.End verdict)
-    → file ≡ all_written front ++ (written (lines.End verdict) ++ behind) → IsJudged s formula limit file (Ok (Valid verdict))
+    → file ≡ all_written front ++ (written (lines.End verdict) ++ behind) → (reach : Reach) × IsJudged s formula limit file (Ok (Valid verdict reach))
 
 -- a valid finding ends with the END line of its verdict
 abbrev pub ValidHasEnd : Type 0
 ValidHasEnd =
-    (s : Setting) (formula : QueryData → Formula) (limit : ℕ) (file : List ℕ) (verdict : Conclusion) → IsJudged s formula limit file (Ok (Valid verdict))
+    (s : Setting) (formula : QueryData → Formula) (limit : ℕ) (file : List ℕ) (verdict : Conclusion) (reach : Reach) → IsJudged s formula limit file (Ok (Valid verdict reach))
     → (front : List Line) × All IsLine front × IsLine (lines.End verdict) × (file ≡ all_written front ++ written (lines.End verdict))

@@ -9,8 +9,8 @@ use Rattle.clause_core.specs.declared.literal.Lit.{Lit}
 use Rattle.clause_core.specs.Clauses.{is_inside}
 use Rattle.scan_model.specs.Verdicts.{CandidateSet}
 use Rattle.query_formulas.specs.Breaks.{ScanLiterals}
-use Rattle.query_formulas.specs.QueryClauses.{AreInside, members_from, members_of, last_count, IsScanInside}
-use Rattle.product_build.specs.Counts.{AreLitsInside, AreRising}
+use Rattle.query_formulas.specs.QueryClauses.{AreInside, members_from, members_of, last_count, last_begun, IsScanInside}
+use Rattle.product_build.specs.Counts.{IsRowInside, AreLitsInside, AreRising}
 
 -- ---- lists of literals
 
@@ -80,3 +80,29 @@ others_inside first low high s (t ∷ ts) r h =
     All-cons (AreLitsInside (first - 1 + last_count t ts)) t ts
     (first_inside first s.ended high t ts r.2 (All-head (IsScanInside first) t ts h))
     (others_inside first s.ended high t ts r.2 (All-tail (IsScanInside first) t ts h))
+
+-- ---- rows of scans
+
+-- the last of scans begins behind the others
+begun_last : (low high : ℕ) (s : ScanLiterals) (ss : List ScanLiterals) → AreRising low high (s ∷ ss) → s.begun ≤ last_begun s ss
+begun_last low high s [] h = omega arith
+begun_last low high s (t ∷ ts) h = let rest = begun_last s.ended high t ts h.2 in omega (arith, h.1, h.2.0, rest)
+
+pub begun_before : (low high : ℕ) (s : ScanLiterals) (ss : List ScanLiterals) → AreRising low high (s ∷ ss) → last_begun s ss ≤ high
+begun_before low high s [] h = omega (arith, h.1, h.2)
+begun_before low high s (t ∷ ts) h = begun_before s.ended high t ts h.2
+
+row_of : (first w : ℕ) (s : ScanLiterals) → IsScanInside first s → first - 1 + s.begun ≤ w → IsRowInside w s
+row_of first w s h below = record {
+  outside = inside_more (first - 1 + s.begun) w s.outside below h.outside;
+  environment = inside_more (first - 1 + s.begun) w s.environment below h.environment;
+}
+
+pub rows_inside : (first low high : ℕ) (s : ScanLiterals) (ss : List ScanLiterals) → AreRising low high (s ∷ ss) → All (IsScanInside first) (s ∷ ss) → All (IsRowInside (first - 1 + last_begun s ss)) (s ∷ ss)
+rows_inside first low high s [] r h =
+    All-cons (IsRowInside (first - 1 + s.begun)) s [] (row_of first (first - 1 + s.begun) s (All-head (IsScanInside first) s [] h) (omega arith)) (All-nil (IsRowInside (first - 1 + s.begun)))
+rows_inside first low high s (t ∷ ts) r h =
+    let last = begun_last low high s (t ∷ ts) r in
+    All-cons (IsRowInside (first - 1 + last_begun t ts)) s (t ∷ ts)
+    (row_of first (first - 1 + last_begun t ts) s (All-head (IsScanInside first) s (t ∷ ts) h) (omega (arith, last)))
+    (rows_inside first s.ended high t ts r.2 (All-tail (IsScanInside first) s (t ∷ ts) h))

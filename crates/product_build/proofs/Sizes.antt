@@ -1,5 +1,5 @@
 -- How many clauses the formulas have.
-use Rattle.std.proofs.Common.{◌≡◌, ℕ, zero, suc, ◌+◌, ◌*◌, ◌^◌, ◌<◌, ◌≤◌, Bool, true, false, refl, ◌∙◌, ap, List, [], ◌∷◌, ◌++◌, length, map, take, length-append, arith}
+use Rattle.std.proofs.Common.{◌≡◌, ℕ, zero, suc, ◌+◌, ◌*◌, ◌^◌, ◌<◌, ◌≤◌, Bool, true, false, refl, ◌∙◌, ap, subst, List, [], ◌∷◌, ◌++◌, length, map, take, length-append, arith}
 use Rattle.std.specs.Prelude.{All, if◌then◌else◌}
 use Rattle.std.proofs.Math.Nat.{suc-mul}
 use Rattle.std.proofs.lemmas.List.{length-map, length-take}
@@ -9,13 +9,14 @@ use Rattle.clause_core.specs.declared.literal.Lit.{Lit}
 use Rattle.clause_core.specs.declared.gate.Gate.{Gate}
 use Rattle.clause_core.specs.declared.gate.Gate.TheVariants.{And, Xor, Mux}
 use Rattle.clause_core.specs.Values.{negation}
+use Rattle.clause_core.specs.Formula.{Formula}
 use Rattle.gates.specs.Netlists.{Netlist}
 use Rattle.gates.specs.Clauses.{gate_clauses, clauses_from}
 use Rattle.node_core.specs.Scans.{ScanData, ClauseData, clause_of}
 use Rattle.node_circuits.specs.NodeWords.{Words}
 use Rattle.scan_model.specs.Verdicts.{CandidateSet}
 use Rattle.queries.specs.Comparisons.{Comparison, IsComparison}
-use Rattle.queries.specs.Questions.{QueryData, first, step, goal, deep}
+use Rattle.queries.specs.Questions.{QueryData, first, step, goal, deep, walk}
 use Rattle.query_formulas.specs.declared.shapes.CellShape.{CellShape}
 use Rattle.query_formulas.specs.CellShapes.{bits_of, shape_of}
 use Rattle.query_formulas.specs.Parts.{Parts, parts_of}
@@ -24,7 +25,8 @@ use Rattle.query_formulas.specs.Literals.{MadeLiterals, none_made, outside_cell,
 use Rattle.query_formulas.specs.PairScans.{scanned_pair}
 use Rattle.query_formulas.specs.Products.{ProductLits, loaded_row, product_from, product_bits, product_of}
 use Rattle.query_formulas.specs.Breaks.{ScanLiterals, scan_from, scans_from, start_words, breaks_bits, breaks_of}
-use Rattle.query_formulas.specs.QueryClauses.{negations, units, members_from, members_of, some_fails, gates_formula, with_gates, premises_of, row_units, break_units, last_count, listed_formula, begun_formula, first_formula, break_formula, formula_of}
+use Rattle.query_formulas.specs.QueryClauses.{negations, units, members_from, members_of, some_fails, gates_formula, with_gates, premises_of, row_units, break_units, walk_units, last_count, last_begun, listed_formula, walked_formula, first_formula, break_formula, walk_formula, formula_of}
+use Rattle.query_formula_laws.proofs.FromStart.{walked_one}
 use Rattle.product_build.specs.Limits.{most_gates, HasFewGates, HasFewLines}
 use Rattle.product_build.proofs.Few.{few_cells, length-lines}
 
@@ -169,11 +171,19 @@ length-listed parts n (s ∷ ss) gates h few =
     let all = mul-le (suc (length ss)) (each parts) 64 (each parts) (omega (arith, few)) (omega arith) in
     with_few n (last_count s ss) (64 * each parts) (break_units s ss) gates (omega (arith, one, all))
 
-length-begun : (parts : Parts) (n : Netlist) (ss : List ScanLiterals) → length n.gates ≤ most_gates → All (IsSmallScan parts) ss → length (begun_formula n ss).clauses ≤ 67108865 + 64 * each parts
-length-begun parts n [] gates h = omega arith
-length-begun parts n (s ∷ ss) gates h =
+length-walk : (parts : Parts) (ss : List ScanLiterals) → All (IsSmallScan parts) ss → length (walk_units ss) ≤ length ss * each parts
+length-walk parts [] h = omega arith
+length-walk parts (s ∷ ss) h =
     let row = length-row parts s (All-head (IsSmallScan parts) s ss h) in
-    with_few n s.begun (64 * each parts) (row_units s) gates (omega (arith, row))
+    let rest = length-walk parts ss (All-tail (IsSmallScan parts) s ss h) in
+    omega (arith, row, rest, suc-mul (length ss) (each parts), length-append (row_units s) (walk_units ss))
+
+length-walked : (parts : Parts) (n : Netlist) (ss : List ScanLiterals) → length n.gates ≤ most_gates → All (IsSmallScan parts) ss → length ss ≤ 64 → length (walked_formula n ss).clauses ≤ 67108865 + 64 * each parts
+length-walked parts n [] gates h few = omega arith
+length-walked parts n (s ∷ ss) gates h few =
+    let one = length-walk parts (s ∷ ss) h in
+    let all = mul-le (suc (length ss)) (each parts) 64 (each parts) (omega (arith, few)) (omega arith) in
+    with_few n (last_begun s ss) (64 * each parts) (walk_units (s ∷ ss)) gates (omega (arith, one, all))
 
 -- ---- of a comparison
 
@@ -222,25 +232,38 @@ module _ (c : Comparison) (old new : ScanData) (is : IsComparison c) (lines : Ha
       let parts = parts_of c old new in
       small_scans parts parts.depth 2 (start_words parts) (record { first = breaks_bits parts + 2; limit = most_gates; gates = [] })
 
-  first_few : length (first_formula (breaks_of (parts_of c old new) most_gates)).clauses < 2 ^ 31
-  first_few =
+  few_scans : (k : ℕ) → length (take k (breaks_of (parts_of c old new) most_gates).scans) ≤ 64
+  few_scans k =
       let parts = parts_of c old new in
-      let b = breaks_of parts most_gates in
-      let all = length-begun parts b.net b.scans gates.breaks small_of in
-      let few = length-parts c old new is lines in
-      omega (arith, all, few)
+      let ss = (breaks_of parts most_gates).scans in
+      let long : length ss ≡ c.relation.depth = length-scans parts parts.depth 2 (start_words parts) (record { first = breaks_bits parts + 2; limit = most_gates; gates = [] }) in
+      omega (arith, long, length-take k ss, is.depth)
 
   break_few : (scans : ℕ) → length (break_formula (breaks_of (parts_of c old new) most_gates) scans).clauses < 2 ^ 31
   break_few scans =
       let parts = parts_of c old new in
       let b = breaks_of parts most_gates in
-      let long : length b.scans ≡ c.relation.depth = length-scans parts parts.depth 2 (start_words parts) (record { first = breaks_bits parts + 2; limit = most_gates; gates = [] }) in
-      let all = length-listed parts b.net (take scans b.scans) gates.breaks (All-take (IsSmallScan parts) scans b.scans small_of) (omega (arith, long, length-take scans b.scans, is.depth)) in
+      let all = length-listed parts b.net (take scans b.scans) gates.breaks (All-take (IsSmallScan parts) scans b.scans small_of) (few_scans scans) in
       let few = length-parts c old new is lines in
       omega (arith, all, few)
+
+  walk_few : (rows : ℕ) → length (walk_formula (breaks_of (parts_of c old new) most_gates) rows).clauses < 2 ^ 31
+  walk_few rows =
+      let parts = parts_of c old new in
+      let b = breaks_of parts most_gates in
+      let all = length-walked parts b.net (take rows b.scans) gates.breaks (All-take (IsSmallScan parts) rows b.scans small_of) (few_scans rows) in
+      let few = length-parts c old new is lines in
+      omega (arith, all, few)
+
+  -- a walk of one row
+  first_few : length (first_formula (breaks_of (parts_of c old new) most_gates)).clauses < 2 ^ 31
+  first_few =
+      let b = breaks_of (parts_of c old new) most_gates in
+      subst (λ (f : Formula). length f.clauses < 2 ^ 31) (walked_one b.net b.scans) (walk_few 1)
 
   pub query_few : (q : QueryData) → length (formula_of (parts_of c old new) most_gates q).clauses < 2 ^ 31
   query_few first = first_few
   query_few (step set) = let p = (product_of (parts_of c old new) most_gates).lits in product_few set (some_fails (members_of set p.after))
   query_few (goal set) = let p = (product_of (parts_of c old new) most_gates).lits in product_few set (some_fails p.relates)
   query_few (deep scans) = break_few scans
+  query_few (walk rows) = walk_few rows

@@ -3,7 +3,12 @@ use Rattle.std.specs.Prelude.{ℕ, ◌≤◌, List, [], ◌∷◌, length}
 use Rattle.query_formulas.specs.Breaks.{ScanLiterals, Breaks}
 use Rattle.query_formulas.specs.QueryClauses.{AreInside, AreBreaksInOrder}
 
--- the literals of a scan are those of so many variables
+-- the literals of a scan's numbers and of its ENV clauses are those of so many variables
+pub record IsRowInside (variables : ℕ) (s : ScanLiterals) : Type 0 where
+  pub outside : AreInside variables s.outside
+  pub environment : AreInside variables s.environment
+
+-- and so are all of the scan
 pub record AreLitsInside (variables : ℕ) (s : ScanLiterals) : Type 0 where
   pub outside : AreInside variables s.outside
   pub environment : AreInside variables s.environment

@@ -1,6 +1,6 @@
 use crate::circuits::Circuits;
 use crate::one_scan::{complete_goal, complete_step, gates_of};
-use crate::scans::{break_formula, first_formula};
+use crate::scans::{break_formula, first_formula, walk_formula};
 use clause_core::{Assignment, Cnf};
 use pair_decoding::decode;
 use queries::{Decoded, Queries, Query};
@@ -29,6 +29,7 @@ impl<'p> Queries for Circuits<'p> {
                 Ok(cnf)
             }
             Query::Deep(scans) => break_formula(alloc, &self.breaks, *scans as usize),
+            Query::Walk(rows) => walk_formula(alloc, &self.breaks, *rows as usize),
         }
     }
 

@@ -7,4 +7,4 @@ mod one_scan;
 mod scans;
 
 pub use circuits::{Circuits, product};
-pub use scans::{break_formula, first_formula};
+pub use scans::{break_formula, first_formula, walk_formula};

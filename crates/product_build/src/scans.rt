@@ -1,8 +1,8 @@
-ghost use Rattle.std.specs.Prelude.{◌≡◌, ◌++◌, ◌∷◌, [], All, map, length, IfOk, OnOk};
+ghost use Rattle.std.specs.Prelude.{◌≡◌, ◌++◌, ◌∷◌, [], All, map, IfOk, OnOk};
 ghost use Rattle.gates.specs.Clauses.{with_clauses};
 ghost use Rattle.pair_circuits.specs.Views.{breaks_view, scan_lits_view};
-ghost use Rattle.query_formulas.specs.QueryClauses.{AreInside, units, some_fails, row_units, break_units, last_count, first_formula, break_formula};
-ghost use Rattle.product_build.specs.Counts.{AreLitsInside, AreScansInOrder};
+ghost use Rattle.query_formulas.specs.QueryClauses.{AreInside, units, some_fails, row_units, break_units, walk_units, last_count, last_begun, first_formula, break_formula, walk_formula};
+ghost use Rattle.product_build.specs.Counts.{IsRowInside, AreLitsInside, AreScansInOrder};
 
 use clause_core::Cnf;
 use pair_circuits::{
@@ -18,6 +18,17 @@ fn add_row(alloc: Global, formula: &mut Cnf, scan: &ScanLits) -> Result<(), Allo
 {
     add_negative_units(alloc, formula, scan.outside.as_slice())?;
     add_units(formula, scan.environment.as_slice())
+}
+
+// Adds those of rows that are allowed.
+fn add_rows(alloc: Global, formula: &mut Cnf, scans: &[ScanLits]) -> Result<(), AllocError>
+    requires { All (IsRowInside formula.old.variables) (map scan_lits_view scans.now) }
+    ensures { OnOk result (formula.new ≡ with_clauses formula.old (walk_units (map scan_lits_view scans.now))) }
+{
+    for scan in scans {
+        add_row(alloc, formula, scan)?;
+    }
+    Ok(())
 }
 
 // Adds those of a scan behind which the pair is related.
@@ -57,28 +68,16 @@ fn add_break(
     add_unrelated(alloc, formula, scan)
 }
 
-// How many gates there are up to the end of the last of scans.
-fn last_count(first: &ScanLits, others: &[ScanLits]) -> usize
-    ensures { result ≡ last_count (scan_lits_view first.now) (map scan_lits_view others.now) }
+// The last of scans.
+fn last_of<'s>(first: &'s ScanLits, others: &'s [ScanLits]) -> &'s ScanLits
+    ensures begun { result.now.begun ≡ last_begun (scan_lits_view first.now) (map scan_lits_view others.now) }
+    ensures ended { result.now.ended ≡ last_count (scan_lits_view first.now) (map scan_lits_view others.now) }
 {
     let mut last = first;
     for next in others {
         last = next;
     }
-    last.ended
-}
-
-/// FIRST's formula: that of no clause where there is no scan.
-pub fn first_formula(alloc: Global, breaks: &Breaks) -> Result<Cnf, AllocError>
-    requires { AreScansInOrder (breaks_view breaks.now) }
-    ensures { IfOk result (λ f. f ≡ first_formula (breaks_view breaks.now)) }
-{
-    let Some((first, _others)) = breaks.scans.as_slice().split_first() else {
-        return Ok(Cnf::new(alloc, 0));
-    };
-    let mut formula = gates_formula(alloc, &breaks.circuit, first.begun)?;
-    add_row(alloc, &mut formula, first)?;
-    Ok(formula)
+    last
 }
 
 /// DEEP's formula for so many of the scans, or for all where there are fewer: that of no clause where that is none.
@@ -90,7 +89,30 @@ pub fn break_formula(alloc: Global, breaks: &Breaks, scans: usize) -> Result<Cnf
     let Some((first, others)) = breaks.scans.as_slice()[..count].split_first() else {
         return Ok(Cnf::new(alloc, 0));
     };
-    let mut formula = gates_formula(alloc, &breaks.circuit, last_count(first, others))?;
+    let mut formula = gates_formula(alloc, &breaks.circuit, last_of(first, others).ended)?;
     add_break(alloc, &mut formula, first, others)?;
     Ok(formula)
+}
+
+/// WALK's formula for so many of the scans, or for all where there are fewer: that of no clause where that is none.
+pub fn walk_formula(alloc: Global, breaks: &Breaks, rows: usize) -> Result<Cnf, AllocError>
+    requires { AreScansInOrder (breaks_view breaks.now) }
+    ensures { IfOk result (λ f. f ≡ walk_formula (breaks_view breaks.now) rows) }
+{
+    let count = rows.min(breaks.scans.len());
+    let scans = &breaks.scans.as_slice()[..count];
+    let Some((first, others)) = scans.split_first() else {
+        return Ok(Cnf::new(alloc, 0));
+    };
+    let mut formula = gates_formula(alloc, &breaks.circuit, last_of(first, others).begun)?;
+    add_rows(alloc, &mut formula, scans)?;
+    Ok(formula)
+}
+
+/// FIRST's formula: that of no clause where there is no scan.
+pub fn first_formula(alloc: Global, breaks: &Breaks) -> Result<Cnf, AllocError>
+    requires { AreScansInOrder (breaks_view breaks.now) }
+    ensures { IfOk result (λ f. f ≡ first_formula (breaks_view breaks.now)) }
+{
+    walk_formula(alloc, breaks, 1)
 }

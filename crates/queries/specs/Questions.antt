@@ -15,12 +15,15 @@ pub data QueryData : Type 0 where
   goal : CandidateSet → QueryData
   -- for a break after so many scans
   deep : ℕ → QueryData
+  -- for so many rows that are allowed, one after the other from the start
+  walk : ℕ → QueryData
 
 abbrev pub query_view : Query → QueryData
 query_view queries.First = first
 query_view (queries.Step set) = step (members set.now)
 query_view (queries.Goal set) = goal (members set.now)
 query_view (queries.Deep scans) = deep scans
+query_view (queries.Walk rows) = walk rows
 
 -- a query for one scan from any pair
 abbrev pub IsOfOneScan : QueryData → Type 0
@@ -28,10 +31,12 @@ IsOfOneScan first = ⊥
 IsOfOneScan (step set) = Unit {0}
 IsOfOneScan (goal set) = Unit {0}
 IsOfOneScan (deep scans) = ⊥
+IsOfOneScan (walk rows) = ⊥
 
--- a query for a break asks for 1 to DEPTH scans
+-- a query for a break, or for allowed rows, asks for 1 to DEPTH scans
 abbrev pub IsQueryOf : Comparison → QueryData → Type 0
 IsQueryOf c first = Unit {0}
 IsQueryOf c (step set) = Unit {0}
 IsQueryOf c (goal set) = Unit {0}
 IsQueryOf c (deep scans) = (1 ≤ scans) × (scans ≤ c.relation.depth)
+IsQueryOf c (walk rows) = (1 ≤ rows) × (rows ≤ c.relation.depth)

@@ -11,4 +11,6 @@ pub enum Query<'s> {
     Goal(&'s CandidateSet),
     /// For a break after that many scans.
     Deep(u64),
+    /// For so many rows that are allowed, one after the other from the start.
+    Walk(u64),
 }

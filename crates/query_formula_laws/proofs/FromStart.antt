@@ -1,12 +1,14 @@
--- Scans from the start: the formulas of FIRST and of DEEP have solutions where there are answers, and each solution stands for one.
-use Rattle.std.proofs.Common.{◌≡◌, ℕ, zero, suc, ◌+◌, ◌-◌, ◌*◌, ◌≤◌, Bool, true, false, refl, sym, ◌∙◌, ap, subst, List, [], ◌∷◌, ◌++◌, length, take, arith}
+-- Scans from the start: the formulas of FIRST, of DEEP and of WALK have solutions where there are answers, and each solution stands for one.
+use Rattle.std.proofs.Common.{◌≡◌, ℕ, zero, suc, ◌+◌, ◌-◌, ◌*◌, ◌≤◌, Bool, true, false, refl, sym, ap, subst, List, [], ◌∷◌, ◌++◌, length, take, arith}
 use Rattle.std.proofs.lemmas.List.{append-nil}
+use Rattle.clause_core.specs.declared.literal.Lit.{Lit}
+use Rattle.clause_core.specs.Formula.{Formula}
 use Rattle.clause_core.specs.Satisfaction.{assigned, Satisfies}
 use Rattle.scan_model.specs.InRange.{Row}
 use Rattle.scan_model.specs.Pairs.{Pair, start, is_allowed, after_row}
-use Rattle.scan_model.specs.Verdicts.{IsBreakFrom}
+use Rattle.scan_model.specs.Verdicts.{IsBreakFrom, AreAllowedFrom}
 use Rattle.queries.specs.Comparisons.{Comparison}
-use Rattle.queries.specs.Questions.{first, deep}
+use Rattle.queries.specs.Questions.{first, deep, walk}
 use Rattle.queries.specs.Meaning.{HasAnswer}
 use Rattle.gates.specs.Netlists.{Netlist, IsExtensionOf}
 use Rattle.gates.specs.Order.{IsOrdered}
@@ -14,26 +16,33 @@ use Rattle.gates.specs.Models.{IsModel, extended, Agrees}
 use Rattle.gates.proofs.Growth.{extends_then}
 use Rattle.gates.proofs.OneModel.{ExtendsOnce_ordered}
 use Rattle.node_core.specs.Scans.{ScanData}
-use Rattle.query_formulas.specs.CellShapes.{shapes_of}
-use Rattle.query_formulas.specs.Parts.{lines_cells, parts_of}
+use Rattle.query_formulas.specs.Parts.{parts_of}
 use Rattle.query_formulas.specs.PairWords.{PairWords}
 use Rattle.query_formulas.specs.Breaks.{ScanLiterals, MadeScan, Breaks, scans_from, start_words, breaks_bits, breaks_of}
-use Rattle.query_formulas.specs.QueryClauses.{row_units, break_units, last_count, begun_formula, first_formula, listed_formula, break_formula}
+use Rattle.query_formulas.specs.QueryClauses.{row_units, break_units, walk_units, last_count, last_begun, with_gates, begun_formula, first_formula, listed_formula, break_formula, walked_formula, walk_formula}
 use Rattle.query_formulas.specs.Decoded.{IsAnswer, scans_decoded}
-use Rattle.query_formulas.proofs.Growth.{extends_rest}
 use Rattle.query_formula_laws.specs.TypedComparisons.{IsTypedComparison, IsScanOf}
 use Rattle.query_formula_laws.proofs.FormulaTruth.{gates-model, model-gates}
-use Rattle.query_formula_laws.proofs.Orders.{After, free_words_of}
-use Rattle.query_formula_laws.proofs.Given.{row_types, allowed_fits, free_read}
-use Rattle.query_formula_laws.proofs.ScanTruth.{after_scan, row_true}
+use Rattle.query_formula_laws.proofs.Orders.{After}
+use Rattle.query_formula_laws.proofs.Given.{row_types, allowed_fits}
 use Rattle.query_formula_laws.proofs.Begun.{line_bits, start_inside, start_spelled, start_of}
-use Rattle.query_formula_laws.proofs.Runs.{scan_at, begun_at, behind, extends_last, last_gates, take_scans, extends_taken, below_end, scans_after}
-use Rattle.query_formula_laws.proofs.Deep.{row_words, RowsSpelled, row_read, rows_read, rows_read-spelled, length-rows_read, RowsTyped, rows_bits, rows_given, rows_agree, break_found, break_asked}
+use Rattle.query_formula_laws.proofs.Runs.{scan_at, behind, last_gates, walked_net, extends_walked, walked_gates, take_scans, extends_taken, walked_after, scans_after}
+use Rattle.query_formula_laws.proofs.Deep.{RowsSpelled, row_read, rows_read, rows_read-spelled, length-rows_read, RowsTyped, rows_bits, rows_given, rows_agree, break_found, break_asked}
+use Rattle.query_formula_laws.proofs.Walks.{walk_found as allowed_found, walk_asked as allowed_asked}
 
 rows_typed : (c : Comparison) (t : IsTypedComparison c) (rows : List Row) (pair : Pair) → IsBreakFrom c.old c.new c.relation pair rows → RowsTyped c rows
 rows_typed c t [] pair k = absurd k
 rows_typed c t (row ∷ []) pair k = (row_types c t row (allowed_fits c pair row k.0), tt)
 rows_typed c t (row ∷ next ∷ rows) pair k = (row_types c t row (allowed_fits c pair row k.0), rows_typed c t (next ∷ rows) (after_row c.old c.new c.relation row pair) k.2)
+
+allowed_typed : (c : Comparison) (t : IsTypedComparison c) (rows : List Row) (pair : Pair) → AreAllowedFrom c.old c.new c.relation pair rows → RowsTyped c rows
+allowed_typed c t [] pair k = tt
+allowed_typed c t (row ∷ rows) pair k = (row_types c t row (allowed_fits c pair row k.0), allowed_typed c t rows (after_row c.old c.new c.relation row pair) k.1)
+
+-- one row has the clauses of a first row
+pub walked_one : (n : Netlist) (ss : List ScanLiterals) → walked_formula n (take 1 ss) ≡ begun_formula n ss
+walked_one n [] = refl
+walked_one n (s ∷ ss) = ap (λ (more : List (List Lit)). with_gates n s.begun more) (append-nil (row_units s))
 
 module _ (c : Comparison) (t : IsTypedComparison c) (a b : ScanData) (is_a : IsScanOf c.old a) (is_b : IsScanOf c.new b) where
   -- ---- so many scans, in a circuit of more
@@ -79,35 +88,6 @@ module _ (c : Comparison) (t : IsTypedComparison c) (a b : ScanData) (is_a : IsS
             fits : (l d s f : ℕ) → 2 + (l + d) * s ≤ f → 2 + l * s ≤ f
             fits l d s f h = omega arith
 
-    -- ---- FIRST
-
-    module _ (grown : IsExtensionOf one.net later) where
-      abbrev begun : Netlist
-      begun = begun_at (parts_of c a b) 2 begin net
-
-      to_later : IsExtensionOf begun later
-      to_later = extends_then begun one.net later (extends_rest (parts_of c a b) (row_words c 2) begin net) grown
-
-      first_decoded_of : (v : ℕ → Bool) → Satisfies v (begun_formula later (one.lits ∷ more.scans)).clauses → IsAnswer c first (scans_decoded (parts_of c a b) (one.lits ∷ more.scans) 1 v)
-      first_decoded_of v h =
-          let is = gates-model v begun later one.lits.begun (row_units one.lits) to_later refl h in
-          let m = is.0 in
-          let row = row_read v c (row_words c 2) in (
-            row,
-            refl,
-            sym (row_true v c t a b is_a is_b (row_words c 2) begin (start c.old c.new) row net (start_spelled v c a b t m.one) (free_read v 2 (lines_cells c)) (start_inside c t) m) ∙ is.1,
-          )
-
-      first_asked_of : (row : Row) → is_allowed c.relation row (start c.old c.new) ≡ true → (values : ℕ → Bool) × Satisfies values (begun_formula later (one.lits ∷ more.scans)).clauses
-      first_asked_of row h =
-          let typed = row_types c t row (allowed_fits c (start c.old c.new) row h) in
-          let inputs_of = free_words_of net 2 (shapes_of (lines_cells c)) (omega arith) (below_end (parts_of c a b) 2 j (line_bits c) first_gate 0 wide) in
-          let after = after_scan (parts_of c a b) (row_words c 2) begin net ordered (start_of net c a b ordered) inputs_of in
-          let s = spelling begun after.begun (row ∷ []) (omega arith) (typed, tt) in
-          let v = s.assignment in
-          let m = s.model in
-          (v, model-gates v begun later one.lits.begun (row_units one.lits) to_later refl m (row_true v c t a b is_a is_b (row_words c 2) begin (start c.old c.new) row net (start_spelled v c a b t m.one) s.spelled.0 (start_inside c t) m ∙ h))
-
     -- ---- DEEP
 
     module _ (grown : IsExtensionOf more.net later) where
@@ -135,6 +115,38 @@ module _ (c : Comparison) (t : IsTypedComparison c) (a b : ScanData) (is_a : IsS
             break_found v c t a b is_a is_b j 2 begin net (start c.old c.new) (row_read v c one.lits.inputs) rows len (rows_read-spelled v c a b (suc j) 2 begin net) (start_spelled v c a b t m.one) (start_inside c t) m is.1,
           )
 
+      -- ---- WALK
+
+      abbrev walked : Netlist
+      walked = walked_net (parts_of c a b) j 2 begin net
+
+      to_later : IsExtensionOf walked later
+      to_later = extends_then walked more.net later (extends_walked (parts_of c a b) j 2 begin net) grown
+
+      walk_asked_of : (rows : List Row) → length rows ≡ suc j → AreAllowedFrom c.old c.new c.relation (start c.old c.new) rows → (values : ℕ → Bool) × Satisfies values (walked_formula later (one.lits ∷ more.scans)).clauses
+      walk_asked_of [] len k = absurd (omega arith)
+      walk_asked_of (row ∷ rows) len k =
+          let after = walked_after (parts_of c a b) j 2 begin net (omega arith) wide ordered (start_of net c a b ordered) in
+          let s = spelling walked after (row ∷ rows) (omega arith) (allowed_typed c t (row ∷ rows) (start c.old c.new) k) in
+          let v = s.assignment in
+          let m = s.model in
+          let shorter : length rows ≡ j = omega arith in (
+            v,
+            model-gates v walked later (last_begun one.lits more.scans) (walk_units (one.lits ∷ more.scans)) to_later (walked_gates (parts_of c a b) j 2 begin net) m
+                (allowed_asked v c t a b is_a is_b j 2 begin net (start c.old c.new) row rows shorter s.spelled (start_spelled v c a b t m.one) (start_inside c t) m k),
+          )
+
+      walk_decoded_of : (v : ℕ → Bool) → Satisfies v (walked_formula later (one.lits ∷ more.scans)).clauses
+          → (length (rows_read v c (one.lits ∷ more.scans)) ≡ suc j) × AreAllowedFrom c.old c.new c.relation (start c.old c.new) (rows_read v c (one.lits ∷ more.scans))
+      walk_decoded_of v h =
+          let is = gates-model v walked later (last_begun one.lits more.scans) (walk_units (one.lits ∷ more.scans)) to_later (walked_gates (parts_of c a b) j 2 begin net) h in
+          let m = is.0 in
+          let rows = rows_read v c more.scans in
+          let len : length rows ≡ j = length-rows_read v c a b j (2 + line_bits c) one.pair one.net in (
+            ap suc len,
+            allowed_found v c t a b is_a is_b j 2 begin net (start c.old c.new) (row_read v c one.lits.inputs) rows len (rows_read-spelled v c a b (suc j) 2 begin net) (start_spelled v c a b t m.one) (start_inside c t) m is.1,
+          )
+
   -- ---- the circuit of DEPTH scans
 
   wider : (j d s : ℕ) → suc j ≤ d → 2 + suc j * s ≤ d * s + 2
@@ -157,32 +169,6 @@ module _ (c : Comparison) (t : IsTypedComparison c) (a b : ScanData) (is_a : IsS
   grown_to : (limit scans : ℕ) → scans ≤ c.relation.depth → IsExtensionOf (scans_from (parts_of c a b) scans 2 (start_words (parts_of c a b)) (begin_net limit)).net (breaks_of (parts_of c a b) limit).net
   grown_to limit scans few = extends_taken (parts_of c a b) scans c.relation.depth 2 (start_words (parts_of c a b)) (begin_net limit) few
 
-  -- ---- FIRST
-
-  first_decoded_at : (limit first_gate depth : ℕ) → 1 ≤ depth → 2 + depth * line_bits c ≤ first_gate → (v : ℕ → Bool)
-      → (let all = scans_from (parts_of c a b) depth 2 (start_words (parts_of c a b)) (record { first = first_gate; limit = limit; gates = [] }) in
-      Satisfies v (first_formula all).clauses → IsAnswer c first (scans_decoded (parts_of c a b) all.scans 1 v))
-  first_decoded_at limit first_gate zero some wide v = absurd (omega arith)
-  first_decoded_at limit first_gate (suc j) some wide v =
-      let begin = start_words (parts_of c a b) in
-      let net : Netlist = record { first = first_gate; limit = limit; gates = [] } in
-      first_decoded_of limit first_gate j wide (behind (parts_of c a b) j 2 begin net).net (extends_last (parts_of c a b) j 2 begin net) v
-
-  first_asked_at : (limit first_gate depth : ℕ) → 1 ≤ depth → 2 + depth * line_bits c ≤ first_gate → (row : Row) → is_allowed c.relation row (start c.old c.new) ≡ true
-      → (values : ℕ → Bool) × Satisfies values (first_formula (scans_from (parts_of c a b) depth 2 (start_words (parts_of c a b)) (record { first = first_gate; limit = limit; gates = [] }))).clauses
-  first_asked_at limit first_gate zero some wide row h = absurd (omega arith)
-  first_asked_at limit first_gate (suc j) some wide row h =
-      let begin = start_words (parts_of c a b) in
-      let net : Netlist = record { first = first_gate; limit = limit; gates = [] } in
-      first_asked_of limit first_gate j wide (behind (parts_of c a b) j 2 begin net).net (extends_last (parts_of c a b) j 2 begin net) row h
-
-  -- what a solution spells is an answer
-  pub first_decoded : (limit : ℕ) (v : ℕ → Bool) → Satisfies v (first_formula (breaks_of (parts_of c a b) limit)).clauses → IsAnswer c first (scans_decoded (parts_of c a b) (breaks_of (parts_of c a b) limit).scans 1 v)
-  first_decoded limit v h = first_decoded_at limit gate c.relation.depth t.comparison.some_depth (omega arith) v h
-
-  pub first_asked : (limit : ℕ) → HasAnswer c first → (values : ℕ → Bool) × Satisfies values (first_formula (breaks_of (parts_of c a b) limit)).clauses
-  first_asked limit answer = first_asked_at limit gate c.relation.depth t.comparison.some_depth (omega arith) answer.2.0 answer.2.2
-
   -- ---- DEEP
 
   -- what a solution spells is an answer
@@ -200,3 +186,42 @@ module _ (c : Comparison) (t : IsTypedComparison c) (a b : ScanData) (is_a : IsS
       let all = breaks_of (parts_of c a b) limit in
       subst (λ (ss : List ScanLiterals). (values : ℕ → Bool) × Satisfies values (listed_formula all.net ss).clauses) (taken limit (suc j) few)
       (deep_asked_of limit gate j (wider j c.relation.depth (line_bits c) few) all.net (grown_to limit (suc j) few) answer.1 answer.2.0 answer.2.1)
+
+  -- ---- WALK
+
+  -- what a solution spells is an answer
+  pub walk_decoded : (limit rows : ℕ) → 1 ≤ rows → rows ≤ c.relation.depth → (v : ℕ → Bool) → Satisfies v (walk_formula (breaks_of (parts_of c a b) limit) rows).clauses
+      → IsAnswer c (walk rows) (scans_decoded (parts_of c a b) (breaks_of (parts_of c a b) limit).scans rows v)
+  walk_decoded limit zero some few v = absurd (omega arith)
+  walk_decoded limit (suc j) some few v =
+      let all = breaks_of (parts_of c a b) limit in
+      subst (λ (ss : List ScanLiterals). Satisfies v (walked_formula all.net ss).clauses → (length (rows_read v c ss) ≡ suc j) × AreAllowedFrom c.old c.new c.relation (start c.old c.new) (rows_read v c ss)) (taken limit (suc j) few)
+      (walk_decoded_of limit gate j (wider j c.relation.depth (line_bits c) few) all.net (grown_to limit (suc j) few) v)
+
+  pub walk_asked : (limit rows : ℕ) → 1 ≤ rows → rows ≤ c.relation.depth → HasAnswer c (walk rows) → (values : ℕ → Bool) × Satisfies values (walk_formula (breaks_of (parts_of c a b) limit) rows).clauses
+  walk_asked limit zero some few answer = absurd (omega arith)
+  walk_asked limit (suc j) some few answer =
+      let all = breaks_of (parts_of c a b) limit in
+      subst (λ (ss : List ScanLiterals). (values : ℕ → Bool) × Satisfies values (walked_formula all.net ss).clauses) (taken limit (suc j) few)
+      (walk_asked_of limit gate j (wider j c.relation.depth (line_bits c) few) all.net (grown_to limit (suc j) few) answer.1 answer.2.0 answer.2.1)
+
+  -- ---- FIRST, a walk of one row
+
+  only_row : (pair : Pair) (rows : List Row) → length rows ≡ 1 → AreAllowedFrom c.old c.new c.relation pair rows → (row : Row) × (rows ≡ row ∷ []) × (is_allowed c.relation row pair ≡ true)
+  only_row pair [] len k = absurd (omega arith)
+  only_row pair (row ∷ []) len k = (row, refl, k.0)
+  only_row pair (row ∷ next ∷ rows) len k = absurd (omega arith)
+
+  -- what a solution spells is an answer
+  pub first_decoded : (limit : ℕ) (v : ℕ → Bool) → Satisfies v (first_formula (breaks_of (parts_of c a b) limit)).clauses → IsAnswer c first (scans_decoded (parts_of c a b) (breaks_of (parts_of c a b) limit).scans 1 v)
+  first_decoded limit v h =
+      let all = breaks_of (parts_of c a b) limit in
+      let of_walk = subst (λ (f : Formula). Satisfies v f.clauses) (sym (walked_one all.net all.scans)) h in
+      let is = walk_decoded limit 1 (omega arith) t.comparison.some_depth v of_walk in
+      only_row (start c.old c.new) (scans_decoded (parts_of c a b) all.scans 1 v).rows is.0 is.1
+
+  pub first_asked : (limit : ℕ) → HasAnswer c first → (values : ℕ → Bool) × Satisfies values (first_formula (breaks_of (parts_of c a b) limit)).clauses
+  first_asked limit answer =
+      let all = breaks_of (parts_of c a b) limit in
+      let row = answer.2.0 in
+      subst (λ (f : Formula). (values : ℕ → Bool) × Satisfies values f.clauses) (walked_one all.net all.scans) (walk_asked limit 1 (omega arith) t.comparison.some_depth (answer.0, row ∷ [], (refl, (answer.2.2, tt))))

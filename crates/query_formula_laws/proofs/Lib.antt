@@ -17,6 +17,8 @@ pub mod ScanTruth
 pub mod Begun
 pub mod Runs
 pub mod Deep
+pub mod Walks
 pub mod FromStart
+pub mod ClauseSets
 pub mod Meanings
 pub mod TypedCandidates

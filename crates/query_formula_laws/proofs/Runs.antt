@@ -4,13 +4,13 @@ use Rattle.std.specs.Prelude.{All}
 use Rattle.std.proofs.lemmas.List.Elements.{All-nil, All-cons}
 use Rattle.gates.specs.Netlists.{Netlist, IsExtensionOf}
 use Rattle.gates.specs.Order.{IsOrdered}
-use Rattle.gates.proofs.Growth.{extends_self}
+use Rattle.gates.proofs.Growth.{extends_self, extends_then}
 use Rattle.query_formulas.specs.CellShapes.{bits_of}
 use Rattle.query_formulas.specs.Parts.{Parts}
 use Rattle.query_formulas.specs.PairWords.{PairWords, free_words}
 use Rattle.query_formulas.specs.Breaks.{ScanLiterals, MadeScan, Breaks, scan_from, scans_from, start_words, breaks_bits, breaks_of}
-use Rattle.query_formulas.specs.QueryClauses.{IsScanInside, AreBreaksInOrder, last_count}
-use Rattle.query_formulas.proofs.Growth.{begun_net, extends_scans_from}
+use Rattle.query_formulas.specs.QueryClauses.{IsScanInside, AreBreaksInOrder, last_count, last_begun}
+use Rattle.query_formulas.proofs.Growth.{begun_net, extends_begun, extends_rest, extends_scan_from, extends_scans_from}
 use Rattle.query_formula_laws.proofs.Orders.{After, after_then, PairOf, free_words_of, initial_words_of}
 use Rattle.query_formula_laws.proofs.ScanTruth.{after_scan}
 
@@ -32,6 +32,28 @@ module _ (parts : Parts) where
   pub last_gates : (j x : ℕ) (words : PairWords) (n : Netlist) → last_count (scan_at x words n).lits (behind j x words n).scans ≡ length (behind j x words n).net.gates
   last_gates zero x words n = refl
   last_gates (suc j) x words n = let s = scan_at x words n in last_gates j (x + bits_of parts.lines) s.pair s.net
+
+  -- ---- up to the ENV clauses of the last scan
+
+  -- those of the last of so many scans behind a scan
+  abbrev pub walked_net : ℕ → ℕ → PairWords → Netlist → Netlist
+  walked_net zero x words n = begun_at x words n
+  walked_net (suc j) x words n = walked_net j (x + bits_of parts.lines) (scan_at x words n).pair (scan_at x words n).net
+
+  pub extends_walk : (j x : ℕ) (words : PairWords) (n : Netlist) → IsExtensionOf n (walked_net j x words n)
+  extends_walk zero x words n = extends_begun parts (free_words x parts.lines) words n
+  extends_walk (suc j) x words n =
+      let s = scan_at x words n in
+      extends_then n s.net _ (extends_scan_from parts (free_words x parts.lines) words n) (extends_walk j (x + bits_of parts.lines) s.pair s.net)
+
+  -- its scan may go on to its end
+  pub extends_walked : (j x : ℕ) (words : PairWords) (n : Netlist) → IsExtensionOf (walked_net j x words n) (behind j x words n).net
+  extends_walked zero x words n = extends_rest parts (free_words x parts.lines) words n
+  extends_walked (suc j) x words n = let s = scan_at x words n in extends_walked j (x + bits_of parts.lines) s.pair s.net
+
+  pub walked_gates : (j x : ℕ) (words : PairWords) (n : Netlist) → last_begun (scan_at x words n).lits (behind j x words n).scans ≡ length (walked_net j x words n).gates
+  walked_gates zero x words n = refl
+  walked_gates (suc j) x words n = let s = scan_at x words n in walked_gates j (x + bits_of parts.lines) s.pair s.net
 
   -- the first scans of more
   pub take_scans : (j k x : ℕ) (words : PairWords) (n : Netlist) → j ≤ k → take j (scans_from parts k x words n).scans ≡ (scans_from parts j x words n).scans
@@ -69,6 +91,14 @@ module _ (parts : Parts) where
         after = after_then n m.net r.net s.net.extends rest.after;
         inside = All-cons (IsScanInside n.first) m.lits r.scans s.inside (subst (λ (f : ℕ). All (IsScanInside f) r.scans) same rest.inside);
       }
+
+  pub walked_after : (j x : ℕ) (words : PairWords) (n : Netlist) → 0 < x → x + suc j * bits_of parts.lines ≤ n.first → IsOrdered n → PairOf n words → After n (walked_net j x words n)
+  walked_after zero x words n some low o h =
+      (after_scan parts (free_words x parts.lines) words n o h (free_words_of n x parts.lines some (below_end x 0 (bits_of parts.lines) n.first (length n.gates) low))).begun
+  walked_after (suc j) x words n some low o h =
+      let m = scan_at x words n in
+      let s = after_scan parts (free_words x parts.lines) words n o h (free_words_of n x parts.lines some (below_end x (suc j) (bits_of parts.lines) n.first (length n.gates) low)) in
+      after_then n m.net _ s.net.extends (walked_after j (x + bits_of parts.lines) m.pair m.net (omega arith) (still_below x (suc j) (bits_of parts.lines) n.first m.net.first low s.net.extends.first) s.net.ordered s.pair)
 
   -- the circuit of scans from the start is in order
   pub breaks_in_order : (limit : ℕ) → AreBreaksInOrder (breaks_of parts limit)

@@ -5,7 +5,7 @@ use Rattle.meaning.specs.Values.{State}
 use Rattle.scan_model.specs.InRange.{Row}
 use Rattle.scan_model.specs.Pairs.{Pair}
 use Rattle.queries.specs.Comparisons.{Comparison}
-use Rattle.queries.specs.Questions.{QueryData, first, step, goal, deep}
+use Rattle.queries.specs.Questions.{QueryData, first, step, goal, deep, walk}
 use Rattle.queries.specs.Meaning.{Answers}
 use Rattle.queries.specs.declared.decoded.Decoded.{Decoded}
 use Rattle.node_circuits.specs.NodeWords.{Words}
@@ -59,6 +59,7 @@ decoded parts p b first values = scans_decoded parts b.scans 1 values
 decoded parts p b (step set) values = product_decoded parts p values
 decoded parts p b (goal set) values = product_decoded parts p values
 decoded parts p b (deep scans) values = scans_decoded parts b.scans scans values
+decoded parts p b (walk rows) values = scans_decoded parts b.scans rows values
 
 -- by the circuits of at most so many gates
 abbrev pub decoded_of : Parts → ℕ → QueryData → (ℕ → Bool) → DecodedData

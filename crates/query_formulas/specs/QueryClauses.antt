@@ -10,7 +10,7 @@ use Rattle.gates.specs.Netlists.{Netlist}
 use Rattle.gates.specs.Clauses.{clauses_from}
 use Rattle.gates.specs.Order.{IsOrdered}
 use Rattle.scan_model.specs.Verdicts.{CandidateSet}
-use Rattle.queries.specs.Questions.{QueryData, first, step, goal, deep}
+use Rattle.queries.specs.Questions.{QueryData, first, step, goal, deep, walk}
 use Rattle.query_formulas.specs.Parts.{Parts}
 use Rattle.query_formulas.specs.Products.{ProductLits, Product, product_of}
 use Rattle.query_formulas.specs.Breaks.{ScanLiterals, Breaks, breaks_of}
@@ -95,6 +95,24 @@ listed_formula n (s ∷ ss) = with_gates n (last_count s ss) (break_units s ss)
 abbrev pub break_formula : Breaks → ℕ → Formula
 break_formula b scans = listed_formula b.net (take scans b.scans)
 
+-- rows that are allowed, and no more
+abbrev pub walk_units : List ScanLiterals → List (List Lit)
+walk_units [] = []
+walk_units (s ∷ ss) = row_units s ++ walk_units ss
+
+-- how many gates there are up to the ENV clauses of the last scan
+abbrev pub last_begun : ScanLiterals → List ScanLiterals → ℕ
+last_begun s [] = s.begun
+last_begun s (t ∷ ts) = last_begun t ts
+
+-- allowed rows of the scans that are listed
+abbrev pub walked_formula : Netlist → List ScanLiterals → Formula
+walked_formula n [] = record { variables = 0; clauses = [] }
+walked_formula n (s ∷ ss) = with_gates n (last_begun s ss) (walk_units (s ∷ ss))
+
+abbrev pub walk_formula : Breaks → ℕ → Formula
+walk_formula b rows = walked_formula b.net (take rows b.scans)
+
 -- ---- order
 
 -- a scan's literals are those of the variables up to its counts
@@ -115,6 +133,7 @@ formula_by p b first = first_formula b
 formula_by p b (step set) = step_formula p.lits set
 formula_by p b (goal set) = goal_formula p.lits set
 formula_by p b (deep scans) = break_formula b scans
+formula_by p b (walk rows) = walk_formula b rows
 
 -- by the circuits of at most so many gates
 abbrev pub formula_of : Parts → ℕ → QueryData → Formula

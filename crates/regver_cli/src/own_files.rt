@@ -1,6 +1,6 @@
 // Which files may be made or written over: none that was read, and of those that are there only what the program itself writes.
 use crate::identity::FileIdentity;
-use finding_lines::{Line, show_line};
+use finding_lines::{Line, Version, show_line};
 use generated_texts::{file_names, generate};
 use std::alloc::{AllocError, Global};
 use std::fs::{self, File, FileType, Metadata};
@@ -15,7 +15,7 @@ const NO_FINDING: &str = "it is there and is no finding: name another file, or r
 
 const NOT_GENERATED: &str = "it is there and not as gen makes it: remove it, or use another folder";
 
-// How the program begins a file, and how many bytes it looks at to tell.
+// How a file of the program begins, and how many bytes are looked at to tell.
 #[derive(Drop)]
 struct Beginning {
     text: Vec<u8>,
@@ -26,13 +26,13 @@ struct Beginning {
 #[derive(Drop)]
 struct MadeFile {
     name: String,
-    beginning: Beginning,
+    beginnings: Vec<Beginning>,
 }
 
 /// What the program writes: a finding, and by `gen` four files.
 #[derive(Drop)]
 pub struct OwnFiles {
-    finding: Beginning,
+    finding: Vec<Beginning>,
     made: Vec<MadeFile>,
 }
 
@@ -43,10 +43,10 @@ pub struct Barred<'a> {
     pub error: io::Error,
 }
 
-// Every finding begins with the same line, and goes on as it likes.
-fn finding_beginning(alloc: Global) -> Result<Beginning, AllocError> {
+// A finding of a version begins with one line, and goes on as it likes.
+fn finding_beginning(alloc: Global, version: Version) -> Result<Beginning, AllocError> {
     let mut line = String::new(alloc);
-    show_line(&mut line, &Line::Header)?;
+    show_line(&mut line, &Line::Header(version))?;
     line.push_str("\n")?;
     let mut text = Vec::new(alloc);
     text.extend_from_slice(line.as_bytes())?;
@@ -54,15 +54,22 @@ fn finding_beginning(alloc: Global) -> Result<Beginning, AllocError> {
     Ok(Beginning { text, looked_at })
 }
 
+// Findings of both versions are the program's own.
+fn finding_beginnings(alloc: Global) -> Result<Vec<Beginning>, AllocError> {
+    let mut beginnings = Vec::new(alloc);
+    beginnings.push(finding_beginning(alloc, Version::Two)?)?;
+    beginnings.push(finding_beginning(alloc, Version::One)?)?;
+    Ok(beginnings)
+}
+
 // A text that is made is all that may stand in its file.
-fn made_text(name: String, text: Vec<u8>) -> MadeFile {
-    MadeFile {
-        name,
-        beginning: Beginning {
-            text,
-            looked_at: u64::MAX,
-        },
-    }
+fn made_text(alloc: Global, name: String, text: Vec<u8>) -> Result<MadeFile, AllocError> {
+    let mut beginnings = Vec::new(alloc);
+    beginnings.push(Beginning {
+        text,
+        looked_at: u64::MAX,
+    })?;
+    Ok(MadeFile { name, beginnings })
 }
 
 // The four files of `gen` for so many inputs.
@@ -70,12 +77,12 @@ fn made_files(alloc: Global, count: u32) -> Result<Vec<MadeFile>, AllocError> {
     let names = file_names(alloc, count)?;
     let texts = generate(alloc, count)?;
     let mut files = Vec::new(alloc);
-    files.push(made_text(names.old, texts.old))?;
-    files.push(made_text(names.new, texts.new))?;
-    files.push(made_text(names.relation, texts.relation))?;
+    files.push(made_text(alloc, names.old, texts.old)?)?;
+    files.push(made_text(alloc, names.new, texts.new)?)?;
+    files.push(made_text(alloc, names.relation, texts.relation)?)?;
     files.push(MadeFile {
         name: names.finding,
-        beginning: finding_beginning(alloc)?,
+        beginnings: finding_beginnings(alloc)?,
     })?;
     Ok(files)
 }
@@ -112,13 +119,23 @@ fn kept_at<R: Files>(rt: &R, name: &str) -> io::Result<Option<Metadata>> {
     }
 }
 
-// No file is there, or one that begins so, or that is cut off before it has all of the beginning.
-fn is_free<R: Files>(rt: &R, name: &str, beginning: &Beginning) -> io::Result<bool> {
+// The file begins so, or is cut off before it has all of the beginning.
+fn begins_so<R: Files>(rt: &R, name: &str, beginning: &Beginning) -> io::Result<bool> {
+    let mut looked_at = File::open(rt, name)?.take(beginning.looked_at);
+    is_front(&mut looked_at, &beginning.text)
+}
+
+// No file is there, or one that begins in one of these ways.
+fn is_free<R: Files>(rt: &R, name: &str, beginnings: &[Beginning]) -> io::Result<bool> {
     if kept_at(rt, name)?.is_none() {
         return Ok(true);
     }
-    let mut looked_at = File::open(rt, name)?.take(beginning.looked_at);
-    is_front(&mut looked_at, &beginning.text)
+    for beginning in beginnings {
+        if begins_so(rt, name, beginning)? {
+            return Ok(true);
+        }
+    }
+    Ok(false)
 }
 
 fn was_read<R: Files>(rt: &R, name: &str, read: &[FileIdentity]) -> io::Result<bool> {
@@ -139,7 +156,7 @@ impl OwnFiles {
     /// A finding, or what `gen` makes with so many inputs.
     pub fn new(alloc: Global, count: Option<u32>) -> Result<Self, AllocError> {
         Ok(OwnFiles {
-            finding: finding_beginning(alloc)?,
+            finding: finding_beginnings(alloc)?,
             made: match count {
                 Some(count) => made_files(alloc, count)?,
                 None => Vec::new(alloc),
@@ -156,7 +173,7 @@ impl OwnFiles {
         read: &[FileIdentity],
     ) -> io::Result<Option<Barred<'a>>> {
         for file in &self.made {
-            if !is_free(rt, &file.name, &file.beginning)? {
+            if !is_free(rt, &file.name, &file.beginnings)? {
                 return Ok(bar(&file.name, NOT_GENERATED));
             }
         }

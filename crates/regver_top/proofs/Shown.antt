@@ -45,7 +45,7 @@ not_of_replay t r (refused file refusal h e) s = let g : Valid ≡ Refused = s �
 not_of_replay t r (replayed old new rel rows run ending accepted is e) s = not_of_ending ending (s ∙ ap (λ x. x.status) e)
 
 not_of_verdict : (c : Comparison) (formula : QueryData → Formula) (k : Change) (name : List ℕ) (r : Report) → ReportsVerdict c formula k name r → Valid ≡ r.status → ⊥
-not_of_verdict c formula k name r (decided verdict saved shown e) v = subst IsOfVerdict (sym (v ∙ ap (λ x. x.status) e)) (of_verdict verdict)
+not_of_verdict c formula k name r (decided a saved shown e) v = subst IsOfVerdict (sym (v ∙ ap (λ x. x.status) e)) (of_verdict a.verdict)
 not_of_verdict c formula k name r (finding_too_long full e) v = let g : Valid ≡ Refused = v ∙ ap (λ x. x.status) e in cc
 not_of_verdict c formula k name r (not_written failed e) v = let g : Valid ≡ WriteFault = v ∙ ap (λ x. x.status) e in cc
 
@@ -74,7 +74,7 @@ no_verdict : (status : Status) (r x : Report) → IsOfVerdict status → status 
 no_verdict status r x v s e h = h (subst IsOfVerdict (s ∙ ap (λ y. y.status) e) v)
 
 not_judged : (j : Judged) → IsOfVerdict (judged_status j) → ⊥
-not_judged (judgements.Valid verdict) v = v
+not_judged (judgements.Valid verdict reach) v = v
 not_judged (judgements.Bad line reason) v = v
 
 not_ended : (e : Ending) → IsOfVerdict (ending_status e) → ⊥
@@ -92,7 +92,7 @@ none_of_check t status r v (on_finding c h (too_long is e)) s = no_verdict statu
 
 none_of_explain : (t : Texts) (status : Status) (r : Report) → IsOfVerdict status → ExplainReports t r → status ≡ r.status → ⊥
 none_of_explain t status r v (not_to_judge h) s = none_of_refusal t status r v h s
-none_of_explain t status r v (on_finding c h (explained ls verdict stands shown e)) s = no_verdict status r _ v s e (λ x. x)
+none_of_explain t status r v (on_finding c h (explained ls verdict reach stands shown e)) s = no_verdict status r _ v s e (λ x. x)
 none_of_explain t status r v (on_finding c h (invalid line reason is e)) s = no_verdict status r _ v s e (λ x. x)
 none_of_explain t status r v (on_finding c h (explained_too_long is e)) s = no_verdict status r _ v s e (λ x. x)
 

@@ -52,13 +52,13 @@ asking (verify old new rel finding) = asking_to_verify old new rel finding
 asking (gen count) = asking_to_generate (number count)
 asking usage = asking_for_usage
 
--- the status of VALID comes from `check` and `explain` alone, and there the verdict is shown
+-- the status of VALID comes from `check` and `explain` alone, and there the verdict is shown, and by `check` the reach
 abbrev pub IsShownBy : Asked → Texts → Option (List ℕ) → Option (List ℕ) → Type 0
 IsShownBy (check old new rel finding) t before now = ShowsValid t before now
 IsShownBy (explain old new rel finding) t before now = ShowsExplained t before now
 IsShownBy _ t before now = ⊥
 
--- a verdict comes from `verify` and `gen` alone, and there its finding is saved
+-- a verdict comes from `verify` and `gen` alone, and there its finding is saved, with what it says of reach
 abbrev pub IsSavedBy : Change → Asked → Texts → Status → Option (List ℕ) → Option (List ℕ) → Type 0
 IsSavedBy k (verify old new rel finding) t status before now = ShowsSaved t k finding status before now
 IsSavedBy k (gen count) t status before now = ShowsMade (number count) k status before now

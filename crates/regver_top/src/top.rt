@@ -163,12 +163,14 @@ pub fn regver<S: Shelf, K: Sink>(
     // where a count rose, and no count falls.
     ensures ends { Ends (asking (asked_in words.items)) result (change (S.state shelf.old) (S.state shelf.new)) (K.state out.old) (K.state out.new) }
 
-    // Where the status is that of VALID, the finding is valid by what the texts state, its verdict, or the report on it, is what was put, and
-    // the verdict is that of the model, or SPENT with its log.
+    // Where the status is that of VALID, the finding is valid by what the texts state, its verdict with what it says of reach, or the report on it,
+    // is what was put, and the verdict is that of the model, or SPENT with its log. `REACH r of DEPTH` is put behind a verdict only where r is the
+    // reach of the model, and `REACH r spent` only where the finding holds the log that spends the query for one row more.
     ensures shown { let asked = asked_in words.items in (t : Texts) → (asking asked).Tells (S.state shelf.old) t
         → result ≡ Status.Valid → IsShownBy asked t (K.state out.old).taken (K.state out.new).taken }
 
-    // Where the answer is a verdict, a finding was saved that is judged valid with it, and it is that of the model, or SPENT with its log.
+    // Where the answer is a verdict, a finding was saved that is judged valid with it and with the line on reach behind it, and these are those of
+    // the model, or SPENT with its log.
     ensures saved { let asked = asked_in words.items in (t : Texts) → (asking asked).Tells (S.state shelf.old) t
         → IsOfVerdict result → IsSavedBy (change (S.state shelf.old) (S.state shelf.new)) asked t result (K.state out.old).taken (K.state out.new).taken }
 

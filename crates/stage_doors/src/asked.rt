@@ -1,4 +1,4 @@
-// Queries as cases spell them: `FIRST`; `STEP` or `GOAL` and the numbers of candidates, from 1; `DEEP` and a number of scans.
+// Queries as cases spell them: `FIRST`; `STEP` or `GOAL` and the numbers of candidates, from 1; `DEEP` or `WALK` and a number of scans.
 ghost use Rattle.std.specs.Prelude.{◌≡◌};
 ghost use Rattle.scan_model.specs.Pairs.{relation_view};
 ghost use Rattle.queries.specs.Questions.{query_view, IsQueryOf};
@@ -52,6 +52,12 @@ pub(crate) fn answer_to(
                 answer(alloc, circuits, wanted, decider, &Query::Deep(scans))
             }
             _ => Err(malformed(alloc, "this is no number of scans: ", rest)),
+        },
+        "WALK" => match depth_of(&numbers) {
+            Some(rows) if rows >= 1 && rows <= relation.depth => {
+                answer(alloc, circuits, wanted, decider, &Query::Walk(rows))
+            }
+            _ => Err(malformed(alloc, "this is no number of rows: ", rest)),
         },
         _ => Err(malformed(alloc, "this is no query: ", words)),
     }

@@ -6,15 +6,16 @@ use Rattle.scan_model.specs.InRange.{Row}
 use Rattle.finding_lines.specs.declared.line.Conclusion.{Conclusion}
 use Rattle.finding_lines.specs.declared.line.Conclusion.TheVariants as conclusions
 use Rattle.judgement.specs.Shown.{conclusion_of, IsModelVerdict}
+use Rattle.judgement.specs.declared.answers.Reach.TheVariants.{Untold, Unwalked, Greatest, AtLeast}
 use Rattle.judgement.specs.declared.answers.Judged.TheVariants.{Valid}
 use Rattle.judgement.proofs.Soundness.{shows_verdict}
-use Rattle.judgement_laws.proofs.SpentLemmas.{spent_is_logged}
+use Rattle.judgement_laws.proofs.SpentLemmas.{spent_is_logged, reach_spent_is_logged}
 use Rattle.queries.specs.Comparisons.{Comparison}
 use Rattle.comparison_files.specs.Texts.{Texts}
 use Rattle.comparison_files.specs.Accepting.{AreStated}
 use Rattle.comparison_files.specs.Comparing.{formulas_of}
 use Rattle.text_laws.specs.Laws.{AreAllowed, AreRelated, IsVerdictOn}
-use Rattle.text_laws.specs.Findings.{ConclusionIsVerdict, FindingIsShown, SpentIsLogged, SaysOfRows, ShownSaysOfRows}
+use Rattle.text_laws.specs.Findings.{ConclusionIsVerdict, FindingIsShown, SpentIsLogged, ReachSpentIsLogged, SaysOfRows, ShownSaysOfRows, ReachSaysOfRows}
 use Rattle.text_laws.proofs.Stated.{stated_comparison, formulas_mean}
 use Rattle.text_laws.proofs.RowLemmas.{related_for_ever, different_is_least, open_is_related_so_far, nothing_runs}
 
@@ -70,10 +71,27 @@ shown_says t c formula (conclusions.Different scans) h shown = model_says t c (c
 shown_says t c formula (conclusions.Open kept candidates depth) h shown = model_says t c (conclusions.Open kept candidates depth) h shown
 shown_says t c formula (conclusions.Spent asked count) h shown = tt
 
+-- ---- what is said of reach
+
+pub reach_says : ReachSaysOfRows
+reach_says c formula Untold shown = tt
+reach_says c formula Unwalked shown = tt
+reach_says c formula (Greatest count) shown = record {
+  found = shown.walk;
+  within_depth = shown.deep;
+  none_longer = λ rows more few ok. shown.greatest (length rows) more few (rows, refl, ok);
+}
+reach_says c formula (AtLeast count) shown = shown.0
+
 -- ---- findings on texts
 
 pub finding_is_shown : FindingIsShown
-finding_is_shown t c limit file conclusion h judged = shows_verdict c (formulas_of c) (stated_comparison t c h) (formulas_mean t c h) limit file (Ok (Valid conclusion)) judged
+finding_is_shown t c limit file conclusion reach h judged =
+    shows_verdict c (formulas_of c) (stated_comparison t c h) (formulas_mean t c h) limit file (Ok (Valid conclusion reach)) judged
 
 pub spent_log : SpentIsLogged
-spent_log t c limit file asked count h judged = spent_is_logged c (formulas_of c) (stated_comparison t c h) (formulas_mean t c h) limit file asked count judged
+spent_log t c limit file asked count reach h judged = spent_is_logged c (formulas_of c) (stated_comparison t c h) (formulas_mean t c h) limit file asked count reach judged
+
+pub reach_spent_log : ReachSpentIsLogged
+reach_spent_log t c limit file conclusion rows h judged =
+    reach_spent_is_logged c (formulas_of c) (stated_comparison t c h) (formulas_mean t c h) limit file conclusion rows judged

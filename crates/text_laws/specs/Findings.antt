@@ -1,5 +1,5 @@
 -- Laws of findings on three texts: what is shown by one that is judged valid, and what that says of the rows that may come.
-use Rattle.std.specs.Prelude.{◌≡◌, ◌≤◌, ℕ, ℤ, pos, List, [], length, true, Ok}
+use Rattle.std.specs.Prelude.{◌≡◌, ◌≤◌, ℕ, suc, ℤ, pos, List, [], length, true, Ok}
 use Rattle.clause_core.specs.Formula.{Formula}
 use Rattle.scan_model.specs.declared.verdict.Verdict.{Verdict}
 use Rattle.scan_model.specs.InRange.{Row}
@@ -11,17 +11,19 @@ use Rattle.finding_lines.specs.declared.line.Conclusion.TheVariants.{Vacuous, Re
 use Rattle.finding_lines.specs.declared.line.Line.{Line}
 use Rattle.finding_report.specs.Noted.{kept_set}
 use Rattle.queries.specs.Comparisons.{Comparison}
-use Rattle.queries.specs.Questions.{QueryData}
+use Rattle.queries.specs.Questions.{QueryData, walk}
 use Rattle.queries.specs.Settings.{setting_of}
 use Rattle.judgement.specs.Places.{finished}
 use Rattle.judgement.specs.Findings.{Stands, IsJudged}
-use Rattle.judgement.specs.Shown.{conclusion_of, IsShown}
+use Rattle.judgement.specs.Shown.{conclusion_of, asked_of, IsShown, IsReachShown}
+use Rattle.judgement.specs.declared.answers.Reach.{Reach}
+use Rattle.judgement.specs.declared.answers.Reach.TheVariants.{Untold, Unwalked, Greatest, AtLeast}
 use Rattle.judgement.specs.declared.answers.Judged.TheVariants.{Valid}
 use Rattle.judgement_laws.specs.Laws.{HoldsSpentLog}
 use Rattle.comparison_files.specs.Texts.{Texts}
 use Rattle.comparison_files.specs.Accepting.{AreStated}
 use Rattle.comparison_files.specs.Comparing.{formulas_of}
-use Rattle.text_laws.specs.Laws.{AreAllowed, AreRelated, HoldForEver, IsVerdictOn, IsLeastBreak}
+use Rattle.text_laws.specs.Laws.{AreAllowed, AreRelated, HoldForEver, IsVerdictOn, IsLeastBreak, IsFarthest}
 
 -- ---- verdicts
 
@@ -29,17 +31,24 @@ use Rattle.text_laws.specs.Laws.{AreAllowed, AreRelated, HoldForEver, IsVerdictO
 abbrev pub ConclusionIsVerdict : Type 0
 ConclusionIsVerdict = (c : Comparison) (formula : QueryData → Formula) (v : Verdict) → IsShown c formula (conclusion_of v) → IsVerdictOn c v
 
--- the conclusion of a finding that is judged valid, by what texts state, is shown
+-- the conclusion of a finding that is judged valid, by what texts state, is shown, and so is what the finding says of reach
 abbrev pub FindingIsShown : Type 0
 FindingIsShown =
-    (t : Texts) (c : Comparison) (limit : ℕ) (file : List ℕ) (conclusion : Conclusion) → AreStated t c → IsJudged (setting_of c) (formulas_of c) limit file (Ok (Valid conclusion))
-    → IsShown c (formulas_of c) conclusion
+    (t : Texts) (c : Comparison) (limit : ℕ) (file : List ℕ) (conclusion : Conclusion) (reach : Reach) → AreStated t c
+    → IsJudged (setting_of c) (formulas_of c) limit file (Ok (Valid conclusion reach)) → IsShown c (formulas_of c) conclusion × IsReachShown c (formulas_of c) reach
 
--- and where it is SPENT, the finding ends with its log
+-- where it is SPENT, the finding holds the log that spends its query
 abbrev pub SpentIsLogged : Type 0
 SpentIsLogged =
-    (t : Texts) (c : Comparison) (limit : ℕ) (file : List ℕ) (asked : Asked) (count : ℤ) → AreStated t c → IsJudged (setting_of c) (formulas_of c) limit file (Ok (Valid (Spent asked count)))
-    → HoldsSpentLog c (formulas_of c) file (Spent asked count)
+    (t : Texts) (c : Comparison) (limit : ℕ) (file : List ℕ) (asked : Asked) (count : ℤ) (reach : Reach) → AreStated t c
+    → IsJudged (setting_of c) (formulas_of c) limit file (Ok (Valid (Spent asked count) reach))
+    → (query : QueryData) × (asked ≡ asked_of query) × (count ≡ pos c.relation.conflicts) × HoldsSpentLog c (formulas_of c) file query
+
+-- and where so many rows are allowed at least, that which spends the query for one row more
+abbrev pub ReachSpentIsLogged : Type 0
+ReachSpentIsLogged =
+    (t : Texts) (c : Comparison) (limit : ℕ) (file : List ℕ) (conclusion : Conclusion) (rows : ℕ) → AreStated t c
+    → IsJudged (setting_of c) (formulas_of c) limit file (Ok (Valid conclusion (AtLeast rows))) → HoldsSpentLog c (formulas_of c) file (walk (suc rows))
 
 -- ---- rows
 
@@ -57,6 +66,18 @@ abbrev pub ShownSaysOfRows : Type 0
 ShownSaysOfRows =
     (t : Texts) (c : Comparison) (formula : QueryData → Formula) (conclusion : Conclusion) → AreStated t c → IsShown c formula conclusion → SaysOfRows c conclusion
 
+-- What is said of reach says of the rows that may come: nothing; that so many are allowed one after the other from the start, and no more up to
+-- DEPTH; that so many are.
+abbrev pub SaysOfReach : Comparison → Reach → Type 0
+SaysOfReach c Untold = Unit {0}
+SaysOfReach c Unwalked = Unit {0}
+SaysOfReach c (Greatest count) = IsFarthest c count
+SaysOfReach c (AtLeast count) = (rows : List Row) × (length rows ≡ count) × AreAllowed c rows
+
+-- what is shown of reach says so
+abbrev pub ReachSaysOfRows : Type 0
+ReachSaysOfRows = (c : Comparison) (formula : QueryData → Formula) (reach : Reach) → IsReachShown c formula reach → SaysOfReach c reach
+
 -- ---- candidates
 
 -- where a conclusion has a set of candidates that are kept
@@ -67,18 +88,18 @@ IfKeeps (Different scans) P = P
 IfKeeps (Open kept candidates depth) P = P
 IfKeeps (Spent asked count) P = Unit {0}
 
--- lines are a valid finding on what texts state, with this conclusion
-abbrev pub AreFinding : Texts → Comparison → ℕ → List ℕ → List Line → Conclusion → Type 0
-AreFinding t c limit file lines conclusion = AreStated t c × Stands (setting_of c) (formulas_of c) limit file lines (finished conclusion) []
+-- lines are a valid finding on what texts state, with this conclusion and what is said of reach
+abbrev pub AreFinding : Texts → Comparison → ℕ → List ℕ → List Line → Conclusion → Reach → Type 0
+AreFinding t c limit file lines conclusion reach = AreStated t c × Stands (setting_of c) (formulas_of c) limit file lines (finished reach conclusion) []
 
 -- the candidates that the report on a valid finding lists as kept are the greatest inductive set
 abbrev pub ListedIsGreatest : Type 0
 ListedIsGreatest =
-    (t : Texts) (c : Comparison) (limit : ℕ) (file : List ℕ) (lines : List Line) (conclusion : Conclusion) → AreFinding t c limit file lines conclusion
+    (t : Texts) (c : Comparison) (limit : ℕ) (file : List ℕ) (lines : List Line) (conclusion : Conclusion) (reach : Reach) → AreFinding t c limit file lines conclusion reach
     → IfKeeps conclusion (IsGreatest c.old c.new c.relation (kept_set (setting_of c) lines))
 
 -- and each of them holds at the start, and after each row of every list of allowed rows
 abbrev pub ListedHoldsForEver : Type 0
 ListedHoldsForEver =
-    (t : Texts) (c : Comparison) (limit : ℕ) (file : List ℕ) (lines : List Line) (conclusion : Conclusion) → AreFinding t c limit file lines conclusion
+    (t : Texts) (c : Comparison) (limit : ℕ) (file : List ℕ) (lines : List Line) (conclusion : Conclusion) (reach : Reach) → AreFinding t c limit file lines conclusion reach
     → IfKeeps conclusion (HoldForEver c (kept_set (setting_of c) lines))

@@ -58,6 +58,12 @@ module _ (c : Comparison) where
     pub found : HasBreak c.old c.new c.relation scans
     pub none_shorter : (rows : List Row) → length rows < scans → AreAllowed rows → AreRelated rows
 
+  -- so many rows are allowed, one after the other from the start, at most DEPTH; and no more up to DEPTH
+  pub record IsFarthest (count : ℕ) : Type 0 where
+    pub found : (rows : List Row) × (length rows ≡ count) × AreAllowed rows
+    pub within_depth : count ≤ c.relation.depth
+    pub none_longer : (rows : List Row) → count < length rows → length rows ≤ c.relation.depth → ¬ AreAllowed rows
+
 -- where the verdict is RELATED, the pair is related after each row of every list of allowed rows
 abbrev pub RelatedForEver : Type 0
 RelatedForEver =

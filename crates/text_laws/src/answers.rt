@@ -1,7 +1,7 @@
 // What the commands' answers say of the rows that may come. The functions do nothing: their clauses are the laws.
 ghost use Rattle.text_laws.specs.Answers.{ValidSaysOfRows, ExplainedSaysOfRows, ExplainedHoldsForEver, SavedSaysOfRows, RelatedStatusIsForEver};
 
-/// Where `check` puts `VALID v`, the texts state one comparison, and v says of its rows what its word says.
+/// Where `check` puts `VALID v`, the texts state one comparison, and v says of its rows what its word says; so does what is said of reach.
 pub fn law_valid()
     ensures { ValidSaysOfRows }
 {}

@@ -11,7 +11,7 @@ mod rows;
 mod texts;
 
 pub use answers::{law_explained, law_saved, law_valid};
-pub use findings::{law_conclusion, law_finding, law_listed, law_shown, law_spent};
+pub use findings::{law_conclusion, law_finding, law_listed, law_reach, law_shown, law_spent};
 pub use rows::{
     law_different, law_kept_for_ever, law_one_verdict, law_open, law_related_for_ever, law_vacuous,
 };

@@ -1,13 +1,11 @@
 -- Sets with every candidate that is kept.
-use Rattle.std.proofs.Common.{◌≡◌, ℕ, zero, suc, ◌<◌, ◌+◌, Bool, true, false, refl, arith}
-use Rattle.std.specs.Prelude.{nat_lt, if◌then◌else◌}
+use Rattle.std.proofs.Common.{◌≡◌, ℕ, zero, suc, ◌<◌, Bool, true, false, refl, arith}
+use Rattle.std.specs.Prelude.{nat_lt}
 use Rattle.std.proofs.lemmas.Bool.{lt-ltb, and_from, and_parts}
 use Rattle.std.proofs.lemmas.Bool.Decides.{same_from_decides}
-use Rattle.program_tree.specs.Tree.{ProgramData}
-use Rattle.scan_model.specs.InRange.{Row}
-use Rattle.scan_model.specs.Pairs.{RelationData, Pair, start, after_row}
-use Rattle.scan_model.specs.Verdicts.{CandidateSet, count_of, size_below, Meets, IsKept, IsGreatest}
-use Rattle.verdict_laws.specs.Evidence.{candidate_on, Covers, held_at_start, left_on}
+use Rattle.scan_model.specs.Pairs.{start, after_row}
+use Rattle.scan_model.specs.Verdicts.{CandidateSet, count_of, size_below}
+use Rattle.verdict_laws.specs.Evidence.{candidate_on}
 use Rattle.verdict_laws.specs.Laws.{StartCovers, StartMeets, LeftCovers, UnleftIsInductive, CoveringIsGreatest, OneSize}
 
 -- by cases on a test

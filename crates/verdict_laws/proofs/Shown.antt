@@ -1,10 +1,10 @@
 -- What evidence shows.
-use Rattle.std.proofs.Common.{◌≡◌, ℕ, zero, suc, ◌<◌, ◌≤◌, ◌+◌, Bool, true, false, List, [], ◌∷◌, length, refl, sym, ◌∙◌, arith, inl, inr}
+use Rattle.std.proofs.Common.{◌≡◌, true, List, [], ◌∷◌, length, refl, sym, ◌∙◌, arith, inl, inr}
 use Rattle.std.proofs.lemmas.Bool.{false≢true, cases_lt}
 use Rattle.program_tree.specs.Tree.{ProgramData}
 use Rattle.scan_model.specs.InRange.{Row}
 use Rattle.scan_model.specs.Pairs.{RelationData, Pair, start, is_related, after_row}
-use Rattle.scan_model.specs.Verdicts.{CandidateSet, count_of, size_below, IsGreatest, IsBreakFrom, HasBreak, NoBreakBelow}
+use Rattle.scan_model.specs.Verdicts.{IsBreakFrom}
 use Rattle.verdict_laws.specs.Laws.{UnleftIsProved, LeftIsNotProved, NoneBelow, RelatedIsShown, DifferentIsShown, OpenIsShown}
 use Rattle.verdict_laws.proofs.Covering.{by_test}
 

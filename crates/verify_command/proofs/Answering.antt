@@ -28,7 +28,7 @@ module _ (first before after : ShelfState) (name : List ℕ) (kept : before.file
   failed_since h = rose_since (first.write_faults name) (before.write_faults name) (after.write_faults name) (later name) h
 
   verdict_since : (c : Comparison) (formula : QueryData → Formula) (r : Report) → ReportsVerdict c formula late name r → ReportsVerdict c formula whole name r
-  verdict_since c formula r (decided verdict is shown e) = decided verdict is shown e
+  verdict_since c formula r (decided a is shown e) = decided a is shown e
   verdict_since c formula r (too_long full e) = too_long full e
   verdict_since c formula r (not_written failed e) = not_written (failed_since failed) e
 
@@ -49,9 +49,9 @@ module _ (first before after : ShelfState) (name : List ℕ) (kept : before.file
 -- what was put is a verdict, which is shown
 verdict_shown : (t : Texts) (k : Change) (name : List ℕ) (status : Status) (r : Report) (old new : Option (List ℕ)) → IsOfVerdict status → VerifyReports t k name r → status ≡ r.status → new ≡ extended old r.text → ShowsSaved t k name status old new
 verdict_shown t k name status r old new v (not_compared h same) is put = absurd (subst IsOfVerdict (is ∙ refusal_status t r h) v)
-verdict_shown t k name status r old new v (on_pair c h (decided verdict saved shown e)) is put = record {
+verdict_shown t k name status r old new v (on_pair c h (decided a saved shown e)) is put = record {
   compared = c;
-  verdict = verdict;
+  concluded = a;
   accepted = h;
   saved = saved;
   shown = shown;

@@ -3,7 +3,6 @@ use Rattle.std.proofs.Common.{◌≡◌, ◌≢◌, ◌∙◌, ℕ, List, [], Op
 use Rattle.outside.specs.Contents.{emptied, OthersStay}
 use Rattle.outside.specs.States.{Change}
 use Rattle.clause_core.specs.Formula.{Formula}
-use Rattle.finding_lines.specs.declared.line.Conclusion.{Conclusion}
 use Rattle.finding_file.specs.Writing.{all_written}
 use Rattle.finding_file.specs.declared.errors.WriteErr.{WriteErr}
 use Rattle.finding_file.specs.declared.errors.WriteErr.TheVariants.{Fault, M8, Memory as NoMemory}
@@ -12,7 +11,9 @@ use Rattle.queries.specs.Questions.{QueryData}
 use Rattle.queries.specs.Settings.{Setting, setting_of}
 use Rattle.judgement.specs.Places.{at_top, finished}
 use Rattle.judgement.specs.Findings.{nowhere, IsJudged}
-use Rattle.judgement.specs.Shown.{IsShown}
+use Rattle.judgement.specs.Shown.{IsShown, IsReachShown}
+use Rattle.judgement.specs.declared.answers.Concluded.{Concluded}
+use Rattle.judgement.specs.declared.answers.Reach.TheVariants.{Untold}
 use Rattle.judgement.specs.declared.answers.Judged.TheVariants.{Valid}
 use Rattle.finding_search.specs.Passing.{IsPartOfFinding, IsFull}
 use Rattle.command_answers.specs.declared.status.Status.{Status}
@@ -20,7 +21,7 @@ use Rattle.command_answers.specs.declared.status.Status.TheVariants.{WriteFault}
 use Rattle.command_answers.specs.Reports.{Report}
 use Rattle.command_answers.specs.Answers.{Answers, AnswersSoFar, Extent, part_put, fault_told, all_put, extent_of, HasPut, a_report}
 use Rattle.finding_answers.specs.Lines.{most_bytes, write_fault_report}
-use Rattle.verify_command.specs.Reports.{HasFailed, IsSaved, ReportsVerdict, decided, too_long, not_written, LeavesPart, untouched, a_part, ReportsSaved}
+use Rattle.verify_command.specs.Reports.{HasFailed, IsSaved, AreShown, ReportsVerdict, decided, too_long, not_written, LeavesPart, untouched, a_part, ReportsSaved}
 
 -- ---- files
 
@@ -39,9 +40,15 @@ empty_part s formula None e = tt
 empty_part s formula (Some file) e = inl ([], at_top, nowhere, e)
 
 -- what is judged valid has lines that all pass
-valid_part : (s : Setting) (formula : QueryData → Formula) (limit : ℕ) (verdict : Conclusion) (o : Option (List ℕ)) → IfSome o (λ file. IsJudged s formula limit file (Ok (Valid verdict))) → IfSome o (IsPartOfFinding s formula)
-valid_part s formula limit verdict None h = tt
-valid_part s formula limit verdict (Some file) (lines, stands) = inl (lines, finished verdict, stands.leads, stands.whole ∙ append-nil (all_written lines))
+valid_part : (s : Setting) (formula : QueryData → Formula) (limit : ℕ) (a : Concluded) (o : Option (List ℕ)) → IfSome o (λ file. IsJudged s formula limit file (Ok (Valid a.verdict a.reach))) → IfSome o (IsPartOfFinding s formula)
+valid_part s formula limit a None h = tt
+valid_part s formula limit a (Some file) (lines, stands) = inl (lines, finished a.reach a.verdict, stands.leads, stands.whole ∙ append-nil (all_written lines))
+
+-- what was concluded is shown, one thing by the other
+pub are_shown : (c : Comparison) (formula : QueryData → Formula) (result : Result Concluded WriteErr) → IfOk result (λ a. IsShown c formula a.verdict) → IfOk result (λ a. IsReachShown c formula a.reach)
+    → IfOk result (λ a. a.reach ≢ Untold) → IfOk result (AreShown c formula)
+are_shown c formula (Ok a) shown reached told = record { shown = shown; reached = reached; told = told }
+are_shown c formula (Err e) shown reached told = tt
 
 module _ (c : Comparison) (formula : QueryData → Formula) (k : Change) (name : List ℕ) where
   -- a create that failed left the file as it was or empty
@@ -50,19 +57,19 @@ module _ (c : Comparison) (formula : QueryData → Formula) (k : Change) (name :
   after_create (inr h) = a_part (empty_part (setting_of c) formula (k.after.file name) (is_empty (k.before.file name) (k.after.file name) h))
 
   -- what an attempt that failed left is a part of a finding
-  pub part_left : (result : Result Conclusion WriteErr) → OnErr result (IfSome (k.after.file name) (IsPartOfFinding (setting_of c) formula)) → OnErr result (LeavesPart c formula k name)
-  part_left (Ok verdict) h = tt
+  pub part_left : (result : Result Concluded WriteErr) → OnErr result (IfSome (k.after.file name) (IsPartOfFinding (setting_of c) formula)) → OnErr result (LeavesPart c formula k name)
+  part_left (Ok a) h = tt
   part_left (Err e) h = a_part h
 
-  pub left_of : (saved : Result Conclusion WriteErr) → IfOk saved (IsSaved c formula k name) → OnErr saved (LeavesPart c formula k name) → LeavesPart c formula k name
-  left_of (Ok verdict) is left = a_part (valid_part (setting_of c) formula most_bytes verdict (k.after.file name) is)
+  pub left_of : (saved : Result Concluded WriteErr) → IfOk saved (IsSaved c formula k name) → OnErr saved (LeavesPart c formula k name) → LeavesPart c formula k name
+  left_of (Ok a) is left = a_part (valid_part (setting_of c) formula most_bytes a (k.after.file name) is)
   left_of (Err e) is left = left
 
   -- ---- what is reported
 
-  pub reported : (saved : Result Conclusion WriteErr) → IfOk saved (IsSaved c formula k name) → IfOk saved (IsShown c formula)
-      → (saved ≡ Err M8 → IsFull (setting_of c) formula (k.after.file name) most_bytes) → (saved ≡ Err Fault → HasFailed k name) → (r : Report) → ReportsSaved saved r → ReportsVerdict c formula k name r
-  reported (Ok verdict) is shown full failed r e = decided verdict is shown e
+  pub reported : (saved : Result Concluded WriteErr) → IfOk saved (IsSaved c formula k name) → IfOk saved (AreShown c formula)
+      → (saved ≡ Err M8 → IsFull (setting_of c) formula (k.after.file name) most_bytes) → (saved ≡ Err Fault → HasFailed k name) → (r : Report) → ReportsSaved c.relation.depth saved r → ReportsVerdict c formula k name r
+  reported (Ok a) is shown full failed r e = decided a is shown e
   reported (Err Fault) is shown full failed r e = not_written (failed refl) e
   reported (Err M8) is shown full failed r e = too_long (full refl) e
   reported (Err NoMemory) is shown full failed r e = absurd e

@@ -1,18 +1,19 @@
 -- What the command `verify` answers, and what it leaves of the finding.
-use Rattle.std.specs.Prelude.{◌≡◌, ℕ, List, Option, IfSome, Result, Ok, Err}
+use Rattle.std.specs.Prelude.{◌≡◌, ◌≢◌, ℕ, List, ◌++◌, Option, IfSome, Result, Ok, Err}
 use Rattle.outside.specs.Causes.{Rose}
 use Rattle.outside.specs.Contents.{extended, OthersStay}
 use Rattle.outside.specs.States.{Change}
 use Rattle.clause_core.specs.Formula.{Formula}
-use Rattle.finding_lines.specs.declared.line.Conclusion.{Conclusion}
 use Rattle.finding_file.specs.declared.errors.WriteErr.{WriteErr}
 use Rattle.finding_file.specs.declared.errors.WriteErr.TheVariants.{Fault, Memory, M8}
 use Rattle.queries.specs.Comparisons.{Comparison}
 use Rattle.queries.specs.Questions.{QueryData}
 use Rattle.queries.specs.Settings.{setting_of}
 use Rattle.judgement.specs.Findings.{IsJudged}
-use Rattle.judgement.specs.Shown.{IsShown}
+use Rattle.judgement.specs.Shown.{IsShown, IsReachShown}
+use Rattle.judgement.specs.declared.answers.Concluded.{Concluded}
 use Rattle.judgement.specs.declared.answers.Judged.TheVariants.{Valid}
+use Rattle.judgement.specs.declared.answers.Reach.TheVariants.{Untold}
 use Rattle.finding_search.specs.Passing.{IsPartOfFinding, IsFull}
 use Rattle.command_answers.specs.declared.status.Status.{Status}
 use Rattle.command_answers.specs.Reports.{Report}
@@ -20,7 +21,7 @@ use Rattle.command_answers.specs.Ends.{Asking}
 use Rattle.comparison_files.specs.Texts.{Texts, AreThreeTold, OneOfThreeRose}
 use Rattle.comparison_files.specs.Accepting.{AreAccepted}
 use Rattle.comparison_files.specs.Comparing.{formulas_of}
-use Rattle.finding_answers.specs.Verdicts.{verdict_line, verdict_status, verdict_report}
+use Rattle.finding_answers.specs.Verdicts.{verdict_line, verdict_status, verdict_report, reach_line}
 use Rattle.finding_answers.specs.Lines.{most_bytes, too_long_report, write_fault_report}
 use Rattle.comparison_files.specs.Refusals.{ReportsRefusal}
 
@@ -28,14 +29,20 @@ use Rattle.comparison_files.specs.Refusals.{ReportsRefusal}
 abbrev pub HasFailed : Change → List ℕ → Type 0
 HasFailed k name = Rose (k.before.write_faults name) (k.after.write_faults name)
 
--- where the finding is told, it is judged valid with this verdict
-abbrev pub IsSaved : Comparison → (QueryData → Formula) → Change → List ℕ → Conclusion → Type 0
-IsSaved c formula k name verdict = IfSome (k.after.file name) (λ file. IsJudged (setting_of c) formula most_bytes file (Ok (Valid verdict)))
+-- where the finding is told, it is judged valid with this verdict and what is said of reach
+abbrev pub IsSaved : Comparison → (QueryData → Formula) → Change → List ℕ → Concluded → Type 0
+IsSaved c formula k name a = IfSome (k.after.file name) (λ file. IsJudged (setting_of c) formula most_bytes file (Ok (Valid a.verdict a.reach)))
 
--- The report on what is compared, by the formula of each query: the verdict, which is shown, and whose finding is saved; that the finding
--- would be too long; or that a write of it has failed.
+-- a verdict and what is said of reach are shown, and the finding is of version 2
+pub record AreShown (c : Comparison) (formula : QueryData → Formula) (a : Concluded) : Type 0 where
+  pub shown : IsShown c formula a.verdict
+  pub reached : IsReachShown c formula a.reach
+  pub told : a.reach ≢ Untold
+
+-- The report on what is compared, by the formula of each query: the verdict and the reach, which are shown, and whose finding is saved; that
+-- the finding would be too long; or that a write of it has failed.
 pub data ReportsVerdict (c : Comparison) (formula : QueryData → Formula) (k : Change) (name : List ℕ) (r : Report) : Type 0 where
-  decided : (verdict : Conclusion) → IsSaved c formula k name verdict → IsShown c formula verdict → r ≡ verdict_report verdict → ReportsVerdict c formula k name r
+  decided : (a : Concluded) → IsSaved c formula k name a → AreShown c formula a → r ≡ verdict_report c.relation.depth a → ReportsVerdict c formula k name r
   too_long : IsFull (setting_of c) formula (k.after.file name) most_bytes → r ≡ too_long_report → ReportsVerdict c formula k name r
   not_written : HasFailed k name → r ≡ write_fault_report → ReportsVerdict c formula k name r
 
@@ -65,20 +72,20 @@ asking_to_verify old new rel finding = record {
   Leaves = λ k t. IsLeft t k finding;
 }
 
--- A verdict was put, with its status: where the finding is told it is judged so by what the texts state, and the verdict is the model's, or
--- SPENT with its log.
+-- A verdict was put, with its status, and behind it what is said of reach: where the finding is told it is judged so by what the texts state;
+-- the verdict is the model's, or SPENT with its log; and the reach is the model's, or the query for one row more is spent.
 pub record ShowsSaved (t : Texts) (k : Change) (name : List ℕ) (status : Status) (old new : Option (List ℕ)) : Type 0 where
   pub compared : Comparison
-  pub verdict : Conclusion
+  pub concluded : Concluded
   pub accepted : AreAccepted t compared
-  pub saved : IsSaved compared (formulas_of compared) k name verdict
-  pub shown : IsShown compared (formulas_of compared) verdict
-  pub is : status ≡ verdict_status verdict
-  pub put : new ≡ extended old (verdict_line verdict)
+  pub saved : IsSaved compared (formulas_of compared) k name concluded
+  pub shown : AreShown compared (formulas_of compared) concluded
+  pub is : status ≡ verdict_status concluded.verdict
+  pub put : new ≡ extended old (verdict_line concluded.verdict ++ reach_line compared.relation.depth concluded.reach)
 
 -- what is reported on an attempt to save a finding
-abbrev pub ReportsSaved : Result Conclusion WriteErr → Report → Type 0
-ReportsSaved (Ok verdict) r = r ≡ verdict_report verdict
-ReportsSaved (Err Fault) r = r ≡ write_fault_report
-ReportsSaved (Err M8) r = r ≡ too_long_report
-ReportsSaved (Err Memory) r = ⊥
+abbrev pub ReportsSaved : ℕ → Result Concluded WriteErr → Report → Type 0
+ReportsSaved depth (Ok a) r = r ≡ verdict_report depth a
+ReportsSaved depth (Err Fault) r = r ≡ write_fault_report
+ReportsSaved depth (Err M8) r = r ≡ too_long_report
+ReportsSaved depth (Err Memory) r = ⊥

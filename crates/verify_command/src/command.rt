@@ -149,7 +149,8 @@ pub fn answer_verify<D: Decider, S: Shelf, K: Sink>(
     ensures usage { result ≢ Status.Usage }
 
     // Where the status is that of a verdict, the finding was saved and is judged valid with it, and it is the verdict of the model on
-    // what the texts state, or SPENT with its log.
+    // what the texts state, or SPENT with its log; and where a line on reach is behind it, that is the reach of the model, or the query for one
+    // row more is spent.
     ensures saved { (t : Texts) → (asking_to_verify old.now new.now relation.now finding.now).Tells (S.state shelf.old) t → IsOfVerdict result
         → ShowsSaved t (change (S.state shelf.old) (S.state shelf.new)) finding.now result (K.state out.old).taken (K.state out.new).taken }
 

@@ -5,21 +5,20 @@ ghost use Rattle.outside.specs.Contents.{OthersStay};
 ghost use Rattle.outside.specs.States.{change};
 ghost use Rattle.finding_file.specs.Causes.{IsCausedBy};
 ghost use Rattle.queries.specs.Settings.{setting_of};
-ghost use Rattle.judgement.specs.Shown.{IsShown};
 ghost use Rattle.finding_search.specs.Passing.{IsFull};
 ghost use Rattle.comparison_files.specs.Held.{comparison_in};
 ghost use Rattle.command_answers.specs.Answers.{Answers};
 ghost use Rattle.finding_answers.specs.Lines.{most_bytes};
-ghost use Rattle.verify_command.specs.Reports.{HasFailed, IsSaved, LeavesPart, ReportsVerdict, ReportsSaved};
+ghost use Rattle.verify_command.specs.Reports.{HasFailed, IsSaved, AreShown, LeavesPart, ReportsVerdict, ReportsSaved};
 
 use clause_core::Decider;
 use command_answers::{Source, Status, put_last, put_limit};
 use comparison_files::Compared;
 use finding_answers::{MOST_BYTES, put_verdict};
 use finding_file::{FindingWriter, WriteErr};
-use finding_lines::Conclusion;
 use finding_search::save_finding;
 use invariant_prune::Guesses;
+use judgement::Concluded;
 use outside::{OutErr, Shelf, Sink};
 use queries::Queries;
 use rules::Rule;
@@ -34,10 +33,10 @@ fn save<D: Decider, Q: Queries, G: Guesses, S: Shelf>(
     guesses: &mut G,
     finding: &str,
     shelf: &mut S,
-) -> Result<Conclusion, WriteErr>
+) -> Result<Concluded, WriteErr>
     requires { Q.compared queries.now ≡ comparison_in compared.now }
     ensures saved { IfOk result (IsSaved (comparison_in compared.now) (Q.formula queries.now) (change (S.state shelf.old) (S.state shelf.new)) finding.now) }
-    ensures shown { IfOk result (IsShown (comparison_in compared.now) (Q.formula queries.now)) }
+    ensures shown { IfOk result (AreShown (comparison_in compared.now) (Q.formula queries.now)) }
     ensures left { OnErr result (LeavesPart (comparison_in compared.now) (Q.formula queries.now) (change (S.state shelf.old) (S.state shelf.new)) finding.now) }
     ensures past { result ≡ Err WriteErr.M8 → IsFull (setting_of (comparison_in compared.now)) (Q.formula queries.now) ((S.state shelf.new).file finding.now) most_bytes }
     ensures others { OthersStay (S.state shelf.old).file (S.state shelf.new).file finding.now }
@@ -65,17 +64,22 @@ fn save<D: Decider, Q: Queries, G: Guesses, S: Shelf>(
     }
 }
 
-// Puts how the saving of a finding ended.
-fn put_saved<K: Sink>(alloc: Global, saved: Result<Conclusion, WriteErr>, out: &mut K) -> Status
+// Puts how the saving of a finding on a relation of such a DEPTH ended.
+fn put_saved<K: Sink>(
+    alloc: Global,
+    depth: u64,
+    saved: Result<Concluded, WriteErr>,
+    out: &mut K,
+) -> Status
     requires unfailed { (K.state out.old).put_failed ≡ false }
-    ensures answer { Answers (ReportsSaved saved) ⊥ result (K.state out.old).taken (K.state out.new).taken }
+    ensures answer { Answers (ReportsSaved depth saved) ⊥ result (K.state out.old).taken (K.state out.new).taken }
     ensures usage { result ≢ Status.Usage }
     ensures read_fault { result ≢ Status.ReadFault }
     ensures write_fault { result ≡ Status.WriteFault → (saved ≡ Err WriteErr.Fault) ⊎ Rose (K.state out.old).faults (K.state out.new).faults }
     ensures faults { (K.state out.old).faults ≤ (K.state out.new).faults }
 {
     match saved {
-        Ok(verdict) => put_verdict(alloc, verdict, out),
+        Ok(concluded) => put_verdict(alloc, depth, concluded, out),
         Err(WriteErr::M8) => put_limit(alloc, Source::Finding, Rule::FindingTooLong, out),
         Err(WriteErr::Fault) => put_last(out, "WRITE FAULT\n", Status::WriteFault),
         Err(WriteErr::Memory) => put_last(out, "MEMORY\n", Status::Memory),
@@ -106,5 +110,5 @@ pub fn answer_finding<D: Decider, Q: Queries, G: Guesses, S: Shelf, K: Sink>(
     ensures faults { (K.state out.old).faults ≤ (K.state out.new).faults }
 {
     let saved = save(alloc, decider, compared, queries, guesses, finding, shelf);
-    put_saved(alloc, saved, out)
+    put_saved(alloc, compared.relation().depth, saved, out)
 }

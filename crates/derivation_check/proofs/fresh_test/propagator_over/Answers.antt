@@ -1,5 +1,6 @@
 use Rattle.std.proofs.Common.{◌+◌, ◌++◌, ◌∷◌, [], take, sym, ◌∙◌, ap, subst, arith}
 use Rattle.std.proofs.lemmas.List.{take_all, take_more}
+use Rattle.clause_core.specs.Freshness.{Unforced}
 use Rattle.clause_core.specs.Steps.{VariablesBelow}
 use Rattle.clause_core.proofs.Ranges.{AllVariablesBelow-within}
 use Rattle.derivation_check.proofs.fresh_test.propagator_over.Goals as goal
@@ -24,7 +25,6 @@ loop-clause-preserved c =
     }
 
 pub returns : goal.returns
-returns c = record {
-  held = c.loop-clause.invariant.held ∙ take_all c.loop-clause.clause-index c.clauses-clauses.result.now (omega arith) ∙ c.clauses-clauses.ensures.same;
-  size = c.loop-clause.invariant.size;
-}
+returns c =
+    let same = c.loop-clause.invariant.held ∙ take_all c.loop-clause.clause-index c.clauses-clauses.result.now (omega arith) ∙ c.clauses-clauses.ensures.same in
+    record { held = λ vs un. subst (λ cs. Unforced cs vs) same un; size = c.loop-clause.invariant.size }

@@ -14,19 +14,19 @@ returns-in-Derived c =
     let e : lines.Derived c.as_slice.result.now c.as_slice-in-Derived.result.now ≡ c.args.line.now =
     ap (λ l. lines.Derived l c.as_slice-in-Derived.result.now) c.as_slice.ensures ∙ ap (λ h. lines.Derived c.in-Derived.literals h) c.as_slice-in-Derived.ensures ∙ sym c.in-Derived.is
     in
-    IfOk-map c.query_step.result
+    IfOk-map c.spent_step.result
     (λ moved h pair. (
       h.0,
-      subst (λ (l : Line). IsTold s (in_query c.args.asked c.args.checker c.args.left) l h.0) e (h.1 s),
-      subst (λ (l : Line). moved_of moved pair ≡ in_query_next s c.args.asked c.args.checker c.args.left h.0 l) e (h.2 s pair),
+      subst (λ (l : Line). IsTold s (in_query c.args.reach c.args.asked c.args.checker c.args.left) l h.0) e h.1,
+      subst (λ (l : Line). moved_of moved pair ≡ in_query_next s c.args.reach c.args.asked c.args.checker c.args.left h.0 l) e (h.2 pair),
     ))
-    c.query_step.ensures
+    c.spent_step.ensures
 
 pub returns-in-End : goal.returns-in-End
 returns-in-End c pair =
     let s = setting_in c.args.trial.now in
     let h = c.end_query.ensures pair c.args.checker in (
       h.0,
-      subst (λ (l : Line). IsTold s (in_query c.args.asked c.args.checker c.args.left) l h.0) (sym c.in-End.is) h.1,
-      subst (λ (l : Line). moved_of c.end_query.result pair ≡ in_query_next s c.args.asked c.args.checker c.args.left h.0 l) (sym c.in-End.is) h.2,
+      subst (λ (l : Line). IsTold s (in_query c.args.reach c.args.asked c.args.checker c.args.left) l h.0) (sym c.in-End.is) h.1,
+      subst (λ (l : Line). moved_of c.end_query.result pair ≡ in_query_next s c.args.reach c.args.asked c.args.checker c.args.left h.0 l) (sym c.in-End.is) h.2,
     )

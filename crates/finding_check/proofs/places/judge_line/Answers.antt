@@ -1,21 +1,22 @@
-use Rattle.std.proofs.Common.{sym, subst}
+use Rattle.std.proofs.Common.{◌∙◌, sym}
 use Rattle.pair_trial.specs.Trials.{setting_in}
-use Rattle.judgement.specs.Tests.{Moves}
 use Rattle.finding_check.specs.Stages.{place_of, moved_of}
-use Rattle.finding_check.specs.declared.stage.Stage.{Stage}
 use Rattle.finding_check.proofs.HintLemmas.{IfOk-map}
+use Rattle.finding_check.proofs.VersionLemmas.{moves_by, moves_not}
 use Rattle.finding_check.proofs.places.judge_line.Goals as goal
 
-pub returns-in-End-clause-moved : goal.returns-in-End-clause-moved
-returns-in-End-clause-moved g c =
+pub returns-then-has_form-clause-moved : goal.returns-then-has_form-clause-moved
+returns-then-has_form-clause-moved g c =
     let s = setting_in c.args.trial.now in
+    let f = g.Q.Queries.formula c.args.queries.now in
     let pair = c.args.trial.now.pair in
-    subst (λ (stage : Stage). Moves s (g.Q.Queries.formula c.args.queries.now) (place_of stage pair) c.args.line.now (moved_of c.at_end.result pair)) (sym c.in-End.is) (c.at_end.ensures s pair)
+    IfOk-map c.place_line.result
+    (λ step moves. moves_by s f (place_of c.args.stage pair) c.args.line.now (moved_of step c.place_line.new.trial.pair) (sym (c.has_form.ensures s f pair) ∙ c.if-has_form.true) moves)
+    c.place_line.ensures.moved
 
-pub returns-in-InQuery-clause-moved : goal.returns-in-InQuery-clause-moved
-returns-in-InQuery-clause-moved g c =
+pub returns-else-has_form-clause-moved : goal.returns-else-has_form-clause-moved
+returns-else-has_form-clause-moved g c =
     let s = setting_in c.args.trial.now in
+    let f = g.Q.Queries.formula c.args.queries.now in
     let pair = c.args.trial.now.pair in
-    IfOk-map c.in_query.result
-    (λ moved h. subst (λ (stage : Stage). Moves s (g.Q.Queries.formula c.args.queries.now) (place_of stage pair) c.args.line.now (moved_of moved pair)) (sym c.in-InQuery.is) (h pair))
-    c.in_query.ensures
+    moves_not s f (place_of c.args.stage pair) c.args.line.now (sym (c.has_form.ensures s f pair) ∙ c.if-has_form.false)

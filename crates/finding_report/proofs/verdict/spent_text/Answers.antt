@@ -16,3 +16,6 @@ returns-in-Goal c = subst (λ (a : Asked). IfOk c.format-in-Goal.result (λ text
 
 pub returns-in-Deep : goal.returns-in-Deep
 returns-in-Deep c = subst (λ (a : Asked). IfOk c.format-in-Deep.result (λ text. string_bytes text ≡ verdict_text (Spent a c.args.conflicts))) (sym c.in-Deep.is) (search rules)
+
+pub returns-in-Walk : goal.returns-in-Walk
+returns-in-Walk c = subst (λ (a : Asked). IfOk c.format-in-Walk.result (λ text. string_bytes text ≡ verdict_text (Spent a c.args.conflicts))) (sym c.in-Walk.is) (search rules)

@@ -7,10 +7,10 @@ use Rattle.finding_search.proofs.DropLemmas.{left_by, passes_read, fewer_read, i
 use Rattle.finding_search.proofs.dropping.drop_by.Goals as goal
 
 pub returns-in_err-write_line-clause-writes : goal.returns-in_err-write_line-clause-writes
-returns-in_err-write_line-clause-writes g c formula =
+returns-in_err-write_line-clause-writes g c reach formula =
     Writes-exit (setting_in c.args.trial.now) formula _ _ _ _ _ _ _ c.from_residual-in_err-write_line.ensures.1
     (c.in_err-write_line.ensures (setting_in c.args.trial.now) formula _ _
-    (passes_read c.args.trial.now c.requires.comparison (members c.args.set.now) c.args.found.now c.index-row.result.now c.requires.found c.index-row.ensures formula
+    (passes_read c.args.trial.now c.requires.comparison (members c.args.set.now) c.args.found.now c.index-row.result.now c.requires.found c.index-row.ensures reach formula
     c.in_ok-numbers.numbers c.in_ok-numbers.ensures.same))
 
 pub set_pair-requires : goal.set_pair-requires
@@ -25,14 +25,14 @@ step-requires g c =
     c.set_pair.new.self c.set_pair.ensures
 
 pub returns-clause-writes : goal.returns-clause-writes
-returns-clause-writes g c formula =
+returns-clause-writes g c reach formula =
     let kept = kept_read c.args.trial.now c.requires.comparison (members c.args.set.now) c.args.found.now c.index-row.result.now c.requires.found c.index-row.ensures
     (record { old = c.deref.result.now; new = c.deref-2.result.now }) c.as_slice.result.now c.deref.ensures.value c.deref-2.ensures.value c.as_slice.ensures
     c.set_pair.new.self c.step.new.self (members c.keep.new.set) c.set_pair.ensures c.step.ensures c.keep.ensures in
-    Writes-answer (setting_in c.args.trial.now) formula _ _ _ (λ (x : Unit {0}). at_drops (left_by c.args.trial.now (members c.args.set.now) c.args.found.now c.index-row.result.now)) _
-    (λ (x : Unit {0}). at_drops (members c.keep.new.set)) tt (ap at_drops kept)
+    Writes-answer (setting_in c.args.trial.now) formula _ _ _ (λ (x : Unit {0}). at_drops reach (left_by c.args.trial.now (members c.args.set.now) c.args.found.now c.index-row.result.now)) _
+    (λ (x : Unit {0}). at_drops reach (members c.keep.new.set)) tt (ap (at_drops reach) kept)
     (c.in_ok-write_line.ensures (setting_in c.args.trial.now) formula _ _
-    (passes_read c.args.trial.now c.requires.comparison (members c.args.set.now) c.args.found.now c.index-row.result.now c.requires.found c.index-row.ensures formula
+    (passes_read c.args.trial.now c.requires.comparison (members c.args.set.now) c.args.found.now c.index-row.result.now c.requires.found c.index-row.ensures reach formula
     c.in_ok-numbers.numbers c.in_ok-numbers.ensures.same))
 
 pub returns-clause-fewer : goal.returns-clause-fewer

@@ -7,15 +7,16 @@ use Rattle.queries.specs.Sets.{members}
 use Rattle.pair_trial.specs.Trials.{setting_in}
 use Rattle.invariant_prune.specs.Kept.{IsKept}
 use Rattle.judgement.specs.Places.{at_drops}
+use Rattle.judgement.specs.declared.answers.Reach.{Reach}
 use Rattle.finding_search.specs.Desks.{desk}
 use Rattle.finding_search.specs.Writes.{Writes}
 use Rattle.finding_search.proofs.dropping.prune.Given as goal
 
 abbrev pub invariant-rows : goal.invariant-rows
 invariant-rows g l = record {
-  writes : Writes (setting_in l.initial.trial) (g.Q.Queries.formula l.queries)
-      (desk (g.S.Shelf.state l.initial.shelf) l.initial.writer) (at_drops (members l.initial.set))
-      (desk (g.S.Shelf.state l.shelf) l.writer) (λ (x : Unit {0}). at_drops (members l.set)) (let r : Result (Unit {0}) WriteErr = Ok tt in r);
+  writes : (reach : Reach) → Writes (setting_in l.initial.trial) (g.Q.Queries.formula l.queries)
+      (desk (g.S.Shelf.state l.initial.shelf) l.initial.writer) (at_drops reach (members l.initial.set))
+      (desk (g.S.Shelf.state l.shelf) l.writer) (λ (x : Unit {0}). at_drops reach (members l.set)) (let r : Result (Unit {0}) WriteErr = Ok tt in r);
   kept : IsKept (g.Q.Queries.front l.queries) l.kept;
   trial : l.trial ≡ with_pair l.trial.pair l.initial.trial;
 }

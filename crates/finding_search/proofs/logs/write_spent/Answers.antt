@@ -1,4 +1,5 @@
 use Rattle.std.proofs.Common.{◌≡◌, ◌∙◌, sym, ap, subst, pos}
+use Rattle.finding_lines.specs.Form.{IsEnding}
 use Rattle.finding_lines.specs.declared.line.Conclusion.{Conclusion}
 use Rattle.finding_lines.specs.declared.line.Conclusion.TheVariants.{Spent}
 use Rattle.finding_lines.specs.declared.line.Line.TheVariants as lines
@@ -7,16 +8,21 @@ use Rattle.judgement.specs.Places.{in_query, finished}
 use Rattle.finding_search.specs.Passing.{Passes}
 use Rattle.finding_search.specs.Places.{after_all}
 use Rattle.finding_search.proofs.Going.{Writes-then, Writes-exit}
+use Rattle.finding_search.proofs.LogRuns.{spent_runs}
 use Rattle.finding_search.proofs.Openings.{spent_passes}
 use Rattle.finding_search.proofs.logs.write_spent.Goals as goal
 
 pub returns-in_err-write_spent_log : goal.returns-in_err-write_spent_log
-returns-in_err-write_spent_log g c s formula f from same passes spent =
-    Writes-exit s formula _ _ _ _ _ _ _ c.from_residual.ensures.1 (c.in_err-write_spent_log.ensures s formula f from passes spent)
+returns-in_err-write_spent_log g c s formula f from reach same ending passes spent =
+    Writes-exit s formula _ _ _ _ _ _ _ c.from_residual.ensures.1
+    (c.in_err-write_spent_log.ensures s formula from _ _ passes (spent_runs s formula f s.conflicts c.args.log.now reach c.args.asked spent))
 
 pub returns : goal.returns
-returns g c s formula f from same passes spent =
+returns g c s formula f from reach same ending passes spent =
     let d = after_all (opened f) c.args.log.now in
     let is : Spent c.args.asked (pos s.conflicts) ≡ c.spent_by.result = ap (λ n. Spent c.args.asked (pos n)) same ∙ sym c.spent_by.ensures.same in
-    Writes-then s formula _ _ _ _ _ _ _ _ (c.in_ok-write_spent_log.ensures s formula f from passes spent)
-    (c.write_end.ensures s formula _ (subst (λ (v : Conclusion). Passes s formula (in_query c.args.asked d 0) (lines.End v) (finished v)) is (spent_passes s formula c.args.asked d)))
+    let here : IsEnding (Spent c.args.asked (pos s.conflicts)) = subst (λ n. IsEnding (Spent c.args.asked (pos n))) (sym same) ending in
+    Writes-then s formula _ _ _ _ _ _ _ _
+    (c.in_ok-write_spent_log.ensures s formula from _ _ passes (spent_runs s formula f s.conflicts c.args.log.now reach c.args.asked spent))
+    (c.write_end.ensures s formula _ reach
+    (subst (λ (v : Conclusion). Passes s formula (in_query reach c.args.asked d 0) (lines.End v) (finished reach v)) is (spent_passes s formula reach c.args.asked d here)))

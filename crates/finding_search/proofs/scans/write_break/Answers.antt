@@ -8,11 +8,11 @@ use Rattle.finding_search.proofs.Openings.{end_passes}
 use Rattle.finding_search.proofs.scans.write_break.Goals as goal
 
 pub returns-in_err-write_scans : goal.returns-in_err-write_scans
-returns-in_err-write_scans g c s formula from runs = Writes-exit s formula _ _ _ _ _ _ _ c.from_residual.ensures.1 (c.in_err-write_scans.ensures s formula from _ runs)
+returns-in_err-write_scans g c s formula from reach runs = Writes-exit s formula _ _ _ _ _ _ _ c.from_residual.ensures.1 (c.in_err-write_scans.ensures s formula from _ runs)
 
 pub returns : goal.returns
-returns g c s formula from runs =
+returns g c s formula from reach runs =
     let verdict = c.different_at.result in
     Writes-then s formula _ _ _ _ _ _ _ _
-    (c.in_ok-write_scans.ensures s formula from (at_end verdict) (subst (λ (v : Conclusion). Runs s formula from (scans_of c.args.rows.now) (at_end v)) (sym c.different_at.ensures.same) runs))
-    (c.write_end.ensures s formula _ (end_passes s formula verdict))
+    (c.in_ok-write_scans.ensures s formula from (at_end reach verdict) (subst (λ (v : Conclusion). Runs s formula from (scans_of c.args.rows.now) (at_end reach v)) (sym c.different_at.ensures.same) runs))
+    (c.write_end.ensures s formula _ reach (end_passes s formula reach verdict c.different_at.ensures.ending))

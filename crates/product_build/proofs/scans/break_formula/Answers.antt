@@ -18,7 +18,7 @@ gates_formula-requires-clause-inside c =
     let xs = c.as_slice.result.now in
     let many = c.min-count.ensures ∙ ap (λ (j : ℕ). min c.args.scans j) (c.len.ensures ∙ sym c.as_slice.ensures.len) in
     let is = ap (λ (ys : List ScanLits). take c.args.scans (map scan_lits_view ys)) (sym c.as_slice.ensures.value) ∙ taken_view xs c.args.scans c.min-count.result c.in-Some.first.now c.in-Some.others.now many c.in-Some.ensures.cases.0 in
-    subst (λ (j : ℕ). j ≤ length b.net.gates) (sym c.last_count.ensures) (ended_within c.args.scans b s ss is c.requires)
+    subst (λ (j : ℕ). j ≤ length b.net.gates) (sym c.last_of.ensures.ended) (ended_within c.args.scans b s ss is c.requires)
 
 pub add_break-requires-clause-first : goal.add_break-requires-clause-first
 add_break-requires-clause-first c =
@@ -28,7 +28,7 @@ add_break-requires-clause-first c =
     let xs = c.as_slice.result.now in
     let many = c.min-count.ensures ∙ ap (λ (j : ℕ). min c.args.scans j) (c.len.ensures ∙ sym c.as_slice.ensures.len) in
     let is = ap (λ (ys : List ScanLits). take c.args.scans (map scan_lits_view ys)) (sym c.as_slice.ensures.value) ∙ taken_view xs c.args.scans c.min-count.result c.in-Some.first.now c.in-Some.others.now many c.in-Some.ensures.cases.0 in
-    let variables = ap (λ (f : Formula). f.variables) c.in_ok-formula.ensures ∙ ap (λ (j : ℕ). b.net.first - 1 + j) c.last_count.ensures in
+    let variables = ap (λ (f : Formula). f.variables) c.in_ok-formula.ensures ∙ ap (λ (j : ℕ). b.net.first - 1 + j) c.last_of.ensures.ended in
     subst (λ (v : ℕ). AreLitsInside v s) (sym variables) (here_inside c.args.scans b s ss is c.requires)
 
 pub add_break-requires-clause-others : goal.add_break-requires-clause-others
@@ -39,7 +39,7 @@ add_break-requires-clause-others c =
     let xs = c.as_slice.result.now in
     let many = c.min-count.ensures ∙ ap (λ (j : ℕ). min c.args.scans j) (c.len.ensures ∙ sym c.as_slice.ensures.len) in
     let is = ap (λ (ys : List ScanLits). take c.args.scans (map scan_lits_view ys)) (sym c.as_slice.ensures.value) ∙ taken_view xs c.args.scans c.min-count.result c.in-Some.first.now c.in-Some.others.now many c.in-Some.ensures.cases.0 in
-    let variables = ap (λ (f : Formula). f.variables) c.in_ok-formula.ensures ∙ ap (λ (j : ℕ). b.net.first - 1 + j) c.last_count.ensures in
+    let variables = ap (λ (f : Formula). f.variables) c.in_ok-formula.ensures ∙ ap (λ (j : ℕ). b.net.first - 1 + j) c.last_of.ensures.ended in
     subst (λ (v : ℕ). All (AreLitsInside v) ss) (sym variables) (rest_inside c.args.scans b s ss is c.requires)
 
 pub returns : goal.returns
@@ -50,5 +50,5 @@ returns c =
     let xs = c.as_slice.result.now in
     let many = c.min-count.ensures ∙ ap (λ (j : ℕ). min c.args.scans j) (c.len.ensures ∙ sym c.as_slice.ensures.len) in
     let is = ap (λ (ys : List ScanLits). take c.args.scans (map scan_lits_view ys)) (sym c.as_slice.ensures.value) ∙ taken_view xs c.args.scans c.min-count.result c.in-Some.first.now c.in-Some.others.now many c.in-Some.ensures.cases.0 in
-    c.in_ok-add_break.ensures ∙ ap (λ (f : Formula). with_clauses f (break_units s ss)) c.in_ok-formula.ensures ∙ ap (λ (j : ℕ). with_gates b.net j (break_units s ss)) c.last_count.ensures
+    c.in_ok-add_break.ensures ∙ ap (λ (f : Formula). with_clauses f (break_units s ss)) c.in_ok-formula.ensures ∙ ap (λ (j : ℕ). with_gates b.net j (break_units s ss)) c.last_of.ensures.ended
     ∙ sym (ap (λ (ys : List ScanLiterals). listed_formula b.net ys) is)

@@ -9,10 +9,10 @@ use Rattle.verify_command.proofs.finding.put_saved.Goals as goal
 
 pub returns-in-Ok-clause-answer : goal.returns-in-Ok-clause-answer
 returns-in-Ok-clause-answer g c =
-    answers-wider (λ r. r ≡ verdict_report c.in-Ok.verdict) (ReportsSaved c.args.saved) ⊥ ⊥ c.put_verdict.result _ _
+    answers-wider (λ r. r ≡ verdict_report c.args.depth c.in-Ok.concluded) (ReportsSaved c.args.depth c.args.saved) ⊥ ⊥ c.put_verdict.result _ _
     (λ r e. rw c.in-Ok.is e) (λ x. x) c.put_verdict.ensures.answer
 
 pub returns-in-Err-Fault-clause-answer : goal.returns-in-Err-Fault-clause-answer
 returns-in-Err-Fault-clause-answer g c =
     let is : c.args.saved ≡ Err Fault = search rules in
-    write_fault_answered (ReportsSaved c.args.saved) ⊥ c.put_last.result _ _ (subst (λ saved. ReportsSaved saved write_fault_report) (sym is) refl) c.put_last.ensures.put
+    write_fault_answered (ReportsSaved c.args.depth c.args.saved) ⊥ c.put_last.result _ _ (subst (λ saved. ReportsSaved c.args.depth saved write_fault_report) (sym is) refl) c.put_last.ensures.put

@@ -1,13 +1,17 @@
 use Rattle.outside.specs.States.{change}
 use Rattle.comparison_files.specs.Held.{comparison_in}
-use Rattle.verify_command.proofs.Saved.{after_create, part_left}
+use Rattle.verify_command.proofs.Saved.{after_create, are_shown, part_left}
 use Rattle.verify_command.proofs.finding.save.Goals as goal
 
 pub returns-in-Ok-create-clause-saved : goal.returns-in-Ok-create-clause-saved
 returns-in-Ok-create-clause-saved g c = rw (c.in-Ok.ensures.old, c.in-Ok.ensures.new, c.in-Ok.ensures.relation, c.in-Ok-new.ensures) at c.save_finding.ensures.valid
 
 pub returns-in-Ok-create-clause-shown : goal.returns-in-Ok-create-clause-shown
-returns-in-Ok-create-clause-shown g c = rw (c.in-Ok.ensures.old, c.in-Ok.ensures.new, c.in-Ok.ensures.relation) at c.save_finding.ensures.shown
+returns-in-Ok-create-clause-shown g c =
+    are_shown (comparison_in c.args.compared.now) (g.Q.Queries.formula c.args.queries.now) c.save_finding.result
+    (rw (c.in-Ok.ensures.old, c.in-Ok.ensures.new, c.in-Ok.ensures.relation) at c.save_finding.ensures.shown)
+    (rw (c.in-Ok.ensures.old, c.in-Ok.ensures.new, c.in-Ok.ensures.relation) at c.save_finding.ensures.reached)
+    c.save_finding.ensures.told
 
 pub returns-in-Ok-create-clause-past : goal.returns-in-Ok-create-clause-past
 returns-in-Ok-create-clause-past g c = rw (c.in-Ok.ensures.old, c.in-Ok.ensures.new, c.in-Ok.ensures.relation, c.in-Ok-new.ensures) at c.save_finding.ensures.past

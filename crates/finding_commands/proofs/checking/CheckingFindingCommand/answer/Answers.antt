@@ -1,4 +1,4 @@
-use Rattle.std.proofs.Common.{◌≡◌, Err, Ok, IfSome, ap, subst}
+use Rattle.std.proofs.Common.{◌≡◌, ◌∙◌, Err, Ok, IfSome, ap, subst}
 use Rattle.command_answers.specs.Reports.{Report}
 use Rattle.command_answers.proofs.AnswerLemmas.{answers-wider}
 use Rattle.judgement.specs.declared.answers.JudgeErr.{JudgeErr}
@@ -16,8 +16,10 @@ returns-in-Ok-clause-answer g c = λ file told.
     let formula = g.Q.Queries.formula c.args.queries.now in
     let said = c.in-Ok.judged in
     let is = subst (λ o. IfSome o (λ f. IsJudged (setting_of compared) formula most_bytes f (Ok said))) told c.in-Ok.ensures.exact in
-    answers-wider (λ r. r ≡ judged_report said) (ReportsFinding compared formula file) ⊥ _ c.put_judged.result _ _
-    (λ r e. judged said is c.in-Ok.ensures.sound e) (λ x. absurd x) c.put_judged.ensures.answer
+    let held = c.relation.result.now.depth in
+    let depth : held ≡ compared.relation.depth = ap (λ x. x.depth) c.relation.ensures in
+    answers-wider (λ r. r ≡ judged_report held said) (ReportsFinding compared formula file) ⊥ _ c.put_judged.result _ _
+    (λ r e. judged said is c.in-Ok.ensures.sound (e ∙ ap (λ d. judged_report d said) depth)) (λ x. absurd x) c.put_judged.ensures.answer
 
 pub returns-in-Err-clause-answer : goal.returns-in-Err-clause-answer
 returns-in-Err-clause-answer g c = λ file told.

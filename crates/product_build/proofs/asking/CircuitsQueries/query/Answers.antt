@@ -18,3 +18,6 @@ complete_goal-requires-clause-order c = product_ordered _ _ _ _ c.self.invariant
 
 pub break_formula-requires : goal.break_formula-requires
 break_formula-requires c = scans_ordered _ _ _ _ c.self.invariant
+
+pub walk_formula-requires : goal.walk_formula-requires
+walk_formula-requires c = scans_ordered _ _ _ _ c.self.invariant
