@@ -1,5 +1,5 @@
 -- Derived clauses that are held no more. Numbers of clauses stay: at the place of one that is deleted stands one that is always true.
-use Rattle.std.specs.Prelude.{◌≡◌, ◌≢◌, ℕ, suc, ◌==◌, Bool, true, false, not, ◌&&◌, ◌||◌, List, [], ◌∷◌, ◌++◌, All, Contains, slice_get, slice_set, Some}
+use Rattle.std.specs.Prelude.{◌≡◌, ◌≢◌, ℕ, suc, ◌==◌, ◌<◌, ◌-◌, Bool, true, false, not, ◌&&◌, ◌||◌, IsTrue, List, [], ◌∷◌, ◌++◌, All, Contains, slice_get, slice_set, Some}
 use Rattle.std.specs.List.{list_any, list_all}
 use Rattle.clause_core.specs.declared.literal.Lit.{Lit}
 use Rattle.clause_core.specs.Clauses.{rank}
@@ -34,6 +34,20 @@ is_covered held number clause = covers_from number 1 held clause
 -- the formula with that clause at a place, from 0, held no more
 abbrev pub without_clause : ℕ → Formula → Formula
 without_clause place f = record { variables = f.variables; clauses = slice_set f.clauses place always }
+
+-- The number is that of a derived clause which is held, and another clause that is held is a part of it; the first `given` clauses are
+-- the formula's. Over no variable each clause is empty, and none is deleted.
+pub record IsDeletion (variables given : ℕ) (held : List (List Lit)) (number : ℕ) : Type 0 where
+  pub some : 0 < variables
+  pub derived : given < number
+  pub clause : List Lit
+  pub stands : slice_get held (number - 1) ≡ Some clause
+  pub stays : is_always clause ≡ false
+  pub covered : IsTrue (is_covered held number clause)
+
+-- what is held when the clause of a number is held no more
+abbrev pub without_number : ℕ → List (List Lit) → List (List Lit)
+without_number number held = slice_set held (number - 1) always
 
 -- What is left of all clauses that were ever held, where each one that was deleted had another held clause as a part.
 pub data Thinned : List (List Lit) → List (List Lit) → Type 0 where

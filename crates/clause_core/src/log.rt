@@ -1,5 +1,5 @@
 ghost use Rattle.std.specs.Prelude.{◌≡◌, ◌++◌, ◌∷◌, [], length, OnErr, OnOk};
-ghost use Rattle.clause_core.specs.declared.log.Entry.TheVariants.{Derived};
+ghost use Rattle.clause_core.specs.declared.log.Entry.TheVariants.{Derived, Deleted};
 
 use crate::step::Step;
 use std::alloc::{AllocError, Global};
@@ -10,6 +10,8 @@ use std::marker::Model;
 pub enum Entry {
     /// A clause that is held from here on.
     Derived(Step),
+    /// The number, from 1, of a derived clause that is held from here on no more: another one that is held is a part of it.
+    Deleted(u32),
 }
 
 /// A derivation: entries, each over what the formula and those before it hold.
@@ -45,14 +47,30 @@ impl Log {
         self.entries.as_slice()
     }
 
+    // Adds an entry behind the others.
+    fn add(&mut self, entry: Entry) -> Result<(), AllocError>
+        ensures ok { OnOk result (self.new ≡ self.old ++ entry ∷ []) }
+        ensures err { OnErr result (self.new ≡ self.old) }
+    {
+        match self.entries.push(entry) {
+            Ok(()) => Ok(()),
+            Err(_) => Err(AllocError),
+        }
+    }
+
     /// Adds a derived clause behind the others.
     pub fn push(&mut self, step: Step) -> Result<(), AllocError>
         ensures ok { OnOk result (self.new ≡ self.old ++ Derived step ∷ []) }
         ensures err { OnErr result (self.new ≡ self.old) }
     {
-        match self.entries.push(Entry::Derived(step)) {
-            Ok(()) => Ok(()),
-            Err(_) => Err(AllocError),
-        }
+        self.add(Entry::Derived(step))
+    }
+
+    /// Adds the deletion of a derived clause, by its number from 1.
+    pub fn push_deletion(&mut self, number: u32) -> Result<(), AllocError>
+        ensures ok { OnOk result (self.new ≡ self.old ++ Deleted number ∷ []) }
+        ensures err { OnErr result (self.new ≡ self.old) }
+    {
+        self.add(Entry::Deleted(number))
     }
 }
