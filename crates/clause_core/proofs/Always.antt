@@ -1,5 +1,5 @@
 -- What stands where a clause is held no more is true, and neither unit nor false. A clause that is covered has a held one as a part.
-use Rattle.std.proofs.Common.{◌≡◌, ◌≢◌, ℕ, suc, ◌+◌, Bool, true, false, not, ◌&&◌, ◌||◌, ◌==◌, inl, inr, List, [], ◌∷◌, cond, nat_le, Some, refl, sym, ◌∙◌, ap, arith}
+use Rattle.std.proofs.Common.{◌≡◌, ◌≢◌, ℕ, zero, suc, ◌+◌, Bool, true, false, not, ◌&&◌, ◌||◌, ◌==◌, inl, inr, List, [], ◌∷◌, cond, nat_le, Some, refl, sym, ◌∙◌, ap, subst, arith}
 use Rattle.std.specs.Prelude.{slice_get, slice_index_or}
 use Rattle.std.specs.List.{list_any, All, Contains}
 use Rattle.std.proofs.lemmas.Bool.{false≢true, cases_Bool, and_parts}
@@ -95,3 +95,28 @@ pub is_covered-by : (held : List (List Lit)) (i : ℕ) (clause : List Lit) → i
 is_covered-by held i clause h =
     let r = covers-at (suc i) 1 held clause h in
     (r.0, r.1, (λ e. r.2 (omega (arith, e))), r.3, is_part-contained r.1 clause r.4)
+
+different : (a b : ℕ) → a ≢ b → (a == b) ≡ false
+different a b ne = grind (arith, nat_tests)
+
+or_true : (b : Bool) → (b || true) ≡ true
+or_true true = refl
+or_true false = refl
+
+covers-from : (but at : ℕ) (cs : List (List Lit)) (i : ℕ) (part clause : List Lit) → slice_get cs i ≡ Some part → at + i ≢ but
+    → (not (is_always part) && is_part part clause) ≡ true → covers_from but at cs clause ≡ true
+covers-from but at [] i part clause is ne inside = cc
+covers-from but at (c ∷ cs) zero part clause is ne inside =
+    let same : c ≡ part = cc in
+    let apart : (at == but) ≡ false = different at but (λ e. ne (omega (arith, e))) in
+    let rest = covers_from but (suc at) cs clause in
+    subst (λ p. ((not (at == but) && (not (is_always p) && is_part p clause)) || rest) ≡ true) (sym same)
+    (ap (λ b. (not b && (not (is_always part) && is_part part clause)) || rest) apart ∙ ap (λ b. b || rest) inside)
+covers-from but at (c ∷ cs) (suc i) part clause is ne inside =
+    let here = not (at == but) && (not (is_always c) && is_part c clause) in
+    ap (λ b. here || b) (covers-from but (suc at) cs i part clause is (λ e. ne (omega (arith, e))) inside) ∙ or_true here
+
+-- a clause that is held covers those that it is a part of
+pub is_covered-from : (held : List (List Lit)) (i number : ℕ) (part clause : List Lit) → slice_get held i ≡ Some part → suc i ≢ number
+    → (not (is_always part) && is_part part clause) ≡ true → is_covered held number clause ≡ true
+is_covered-from held i number part clause is ne inside = covers-from number 1 held i part clause is (λ e. ne (omega (arith, e))) inside

@@ -1,6 +1,6 @@
 // Clauses that are a part of another.
 
-ghost use Rattle.std.specs.Prelude.{◌≡◌, ℕ, false, IsTrue, OnSome, IfNone};
+ghost use Rattle.std.specs.Prelude.{◌≡◌, ◌&&◌, not, ℕ, false, IsTrue, OnSome, IfNone};
 ghost use Rattle.std.specs.List.{list_any};
 ghost use Rattle.clause_core.specs.Deletions.{is_literal, is_always, is_part, is_covered};
 
@@ -73,4 +73,22 @@ pub fn is_covered(held: &[Clause], number: usize, clause: &[Lit]) -> bool
         }
     }
     false
+}
+
+/// Whether a clause is held, and is a part of another.
+#[inline]
+pub fn is_held_part(part: &[Lit], literals: &[Lit]) -> bool
+    ensures { result ≡ (not (is_always part.now) && is_part part.now literals.now) }
+{
+    !is_always(part) && is_part(part, literals)
+}
+
+/// Whether the clause at a place, from 0, is held, has not this number, from 1, and is a part of the clause.
+pub fn is_covered_by(held: &[Clause], place: usize, number: usize, literals: &[Lit]) -> bool
+    ensures { IsTrue result → IsTrue (is_covered held.now number literals.now) }
+{
+    match held.get(place) {
+        None => false,
+        Some(other) => place + 1 != number && is_held_part(other.literals(), literals),
+    }
 }

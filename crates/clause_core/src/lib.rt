@@ -36,7 +36,7 @@ pub use assignment::Assignment;
 pub use check::{Outcome, check_step, clause_at, follow_hints};
 pub use clause::{Clause, is_rising, is_within, law_set_of};
 pub use cnf::Cnf;
-pub use covering::{is_always, is_covered, is_part};
+pub use covering::{is_always, is_covered, is_covered_by, is_held_part, is_part};
 pub use decider::{Decided, Decider};
 pub use freshness::{is_fresh, is_unit, shows_fresh};
 pub use gate::Gate;

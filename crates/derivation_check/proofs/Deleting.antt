@@ -7,7 +7,7 @@ use Rattle.std.proofs.lemmas.Bool.Decides.{nat_tests}
 use Rattle.std.proofs.lemmas.Option.{slice_get_read}
 use Rattle.std.proofs.lemmas.List.{length-take-le, take-append-drop, take-set-le, drop-set-add}
 use Rattle.clause_core.specs.declared.literal.Lit.{Lit}
-use Rattle.clause_core.specs.Deletions.{always, is_always, is_part, covers_from, is_covered, without_clause}
+use Rattle.clause_core.specs.Deletions.{always, is_always, is_covered, without_clause}
 use Rattle.clause_core.specs.Formula.{Formula}
 use Rattle.clause_core.specs.Satisfaction.{formula_true, clause_true}
 use Rattle.clause_core.proofs.Always.{clause_true-always}
@@ -113,31 +113,6 @@ Pushed-deleted given held left was now number k lt e l size n p =
           subst (λ cs. formula_true v cs ≡ true) (sym l) (list_all-set (clause_true v) held k always (p.implied v before) (clause_true-always v));
       refuted = n ∙ ap (λ cs. was && list_any is_empty cs) back ∙ looked_anew was (drop given held) (number - 1 - given) p.refuted ∙ ap (list_any is_empty) (sym back);
     }
-
-different : (a b : ℕ) → a ≢ b → (a == b) ≡ false
-different a b ne = grind (arith, nat_tests)
-
-or_true : (b : Bool) → (b || true) ≡ true
-or_true true = refl
-or_true false = refl
-
-covers-from : (but at : ℕ) (cs : List (List Lit)) (i : ℕ) (part clause : List Lit) → slice_get cs i ≡ Some part → at + i ≢ but
-    → (not (is_always part) && is_part part clause) ≡ true → covers_from but at cs clause ≡ true
-covers-from but at [] i part clause is ne inside = cc
-covers-from but at (c ∷ cs) zero part clause is ne inside =
-    let same : c ≡ part = cc in
-    let apart : (at == but) ≡ false = different at but (λ e. ne (omega (arith, e))) in
-    let rest = covers_from but (suc at) cs clause in
-    subst (λ p. ((not (at == but) && (not (is_always p) && is_part p clause)) || rest) ≡ true) (sym same)
-    (ap (λ b. (not b && (not (is_always part) && is_part part clause)) || rest) apart ∙ ap (λ b. b || rest) inside)
-covers-from but at (c ∷ cs) (suc i) part clause is ne inside =
-    let here = not (at == but) && (not (is_always c) && is_part c clause) in
-    ap (λ b. here || b) (covers-from but (suc at) cs i part clause is (λ e. ne (omega (arith, e))) inside) ∙ or_true here
-
--- a clause that is held covers those that it is a part of
-pub is_covered-from : (held : List (List Lit)) (i number : ℕ) (part clause : List Lit) → slice_get held i ≡ Some part → suc i ≢ number
-    → (not (is_always part) && is_part part clause) ≡ true → is_covered held number clause ≡ true
-is_covered-from held i number part clause is ne inside = covers-from number 1 held i part clause is (λ e. ne (omega (arith, e))) inside
 
 lower : (a b : ℕ) → nat_lt a b ≡ true → a < b
 lower a b h = grind (arith, nat_tests)

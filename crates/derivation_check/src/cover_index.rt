@@ -3,8 +3,7 @@
 // The first literal of a part stands in the clause. So the clauses are chained by their first literals, and those of one
 // literal alone, which are parts of the most, are looked up first.
 
-use crate::deletion::is_held_part;
-use clause_core::{Clause, Cnf, Lit, is_always};
+use clause_core::{Clause, Cnf, Lit, is_always, is_held_part};
 use std::alloc::{AllocError, Global};
 use watched_propagation::{Code, low, read, write};
 

@@ -2,14 +2,14 @@
 
 ghost use Rattle.std.specs.Prelude.{◌≡◌, ◌<◌, ◌≤◌, ◌&&◌, not, false, IsTrue, OnOk, OnErr, length, drop};
 ghost use Rattle.std.specs.List.{list_any};
-ghost use Rattle.clause_core.specs.Deletions.{is_always, is_part, is_covered};
+ghost use Rattle.clause_core.specs.Deletions.{is_always, is_covered};
 ghost use Rattle.derivation_check.specs.Checks.{derivation_from};
 ghost use Rattle.derivation_check.specs.Deletions.{may_delete};
 ghost use Rattle.derivation_check.specs.Inside.{is_empty};
 
 use crate::cover_index::CoverIndex;
 use crate::fault::DelFault;
-use clause_core::{Clause, Cnf, Lit, is_always, is_covered, is_part};
+use clause_core::{Clause, Cnf, Lit, is_always, is_covered, is_covered_by};
 
 /// How many derived clauses are held no more.
 #[derive(Clone, Copy)]
@@ -36,24 +36,6 @@ impl Gone {
             0
         };
         self.since_test > derived.wrapping_sub(self.all)
-    }
-}
-
-/// Whether a clause is held, and is a part of another.
-#[inline]
-pub(crate) fn is_held_part(part: &[Lit], literals: &[Lit]) -> bool
-    ensures { result ≡ (not (is_always part.now) && is_part part.now literals.now) }
-{
-    !is_always(part) && is_part(part, literals)
-}
-
-// Whether a clause that was guessed is held, has another number, and is a part of the clause.
-fn is_covered_by(held: &[Clause], guess: usize, number: usize, literals: &[Lit]) -> bool
-    ensures { IsTrue result → IsTrue (is_covered held.now number literals.now) }
-{
-    match held.get(guess) {
-        None => false,
-        Some(other) => guess + 1 != number && is_held_part(other.literals(), literals),
     }
 }
 
