@@ -10,6 +10,7 @@ ghost use Rattle.clause_core.specs.declared.literal.Lit.{Lit};
 ghost use Rattle.cdcl_core.specs.Next.{IsNext};
 
 use crate::acceptance::{is_solution, may_take};
+use crate::letting_go::let_covered_go;
 use crate::next::{Next, next_step};
 use crate::search::{Proposal, Search};
 use clause_core::{Assignment, Clause, Cnf, Decided, Log, Step, Truth, unassigned};
@@ -80,6 +81,7 @@ fn decide_behind<S: Search>(
     ensures begins { BeginsWith cnf.old cnf.new }
 {
     let variables = cnf.variables();
+    let given = cnf.clauses().len();
     let mut values = unassigned(alloc, variables)?;
     let mut log = Log::new(alloc);
     for _turn in 0..limit {
@@ -99,7 +101,9 @@ fn decide_behind<S: Search>(
                     log.push(step)?;
                     return Ok(Decided::Refuted(log));
                 }
+                let count = cnf.clauses().len();
                 hold(cnf, &mut log, step)?;
+                let_covered_go(search, cnf, &mut log, given, count)?;
             }
         }
     }

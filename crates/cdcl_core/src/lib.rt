@@ -2,6 +2,7 @@
 // - `acceptance`: the tests that a proposal passes before it is taken
 // - `analysis`: what a conflict teaches: the clause of its first unique implication point, and what derives it
 // - `decide`: a search made into a decider: what it proposes is tested, and replaced where a test fails
+// - `letting_go`: clauses that are held no more, since another one is a part of them
 // - `list_search`: the plain search of conflict-driven clause learning
 // - `next`: the derivation that always goes on: it decides the variables in rising order, and learns the decisions
 // - `noting`: unit propagation that notes the clauses which it uses
@@ -15,6 +16,7 @@
 mod acceptance;
 mod analysis;
 mod decide;
+mod letting_go;
 mod list_search;
 mod next;
 mod noting;
@@ -26,4 +28,4 @@ mod trail;
 
 pub use decide::decide_by;
 pub use plain::Plain;
-pub use search::{Proposal, Search};
+pub use search::{Covered, Proposal, Search};

@@ -4,7 +4,7 @@ ghost use Rattle.std.specs.Prelude.{◌≡◌, ◌+◌, IfOk};
 
 use crate::analysis::Analysis;
 use crate::order::Order;
-use crate::search::{Proposal, Search};
+use crate::search::{Covered, Proposal, Search};
 use crate::trail::Trail;
 use clause_core::{Clause, Truth, all_closed};
 use std::alloc::{AllocError, Global};
@@ -96,6 +96,15 @@ impl Search for ListSearch {
 
     fn restart(&mut self) -> Result<(), AllocError> {
         self.go_back(0);
+        Ok(())
+    }
+
+    fn covered(&mut self) -> Option<Covered> {
+        None
+    }
+
+    fn let_go(&mut self, covered: Covered) -> Result<(), AllocError> {
+        let _ = covered;
         Ok(())
     }
 }

@@ -1,10 +1,11 @@
 // A search for the next step, of which little is asked: each proposal is tested before it is taken.
 
-ghost use Rattle.std.specs.Prelude.{◌≡◌, ℕ, List, ◌++◌, IsTrue, OnOk};
+ghost use Rattle.std.specs.Prelude.{◌≡◌, ℕ, List, ◌++◌, slice_set, IsTrue, OnOk};
 ghost use Rattle.clause_core.specs.declared.literal.Lit.{Lit};
 ghost use Rattle.clause_core.specs.declared.truth.Truth.{Truth};
 ghost use Rattle.clause_core.specs.Steps.{AllVariablesBelow};
 ghost use Rattle.clause_core.specs.Propagation.{IsClosed};
+ghost use Rattle.clause_core.specs.Deletions.{always};
 
 use clause_core::{Clause, Step, Truth};
 use std::alloc::AllocError;
@@ -16,6 +17,13 @@ pub enum Proposal {
     Solution,
     /// The clause of the step follows, and the values of the search show that it is fresh.
     Derivation(Step),
+}
+
+/// A derived clause, and one that is a part of it, by their places among all clauses, from 0.
+#[derive(Clone, Copy)]
+pub struct Covered {
+    pub place: usize,
+    pub by: usize,
 }
 
 /// A search that goes from proposal to proposal. A wrong proposal is refused, and costs time alone. What
@@ -55,5 +63,16 @@ pub trait Search {
     /// The proposal is refused: another clause will be the last that is held.
     fn restart(&mut self) -> Result<(), AllocError>
         ensures taken { (taken : List (List Lit)) → has_taken self.old taken → has_taken self.new taken }
+        ensures places { places self.new ≡ places self.old };
+
+    /// A derived clause that another one is a part of, the one that is held last or one before it, as far as the search knows one. It
+    /// answers one after the other.
+    fn covered(&mut self) -> Option<Covered>
+        ensures taken { (taken : List (List Lit)) → has_taken self.old taken → has_taken self.new taken }
+        ensures places { places self.new ≡ places self.old };
+
+    /// The covered clause is held no more: what is always true stands in its place.
+    fn let_go(&mut self, covered: Covered) -> Result<(), AllocError>
+        ensures taken { (taken : List (List Lit)) → has_taken self.old taken → has_taken self.new (slice_set taken covered.place always) }
         ensures places { places self.new ≡ places self.old };
 }
