@@ -9,6 +9,7 @@
 // - `marks`: marks on variables
 // - `order`: the order of decisions
 // - `redundancy`: which literals of a learned clause follow from its others
+// - `subsumption`: which derived clauses a new one is a part of
 // - `watch_search`: the search of conflict-driven clause learning by watched literals
 // - `watched`: the fast decider
 #![tactic(auto)]
@@ -23,6 +24,7 @@ mod guide;
 mod marks;
 mod order;
 mod redundancy;
+mod subsumption;
 mod watch_search;
 mod watched;
 

@@ -10,7 +10,8 @@ use crate::explanation::Explanation;
 use crate::following::Following;
 use crate::guide::Guide;
 use crate::order::Order;
-use cdcl_core::{Proposal, Search};
+use crate::subsumption::Subsumption;
+use cdcl_core::{Covered, Proposal, Search};
 use clause_core::{Clause, Lit, Step, Truth};
 use std::alloc::{AllocError, Global};
 use std::mem;
@@ -37,6 +38,13 @@ pub(crate) struct WatchSearch<'g> {
     /// Whether the next of them is the one that was learned last.
     is_learned: bool,
     conflicts: u32,
+    subsumption: Subsumption,
+    /// The derived clauses of which the one that was learned last is a part.
+    covered: Vec<Covered>,
+    /// How many of them were answered.
+    answered: usize,
+    /// Those of them that are held no more, and that the propagator still looks at.
+    gone: Vec<Covered>,
 }
 
 /// Takes back the decisions above a level, and keeps the values that they led to.
@@ -103,6 +111,17 @@ fn decide(
     Ok(false)
 }
 
+/// Looks no more at clauses that are held no more: those that cover them are taken in.
+fn leave(propagator: &mut Propagator, gone: &[Covered])
+    ensures { Keeps propagator.old propagator.new }
+{
+    for covered in gone {
+        let clause = ClauseRef::at(low(covered.place));
+        let by = ClauseRef::at(low(covered.by));
+        propagator.let_go(clause, by);
+    }
+}
+
 /// The clause of some literals, in the order of its variables.
 fn rising_clause(alloc: Global, codes: &[Code]) -> Result<Clause, AllocError> {
     let mut numbers = Vec::with_capacity(alloc, codes.len())?;
@@ -140,6 +159,10 @@ impl<'g> WatchSearch<'g> {
             count: 0,
             is_learned: false,
             conflicts: 0,
+            subsumption: Subsumption::new(alloc),
+            covered: Vec::new(alloc),
+            answered: 0,
+            gone: Vec::new(alloc),
         })
     }
 
@@ -182,7 +205,21 @@ impl<'g> WatchSearch<'g> {
             }
         }
         self.count = held.len();
+        leave(&mut self.propagator, self.gone.as_slice());
+        self.gone.clear();
         Ok(conflict)
+    }
+
+    /// Looks for the derived clauses of which the one that was learned is a part.
+    fn find_covered(&mut self) -> Result<(), AllocError>
+        ensures kept { Keeps self.old.propagator self.new.propagator }
+        ensures count { self.new.count ≡ self.old.count }
+    {
+        self.covered.clear();
+        self.answered = 0;
+        let learned = self.analysis.learned();
+        self.subsumption
+            .take(&self.propagator, learned, self.count, &mut self.covered)
     }
 
     /// Learns from a false clause: while a guide is followed, what of the decisions it rests on.
@@ -283,11 +320,23 @@ impl<'g> Search for WatchSearch<'g> {
     fn learn(&mut self) -> Result<(), AllocError> {
         self.is_learned = true;
         let back = self.analysis.back();
-        self.go_back(back)
+        self.go_back(back)?;
+        self.find_covered()
     }
 
     fn restart(&mut self) -> Result<(), AllocError> {
         self.is_learned = false;
         go_back(&mut self.propagator, &mut self.order, 0)
+    }
+
+    fn covered(&mut self) -> Option<Covered> {
+        let covered = self.covered.get(self.answered).copied()?;
+        self.answered = self.answered.wrapping_add(1);
+        Some(covered)
+    }
+
+    fn let_go(&mut self, covered: Covered) -> Result<(), AllocError> {
+        self.gone.push(covered)?;
+        Ok(())
     }
 }

@@ -1,12 +1,12 @@
 use Rattle.std.proofs.Common.{◌≡◌, ◌++◌, ◌∷◌, [], length, refl, sym, ◌∙◌, ap, subst, arith}
 use Rattle.clause_core.specs.Steps.{VariablesBelow}
-use Rattle.cdcl_watch.proofs.Taken.{taken-first, taken-few, taken-next, taken-all}
+use Rattle.cdcl_watch.proofs.Taken.{HasTaken-kept, taken-first, taken-few, taken-next, taken-all}
 use Rattle.cdcl_watch.proofs.watch_search.WatchSearch.take_in.Goals as goal
 
 pub loop-place-init : goal.loop-place-init
 loop-place-init c =
     let t = c.requires.taken in
-    record { held = taken-first c.args.self.now.propagator c.args.self.now.count t.0 t.1 c.args.held.now t.2 t.3; size = refl }
+    record { leaves = taken-first c.args.self.now.propagator c.args.self.now.count t.0 t.1 c.args.held.now t.2 t.3; size = refl }
 
 pub take-requires : goal.take-requires
 take-requires c =
@@ -21,7 +21,7 @@ loop-place-preserved c =
     let item = c.index-held-place.result in
     let grown : c.take.new.self.propagator.held ≡ i.self.propagator.held ++ item ∷ [] = c.in_ok-added.ensures.held ∙ ap (λ z. i.self.propagator.held ++ z ∷ []) c.literals.ensures in
     record {
-      held = taken-next i.self.propagator.held c.take.new.self.propagator.held c.args.held.now i.place item i.invariant.held grown (omega arith) c.index-held-place.is;
+      leaves = taken-next i.self.propagator c.take.new.self.propagator c.args.held.now i.place item i.invariant.leaves grown (omega arith) c.index-held-place.is;
       size = c.take.ensures.size ∙ i.invariant.size;
     }
 
@@ -29,4 +29,5 @@ pub returns-clause-taken : goal.returns-clause-taken
 returns-clause-taken c =
     let t = c.requires.taken in
     let few = taken-few c.args.self.now.propagator c.args.self.now.count t.0 t.1 c.args.held.now t.2 t.3 in
-    taken-all c.loop-place.self.propagator c.args.held.now c.loop-place.place c.loop-place.invariant.held (omega (arith, few))
+    HasTaken-kept c.loop-place.self.propagator c.leave.new.propagator _ c.args.held.now c.leave.ensures
+    (taken-all c.loop-place.self.propagator c.args.held.now c.loop-place.place c.loop-place.invariant.leaves (omega (arith, few)))
