@@ -28,7 +28,7 @@ fn may_go(cnf: &Cnf, given: usize, covered: Covered) -> bool
     }
 }
 
-/// Lets go of one clause after the other that the search answers, up to one that is not covered or not one of the first `count`, and logs it.
+/// Lets go of the clauses that the search answers, as far as they are covered and stand among the first `count`, and logs it.
 pub(crate) fn let_covered_go<S: Search>(
     search: &mut S,
     cnf: &mut Cnf,
@@ -48,7 +48,7 @@ pub(crate) fn let_covered_go<S: Search>(
             break;
         };
         if covered.place >= count || !may_go(cnf, given, covered) {
-            break;
+            continue;
         }
         log.push_deletion(covered.place as u32 + 1)?;
         cnf.let_go(covered.place);

@@ -2,45 +2,53 @@
 
 use cdcl_core::Covered;
 use std::alloc::{AllocError, Global};
+use std::mem;
 use watched_propagation::{ClauseRef, Code, Propagator, low, read, write};
 
-/// No occurrence.
+/// No clause.
 const NONE: u32 = u32::MAX;
 
 /// What is kept of a derived clause.
 #[derive(Clone, Copy)]
 struct Noted {
-    /// The place among all clauses.
+    /// Its place among all clauses.
     place: u32,
-    /// A bit for each literal, of 64.
-    signature: u64,
-    is_gone: bool,
+    /// The number of the one that is a part of it, where it is looked up no more.
+    by: u32,
 }
 
-/// That a clause has a literal, and the occurrence of that literal before it.
+impl Noted {
+    /// What is kept of no clause.
+    const NOTHING: Noted = Noted { place: 0, by: 0 };
+}
+
+/// That a derived clause has a literal.
 #[derive(Clone, Copy)]
 struct Occurrence {
+    /// A bit for each literal of the clause, of 64.
+    signature: u64,
     noted: u32,
-    before: u32,
 }
 
-/// The occurrences of a literal in clauses that are held.
-#[derive(Clone, Copy)]
-struct Chain {
-    last: u32,
-    count: u32,
+impl Occurrence {
+    /// That of no clause.
+    const NOTHING: Occurrence = Occurrence {
+        signature: 0,
+        noted: NONE,
+    };
 }
 
-/// The derived clauses that are held, by their literals.
+/// The derived clauses, by their literals.
 #[derive(Drop)]
 pub(crate) struct Subsumption {
     alloc: Global,
     noted: Vec<Noted>,
-    occurrences: Vec<Occurrence>,
     /// By the number of the literal.
-    chains: Vec<Chain>,
+    lists: Vec<Vec<Occurrence>>,
     /// By the number of the literal: whether the new clause has it.
     is_new: Vec<bool>,
+    /// Those of which another one is a part, but which gave a literal its value.
+    waiting: Vec<u32>,
 }
 
 /// The bits that stand for some literals.
@@ -52,7 +60,7 @@ fn signature_of(codes: &[Code]) -> u64 {
     bits
 }
 
-/// Whether a clause gave a literal of it its value: a later step may name it.
+/// Whether a clause gave a literal of it its value: a step may name it.
 fn is_reason(propagator: &Propagator, clause: ClauseRef) -> bool {
     for number in propagator.codes(clause) {
         if propagator.cause(Code { number: *number }).reason == clause {
@@ -68,48 +76,36 @@ impl Subsumption {
         Subsumption {
             alloc,
             noted: Vec::new(alloc),
-            occurrences: Vec::new(alloc),
-            chains: Vec::new(alloc),
+            lists: Vec::new(alloc),
             is_new: Vec::new(alloc),
+            waiting: Vec::new(alloc),
         }
     }
 
-    /// Makes room for the literals of so many variables, where there is none.
+    /// Makes room for the literals of the variables below a number, where there is none.
     fn make_room(&mut self, places: usize) -> Result<(), AllocError> {
-        if self.chains.is_empty() {
-            let literals = places.saturating_mul(2);
-            self.chains = vec![in self.alloc; Chain {
-                last: NONE,
-                count: 0
-            }; literals]?;
-            self.is_new = vec![in self.alloc; false; literals]?;
+        let literals = places.saturating_mul(2);
+        for _ in self.lists.len()..literals {
+            self.lists.push(Vec::new(self.alloc))?;
+            self.is_new.push(false)?;
         }
         Ok(())
     }
 
-    fn chain(&self, code: u32) -> Chain {
-        read(
-            self.chains.as_slice(),
-            code as usize,
-            Chain {
-                last: NONE,
-                count: 0,
-            },
-        )
-    }
-
-    fn mark(&mut self, codes: &[Code], value: bool) {
-        for code in codes {
-            write(self.is_new.as_mut_slice(), code.place(), value);
+    /// How many clauses have a literal, at most.
+    fn count(&self, code: Code) -> usize {
+        match self.lists.get(code.place()) {
+            Some(list) => list.len(),
+            None => 0,
         }
     }
 
     /// The literal that the fewest clauses have.
     fn rarest(&self, codes: &[Code]) -> Code {
         let mut rarest = Code::NONE;
-        let mut fewest = u32::MAX;
+        let mut fewest = usize::MAX;
         for code in codes {
-            let count = self.chain(code.number).count;
+            let count = self.count(*code);
             if count < fewest {
                 rarest = *code;
                 fewest = count;
@@ -118,7 +114,13 @@ impl Subsumption {
         rarest
     }
 
-    /// Whether a clause has all literals of the new one.
+    fn mark(&mut self, codes: &[Code], value: bool) {
+        for code in codes {
+            write(self.is_new.as_mut_slice(), code.place(), value);
+        }
+    }
+
+    /// Whether a clause has all literals of the new one, which are so many.
     fn has_all(&self, codes: &[u32], count: usize) -> bool {
         let mut missing = count;
         for code in codes {
@@ -129,130 +131,101 @@ impl Subsumption {
         missing == 0
     }
 
-    /// Takes an occurrence out of the chain of a literal, which stands behind another one, or is the last.
-    fn unlink(&mut self, code: Code, behind: u32, before: u32) {
-        if behind == NONE {
-            let count = self.chain(code.number).count;
-            let chain = Chain {
-                last: before,
-                count,
-            };
-            write(self.chains.as_mut_slice(), code.place(), chain);
-            return;
-        }
-        let mut occurrence = self.occurrence(behind);
-        occurrence.before = before;
-        write(self.occurrences.as_mut_slice(), behind as usize, occurrence);
-    }
-
-    fn occurrence(&self, place: u32) -> Occurrence {
-        read(
-            self.occurrences.as_slice(),
-            place as usize,
-            Occurrence {
-                noted: NONE,
-                before: NONE,
-            },
-        )
-    }
-
     fn noted(&self, number: u32) -> Noted {
-        read(
-            self.noted.as_slice(),
+        read(self.noted.as_slice(), number as usize, Noted::NOTHING)
+    }
+
+    /// Looks a clause up no more, which the new one covers.
+    fn cover(&mut self, number: u32) {
+        let by = low(self.noted.len());
+        let place = self.noted(number).place;
+        write(
+            self.noted.as_mut_slice(),
             number as usize,
-            Noted {
-                place: 0,
-                signature: 0,
-                is_gone: true,
-            },
-        )
+            Noted { place, by },
+        );
     }
 
-    /// Looks a clause up no more.
-    fn let_go(&mut self, number: u32, codes: &[u32]) {
-        let mut noted = self.noted(number);
-        noted.is_gone = true;
-        write(self.noted.as_mut_slice(), number as usize, noted);
-        for code in codes {
-            let mut chain = self.chain(*code);
-            chain.count = chain.count.saturating_sub(1);
-            write(self.chains.as_mut_slice(), *code as usize, chain);
-        }
-    }
-
-    /// Whether a noted clause has all literals of the new one, and gave no literal its value.
-    fn is_covered(
-        &self,
+    /// Tests a clause that has the rarest literal; whether it is to be looked at again.
+    fn test(
+        &mut self,
         propagator: &Propagator,
-        noted: Noted,
-        wanted: u64,
-        learned: &[Code],
-    ) -> bool {
-        if wanted & !noted.signature != 0 {
-            return false;
+        number: u32,
+        count: usize,
+        by: usize,
+        found: &mut Vec<Covered>,
+    ) -> Result<bool, AllocError> {
+        let noted = self.noted(number);
+        if noted.by != NONE {
+            return Ok(false);
         }
         let clause = ClauseRef::at(noted.place);
-        self.has_all(propagator.codes(clause), learned.len()) && !is_reason(propagator, clause)
+        if !self.has_all(propagator.codes(clause), count) {
+            return Ok(true);
+        }
+        self.cover(number);
+        if is_reason(propagator, clause) {
+            self.waiting.push(number)?;
+        } else {
+            let place = noted.place as usize;
+            found.push(Covered { place, by })?;
+        }
+        Ok(false)
     }
 
-    /// Goes through the clauses that have a literal.
+    /// Goes through the clauses of a list. Those that are not to be looked at again go out of it.
     fn find_among(
         &mut self,
         propagator: &Propagator,
-        code: Code,
+        list: &mut Vec<Occurrence>,
         learned: &[Code],
         by: usize,
         found: &mut Vec<Covered>,
     ) -> Result<(), AllocError> {
         let wanted = signature_of(learned);
-        let mut behind = NONE;
-        let mut at = self.chain(code.number).last;
-        for _ in 0..self.occurrences.len() {
-            if at == NONE {
-                break;
+        let mut kept = 0usize;
+        for place in 0..list.len() {
+            let occurrence = read(list.as_slice(), place, Occurrence::NOTHING);
+            let stays = wanted & !occurrence.signature != 0
+                || self.test(propagator, occurrence.noted, learned.len(), by, found)?;
+            if stays {
+                write(list.as_mut_slice(), kept, occurrence);
+                kept = kept.wrapping_add(1);
             }
-            let occurrence = self.occurrence(at);
-            let noted = self.noted(occurrence.noted);
-            let is_covered = !noted.is_gone && self.is_covered(propagator, noted, wanted, learned);
-            if is_covered {
-                let place = noted.place as usize;
-                found.push(Covered { place, by })?;
-                self.let_go(
-                    occurrence.noted,
-                    propagator.codes(ClauseRef::at(noted.place)),
-                );
-            }
-            if is_covered || noted.is_gone {
-                self.unlink(code, behind, occurrence.before);
-            } else {
-                behind = at;
-            }
-            at = occurrence.before;
         }
+        list.truncate(kept);
         Ok(())
+    }
+
+    /// Takes the list of a literal out, and leaves an empty one.
+    fn take_list(&mut self, code: Code) -> Vec<Occurrence> {
+        let empty = Vec::new(self.alloc);
+        match self.lists.get_mut(code.place()) {
+            Some(list) => mem::replace(list, empty),
+            None => empty,
+        }
+    }
+
+    fn put_list(&mut self, code: Code, filled: Vec<Occurrence>) {
+        if let Some(list) = self.lists.get_mut(code.place()) {
+            *list = filled;
+        }
     }
 
     /// Notes a clause by its literals.
     fn note(&mut self, learned: &[Code], place: usize) -> Result<(), AllocError> {
-        let number = low(self.noted.len());
+        let occurrence = Occurrence {
+            signature: signature_of(learned),
+            noted: low(self.noted.len()),
+        };
         self.noted.push(Noted {
             place: low(place),
-            signature: signature_of(learned),
-            is_gone: false,
+            by: NONE,
         })?;
         for code in learned {
-            let chain = self.chain(code.number);
-            let last = low(self.occurrences.len());
-            self.occurrences.push(Occurrence {
-                noted: number,
-                before: chain.last,
-            })?;
-            let count = chain.count.saturating_add(1);
-            write(
-                self.chains.as_mut_slice(),
-                code.place(),
-                Chain { last, count },
-            );
+            if let Some(list) = self.lists.get_mut(code.place()) {
+                list.push(occurrence)?;
+            }
         }
         Ok(())
     }
@@ -269,8 +242,46 @@ impl Subsumption {
         self.make_room(propagator.values().len())?;
         self.mark(learned, true);
         let rarest = self.rarest(learned);
-        self.find_among(propagator, rarest, learned, by, found)?;
+        let mut list = self.take_list(rarest);
+        self.find_among(propagator, &mut list, learned, by, found)?;
+        self.put_list(rarest, list);
         self.mark(learned, false);
         self.note(learned, by)
+    }
+
+    /// The number of the clause that is held and is a part of a covered one.
+    fn last_cover(&self, number: u32) -> u32 {
+        let mut last = number;
+        for _ in 0..self.noted.len() {
+            let by = self.noted(last).by;
+            if by == NONE {
+                break;
+            }
+            last = by;
+        }
+        last
+    }
+
+    /// Adds to `found` the covered clauses that gave a literal its value and do so no more.
+    pub fn retry(
+        &mut self,
+        propagator: &Propagator,
+        found: &mut Vec<Covered>,
+    ) -> Result<(), AllocError> {
+        let mut kept = 0usize;
+        for at in 0..self.waiting.len() {
+            let number = read(self.waiting.as_slice(), at, NONE);
+            let place = self.noted(number).place;
+            if is_reason(propagator, ClauseRef::at(place)) {
+                write(self.waiting.as_mut_slice(), kept, number);
+                kept = kept.wrapping_add(1);
+                continue;
+            }
+            let by = self.noted(self.last_cover(number)).place as usize;
+            let place = place as usize;
+            found.push(Covered { place, by })?;
+        }
+        self.waiting.truncate(kept);
+        Ok(())
     }
 }

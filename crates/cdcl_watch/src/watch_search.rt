@@ -39,7 +39,7 @@ pub(crate) struct WatchSearch<'g> {
     is_learned: bool,
     conflicts: u32,
     subsumption: Subsumption,
-    /// The derived clauses of which the one that was learned last is a part.
+    /// The derived clauses of which the one that was learned last is a part, or one before it.
     covered: Vec<Covered>,
     /// How many of them were answered.
     answered: usize,
@@ -215,8 +215,6 @@ impl<'g> WatchSearch<'g> {
         ensures kept { Keeps self.old.propagator self.new.propagator }
         ensures count { self.new.count ≡ self.old.count }
     {
-        self.covered.clear();
-        self.answered = 0;
         let learned = self.analysis.learned();
         self.subsumption
             .take(&self.propagator, learned, self.count, &mut self.covered)
@@ -263,6 +261,19 @@ impl<'g> WatchSearch<'g> {
         Ok(())
     }
 
+    /// Takes all decisions back. Covered clauses that gave a literal its value do so no more, and are not looked at from here on.
+    fn begin_anew(&mut self) -> Result<(), AllocError>
+        ensures kept { Keeps self.old.propagator self.new.propagator }
+        ensures count { self.new.count ≡ self.old.count }
+    {
+        go_back(&mut self.propagator, &mut self.order, 0)?;
+        self.covered.clear();
+        self.answered = 0;
+        self.subsumption.retry(&self.propagator, &mut self.covered)?;
+        leave(&mut self.propagator, self.covered.as_slice());
+        Ok(())
+    }
+
     /// Goes on to the next conflict, or to where no variable is open; begins anew where it is time to.
     fn go_on(&mut self, held: &[Clause]) -> Result<Option<ClauseRef>, AllocError>
         ensures kept { Keeps self.old.propagator self.new.propagator }
@@ -279,7 +290,7 @@ impl<'g> WatchSearch<'g> {
             }
             if self.conflicts >= CONFLICTS_A_RESTART {
                 self.conflicts = 0;
-                go_back(&mut self.propagator, &mut self.order, 0)?;
+                self.begin_anew()?;
             }
             if !decide(&mut self.propagator, &mut self.order, held)? {
                 break;
@@ -330,9 +341,14 @@ impl<'g> Search for WatchSearch<'g> {
     }
 
     fn covered(&mut self) -> Option<Covered> {
-        let covered = self.covered.get(self.answered).copied()?;
+        let covered = self.covered.get(self.answered).copied();
+        if covered.is_none() {
+            self.covered.clear();
+            self.answered = 0;
+            return None;
+        }
         self.answered = self.answered.wrapping_add(1);
-        Some(covered)
+        covered
     }
 
     fn let_go(&mut self, covered: Covered) -> Result<(), AllocError> {

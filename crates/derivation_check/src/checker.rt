@@ -150,11 +150,11 @@ impl Checker {
         ensures refused { OnErr result (may_delete self.old number ≡ false) }
         ensures unchanged { OnErr result (self.new ≡ self.old) }
     {
-        judge_deletion(&mut self.covers, &self.held, self.given, number)?;
+        let cover = judge_deletion(&mut self.covers, &self.held, self.given, number)?;
         self.held.let_go(number - 1);
         let derived = self.held.clauses().len().wrapping_sub(self.given);
         let is_stale = self.gone.note(self.test.is_some(), derived);
-        let_go(&mut self.test, is_stale);
+        let_go(&mut self.test, number, cover, is_stale);
         self.is_refuted = is_refuted(self.is_refuted, &self.held, self.given);
         Ok(Ack)
     }

@@ -181,8 +181,13 @@ impl CoverIndex {
         }
     }
 
-    /// The place of a clause that is a part of the one at a place, as far as it is known.
+    /// The place of a clause that is a part of the one at a place, as far as it is known. Mostly it is the last clause, since a decider
+    /// lets go of what its last one covers.
     pub fn guess(&mut self, cnf: &Cnf, place: usize, literals: &[Lit]) -> Option<usize> {
+        let last = cnf.clauses().len().wrapping_sub(1);
+        if covers(cnf.clauses(), last, place, literals) {
+            return Some(last);
+        }
         let Some(mut chains) = self.take_or_make(cnf) else {
             return None;
         };

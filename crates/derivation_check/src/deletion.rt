@@ -1,6 +1,6 @@
 // When a clause may be held no more, and what is left then.
 
-ghost use Rattle.std.specs.Prelude.{◌≡◌, ◌<◌, ◌≤◌, ◌&&◌, not, false, IsTrue, OnOk, OnErr, length, drop};
+ghost use Rattle.std.specs.Prelude.{◌≡◌, ◌<◌, ◌≤◌, ◌&&◌, not, false, IsTrue, OnOk, OnErr, OnSome, IfNone, length, drop};
 ghost use Rattle.std.specs.List.{list_any};
 ghost use Rattle.clause_core.specs.Deletions.{is_always, is_covered};
 ghost use Rattle.derivation_check.specs.Checks.{derivation_from};
@@ -39,18 +39,32 @@ impl Gone {
     }
 }
 
-// Whether another clause that is held is a part of the clause: one that is guessed, or any.
-fn has_cover(covers: &mut CoverIndex, cnf: &Cnf, number: usize, literals: &[Lit]) -> bool
-    ensures { result ≡ is_covered cnf.now.clauses number literals.now }
+/// What shows that a clause may be held no more.
+#[derive(Clone, Copy)]
+pub(crate) enum Cover {
+    /// The clause at this place is a part of it.
+    At(usize),
+    /// Some clause is.
+    Some,
+}
+
+// A clause that is held and is a part of the one of this number: one that is guessed, or any.
+fn cover_of(covers: &mut CoverIndex, cnf: &Cnf, number: usize, literals: &[Lit]) -> Option<Cover>
+    ensures some { OnSome result (IsTrue (is_covered cnf.now.clauses number literals.now)) }
+    ensures none { IfNone result (is_covered cnf.now.clauses number literals.now ≡ false) }
 {
     let guess = covers.guess(cnf, number.wrapping_sub(1), literals);
     let held = cnf.clauses();
     if let Some(place) = guess {
         if is_covered_by(held, place, number, literals) {
-            return true;
+            return Some(Cover::At(place));
         }
     }
-    is_covered(held, number, literals)
+    if is_covered(held, number, literals) {
+        Some(Cover::Some)
+    } else {
+        None
+    }
 }
 
 // Judges a clause by its literals.
@@ -59,7 +73,7 @@ fn judge_clause(
     cnf: &Cnf,
     number: usize,
     literals: &[Lit],
-) -> Result<(), DelFault>
+) -> Result<Cover, DelFault>
     ensures ok { OnOk result
         (IsTrue (not (is_always literals.now) && is_covered cnf.now.clauses number literals.now)) }
     ensures err { OnErr result
@@ -68,10 +82,9 @@ fn judge_clause(
     if is_always(literals) {
         return Err(DelFault::NotHeld);
     }
-    if has_cover(covers, cnf, number, literals) {
-        Ok(())
-    } else {
-        Err(DelFault::NotCovered)
+    match cover_of(covers, cnf, number, literals) {
+        Some(cover) => Ok(cover),
+        None => Err(DelFault::NotCovered),
     }
 }
 
@@ -81,7 +94,7 @@ pub(crate) fn judge_deletion(
     cnf: &Cnf,
     given: usize,
     number: usize,
-) -> Result<(), DelFault>
+) -> Result<Cover, DelFault>
     requires { given ≤ length cnf.now.clauses }
     ensures ok { OnOk result (IsTrue (may_delete (derivation_from given cnf.now) number)) }
     ensures derived { OnOk result (given < number) }

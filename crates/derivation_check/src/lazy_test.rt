@@ -7,11 +7,12 @@ ghost use Rattle.clause_core.specs.Freshness.{IsFresh};
 ghost use Rattle.clause_core.specs.Steps.{VariablesBelow};
 ghost use Rattle.derivation_check.specs.Tests.{IsTestOf};
 
+use crate::deletion::Cover;
 use crate::fresh_test::{propagator_over, shows_fresh};
 use crate::implication_graph::ImplicationGraph;
 use clause_core::{Cnf, Lit};
 use std::alloc::Global;
-use watched_propagation::{ClauseRef, Propagator};
+use watched_propagation::{ClauseRef, Propagator, low};
 
 /// Formulas of this many variables or more have no test.
 const MOST_VARIABLES: u32 = 0x8000_0000;
@@ -42,12 +43,30 @@ pub(crate) fn add(test: &mut Option<Propagator>, literals: &[Lit], hints: &[u32]
     }
 }
 
-/// Lets the test go where it holds too much that is held no more; one that stays is as right as before.
-pub(crate) fn let_go(test: &mut Option<Propagator>, is_stale: bool)
+// Looks no more at the clause of a number, where the place of one that is a part of it is known.
+fn look_away(propagator: &mut Propagator, number: usize, cover: Cover)
+    ensures { propagator.new ≡ propagator.old }
+{
+    if let Cover::At(place) = cover {
+        let clause = ClauseRef {
+            number: low(number),
+        };
+        propagator.let_go(clause, ClauseRef::at(low(place)));
+    }
+}
+
+/// Looks no more at a clause that is held no more, and lets the test go where too much that it holds is so; one that stays is as right as before.
+pub(crate) fn let_go(test: &mut Option<Propagator>, number: usize, cover: Cover, is_stale: bool)
     ensures { (f : Formula) → IsTestOf f test.old → IsTestOf f test.new }
 {
-    if is_stale {
-        *test = None;
+    match test.take() {
+        None => {}
+        Some(mut propagator) => {
+            if !is_stale {
+                look_away(&mut propagator, number, cover);
+                *test = Some(propagator);
+            }
+        }
     }
 }
 

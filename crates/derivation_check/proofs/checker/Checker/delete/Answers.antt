@@ -18,7 +18,7 @@ invariant_of-self-2 c =
     let i = c.self.inside in
     let k = c.self.invariant in
     let place = c.args.number - 1 in
-    let lt : i.given < c.args.number = c.in_ok-judge_deletion.ensures.derived in
+    let lt : i.given < c.args.number = c.in_ok-cover.ensures.derived in
     let left : c.let_go.new.self.clauses ≡ set i.held.clauses place always = ap (λ (f : Formula). f.clauses) c.let_go.ensures in
     let size : length c.let_go.new.self.clauses ≡ length i.held.clauses = ap length left ∙ length-set i.held.clauses place always in
     let variables : c.let_go.new.self.variables ≡ i.held.variables = ap (λ (f : Formula). f.variables) c.let_go.ensures in
@@ -38,7 +38,7 @@ returns-clause-deleted c =
     let i = c.self.inside in
     let number = c.args.number in
     let place = number - 1 in
-    let lt : i.given < number = c.in_ok-judge_deletion.ensures.derived in (
-      subst (λ (d : Derivation). may_delete d number ≡ true) c.self.view_is c.in_ok-judge_deletion.ensures.ok,
+    let lt : i.given < number = c.in_ok-cover.ensures.derived in (
+      subst (λ (d : Derivation). may_delete d number ≡ true) c.self.view_is c.in_ok-cover.ensures.ok,
       ap (derivation_from i.given) c.let_go.ensures ∙ without-from i.given i.held number place c.self.invariant.given lt (omega (arith, lt)) ∙ ap (λ (d : Derivation). without d number) c.self.view_is,
     )
