@@ -1,7 +1,7 @@
 // What bench/decide.sh measures: the first word says which decider decides the formula of the file that the second names, `decide` the fast
 // one and `plain` the plain one, by at most so many derived clauses as a third word says. The time and the answer are printed.
 use clause_core::{Cnf, Decided};
-use stage_doors::{Way, decide, fresh_steps, read_formula};
+use stage_doors::{Way, decide, read_formula, right_entries};
 use std::time::Instant;
 use std::{fs, io};
 
@@ -40,17 +40,17 @@ fn run_deciding(rt: &HostRuntime, path: &str, way: Way, limit: u32) -> io::Resul
     print_decided(rt, cnf, &answer.decided)
 }
 
-// Prints the answer. Where the clauses are used up it judges each of them, that it is accepted and fresh, and prints how many are.
+// Prints the answer. Where the clauses are used up it judges the log, and prints how many of its entries are right.
 fn print_decided(rt: &HostRuntime, cnf: Cnf, decided: &Decided) -> io::Result<()> {
     match decided {
         Decided::Found(_) => println!(rt; "s SATISFIABLE"),
-        Decided::Refuted(log) => println!(rt; "s UNSATISFIABLE\nc steps {}", log.entries().len()),
+        Decided::Refuted(log) => println!(rt; "s UNSATISFIABLE\nc entries {}", log.entries().len()),
         Decided::Spent(log) => {
-            println!(rt; "s UNKNOWN\nc steps {}", log.entries().len())?;
+            println!(rt; "s UNKNOWN\nc entries {}", log.entries().len())?;
             let start = Instant::now(rt)?;
-            let count = fresh_steps(rt.alloc(), cnf, log)?;
+            let count = right_entries(rt.alloc(), cnf, log)?;
             let milliseconds = start.elapsed(rt)?.as_millis();
-            println!(rt; "c fresh steps {count}\nc judged in {milliseconds} milliseconds")
+            println!(rt; "c right entries {count}\nc judged in {milliseconds} milliseconds")
         }
     }
 }

@@ -1,5 +1,5 @@
 -- Lines that open a finding or a log, and numbers that fit.
-use Rattle.std.proofs.Common.{◌≡◌, ℕ, suc, ◌+◌, ◌^◌, ◌<◌, ◌≤◌, Bool, true, false, ◌&&◌, refl, arith, pos, w64}
+use Rattle.std.proofs.Common.{◌≡◌, ◌≢◌, ℕ, suc, ◌+◌, ◌^◌, ◌<◌, ◌≤◌, Bool, true, false, ◌&&◌, refl, arith, pos, w64}
 use Rattle.std.specs.Prelude.{if◌then◌else◌, nat_lt}
 use Rattle.std.proofs.lemmas.Bool.{eq-eqb, lt-ltb, false≢true, ltb-true, and_from}
 use Rattle.std.proofs.lemmas.Int.{fits_signed_from_abs}
@@ -17,11 +17,11 @@ use Rattle.derivation_check.specs.Checks.{Derivation}
 use Rattle.queries.specs.Settings.{Setting, first_set}
 use Rattle.queries.specs.Questions.{QueryData, first, step, goal, deep, walk}
 use Rattle.judgement.specs.Steps.{opened}
-use Rattle.judgement.specs.Places.{Place, at_top, at_header, at_walks, in_walk, at_drops, at_kept, at_deep, at_end, finished, in_log, in_query}
+use Rattle.judgement.specs.Places.{Place, at_top, at_header, at_walks, in_walk, at_drops, at_kept, at_deep, at_end, finished, in_log, in_query, reach_at}
 use Rattle.judgement.specs.Tests.{related_by, open_by, after_deep, after_walk, is_first_version, is_walk}
 use Rattle.judgement.specs.declared.answers.Reason.TheVariants.{B1, B9}
 use Rattle.judgement.specs.declared.answers.Reach.{Reach}
-use Rattle.judgement.specs.declared.answers.Reach.TheVariants.{Unwalked, Greatest}
+use Rattle.judgement.specs.declared.answers.Reach.TheVariants.{Untold, Unwalked, Greatest}
 use Rattle.finding_search.specs.Passing.{Passes}
 use Rattle.finding_search.proofs.LogRuns.{when-true, either_version}
 
@@ -117,6 +117,14 @@ module _ (s : Setting) (formula : QueryData → Formula) where
 
   pub after_deep-all : (reach : Reach) (set : CandidateSet) (none : ℕ) → s.depth ≤ none → after_deep s reach set none ≡ at_end reach (open_by s set)
   after_deep-all reach set none all = either_more _ (at_deep reach set none) (at_end reach (open_by s set)) (λ e. let less : none < s.depth = ltb-true none s.depth e in absurd (omega (arith, less, all)))
+
+  -- what has been said of reach stays
+  either_told : (b : Bool) (p q : Place) → reach_at p ≢ Untold → reach_at q ≢ Untold → reach_at (if b then p else q) ≢ Untold
+  either_told true p q f g = f
+  either_told false p q f g = g
+
+  pub after_deep-told : (reach : Reach) (set : CandidateSet) (none : ℕ) → reach ≢ Untold → reach_at (after_deep s reach set none) ≢ Untold
+  after_deep-told reach set none told = either_told (nat_lt none s.depth) (at_deep reach set none) (at_end reach (open_by s set)) told told
 
   -- before the last row of an allowed list another may come, and behind it candidates are dropped
   pub after_walk-less : (rows : ℕ) (pair : Pair) → rows < s.depth → after_walk s rows pair ≡ at_walks rows pair

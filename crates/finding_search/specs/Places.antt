@@ -1,9 +1,10 @@
 -- Where the search for a verdict stands.
 use Rattle.std.specs.Prelude.{List, [], ◌∷◌}
 use Rattle.clause_core.specs.declared.log.Entry.{Entry}
-use Rattle.clause_core.specs.declared.log.Entry.TheVariants.{Derived}
+use Rattle.clause_core.specs.declared.log.Entry.TheVariants.{Derived, Deleted}
 use Rattle.clause_core.specs.Formula.{Formula}
 use Rattle.derivation_check.specs.Checks.{Derivation}
+use Rattle.derivation_check.specs.Deletions.{without}
 use Rattle.scan_model.specs.Verdicts.{IsGreatest}
 use Rattle.queries.specs.Comparisons.{Comparison}
 use Rattle.queries.specs.Questions.{QueryData}
@@ -15,10 +16,11 @@ use Rattle.judgement.specs.declared.answers.Reach.{Reach}
 use Rattle.finding_search.specs.declared.dropping.Pruned.{Pruned}
 use Rattle.finding_search.specs.declared.dropping.Pruned.TheVariants.{Kept, Spent}
 
--- the clauses of a log are held too
+-- the clauses that a log derives are held too, and those that it deletes no more
 abbrev pub after_all : Derivation → List Entry → Derivation
 after_all d [] = d
 after_all d (Derived step ∷ entries) = after_all (with_derived d step.clause) entries
+after_all d (Deleted number ∷ entries) = after_all (without d number) entries
 
 -- the set is the greatest inductive one, or the query of the END line is spent
 abbrev pub IsPruned : Comparison → (QueryData → Formula) → Pruned → Type 0

@@ -1,10 +1,11 @@
 // Breaks by rising numbers of scans, up to DEPTH.
-ghost use Rattle.std.specs.Prelude.{◌≡◌};
+ghost use Rattle.std.specs.Prelude.{◌≡◌, ◌≢◌};
 ghost use Rattle.queries.specs.Comparisons.{IsComparison};
 ghost use Rattle.queries.specs.Sets.{members};
 ghost use Rattle.pair_trial.specs.Trials.{comparison_of, setting_in};
 ghost use Rattle.judgement.specs.Places.{at_deep, finished};
 ghost use Rattle.judgement.specs.declared.answers.Reach.{Reach};
+ghost use Rattle.judgement.specs.declared.answers.Reach.TheVariants.{Untold};
 ghost use Rattle.finding_search.specs.Desks.{desk};
 ghost use Rattle.finding_search.specs.Writes.{Writes};
 
@@ -33,7 +34,7 @@ pub fn search<D: Decider, Q: Queries, S: Shelf>(
 ) -> Result<Conclusion, WriteErr>
     requires compared { Q.compared queries.now ≡ comparison_of trial.now }
     requires comparison { IsComparison (comparison_of trial.now) }
-    ensures { (reach : Reach) → Writes (setting_in trial.now) (Q.formula queries.now) (desk (S.state shelf.old) writer.old) (at_deep reach (members set.now) 0)
+    ensures { (reach : Reach) → reach ≢ Untold → Writes (setting_in trial.now) (Q.formula queries.now) (desk (S.state shelf.old) writer.old) (at_deep reach (members set.now) 0)
         (desk (S.state shelf.new) writer.new) (finished reach) result }
 {
     let limit = limit_of(trial);

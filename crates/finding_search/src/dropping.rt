@@ -1,5 +1,5 @@
 // Rows that drop candidates, up to a set that no row leads out of.
-ghost use Rattle.std.specs.Prelude.{◌≡◌, ◌<◌, ◌≤◌, IfOk, OnOk};
+ghost use Rattle.std.specs.Prelude.{◌≡◌, ◌≢◌, ◌<◌, ◌≤◌, IfOk, OnOk};
 ghost use Rattle.scan_model.specs.Verdicts.{size_below};
 ghost use Rattle.scan_replay.specs.Duos.{with_pair};
 ghost use Rattle.queries.specs.Comparisons.{IsComparison};
@@ -10,6 +10,7 @@ ghost use Rattle.queries.specs.Sets.{members};
 ghost use Rattle.pair_trial.specs.Trials.{comparison_of, setting_in};
 ghost use Rattle.judgement.specs.Places.{at_drops};
 ghost use Rattle.judgement.specs.declared.answers.Reach.{Reach};
+ghost use Rattle.judgement.specs.declared.answers.Reach.TheVariants.{Untold};
 ghost use Rattle.invariant_prune.specs.Answers.{pair_of};
 ghost use Rattle.invariant_prune.specs.Kept.{IsKept};
 ghost use Rattle.finding_search.specs.Desks.{desk};
@@ -104,11 +105,11 @@ pub fn prune<D: Decider, Q: Queries, G: Guesses, S: Shelf>(
     requires compared { Q.compared queries.now ≡ comparison_of trial.old }
     requires comparison { IsComparison (comparison_of trial.old) }
     requires kept { IsKept (Q.front queries.now) kept.old }
-    ensures writes { (reach : Reach) → Writes (setting_in trial.old) (Q.formula queries.now) (desk (S.state shelf.old) writer.old) (at_drops reach (members set))
+    ensures writes { (reach : Reach) → reach ≢ Untold → Writes (setting_in trial.old) (Q.formula queries.now) (desk (S.state shelf.old) writer.old) (at_drops reach (members set))
         (desk (S.state shelf.new) writer.new) (place_of reach) result }
     ensures kept { IsKept (Q.front queries.now) kept.new }
     // Where the lines before it pass, the set that is kept is the greatest inductive one.
-    ensures greatest { (reach : Reach) → StandsAt (setting_in trial.old) (Q.formula queries.now) (desk (S.state shelf.old) writer.old) (at_drops reach (members set))
+    ensures greatest { (reach : Reach) → reach ≢ Untold → StandsAt (setting_in trial.old) (Q.formula queries.now) (desk (S.state shelf.old) writer.old) (at_drops reach (members set))
         → IfOk result (IsPruned (comparison_of trial.old) (Q.formula queries.now)) }
     ensures trial { trial.new ≡ with_pair trial.new.pair trial.old }
 {

@@ -1,5 +1,5 @@
 // Logs: the line that opens one, its steps, and what follows a spent one.
-ghost use Rattle.std.specs.Prelude.{◌≡◌, ℕ, pos};
+ghost use Rattle.std.specs.Prelude.{◌≡◌, ◌≢◌, ℕ, pos};
 ghost use Rattle.clause_core.specs.Formula.{Formula};
 ghost use Rattle.clause_core.specs.Decisions.{IsRefutation, IsSpent};
 ghost use Rattle.finding_lines.specs.declared.line.Line.TheVariants as lines;
@@ -8,8 +8,9 @@ ghost use Rattle.finding_lines.specs.Form.{AskedFits, IsEnding};
 ghost use Rattle.queries.specs.Settings.{Setting};
 ghost use Rattle.queries.specs.Questions.{QueryData};
 ghost use Rattle.judgement.specs.Steps.{opened};
-ghost use Rattle.judgement.specs.Places.{Place, in_log, in_query, finished};
+ghost use Rattle.judgement.specs.Places.{Place, in_log, in_query, finished, reach_at};
 ghost use Rattle.judgement.specs.declared.answers.Reach.{Reach};
+ghost use Rattle.judgement.specs.declared.answers.Reach.TheVariants.{Untold};
 ghost use Rattle.finding_search.specs.Desks.{desk};
 ghost use Rattle.finding_search.specs.Passing.{Passes, Runs};
 ghost use Rattle.finding_search.specs.Shown.{lines_of};
@@ -24,7 +25,7 @@ use finding_lines::{Asked, Conclusion, Line};
 use outside::Shelf;
 use std::alloc::Global;
 
-// The lines of steps.
+// The lines of steps and deletions.
 fn write_steps<S: Shelf>(
     alloc: Global,
     writer: &mut FindingWriter,
@@ -42,7 +43,7 @@ fn write_steps<S: Shelf>(
     Ok(())
 }
 
-/// The log that refutes a query's formula, with the LOG line before it.
+/// The log that refutes a query's formula, with the LOG line before it. The finding is of version 2, since its log may list deletions.
 pub fn write_refutation<S: Shelf>(
     alloc: Global,
     writer: &mut FindingWriter,
@@ -51,7 +52,7 @@ pub fn write_refutation<S: Shelf>(
     log: &Log,
 ) -> Result<(), WriteErr>
     requires { AskedFits asked }
-    ensures { (s : Setting) (formula : QueryData → Formula) (f : Formula) (limit : ℕ) (from behind : Place)
+    ensures { (s : Setting) (formula : QueryData → Formula) (f : Formula) (limit : ℕ) (from behind : Place) → reach_at behind ≢ Untold
         → Passes s formula from (lines.Log asked) (in_log (opened f) behind) → IsRefutation f limit log.now
         → Writes s formula (desk (S.state shelf.old) writer.old) from
         (desk (S.state shelf.new) writer.new) (λ _. behind) result }
@@ -88,7 +89,7 @@ pub fn write_spent<S: Shelf>(
     limit: u32,
 ) -> Result<Conclusion, WriteErr>
     requires { AskedFits asked }
-    ensures { (s : Setting) (formula : QueryData → Formula) (f : Formula) (from : Place) (reach : Reach) → s.conflicts ≡ limit
+    ensures { (s : Setting) (formula : QueryData → Formula) (f : Formula) (from : Place) (reach : Reach) → reach ≢ Untold → s.conflicts ≡ limit
         → IsEnding (conclusions.Spent asked (pos limit))
         → Passes s formula from (lines.Query asked) (in_query reach asked (opened f) s.conflicts) → IsSpent f s.conflicts log.now
         → Writes s formula (desk (S.state shelf.old) writer.old) from

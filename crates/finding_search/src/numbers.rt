@@ -1,6 +1,6 @@
 // The numbers of lines.
 ghost use Rattle.std.specs.Prelude.{◌≡◌, ◌<◌, ◌++◌, ◌∷◌, [], length, map, pos, slice_index_or, IfOk, OnOk};
-ghost use Rattle.clause_core.specs.declared.log.Entry.TheVariants.{Derived};
+ghost use Rattle.clause_core.specs.declared.log.Entry.TheVariants.{Derived, Deleted};
 ghost use Rattle.finding_lines.specs.Form.{IsNumber, AreNumbers, Fits};
 ghost use Rattle.invariant_prune.specs.Answers.{pair_of};
 ghost use Rattle.finding_search.specs.Shown.{number_of, numbers_of, line_of};
@@ -101,6 +101,16 @@ pub fn step_line(alloc: Global, step: &Step) -> Result<Line, AllocError>
     Ok(Line::Derived(literals, hints))
 }
 
+/// The line of a deletion.
+pub fn deletion_line(alloc: Global, number: u32) -> Result<Line, AllocError>
+    ensures same { IfOk result (λ line. line ≡ line_of (Deleted number)) }
+    ensures fits { IfOk result (λ line. Fits line) }
+{
+    let mut numbers = Numbers::new(alloc);
+    push(&mut numbers, number as Value)?;
+    Ok(Line::Deleted(numbers))
+}
+
 /// The line of an entry of a log.
 pub fn entry_line(alloc: Global, entry: &Entry) -> Result<Line, AllocError>
     ensures same { IfOk result (λ line. line ≡ line_of entry.now) }
@@ -108,5 +118,6 @@ pub fn entry_line(alloc: Global, entry: &Entry) -> Result<Line, AllocError>
 {
     match entry {
         Entry::Derived(step) => step_line(alloc, step),
+        Entry::Deleted(number) => deletion_line(alloc, *number),
     }
 }

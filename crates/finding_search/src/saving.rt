@@ -76,7 +76,7 @@ fn save_from_kept<D: Decider, Q: Queries, G: Guesses, S: Shelf>(
     requires compared { Q.compared queries.now ≡ comparison_of trial.now }
     requires comparison { IsComparison (comparison_of trial.now) }
     requires kept { IsKept (Q.front queries.now) kept.old }
-    ensures { (reach : Reach) → Writes (setting_in trial.now) (Q.formula queries.now) (desk (S.state shelf.old) writer.old) (at_kept reach (members set.now))
+    ensures { (reach : Reach) → reach ≢ Untold → Writes (setting_in trial.now) (Q.formula queries.now) (desk (S.state shelf.old) writer.old) (at_kept reach (members set.now))
         (desk (S.state shelf.new) writer.new) (finished reach) result }
 {
     let limit = limit_of(trial);
@@ -107,7 +107,7 @@ fn save_from_start<D: Decider, Q: Queries, G: Guesses, S: Shelf>(
 ) -> Result<Conclusion, WriteErr>
     requires compared { Q.compared queries.now ≡ comparison_of trial.old }
     requires comparison { IsComparison (comparison_of trial.old) }
-    ensures { (reach : Reach) → Writes (setting_in trial.old) (Q.formula queries.now) (desk (S.state shelf.old) writer.old) (at_drops reach (first_set (setting_in trial.old)))
+    ensures { (reach : Reach) → reach ≢ Untold → Writes (setting_in trial.old) (Q.formula queries.now) (desk (S.state shelf.old) writer.old) (at_drops reach (first_set (setting_in trial.old)))
         (desk (S.state shelf.new) writer.new) (finished reach) result }
 {
     let set = first_set(alloc, trial)?;

@@ -4,13 +4,11 @@ use Rattle.std.proofs.lemmas.Bool.{false≢true, and_from, false_from_ne_true}
 use Rattle.std.proofs.lemmas.List.Folds.{list_all-append}
 use Rattle.clause_core.specs.declared.literal.Lit.{Lit}
 use Rattle.clause_core.specs.declared.step.Step.{Step}
-use Rattle.clause_core.specs.declared.log.Entry.{Entry}
-use Rattle.clause_core.specs.declared.log.Entry.TheVariants.{Derived}
 use Rattle.clause_core.specs.declared.check.Outcome.{Outcome}
 use Rattle.clause_core.specs.declared.check.Outcome.TheVariants.{Accepted, UnknownHint, NotUnit, NoConflict}
 use Rattle.clause_core.specs.Steps.{outcome}
 use Rattle.clause_core.specs.Freshness.{IsFresh}
-use Rattle.clause_core.specs.Logs.{AcceptsLog, IsFreshLog, held_after}
+use Rattle.clause_core.specs.Logs.{AreAccepted, AreFresh, with_steps}
 use Rattle.clause_core.specs.Satisfaction.{Satisfies, HasNoSolution, clause_true, formula_true}
 use Rattle.clause_core.proofs.Sound.{clause_true-accepted}
 use Rattle.derivation_check.specs.Checks.{Derivation, held_of}
@@ -52,16 +50,16 @@ pub not_empty : (clause : List Lit) → is_empty clause ≡ false → clause ≢
 not_empty [] h e = false≢true (sym h)
 not_empty (l ∷ ls) h e = cc
 
-pub held_after-append : (held : List (List Lit)) (log : List Entry) (step : Step) → held_after held (log ++ Derived step ∷ []) ≡ held_after held log ++ step.clause ∷ []
-held_after-append held [] step = refl
-held_after-append held (Derived s ∷ es) step = held_after-append (held ++ s.clause ∷ []) es step
+pub with_steps-append : (held : List (List Lit)) (log : List Step) (step : Step) → with_steps held (log ++ step ∷ []) ≡ with_steps held log ++ step.clause ∷ []
+with_steps-append held [] step = refl
+with_steps-append held (s ∷ more) step = with_steps-append (held ++ s.clause ∷ []) more step
 
-pub AcceptsLog-append : (variables : ℕ) (held : List (List Lit)) (log : List Entry) (step : Step) → AcceptsLog variables held log
-    → outcome variables (held_after held log) step.clause step.hints ≡ Accepted → AcceptsLog variables held (log ++ Derived step ∷ [])
-AcceptsLog-append variables held [] step a ok = (ok, tt)
-AcceptsLog-append variables held (Derived s ∷ es) step a ok = (a.0, AcceptsLog-append variables (held ++ s.clause ∷ []) es step a.1 ok)
+pub AreAccepted-append : (variables : ℕ) (held : List (List Lit)) (log : List Step) (step : Step) → AreAccepted variables held log
+    → outcome variables (with_steps held log) step.clause step.hints ≡ Accepted → AreAccepted variables held (log ++ step ∷ [])
+AreAccepted-append variables held [] step a ok = (ok, tt)
+AreAccepted-append variables held (s ∷ more) step a ok = (a.0, AreAccepted-append variables (held ++ s.clause ∷ []) more step a.1 ok)
 
-pub IsFreshLog-append : (held : List (List Lit)) (log : List Entry) (step : Step) → IsFreshLog held log → IsFresh (held_after held log) step.clause → step.clause ≢ []
-    → IsFreshLog held (log ++ Derived step ∷ [])
-IsFreshLog-append held [] step a fresh some = ((fresh, some), tt)
-IsFreshLog-append held (Derived s ∷ es) step a fresh some = (a.0, IsFreshLog-append (held ++ s.clause ∷ []) es step a.1 fresh some)
+pub AreFresh-append : (held : List (List Lit)) (log : List Step) (step : Step) → AreFresh held log → IsFresh (with_steps held log) step.clause → step.clause ≢ []
+    → AreFresh held (log ++ step ∷ [])
+AreFresh-append held [] step a fresh some = ((fresh, some), tt)
+AreFresh-append held (s ∷ more) step a fresh some = (a.0, AreFresh-append (held ++ s.clause ∷ []) more step a.1 fresh some)

@@ -1,5 +1,5 @@
 -- Steps of logs.
-use Rattle.std.proofs.Common.{◌≡◌, ℕ, suc, ◌+◌, ◌-◌, ◌<◌, Bool, true, false, not, ◌&&◌, List, [], ◌∷◌, ◌++◌, refl, sym, ap, subst, arith, ℤ, pos, length-append}
+use Rattle.std.proofs.Common.{◌≡◌, ℕ, suc, ◌-◌, ◌<◌, Bool, true, false, not, ◌&&◌, List, [], ◌∷◌, ◌++◌, refl, sym, ap, subst, arith, ℤ, pos, length-append}
 use Rattle.std.specs.Prelude.{◌==◌, ◌↔◌, nat_lt, if◌then◌else◌}
 use Rattle.std.proofs.lemmas.Bool.{and_parts, not-true, ltb-true}
 use Rattle.clause_core.specs.Formula.{Formula}
@@ -8,10 +8,8 @@ use Rattle.clause_core.specs.Clauses.{is_set, rises}
 use Rattle.clause_core.specs.Deletions.{Thinned, derived}
 use Rattle.clause_core.proofs.Ranges.{list_all-push}
 use Rattle.clause_core.proofs.Sets.{is_set-rises}
-use Rattle.clause_core.specs.declared.log.Entry.{Entry}
-use Rattle.clause_core.specs.declared.log.Entry.TheVariants.{Derived}
 use Rattle.clause_core.specs.Freshness.{IsFresh}
-use Rattle.clause_core.specs.Logs.{held_after}
+use Rattle.clause_core.specs.Logs.{with_steps}
 use Rattle.clause_core.specs.declared.step.Step.{Step}
 use Rattle.finding_lines.specs.declared.line.Asked.{Asked}
 use Rattle.finding_lines.specs.declared.line.Conclusion.{Conclusion}
@@ -32,7 +30,7 @@ use Rattle.judgement.specs.Places.{Place, in_log, in_query, in_walk, Moved, goes
 use Rattle.judgement.specs.Tests.{when, in_log_next, in_query_next, in_walk_next, when_spent, IsTold}
 use Rattle.judgement.specs.Shown.{Spends, IsReachShown}
 use Rattle.judgement.specs.Known.{KnownInQuery, KnownInWalk, Known, KnownAfter}
-use Rattle.judgement.proofs.LogLemmas.{is_accepted-true, held_of-with_derived, Implies-with_derived, HasNoSolution-empty, not_empty, held_after-append, AcceptsLog-append, IsFreshLog-append}
+use Rattle.judgement.proofs.LogLemmas.{is_accepted-true, held_of-with_derived, Implies-with_derived, HasNoSolution-empty, not_empty, with_steps-append, AreAccepted-append, AreFresh-append}
 use Rattle.judgement.proofs.ThinLemmas.{thinned-without, Implies-without}
 use Rattle.judgement.proofs.StartLemmas.{known_when}
 
@@ -58,25 +56,25 @@ module _ (c : Comparison) (formula : QueryData → Formula) where
   pub known_log_deleted : (d : Derivation) (behind : Place) (ids : List ℤ) → Known c formula (in_log d behind) → KnownAfter c formula (in_log_next d behind (lines.Deleted ids))
   known_log_deleted d behind ids k = known_when c formula (may_delete_all d (hints_of ids)) _ _ (λ may. known_log_left d behind (hints_of ids) k)
 
-  pub step_more : (query : QueryData) (d : Derivation) (left : ℕ) (log : List Entry) (step : Step) → KnownInQuery c formula query d left log → is_set step.clause ≡ true
+  pub step_more : (query : QueryData) (d : Derivation) (left : ℕ) (log : List Step) (step : Step) → KnownInQuery c formula query d left log → is_set step.clause ≡ true
       → accepts d step ≡ true → is_empty step.clause ≡ false → IsFresh (held_of d) step.clause → 0 < left
-      → KnownInQuery c formula query (with_derived d step.clause) (left - 1) (log ++ Derived step ∷ [])
+      → KnownInQuery c formula query (with_derived d step.clause) (left - 1) (log ++ step ∷ [])
   step_more query d left log step k in_order ok some fresh more =
-      let all = held_after d.formula.clauses log in
-      let after : held_after d.formula.clauses (log ++ Derived step ∷ []) ≡ all ++ step.clause ∷ [] = held_after-append d.formula.clauses log step in
+      let all = with_steps d.formula.clauses log in
+      let after : with_steps d.formula.clauses (log ++ step ∷ []) ≡ all ++ step.clause ∷ [] = with_steps-append d.formula.clauses log step in
       record {
         is_query = k.is_query;
         opened = k.opened;
-        held = subst (Thinned (held_after d.formula.clauses (log ++ Derived step ∷ []))) (held_of-with_derived d step.clause)
+        held = subst (Thinned (with_steps d.formula.clauses (log ++ step ∷ []))) (held_of-with_derived d step.clause)
             (subst (λ a. Thinned a (held_of d ++ step.clause ∷ [])) (sym after) (derived all (held_of d) step.clause k.held));
         sets = subst (λ a. list_all is_set a ≡ true) (sym after) (list_all-push is_set all step.clause k.sets in_order);
-        accepted = AcceptsLog-append d.formula.variables d.formula.clauses log step k.accepted
+        accepted = AreAccepted-append d.formula.variables d.formula.clauses log step k.accepted
             (accepted_over_all d.formula.variables all (held_of d) step.clause step.hints k.held (is_accepted-true _ ok));
-        fresh = IsFreshLog-append d.formula.clauses log step k.fresh ((fresh_over_all all (held_of d) step.clause k.sets k.held).0 fresh) (not_empty step.clause some);
-        counted = omega (arith, k.counted, length-append log (Derived step ∷ []));
+        fresh = AreFresh-append d.formula.clauses log step k.fresh ((fresh_over_all all (held_of d) step.clause k.sets k.held).0 fresh) (not_empty step.clause some);
+        counted = omega (arith, k.counted, length-append log (step ∷ []));
       }
 
-  pub left_more : (query : QueryData) (d : Derivation) (left : ℕ) (log : List Entry) (ids : List ℕ) → KnownInQuery c formula query d left log → may_delete_all d ids ≡ true
+  pub left_more : (query : QueryData) (d : Derivation) (left : ℕ) (log : List Step) (ids : List ℕ) → KnownInQuery c formula query d left log → may_delete_all d ids ≡ true
       → KnownInQuery c formula query (without_all d ids) left log
   left_more query d left log [] k may = k
   left_more query d left log (n ∷ ns) k may =
@@ -85,7 +83,7 @@ module _ (c : Comparison) (formula : QueryData → Formula) where
       (record {
         is_query = k.is_query;
         opened = k.opened;
-        held = thinned-without (held_after d.formula.clauses log) d n k.held both.0;
+        held = thinned-without (with_steps d.formula.clauses log) d n k.held both.0;
         sets = k.sets;
         accepted = k.accepted;
         fresh = k.fresh;
@@ -94,9 +92,9 @@ module _ (c : Comparison) (formula : QueryData → Formula) where
       both.1
 
   -- a step of the log of a query, and what is known behind it
-  known_step : (query : QueryData) (d : Derivation) (left : ℕ) (log : List Entry) (literals hints : List ℤ) (told : Bool) (place : Place)
+  known_step : (query : QueryData) (d : Derivation) (left : ℕ) (log : List Step) (literals hints : List ℤ) (told : Bool) (place : Place)
       → (rises d.formula.variables (clause_of literals) ≡ true → (told ≡ true) ↔ IsFresh (held_of d) (clause_of literals)) → KnownInQuery c formula query d left log
-      → (KnownInQuery c formula query (with_derived d (clause_of literals)) (left - 1) (log ++ Derived (step_of literals hints) ∷ []) → Known c formula place)
+      → (KnownInQuery c formula query (with_derived d (clause_of literals)) (left - 1) (log ++ step_of literals hints ∷ []) → Known c formula place)
       → KnownAfter c formula (when (rises d.formula.variables (clause_of literals)) B2 (when (accepts d (step_of literals hints)) B6
       (when (not (is_empty (clause_of literals)) && (told && nat_lt 0 left)) B10 (goes place))))
   known_step query d left log literals hints told place is_told k onward =
@@ -112,7 +110,7 @@ module _ (c : Comparison) (formula : QueryData → Formula) where
       → KnownAfter c formula (in_query_next (setting_of c) reach asked d left told (lines.Derived literals hints))
   known_query_step reach asked d left literals hints told is_told k =
       known_step k.0.0 d left k.0.2.0 literals hints told (in_query reach asked (with_derived d (clause_of literals)) (left - 1)) is_told k.0.2.1
-      (λ known. ((k.0.0, k.0.1, (k.0.2.0 ++ Derived (step_of literals hints) ∷ [], known)), k.1))
+      (λ known. ((k.0.0, k.0.1, (k.0.2.0 ++ step_of literals hints ∷ [], known)), k.1))
 
   pub known_query_deleted : (reach : Reach) (asked : Asked) (d : Derivation) (left : ℕ) (ids : List ℤ) (told : Bool) → Known c formula (in_query reach asked d left)
       → KnownAfter c formula (in_query_next (setting_of c) reach asked d left told (lines.Deleted ids))
@@ -124,7 +122,7 @@ module _ (c : Comparison) (formula : QueryData → Formula) where
       → KnownAfter c formula (in_walk_next (setting_of c) formula count d left told (lines.Derived literals hints))
   known_walk_step count d left literals hints told is_told k =
       known_step (walk (suc count)) d left k.log literals hints told (in_walk count (with_derived d (clause_of literals)) (left - 1)) is_told k.known
-      (λ known. record { first = k.first; walk_of_rows = k.walk_of_rows; log = k.log ++ Derived (step_of literals hints) ∷ []; known = known })
+      (λ known. record { first = k.first; walk_of_rows = k.walk_of_rows; log = k.log ++ step_of literals hints ∷ []; known = known })
 
   pub known_walk_deleted : (count : ℕ) (d : Derivation) (left : ℕ) (ids : List ℤ) (told : Bool) → KnownInWalk c formula count d left
       → KnownAfter c formula (in_walk_next (setting_of c) formula count d left told (lines.Deleted ids))
@@ -133,7 +131,7 @@ module _ (c : Comparison) (formula : QueryData → Formula) where
       (λ may. record { first = k.first; walk_of_rows = k.walk_of_rows; log = k.log; known = left_more (walk (suc count)) d left k.log (hints_of ids) k.known may })
 
   -- a log without steps to come spends its query
-  pub spends : (query : QueryData) (d : Derivation) (left : ℕ) (log : List Entry) (k : KnownInQuery c formula query d left log) → (left == 0) ≡ true
+  pub spends : (query : QueryData) (d : Derivation) (left : ℕ) (log : List Step) (k : KnownInQuery c formula query d left log) → (left == 0) ≡ true
       → Spends (formula query) c.relation.conflicts log
   spends query d left log k all =
       let none : left ≡ 0 = grind (arith, all) in

@@ -1,12 +1,12 @@
 -- Clauses that are held no more: what is left follows from the formula still, and is all that was ever held, thinned.
 use Rattle.std.proofs.Common.{◌≡◌, ℕ, zero, suc, ◌+◌, ◌-◌, ◌<◌, Bool, true, false, not, List, [], ◌∷◌, ◌++◌, length, Option, Some, None, refl, sym, ap, ◌∙◌, subst, arith}
 use Rattle.std.specs.Prelude.{nat_lt, if◌then◌else◌, slice_get, slice_set}
-use Rattle.std.proofs.lemmas.Bool.{false≢true, and_parts, and_from, ltb-true}
+use Rattle.std.proofs.lemmas.Bool.{false≢true, and_parts, and_from, ltb-true, lt-ltb}
 use Rattle.std.proofs.lemmas.List.{set-append_right}
 use Rattle.std.proofs.lemmas.List.Folds.{list_all-append}
 use Rattle.clause_core.specs.declared.literal.Lit.{Lit}
 use Rattle.clause_core.specs.Satisfaction.{clause_true, formula_true}
-use Rattle.clause_core.specs.Deletions.{always, is_always, is_covered, Thinned, deleted}
+use Rattle.clause_core.specs.Deletions.{always, is_always, is_covered, IsDeletion, without_number, Thinned, deleted}
 use Rattle.clause_core.proofs.Always.{clause_true-always, is_covered-by}
 use Rattle.clause_core.proofs.Ranges.{list_all-set}
 use Rattle.derivation_check.specs.Checks.{Derivation, held_of}
@@ -53,3 +53,22 @@ Implies-without d n formula implies v sat =
     list_all-append (clause_true v) d.formula.clauses left
     ∙ and_from (formula_true v d.formula.clauses) (formula_true v left) parts.0
     (list_all-set (clause_true v) d.derived (derived_place d n) always parts.1 (clause_true-always v))
+
+chosen : {X : Type 0} (b : Bool) (o : Option X) (x : X) → b ≡ true → o ≡ Some x → (if b then o else None) ≡ Some x
+chosen true o x e is = is
+chosen false o x e is = absurd (false≢true e)
+
+-- what a decider deletes may be held no more
+pub may-deletion : (d : Derivation) (n : ℕ) → IsDeletion d.formula.variables (length d.formula.clauses) (held_of d) n → may_delete d n ≡ true
+may-deletion d n is =
+    let lt : length d.formula.clauses < n = is.derived in
+    let behind : slice_get (held_of d) (n - 1) ≡ slice_get d.derived (derived_place d n) =
+    slice_get-behind d.formula.clauses d.derived (n - 1) (derived_place d n) (omega (arith, lt)) in
+    let there : derived_at d n ≡ Some is.clause = chosen (nat_lt (length d.formula.clauses) n) (slice_get d.derived (derived_place d n)) is.clause (lt-ltb (length d.formula.clauses) n lt) (sym behind ∙ is.stands) in
+    and_from (nat_lt 0 d.formula.variables) (may_delete_clause d n (derived_at d n)) (lt-ltb 0 d.formula.variables is.some)
+    (ap (may_delete_clause d n) there
+    ∙ and_from (not (is_always is.clause)) (is_covered (held_of d) n is.clause) (ap not is.stays) is.covered)
+
+-- and what is held then
+pub held_of-deletion : (d : Derivation) (n : ℕ) → IsDeletion d.formula.variables (length d.formula.clauses) (held_of d) n → without_number n (held_of d) ≡ held_of (without d n)
+held_of-deletion d n is = held_of-without d n (lt-ltb (length d.formula.clauses) n is.derived)

@@ -2,11 +2,11 @@
 use Rattle.std.specs.Prelude.{◌≡◌, ℕ, suc, ◌+◌, ◌<◌, ◌≤◌, Bool, IsTrue, List, length}
 use Rattle.std.specs.List.{list_all}
 use Rattle.clause_core.specs.declared.literal.Lit.{Lit}
-use Rattle.clause_core.specs.declared.log.Entry.{Entry}
+use Rattle.clause_core.specs.declared.step.Step.{Step}
 use Rattle.clause_core.specs.Clauses.{is_set}
 use Rattle.clause_core.specs.Formula.{Formula}
 use Rattle.clause_core.specs.Satisfaction.{Satisfies, HasNoSolution}
-use Rattle.clause_core.specs.Logs.{AcceptsLog, IsFreshLog, held_after}
+use Rattle.clause_core.specs.Logs.{AreAccepted, AreFresh, with_steps}
 use Rattle.finding_lines.specs.declared.line.Asked.{Asked}
 use Rattle.derivation_check.specs.Checks.{Derivation, held_of}
 use Rattle.scan_model.specs.InRange.{Row}
@@ -65,23 +65,23 @@ module _ (c : Comparison) where
 
 module _ (c : Comparison) (formula : QueryData → Formula) where
   -- These steps spend the query, as far as they go. What is held is what deletions left of the formula and their clauses.
-  pub record KnownInQuery (query : QueryData) (d : Derivation) (left : ℕ) (log : List Entry) : Type 0 where
+  pub record KnownInQuery (query : QueryData) (d : Derivation) (left : ℕ) (log : List Step) : Type 0 where
     pub is_query : IsQueryOf c query
     pub opened : d.formula ≡ formula query
-    pub held : Thinned (held_after d.formula.clauses log) (held_of d)
-    pub sets : IsTrue (list_all is_set (held_after d.formula.clauses log))
-    pub accepted : AcceptsLog d.formula.variables d.formula.clauses log
-    pub fresh : IsFreshLog d.formula.clauses log
+    pub held : Thinned (with_steps d.formula.clauses log) (held_of d)
+    pub sets : IsTrue (list_all is_set (with_steps d.formula.clauses log))
+    pub accepted : AreAccepted d.formula.variables d.formula.clauses log
+    pub fresh : AreFresh d.formula.clauses log
     pub counted : length log + left ≡ c.relation.conflicts
 
   -- the query of that name is being spent
   abbrev pub KnownOfQuery : Asked → Derivation → ℕ → Type 0
-  KnownOfQuery asked d left = (query : QueryData) × (asked ≡ asked_of query) × ((log : List Entry) × KnownInQuery query d left log)
+  KnownOfQuery asked d left = (query : QueryData) × (asked ≡ asked_of query) × ((log : List Step) × KnownInQuery query d left log)
 
   pub record KnownInWalk (count : ℕ) (d : Derivation) (left : ℕ) : Type 0 where
     pub first : HasFirstRow c.old c.new c.relation
     pub walk_of_rows : HasWalk c.old c.new c.relation count
-    pub log : List Entry
+    pub log : List Step
     pub known : KnownInQuery (walk (suc count)) d left log
 
   abbrev pub Known : Place → Type 0

@@ -1,8 +1,8 @@
 -- What a finding that is judged valid shows.
 use Rattle.std.specs.Prelude.{◌≡◌, ℕ, suc, ◌≤◌, pos, List, length, Result, Ok, Err}
-use Rattle.clause_core.specs.declared.log.Entry.{Entry}
+use Rattle.clause_core.specs.declared.step.Step.{Step}
 use Rattle.clause_core.specs.Formula.{Formula}
-use Rattle.clause_core.specs.Logs.{AcceptsLog, IsFreshLog}
+use Rattle.clause_core.specs.Logs.{AreAccepted, AreFresh}
 use Rattle.finding_lines.specs.declared.line.Asked.{Asked}
 use Rattle.finding_lines.specs.declared.line.Asked.TheVariants as questions
 use Rattle.finding_lines.specs.declared.line.Conclusion.{Conclusion}
@@ -36,10 +36,10 @@ asked_of (walk rows) = questions.Walk (pos rows)
 
 -- A log spends a formula: exactly so many steps, each accepted and fresh over all clauses before it, none empty. Clauses that a
 -- finding holds no more count too: a step is fresh over what is held exactly where it is fresh over all.
-pub record Spends (f : Formula) (limit : ℕ) (log : List Entry) : Type 0 where
+pub record Spends (f : Formula) (limit : ℕ) (log : List Step) : Type 0 where
   pub all : length log ≡ limit
-  pub accepted : AcceptsLog f.variables f.clauses log
-  pub fresh : IsFreshLog f.clauses log
+  pub accepted : AreAccepted f.variables f.clauses log
+  pub fresh : AreFresh f.clauses log
 
 -- the model gives this verdict
 abbrev pub IsModelVerdict : Comparison → Conclusion → Type 0
@@ -48,7 +48,7 @@ IsModelVerdict c conclusion = (verdict : Verdict) × (conclusion ≡ conclusion_
 -- Some query of that name is spent, and nothing is said of the programs.
 abbrev pub IsSpent : Comparison → (QueryData → Formula) → Conclusion → Type 0
 IsSpent c formula conclusion =
-    (query : QueryData) × (log : List Entry) × IsQueryOf c query × Spends (formula query) c.relation.conflicts log
+    (query : QueryData) × (log : List Step) × IsQueryOf c query × Spends (formula query) c.relation.conflicts log
     × (conclusion ≡ conclusions.Spent (asked_of query) (pos c.relation.conflicts))
 
 -- the verdict is the model's, or SPENT with its log
@@ -64,7 +64,7 @@ IsReachShown c formula Unwalked = Unit {0}
 IsReachShown c formula (Greatest rows) = IsReach c.old c.new c.relation rows
 IsReachShown c formula (AtLeast rows) =
     HasWalk c.old c.new c.relation rows × (suc rows ≤ c.relation.depth)
-    × ((log : List Entry) × Spends (formula (walk (suc rows))) c.relation.conflicts log)
+    × ((log : List Step) × Spends (formula (walk (suc rows))) c.relation.conflicts log)
 
 -- an answer that a finding is valid says no more than is shown
 abbrev pub ShowsVerdict : Comparison → (QueryData → Formula) → Result Judged JudgeErr → Type 0

@@ -1,5 +1,5 @@
 -- The numbers of a line as what they stand for: a clause, hints, a pair and a row.
-use Rattle.std.specs.Prelude.{ℕ, ◌+◌, ℤ, pos, negsuc, Bool, true, false, int_lt, List, [], ◌∷◌, ◌++◌, map, take, drop}
+use Rattle.std.specs.Prelude.{ℕ, ℤ, pos, negsuc, Bool, true, false, int_lt, List, [], ◌∷◌, ◌++◌, map, take, drop}
 use Rattle.std.specs.Int.RustNames.{unsigned_abs}
 use Rattle.clause_core.specs.declared.literal.Lit.{Lit}
 use Rattle.clause_core.specs.declared.step.Step.{Step}

@@ -7,11 +7,10 @@ use Rattle.std.proofs.lemmas.List.Elements.{All-nil, All-cons, All-append}
 use Rattle.clause_core.specs.Formula.{Formula}
 use Rattle.clause_core.specs.Clauses.{is_set, rises}
 use Rattle.clause_core.specs.Freshness.{IsFresh}
-use Rattle.clause_core.specs.declared.log.Entry.{Entry}
-use Rattle.clause_core.specs.declared.log.Entry.TheVariants.{Derived}
+use Rattle.clause_core.specs.declared.step.Step.{Step}
 use Rattle.clause_core.proofs.Sets.{is_set-rises}
 use Rattle.finding_lines.specs.declared.line.Asked.{Asked}
-use Rattle.finding_lines.specs.declared.line.Asked.TheVariants.{First, Step, Goal}
+use Rattle.finding_lines.specs.declared.line.Asked.TheVariants.{First, Step as StepAsked, Goal}
 use Rattle.finding_lines.specs.declared.line.Conclusion.{Conclusion}
 use Rattle.finding_lines.specs.declared.line.Conclusion.TheVariants.{Vacuous, Related, Different, Open, Spent}
 use Rattle.finding_lines.specs.declared.line.Version.TheVariants.{One, Two}
@@ -45,14 +44,14 @@ use Rattle.judgement_laws.specs.Shapes.{IsNotSpent, IsBehindLog, EndsInQuery, Ho
 
 -- ---- lines of a log
 
-steps_in-derived : (log : List Line) (literals hints : List ℤ) → steps_in (log ++ lines.Derived literals hints ∷ []) ≡ steps_in log ++ Derived (step_of literals hints) ∷ []
+steps_in-derived : (log : List Line) (literals hints : List ℤ) → steps_in (log ++ lines.Derived literals hints ∷ []) ≡ steps_in log ++ step_of literals hints ∷ []
 steps_in-derived [] literals hints = refl
-steps_in-derived (lines.Derived ls hs ∷ log) literals hints = ap (λ (es : List Entry). Derived (step_of ls hs) ∷ es) (steps_in-derived log literals hints)
+steps_in-derived (lines.Derived ls hs ∷ log) literals hints = ap (λ (more : List Step). step_of ls hs ∷ more) (steps_in-derived log literals hints)
 steps_in-derived (line ∷ log) literals hints = steps_in-derived log literals hints
 
 steps_in-deleted : (log : List Line) (ids : List ℤ) → steps_in (log ++ lines.Deleted ids ∷ []) ≡ steps_in log
 steps_in-deleted [] ids = refl
-steps_in-deleted (lines.Derived ls hs ∷ log) ids = ap (λ (es : List Entry). Derived (step_of ls hs) ∷ es) (steps_in-deleted log ids)
+steps_in-deleted (lines.Derived ls hs ∷ log) ids = ap (λ (more : List Step). step_of ls hs ∷ more) (steps_in-deleted log ids)
 steps_in-deleted (line ∷ log) ids = steps_in-deleted log ids
 
 logged-more : (log : List Line) (line : Line) → All IsLogLine log → IsLogLine line → All IsLogLine (log ++ line ∷ [])
@@ -246,8 +245,8 @@ module _ (c : Comparison) (formula : QueryData → Formula) where
     shape_drops : (reach : Reach) (set : CandidateSet) (line : Line) → ReachShape c formula (some ++ line ∷ []) reach
         → ShapeAfter c formula (some ++ line ∷ []) (at_drops_next (setting_of c) formula reach set line)
     shape_drops reach set (lines.Dropping numbers) h = shape_drop _ reach set _ _ h
-    shape_drops reach set (lines.Log Step) h = (tt, h)
-    shape_drops reach set (lines.Query Step) h = ((step set, refl, shape_opened some Step (step set) refl tt (means (step set) tt).sets), h)
+    shape_drops reach set (lines.Log StepAsked) h = (tt, h)
+    shape_drops reach set (lines.Query StepAsked) h = ((step set, refl, shape_opened some StepAsked (step set) refl tt (means (step set) tt).sets), h)
     shape_drops reach set line h = tt
 
     shape_in_walk : (count : ℕ) (d : Derivation) (left : ℕ) (told : Bool) (line : Line) → IsTold (setting_of c) (in_walk count d left) line told

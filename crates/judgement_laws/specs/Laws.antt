@@ -1,8 +1,7 @@
 -- Laws of judging.
 use Rattle.std.specs.Prelude.{◌≡◌, ◌≢◌, ℕ, suc, ◌≤◌, ℤ, pos, List, [], ◌∷◌, ◌++◌, length, All, Result, Ok, Err}
 use Rattle.clause_core.specs.Formula.{Formula}
-use Rattle.clause_core.specs.declared.log.Entry.{Entry}
-use Rattle.clause_core.specs.declared.log.Entry.TheVariants.{Derived}
+use Rattle.clause_core.specs.declared.step.Step.{Step}
 use Rattle.finding_lines.specs.declared.line.Asked.{Asked}
 use Rattle.finding_lines.specs.declared.line.Line.{Line}
 use Rattle.finding_lines.specs.declared.line.Line.TheVariants as lines
@@ -51,9 +50,9 @@ IsLogLine (lines.Deleted ids) = Unit {0}
 IsLogLine line = ⊥
 
 -- the steps of D lines
-abbrev pub steps_in : List Line → List Entry
+abbrev pub steps_in : List Line → List Step
 steps_in [] = []
-steps_in (lines.Derived literals hints ∷ ls) = Derived (step_of literals hints) ∷ steps_in ls
+steps_in (lines.Derived literals hints ∷ ls) = step_of literals hints ∷ steps_in ls
 steps_in (line ∷ ls) = steps_in ls
 
 -- A file holds the log that spends a query: behind its QUERY line stand D and X lines, and the D lines are exactly CONFLICTS.

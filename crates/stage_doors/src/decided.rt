@@ -55,13 +55,22 @@ pub fn decide(
     Ok(Some(answer))
 }
 
-/// How many steps of a log, from the first on, are accepted and fresh.
-pub fn fresh_steps(alloc: Global, cnf: Cnf, log: &Log) -> Result<usize, AllocError> {
+// Whether a step is accepted and fresh, or a deletion may be made; the checker takes it then.
+fn takes(checker: &mut Checker, entry: &Entry) -> bool {
+    match entry {
+        Entry::Derived(step) => {
+            let rises = is_rising(checker.variables(), step.clause.literals());
+            rises && checker.fresh(step) && checker.step(step).is_ok()
+        }
+        Entry::Deleted(number) => checker.delete(*number as usize).is_ok(),
+    }
+}
+
+/// How many entries of a log, from the first on, are right: steps that are accepted and fresh, and deletions that may be made.
+pub fn right_entries(alloc: Global, cnf: Cnf, log: &Log) -> Result<usize, AllocError> {
     let mut checker = Checker::new(alloc, cnf)?;
     for (i, entry) in log.entries().iter().enumerate() {
-        let Entry::Derived(step) = entry;
-        let rises = is_rising(checker.variables(), step.clause.literals());
-        if !rises || !checker.fresh(step) || checker.step(step).is_err() {
+        if !takes(&mut checker, entry) {
             return Ok(i);
         }
     }

@@ -20,7 +20,7 @@ mod pair;
 mod scan;
 mod suggest;
 
-pub use decided::{Answer, Way, decide, fresh_steps};
+pub use decided::{Answer, Way, decide, right_entries};
 pub use dimacs::read_formula;
 pub use flat::run_flat;
 pub use formula::run_formula;

@@ -18,12 +18,12 @@ use Rattle.invariant_prune.specs.Answers.{pair_of}
 use Rattle.finding_search.specs.Passing.{Passes, Runs}
 use Rattle.finding_search.specs.Shown.{scans_of}
 use Rattle.finding_search.proofs.Going.{Writes-then, Writes-exit, Writes-short, Writes-answer, Writes-nothing}
-use Rattle.finding_search.proofs.Openings.{log_deep, query_deep, end_passes, after_deep-less, after_deep-all}
+use Rattle.finding_search.proofs.Openings.{log_deep, query_deep, end_passes, after_deep-less, after_deep-all, after_deep-told}
 use Rattle.finding_search.proofs.RowPasses.{break_runs, some_depth, most_depth}
 use Rattle.finding_search.proofs.deepening.search.Goals as goal
 
 pub depths-init : goal.depths-init
-depths-init g c reach =
+depths-init g c reach told =
     let k = comparison_of c.args.trial.now in
     let s = setting_in c.args.trial.now in
     let f = g.Q.Queries.formula c.args.queries.now in
@@ -45,8 +45,8 @@ search_at-requires-clause-scans g c =
     subst (λ (x : Comparison). IsQueryOf x (deep (c.depths.none + 1))) (sym c.requires.compared) (IsQueryOf-deep k c.depths.none less)
 
 pub returns-in_err-found : goal.returns-in_err-found
-returns-in_err-found g c reach =
-    Writes-short (setting_in c.args.trial.now) (g.Q.Queries.formula c.args.queries.now) _ _ _ _ _ _ _ c.from_residual.ensures.1 (c.depths.invariant reach)
+returns-in_err-found g c reach told =
+    Writes-short (setting_in c.args.trial.now) (g.Q.Queries.formula c.args.queries.now) _ _ _ _ _ _ _ c.from_residual.ensures.1 (c.depths.invariant reach told)
 
 pub write_break-requires : goal.write_break-requires
 write_break-requires g c =
@@ -54,7 +54,7 @@ write_break-requires g c =
     omega (arith, most, c.depths-test.true, c.depth-none-end.ensures)
 
 pub returns-in-Found : goal.returns-in-Found
-returns-in-Found g c reach =
+returns-in-Found g c reach told =
     let k = comparison_of c.args.trial.now in
     let s = setting_in c.args.trial.now in
     let f = g.Q.Queries.formula c.args.queries.now in
@@ -64,13 +64,13 @@ returns-in-Found g c reach =
     let a = rw c.in-Found.is at c.in_ok-found.ensures in
     let b = subst (λ (x : Comparison). Answers x (deep (c.depths.none + 1)) (pair_of c.in-Found.found) c.in-Found.found.rows.items) c.requires.compared a in
     Writes-then s f _ _ _ _ _ (finished reach) _ _
-    (Writes-answer s f _ _ _ _ _ (λ (x : Unit {0}). at_deep reach set none) tt (sym (after_deep-less s f reach set none less)) (c.depths.invariant reach))
+    (Writes-answer s f _ _ _ _ _ (λ (x : Unit {0}). at_deep reach set none) tt (sym (after_deep-less s f reach set none less)) (c.depths.invariant reach told))
     (c.write_break.ensures s f _ reach
     (subst (λ (rows : List Row). Runs s f (at_deep reach set none) (scans_of rows) (at_end reach (Different (pos (none + 1))))) (sym c.deref.ensures.value)
     (break_runs k f c.requires.comparison reach set none c.in-Found.found.rows.items b.0 b.1)))
 
 pub returns-in_err-write_refutation-in-Refuted : goal.returns-in_err-write_refutation-in-Refuted
-returns-in_err-write_refutation-in-Refuted g c reach =
+returns-in_err-write_refutation-in-Refuted g c reach told =
     let k = comparison_of c.args.trial.now in
     let s = setting_in c.args.trial.now in
     let f = g.Q.Queries.formula c.args.queries.now in
@@ -80,12 +80,12 @@ returns-in_err-write_refutation-in-Refuted g c reach =
     let refutes = rw c.in-Refuted.is at c.in_ok-found.ensures in
     Writes-exit s f _ _ _ _ _ _ _ c.from_residual-in_err-write_refutation-in-Refuted.ensures.1
     (Writes-then s f _ _ _ _ _ _ _ _
-    (Writes-answer s f _ _ _ _ _ (λ (x : Unit {0}). at_deep reach set none) tt (sym (after_deep-less s f reach set none less)) (c.depths.invariant reach))
-    (c.in_err-write_refutation-in-Refuted.ensures s f (f (deep (none + 1))) c.limit_of-limit.result _ (after_deep s reach set (none + 1))
+    (Writes-answer s f _ _ _ _ _ (λ (x : Unit {0}). at_deep reach set none) tt (sym (after_deep-less s f reach set none less)) (c.depths.invariant reach told))
+    (c.in_err-write_refutation-in-Refuted.ensures s f (f (deep (none + 1))) c.limit_of-limit.result _ (after_deep s reach set (none + 1)) (after_deep-told s f reach set (none + 1) told)
     (subst (λ (q : Asked). Passes s f (at_deep reach set none) (lines.Log q) (in_log (opened (f (deep (none + 1)))) (after_deep s reach set (none + 1)))) (sym c.deep_at-asked.ensures.same) (log_deep s f reach set none)) refutes))
 
 pub returns-in-Spent : goal.returns-in-Spent
-returns-in-Spent g c reach =
+returns-in-Spent g c reach told =
     let k = comparison_of c.args.trial.now in
     let s = setting_in c.args.trial.now in
     let f = g.Q.Queries.formula c.args.queries.now in
@@ -95,13 +95,13 @@ returns-in-Spent g c reach =
     let spent = rw c.in-Spent.is at c.in_ok-found.ensures in
     let all = subst (λ (n : ℕ). IsSpent (f (deep (none + 1))) n c.in-Spent.log) (sym c.limit_of-limit.ensures.same) spent in
     Writes-then s f _ _ _ _ _ (finished reach) _ _
-    (Writes-answer s f _ _ _ _ _ (λ (x : Unit {0}). at_deep reach set none) tt (sym (after_deep-less s f reach set none less)) (c.depths.invariant reach))
-    (c.write_spent.ensures s f (f (deep (none + 1))) _ reach c.limit_of-limit.ensures.same
+    (Writes-answer s f _ _ _ _ _ (λ (x : Unit {0}). at_deep reach set none) tt (sym (after_deep-less s f reach set none less)) (c.depths.invariant reach told))
+    (c.write_spent.ensures s f (f (deep (none + 1))) _ reach told c.limit_of-limit.ensures.same
     (subst (λ (q : Asked). IsEnding (Spent q (pos c.limit_of-limit.result))) (sym c.deep_at-asked.ensures.same) tt)
     (subst (λ (q : Asked). Passes s f (at_deep reach set none) (lines.Query q) (in_query reach q (opened (f (deep (none + 1)))) s.conflicts)) (sym c.deep_at-asked.ensures.same) (query_deep s f reach set none)) all)
 
 pub depths-preserved : goal.depths-preserved
-depths-preserved g c reach =
+depths-preserved g c reach told =
     let k = comparison_of c.args.trial.now in
     let s = setting_in c.args.trial.now in
     let f = g.Q.Queries.formula c.args.queries.now in
@@ -110,12 +110,12 @@ depths-preserved g c reach =
     let less : c.depths.none < (setting_in c.args.trial.now).depth = omega (arith, c.depths-test.true, c.depth-none-end.ensures) in
     let refutes = rw c.in-Refuted.is at c.in_ok-found.ensures in
     Writes-then s f _ _ _ _ _ _ _ _
-    (Writes-answer s f _ _ _ _ _ (λ (x : Unit {0}). at_deep reach set none) tt (sym (after_deep-less s f reach set none less)) (c.depths.invariant reach))
-    (c.in_ok-write_refutation-in-Refuted.ensures s f (f (deep (none + 1))) c.limit_of-limit.result _ (after_deep s reach set (none + 1))
+    (Writes-answer s f _ _ _ _ _ (λ (x : Unit {0}). at_deep reach set none) tt (sym (after_deep-less s f reach set none less)) (c.depths.invariant reach told))
+    (c.in_ok-write_refutation-in-Refuted.ensures s f (f (deep (none + 1))) c.limit_of-limit.result _ (after_deep s reach set (none + 1)) (after_deep-told s f reach set (none + 1) told)
     (subst (λ (q : Asked). Passes s f (at_deep reach set none) (lines.Log q) (in_log (opened (f (deep (none + 1)))) (after_deep s reach set (none + 1)))) (sym c.deep_at-asked.ensures.same) (log_deep s f reach set none)) refutes)
 
 pub returns : goal.returns
-returns g c reach =
+returns g c reach told =
     let k = comparison_of c.args.trial.now in
     let s = setting_in c.args.trial.now in
     let f = g.Q.Queries.formula c.args.queries.now in
@@ -124,5 +124,5 @@ returns g c reach =
     let verdict = c.open_by.result in
     let done : s.depth ≤ none = omega (arith, c.depths-test.false, c.depth-none-end.ensures) in
     Writes-then s f _ _ _ _ _ (finished reach) _ _
-    (Writes-answer s f _ _ _ _ _ (λ (x : Unit {0}). at_end reach verdict) tt (ap (at_end reach) c.open_by.ensures.same ∙ sym (after_deep-all s f reach set none done)) (c.depths.invariant reach))
+    (Writes-answer s f _ _ _ _ _ (λ (x : Unit {0}). at_end reach verdict) tt (ap (at_end reach) c.open_by.ensures.same ∙ sym (after_deep-all s f reach set none done)) (c.depths.invariant reach told))
     (c.write_end.ensures s f _ reach (end_passes s f reach verdict c.open_by.ensures.ending))

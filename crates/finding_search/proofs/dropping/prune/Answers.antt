@@ -20,39 +20,39 @@ pub drop_guessed-requires : goal.drop_guessed-requires
 drop_guessed-requires g c = record { comparison = subst (λ (d : Compared). IsComparison (comparison_of d)) (sym c.rows.invariant.trial) c.requires.comparison }
 
 pub returns-in_err-drop_guessed-clause-writes : goal.returns-in_err-drop_guessed-clause-writes
-returns-in_err-drop_guessed-clause-writes g c reach =
+returns-in_err-drop_guessed-clause-writes g c reach told =
     let f = g.Q.Queries.formula c.args.queries.now in
     Writes-exit (setting_in c.args.trial.now) f _ _ _ _ _ _ _ c.from_residual.ensures.1
     (drops_then f c.args.trial.now c.rows.trial _ _ _ reach _ _ _ _ c.rows.invariant.trial (c.rows.invariant.writes reach) (c.in_err-drop_guessed.ensures.writes reach f))
 
 pub returns-in_err-found-clause-writes : goal.returns-in_err-found-clause-writes
-returns-in_err-found-clause-writes g c reach =
+returns-in_err-found-clause-writes g c reach told =
     let f = g.Q.Queries.formula c.args.queries.now in
     Writes-short (setting_in c.args.trial.now) f _ _ _ _ _ _ _ c.from_residual-in_err-found.ensures.1
     (drops_then f c.args.trial.now c.rows.trial _ _ _ reach _ _ _ _ c.rows.invariant.trial (c.rows.invariant.writes reach) (c.in_ok-drop_guessed.ensures.writes reach f))
 
 pub returns-in_err-write_refutation-in-Refuted-clause-writes : goal.returns-in_err-write_refutation-in-Refuted-clause-writes
-returns-in_err-write_refutation-in-Refuted-clause-writes g c reach =
+returns-in_err-write_refutation-in-Refuted-clause-writes g c reach told =
     let s = setting_in c.args.trial.now in
     let f = g.Q.Queries.formula c.args.queries.now in
     let refutes = rw c.in-Refuted.is at c.in_ok-found.ensures.answer in
     Writes-exit s f _ _ _ _ _ _ _ c.from_residual-in_err-write_refutation-in-Refuted.ensures.1
     (Writes-then s f _ _ _ _ _ _ _ _
     (drops_then f c.args.trial.now c.rows.trial _ _ _ reach _ _ _ _ c.rows.invariant.trial (c.rows.invariant.writes reach) (c.in_ok-drop_guessed.ensures.writes reach f))
-    (c.in_err-write_refutation-in-Refuted.ensures s f (f (step (members c.drop_guessed.new.set))) c.limit_of-limit.result _ _ (log_step s f reach (members c.drop_guessed.new.set)) refutes))
+    (c.in_err-write_refutation-in-Refuted.ensures s f (f (step (members c.drop_guessed.new.set))) c.limit_of-limit.result _ _ told (log_step s f reach (members c.drop_guessed.new.set)) refutes))
 
 pub returns-in-Refuted-clause-writes : goal.returns-in-Refuted-clause-writes
-returns-in-Refuted-clause-writes g c reach =
+returns-in-Refuted-clause-writes g c reach told =
     let s = setting_in c.args.trial.now in
     let f = g.Q.Queries.formula c.args.queries.now in
     let refutes = rw c.in-Refuted.is at c.in_ok-found.ensures.answer in
     Writes-answer s f _ _ _ _ _ (place_of reach) _ refl
     (Writes-then s f _ _ _ _ _ _ _ _
     (drops_then f c.args.trial.now c.rows.trial _ _ _ reach _ _ _ _ c.rows.invariant.trial (c.rows.invariant.writes reach) (c.in_ok-drop_guessed.ensures.writes reach f))
-    (c.in_ok-write_refutation-in-Refuted.ensures s f (f (step (members c.drop_guessed.new.set))) c.limit_of-limit.result _ _ (log_step s f reach (members c.drop_guessed.new.set)) refutes))
+    (c.in_ok-write_refutation-in-Refuted.ensures s f (f (step (members c.drop_guessed.new.set))) c.limit_of-limit.result _ _ told (log_step s f reach (members c.drop_guessed.new.set)) refutes))
 
 pub returns-in_err-verdict-in-Spent-clause-writes : goal.returns-in_err-verdict-in-Spent-clause-writes
-returns-in_err-verdict-in-Spent-clause-writes g c reach =
+returns-in_err-verdict-in-Spent-clause-writes g c reach told =
     let s = setting_in c.args.trial.now in
     let f = g.Q.Queries.formula c.args.queries.now in
     let spent = rw c.in-Spent.is at c.in_ok-found.ensures.answer in
@@ -60,10 +60,10 @@ returns-in_err-verdict-in-Spent-clause-writes g c reach =
     Writes-exit s f _ _ _ _ _ _ _ c.from_residual-in_err-verdict-in-Spent.ensures.1
     (Writes-then s f _ _ _ _ _ _ _ _
     (drops_then f c.args.trial.now c.rows.trial _ _ _ reach _ _ _ _ c.rows.invariant.trial (c.rows.invariant.writes reach) (c.in_ok-drop_guessed.ensures.writes reach f))
-    (c.in_err-verdict-in-Spent.ensures s f (f (step (members c.drop_guessed.new.set))) _ reach c.limit_of-limit.ensures.same tt (query_step s f reach (members c.drop_guessed.new.set)) all))
+    (c.in_err-verdict-in-Spent.ensures s f (f (step (members c.drop_guessed.new.set))) _ reach told c.limit_of-limit.ensures.same tt (query_step s f reach (members c.drop_guessed.new.set)) all))
 
 pub returns-in-Spent-clause-writes : goal.returns-in-Spent-clause-writes
-returns-in-Spent-clause-writes g c reach =
+returns-in-Spent-clause-writes g c reach told =
     let s = setting_in c.args.trial.now in
     let f = g.Q.Queries.formula c.args.queries.now in
     let spent = rw c.in-Spent.is at c.in_ok-found.ensures.answer in
@@ -71,7 +71,7 @@ returns-in-Spent-clause-writes g c reach =
     Writes-answer s f _ _ _ _ _ (place_of reach) _ refl
     (Writes-then s f _ _ _ _ _ _ _ _
     (drops_then f c.args.trial.now c.rows.trial _ _ _ reach _ _ _ _ c.rows.invariant.trial (c.rows.invariant.writes reach) (c.in_ok-drop_guessed.ensures.writes reach f))
-    (c.in_ok-verdict-in-Spent.ensures s f (f (step (members c.drop_guessed.new.set))) _ reach c.limit_of-limit.ensures.same tt (query_step s f reach (members c.drop_guessed.new.set)) all))
+    (c.in_ok-verdict-in-Spent.ensures s f (f (step (members c.drop_guessed.new.set))) _ reach told c.limit_of-limit.ensures.same tt (query_step s f reach (members c.drop_guessed.new.set)) all))
 
 pub drop_by-requires-clause-comparison : goal.drop_by-requires-clause-comparison
 drop_by-requires-clause-comparison g c =
@@ -86,7 +86,7 @@ drop_by-requires-clause-found g c =
     subst (λ (k : Comparison). Answers k (step (members c.drop_guessed.new.set)) (pair_of c.in-Found.found) c.in-Found.found.rows.items) (c.requires.compared ∙ sym here) a
 
 pub returns-in_err-drop_by-in-Found-clause-writes : goal.returns-in_err-drop_by-in-Found-clause-writes
-returns-in_err-drop_by-in-Found-clause-writes g c reach =
+returns-in_err-drop_by-in-Found-clause-writes g c reach told =
     let s = setting_in c.args.trial.now in
     let f = g.Q.Queries.formula c.args.queries.now in
     let same = still c.args.trial.now c.rows.trial c.drop_guessed.new.trial c.rows.invariant.trial c.in_ok-drop_guessed.ensures.trial in
@@ -96,7 +96,7 @@ returns-in_err-drop_by-in-Found-clause-writes g c reach =
     (c.in_err-drop_by-in-Found.ensures.writes reach f))
 
 pub returns-in_err-found-in-Found-clause-writes : goal.returns-in_err-found-in-Found-clause-writes
-returns-in_err-found-in-Found-clause-writes g c reach =
+returns-in_err-found-in-Found-clause-writes g c reach told =
     let s = setting_in c.args.trial.now in
     let f = g.Q.Queries.formula c.args.queries.now in
     let same = still c.args.trial.now c.rows.trial c.drop_guessed.new.trial c.rows.invariant.trial c.in_ok-drop_guessed.ensures.trial in
@@ -131,19 +131,19 @@ rows-smaller g c =
     omega (arith, one, two)
 
 pub returns-in-Refuted-clause-greatest : goal.returns-in-Refuted-clause-greatest
-returns-in-Refuted-clause-greatest g c reach st =
+returns-in-Refuted-clause-greatest g c reach told st =
     let k = comparison_of c.args.trial.now in
     let f = g.Q.Queries.formula c.args.queries.now in
     let means : (query : QueryData) → IsQueryOf k query → Means k query (f query) = λ query is_query.
     subst (λ (x : Comparison). Means x query (f query)) c.requires.compared (c.laws.ensures.means query (subst (λ (x : Comparison). IsQueryOf x query) (sym c.requires.compared) is_query))
     in
-    is_pruned k f c.requires.comparison means _ reach (Kept c.drop_guessed.new.set) ((returns-in-Refuted-clause-writes g c reach).stands st)
+    is_pruned k f c.requires.comparison means _ reach (Kept c.drop_guessed.new.set) ((returns-in-Refuted-clause-writes g c reach told).stands st)
 
 pub returns-in-Spent-clause-greatest : goal.returns-in-Spent-clause-greatest
-returns-in-Spent-clause-greatest g c reach st =
+returns-in-Spent-clause-greatest g c reach told st =
     let k = comparison_of c.args.trial.now in
     let f = g.Q.Queries.formula c.args.queries.now in
     let means : (query : QueryData) → IsQueryOf k query → Means k query (f query) = λ query is_query.
     subst (λ (x : Comparison). Means x query (f query)) c.requires.compared (c.laws.ensures.means query (subst (λ (x : Comparison). IsQueryOf x query) (sym c.requires.compared) is_query))
     in
-    is_pruned k f c.requires.comparison means _ reach (Spent c.in_ok-verdict-in-Spent.verdict) ((returns-in-Spent-clause-writes g c reach).stands st)
+    is_pruned k f c.requires.comparison means _ reach (Spent c.in_ok-verdict-in-Spent.verdict) ((returns-in-Spent-clause-writes g c reach told).stands st)

@@ -13,16 +13,16 @@ use Rattle.finding_search.proofs.Openings.{spent_passes}
 use Rattle.finding_search.proofs.logs.write_spent.Goals as goal
 
 pub returns-in_err-write_spent_log : goal.returns-in_err-write_spent_log
-returns-in_err-write_spent_log g c s formula f from reach same ending passes spent =
+returns-in_err-write_spent_log g c s formula f from reach told same ending passes spent =
     Writes-exit s formula _ _ _ _ _ _ _ c.from_residual.ensures.1
-    (c.in_err-write_spent_log.ensures s formula from _ _ passes (spent_runs s formula f s.conflicts c.args.log.now reach c.args.asked spent))
+    (c.in_err-write_spent_log.ensures s formula from _ _ passes (spent_runs s formula f s.conflicts c.args.log.now reach c.args.asked told spent))
 
 pub returns : goal.returns
-returns g c s formula f from reach same ending passes spent =
+returns g c s formula f from reach told same ending passes spent =
     let d = after_all (opened f) c.args.log.now in
     let is : Spent c.args.asked (pos s.conflicts) ≡ c.spent_by.result = ap (λ n. Spent c.args.asked (pos n)) same ∙ sym c.spent_by.ensures.same in
     let here : IsEnding (Spent c.args.asked (pos s.conflicts)) = subst (λ n. IsEnding (Spent c.args.asked (pos n))) (sym same) ending in
     Writes-then s formula _ _ _ _ _ _ _ _
-    (c.in_ok-write_spent_log.ensures s formula from _ _ passes (spent_runs s formula f s.conflicts c.args.log.now reach c.args.asked spent))
+    (c.in_ok-write_spent_log.ensures s formula from _ _ passes (spent_runs s formula f s.conflicts c.args.log.now reach c.args.asked told spent))
     (c.write_end.ensures s formula _ reach
     (subst (λ (v : Conclusion). Passes s formula (in_query reach c.args.asked d 0) (lines.End v) (finished reach v)) is (spent_passes s formula reach c.args.asked d here)))

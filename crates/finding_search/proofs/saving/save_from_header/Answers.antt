@@ -10,6 +10,7 @@ use Rattle.judgement.specs.declared.answers.Reach.TheVariants.{Unwalked}
 use Rattle.invariant_prune.specs.Answers.{pair_of}
 use Rattle.finding_search.proofs.Going.{Writes-then, Writes-exit}
 use Rattle.finding_search.proofs.Openings.{log_first, query_first, end_passes}
+use Rattle.finding_search.proofs.LogRuns.{unwalked_told}
 use Rattle.finding_search.proofs.RowPasses.{seen_found}
 use Rattle.finding_search.proofs.saving.save_from_header.Goals as goal
 
@@ -34,7 +35,7 @@ returns-in_err-write_refutation-in-Refuted-clause-writes g c =
     let f = g.Q.Queries.formula c.args.queries.now in
     let refutes = rw c.in-Refuted.is at c.in_ok-found.ensures in
     Writes-exit s f _ _ _ _ _ _ _ c.from_residual-in_err-write_refutation-in-Refuted.ensures.1
-    (c.in_err-write_refutation-in-Refuted.ensures s f (f first) c.limit_of-limit.result _ (at_end Unwalked Vacuous) (log_first s f) refutes)
+    (c.in_err-write_refutation-in-Refuted.ensures s f (f first) c.limit_of-limit.result _ (at_end Unwalked Vacuous) unwalked_told (log_first s f) refutes)
 
 pub returns-in_ok-write_seen-in-Found-clause-writes : goal.returns-in_ok-write_seen-in-Found-clause-writes
 returns-in_ok-write_seen-in-Found-clause-writes g c =
@@ -53,7 +54,7 @@ returns-in_ok-write_refutation-in-Refuted-clause-writes g c =
     let refutes = rw c.in-Refuted.is at c.in_ok-found.ensures in
     c.concluded.ensures.writes s f _ _ _
     (Writes-then s f _ _ _ _ _ (finished Unwalked) _ _
-    (c.in_ok-write_refutation-in-Refuted.ensures s f (f first) c.limit_of-limit.result _ (at_end Unwalked Vacuous) (log_first s f) refutes)
+    (c.in_ok-write_refutation-in-Refuted.ensures s f (f first) c.limit_of-limit.result _ (at_end Unwalked Vacuous) unwalked_told (log_first s f) refutes)
     (c.write_end-verdict.ensures s f _ Unwalked (end_passes s f Unwalked Vacuous tt)))
 
 pub returns-in-Spent-clause-writes : goal.returns-in-Spent-clause-writes
@@ -63,4 +64,4 @@ returns-in-Spent-clause-writes g c =
     let spent = rw c.in-Spent.is at c.in_ok-found.ensures in
     let all = subst (λ (n : ℕ). IsSpent (f first) n c.in-Spent.log) (sym c.limit_of-limit.ensures.same) spent in
     c.concluded-in-Spent.ensures.writes s f _ _ _
-    (c.write_spent-verdict.ensures s f (f first) _ Unwalked c.limit_of-limit.ensures.same tt (query_first s f) all)
+    (c.write_spent-verdict.ensures s f (f first) _ Unwalked unwalked_told c.limit_of-limit.ensures.same tt (query_first s f) all)

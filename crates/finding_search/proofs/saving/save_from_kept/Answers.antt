@@ -19,7 +19,7 @@ use Rattle.finding_search.proofs.RowPasses.{pair_found}
 use Rattle.finding_search.proofs.saving.save_from_kept.Goals as goals
 
 pub returns-in_err-write_pair-in-Found : goals.returns-in_err-write_pair-in-Found
-returns-in_err-write_pair-in-Found g c reach =
+returns-in_err-write_pair-in-Found g c reach told =
     let k = comparison_of c.args.trial.now in
     let s = setting_in c.args.trial.now in
     let f = g.Q.Queries.formula c.args.queries.now in
@@ -30,17 +30,17 @@ returns-in_err-write_pair-in-Found g c reach =
     (c.in_err-write_pair-in-Found.ensures s f _ _ (pair_found k f c.requires.comparison reach set (pair_of c.in-Found.found) c.in-Found.found.rows.items b))
 
 pub returns-in_err-write_refutation-in-Refuted : goals.returns-in_err-write_refutation-in-Refuted
-returns-in_err-write_refutation-in-Refuted g c reach =
+returns-in_err-write_refutation-in-Refuted g c reach told =
     let k = comparison_of c.args.trial.now in
     let s = setting_in c.args.trial.now in
     let f = g.Q.Queries.formula c.args.queries.now in
     let set = members c.args.set.now in
     let refutes = rw c.in-Refuted.is at c.in_ok-found.ensures.answer in
     Writes-exit s f _ _ _ _ _ _ _ c.from_residual-in_err-write_refutation-in-Refuted.ensures.1
-    (c.in_err-write_refutation-in-Refuted.ensures s f (f (goal set)) c.limit_of-limit.result _ (at_end reach (related_by s set)) (log_goal s f reach set) refutes)
+    (c.in_err-write_refutation-in-Refuted.ensures s f (f (goal set)) c.limit_of-limit.result _ (at_end reach (related_by s set)) told (log_goal s f reach set) refutes)
 
 pub returns-in_ok-write_pair-in-Found : goals.returns-in_ok-write_pair-in-Found
-returns-in_ok-write_pair-in-Found g c reach =
+returns-in_ok-write_pair-in-Found g c reach told =
     let k = comparison_of c.args.trial.now in
     let s = setting_in c.args.trial.now in
     let f = g.Q.Queries.formula c.args.queries.now in
@@ -48,10 +48,10 @@ returns-in_ok-write_pair-in-Found g c reach =
     let a = rw c.in-Found.is at c.in_ok-found.ensures.answer in
     let b = subst (λ (x : Comparison). Answers x (goal (members c.args.set.now)) (pair_of c.in-Found.found) c.in-Found.found.rows.items) c.requires.compared a in
     Writes-then s f _ _ _ _ _ (finished reach) _ _
-    (c.in_ok-write_pair-in-Found.ensures s f _ _ (pair_found k f c.requires.comparison reach set (pair_of c.in-Found.found) c.in-Found.found.rows.items b)) (c.search.ensures reach)
+    (c.in_ok-write_pair-in-Found.ensures s f _ _ (pair_found k f c.requires.comparison reach set (pair_of c.in-Found.found) c.in-Found.found.rows.items b)) (c.search.ensures reach told)
 
 pub returns-in_ok-write_refutation-in-Refuted : goals.returns-in_ok-write_refutation-in-Refuted
-returns-in_ok-write_refutation-in-Refuted g c reach =
+returns-in_ok-write_refutation-in-Refuted g c reach told =
     let k = comparison_of c.args.trial.now in
     let s = setting_in c.args.trial.now in
     let f = g.Q.Queries.formula c.args.queries.now in
@@ -59,16 +59,16 @@ returns-in_ok-write_refutation-in-Refuted g c reach =
     let verdict = c.related_by.result in
     let refutes = rw c.in-Refuted.is at c.in_ok-found.ensures.answer in
     Writes-then s f _ _ _ _ _ (finished reach) _ _
-    (c.in_ok-write_refutation-in-Refuted.ensures s f (f (goal set)) c.limit_of-limit.result _ (at_end reach verdict)
+    (c.in_ok-write_refutation-in-Refuted.ensures s f (f (goal set)) c.limit_of-limit.result _ (at_end reach verdict) told
     (subst (λ (v : Conclusion). Passes s f (at_kept reach set) (lines.Log Goal) (in_log (opened (f (goal set))) (at_end reach v))) (sym c.related_by.ensures.same) (log_goal s f reach set)) refutes)
     (c.write_end.ensures s f _ reach (end_passes s f reach verdict c.related_by.ensures.ending))
 
 pub returns-in-Spent : goals.returns-in-Spent
-returns-in-Spent g c reach =
+returns-in-Spent g c reach told =
     let k = comparison_of c.args.trial.now in
     let s = setting_in c.args.trial.now in
     let f = g.Q.Queries.formula c.args.queries.now in
     let set = members c.args.set.now in
     let spent = rw c.in-Spent.is at c.in_ok-found.ensures.answer in
     let all = subst (λ (n : ℕ). IsSpent (f (goal (members c.args.set.now))) n c.in-Spent.log) (sym c.limit_of-limit.ensures.same) spent in
-    c.write_spent.ensures s f (f (goal set)) _ reach c.limit_of-limit.ensures.same tt (query_goal s f reach set) all
+    c.write_spent.ensures s f (f (goal set)) _ reach told c.limit_of-limit.ensures.same tt (query_goal s f reach set) all

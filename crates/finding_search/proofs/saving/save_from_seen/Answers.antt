@@ -46,4 +46,4 @@ returns-clause-writes g c =
     c.concluded.ensures.writes s f _ _ _
     (Writes-then s f _ _ _ _ _ (finished told) _ _
     (c.in_ok-told.ensures.writes k f c.limit_of-limit.result c.requires.comparison c.limit_of-limit.ensures.same c.in_ok-walk.ensures.walk)
-    (starts_then f c.args.trial.now c.reach.new.trial _ _ told _ c.in_ok-walk.ensures.trial (c.save_from_start-verdict.ensures told)))
+    (starts_then f c.args.trial.now c.reach.new.trial _ _ told _ c.in_ok-walk.ensures.trial (c.save_from_start-verdict.ensures told c.in_ok-told.ensures.told)))

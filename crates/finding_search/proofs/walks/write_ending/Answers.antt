@@ -11,7 +11,7 @@ use Rattle.judgement.specs.declared.answers.Reach.TheVariants.{Greatest, AtLeast
 use Rattle.finding_search.specs.Passing.{Passes}
 use Rattle.finding_search.specs.Places.{after_all}
 use Rattle.finding_search.proofs.Going.{Writes-exit, Writes-answer, Writes-nothing, Writes-spent}
-use Rattle.finding_search.proofs.LogRuns.{walk_spent_runs}
+use Rattle.finding_search.proofs.LogRuns.{greatest_told, walk_spent_runs}
 use Rattle.finding_search.proofs.WalkRuns.{full_ends, log_ends, query_ends}
 use Rattle.finding_search.proofs.walks.write_ending.Goals as goal
 
@@ -29,7 +29,7 @@ returns-in_err-write_refutation-in-Refuted-clause-writes g c k formula pair some
     let f = formula (walk (suc c.args.rows)) in
     let behind = at_drops (Greatest c.args.rows) (first_set s) in
     Writes-exit s formula _ _ _ _ _ _ _ c.from_residual.ensures.1
-    (c.in_err-write_refutation-in-Refuted.ensures s formula f s.conflicts (after_walk s c.args.rows pair) behind
+    (c.in_err-write_refutation-in-Refuted.ensures s formula f s.conflicts (after_walk s c.args.rows pair) behind (greatest_told c.args.rows)
     (subst (λ (q : Asked). Passes s formula (after_walk s c.args.rows pair) (lines.Log q) (in_log (opened f) behind)) (sym c.walk_behind-asked.ensures.same)
     (log_ends k formula c.args.rows s.conflicts pair c.in-Refuted.log some refuted)) refuted.1)
 
@@ -40,7 +40,7 @@ returns-in_ok-write_refutation-in-Refuted-clause-writes g c k formula pair some 
     let f = formula (walk (suc c.args.rows)) in
     let behind = at_drops (Greatest c.args.rows) (first_set s) in
     Writes-answer s formula _ _ _ (λ (x : Unit {0}). at_drops (Greatest c.args.rows) (first_set s)) tt (λ (reach : Reach). at_drops reach (first_set s)) (Greatest c.args.rows) refl
-    (c.in_ok-write_refutation-in-Refuted.ensures s formula f s.conflicts (after_walk s c.args.rows pair) behind
+    (c.in_ok-write_refutation-in-Refuted.ensures s formula f s.conflicts (after_walk s c.args.rows pair) behind (greatest_told c.args.rows)
     (subst (λ (q : Asked). Passes s formula (after_walk s c.args.rows pair) (lines.Log q) (in_log (opened f) behind)) (sym c.walk_behind-asked.ensures.same)
     (log_ends k formula c.args.rows s.conflicts pair c.in-Refuted.log some refuted)) refuted.1)
 
