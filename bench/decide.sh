@@ -1,6 +1,6 @@
 #!/bin/bash
 # Decides formulas by the fast decider and by the plain one, and by minisat and cadical where they are installed: generated ones, or those of
-# the files that are named. For each formula: the answer, derived clauses and milliseconds of a decider, and how many proposals of its search
+# the files that are named. For each formula: the answer, entries of the log (derived clauses and deletions) and milliseconds of a decider, and how many proposals of its search
 # were refused; then milliseconds and conflicts of the others. `bench/decide.sh [SECONDS [FILE ..]]`, the
 # most that one run may take (60).
 set -u
@@ -18,8 +18,8 @@ fi
 
 ours() {
     timeout "$seconds" "$program" bench "$1" "$2" | awk '
-        /^s /{answer = $2} /^c steps/{steps = $3} /^c refused/{refused = $4} / ms$/{ms = $2}
-        END{if (answer == "") print "-"; else print answer, steps + 0, "steps", ms, "ms, refused", refused}'
+        /^s /{answer = $2} /^c entries/{steps = $3} /^c refused/{refused = $4} / ms$/{ms = $2}
+        END{if (answer == "") print "-"; else print answer, steps + 0, "entries", ms, "ms, refused", refused}'
 }
 
 minisat_of() {
