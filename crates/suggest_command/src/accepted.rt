@@ -6,13 +6,12 @@ ghost use Rattle.command_files.specs.front_end.Texts.{StatesProgram, StatesNoPro
 ghost use Rattle.command_files.specs.Refused.{IfRefused, IfRefusedOf};
 ghost use Rattle.suggest_command.specs.Suggested.{IsSuggestedFor, IsRefusedFor};
 
-use crate::numbers::numbers_in;
+use crate::wording::wording_in;
 use command_answers::Source;
 use command_files::{AcceptError, accept_text, fault_of};
-use plc_types::Value;
 use program_tree::Program;
 use std::alloc::Global;
-use suggestion::{Suggestion, suggest};
+use suggestion::{Effort, Spelling, Suggestion, Wording, suggest};
 
 // The program of a text.
 fn program_of(alloc: Global, source: Source, text: &[u8]) -> Result<Program, AcceptError>
@@ -26,11 +25,15 @@ fn program_of(alloc: Global, source: Source, text: &[u8]) -> Result<Program, Acc
     }
 }
 
-// The numbers of texts that are accepted; were a text refused here, there would be none.
-fn numbers_or_none(alloc: Global, old: &[u8], new: &[u8], relation: &[u8]) -> Vec<Value> {
-    match numbers_in(alloc, old, new, relation) {
-        Ok(numbers) => numbers,
-        Err(_) => Vec::new(alloc),
+// The wording of texts that are accepted; were a text refused here, there would be none.
+fn wording_or_none(alloc: Global, old: &[u8], new: &[u8], relation: &[u8]) -> Wording {
+    match wording_in(alloc, old, new, relation) {
+        Ok(wording) => wording,
+        Err(_) => Wording {
+            numbers: Vec::new(alloc),
+            old: Spelling::new(alloc),
+            new: Spelling::new(alloc),
+        },
     }
 }
 
@@ -41,16 +44,22 @@ pub fn suggest_for(
     old: &[u8],
     new: &[u8],
     relation: &[u8],
-    seed: u64,
+    effort: Effort,
 ) -> Result<Suggestion, AcceptError>
     ensures suggested { IfOk result (IsSuggestedFor old.now new.now relation.now) }
     ensures refused { IfErr result (IfRefused (IsRefusedFor old.now new.now relation.now)) }
 {
     let old_program = program_of(alloc, Source::Old, old)?;
     let new_program = program_of(alloc, Source::New, new)?;
-    let numbers = numbers_or_none(alloc, old, new, relation);
-    let numbers = numbers.as_slice();
-    match suggest(alloc, &old_program, &new_program, relation, numbers, seed) {
+    let wording = wording_or_none(alloc, old, new, relation);
+    match suggest(
+        alloc,
+        &old_program,
+        &new_program,
+        relation,
+        &wording,
+        effort,
+    ) {
         Ok(suggestion) => Ok(suggestion),
         Err(fault) => Err(fault_of(Source::Relation, fault)),
     }

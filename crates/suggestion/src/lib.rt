@@ -3,7 +3,7 @@
 // - `making`: the lines that are suggested;
 // - `proposing`, `standing`, `dropping`: what is proposed, what stands in the relation already, and what is left out;
 // - `stated_line`, `sums`, `cells`, `counts`: the lines that state proposals;
-// - `edges`: the numbers that a text names.
+// - `edges`, `spelling`, `wording`: the numbers that the texts name, and how they write the names that they declare.
 #![tactic(auto)]
 
 mod cells;
@@ -12,9 +12,14 @@ mod dropping;
 mod edges;
 mod making;
 mod proposing;
+mod spelling;
 mod standing;
 mod stated_line;
 mod sums;
+mod wording;
 
 pub use edges::numbers_of;
+pub use line_trials::Effort;
 pub use making::{Suggestion, suggest};
+pub use spelling::Spelling;
+pub use wording::Wording;

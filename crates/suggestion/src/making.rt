@@ -12,7 +12,8 @@ ghost use Rattle.line_trials.specs.Suggested.{HasHeld, IsSuggestion};
 
 use crate::dropping::{drop_failed, drop_refused};
 use crate::proposing::propose;
-use line_trials::{InvariantLine, Trial, read_given, try_lines};
+use crate::wording::Wording;
+use line_trials::{Effort, InvariantLine, Trial, read_given, try_lines};
 use plc_types::Value;
 use program_tree::Program;
 use rules::Fault;
@@ -71,8 +72,8 @@ fn suggest_for(
     new: &Program,
     relation: &Relation,
     text: &[u8],
-    numbers: &[Value],
-    seed: u64,
+    wording: &Wording,
+    effort: Effort,
 ) -> Result<Suggestion, AllocError>
     requires comparable { AreComparable old.now new.now relation.now }
     requires stated { StatesRelation (program_view old.now) (program_view new.now) text.now (relation_view relation.now) }
@@ -80,7 +81,7 @@ fn suggest_for(
     ensures held { IfOk result (λ s. HasHeld (program_view old.now) (program_view new.now) (length (relation_view relation.now).invariants) s.text.items (runs_of s.runs.items)) }
 {
     let given = relation.invariant_clauses().len();
-    let proposed = propose(alloc, old, new, relation, text, numbers, seed)?;
+    let proposed = propose(alloc, old, new, relation, text, wording, effort)?;
     let (pairs, unrelated) = (proposed.pairs, proposed.unrelated);
     let runs = proposed.runs;
     match settle(
@@ -110,14 +111,14 @@ fn suggest_for(
 }
 
 /// Adds INVARIANT lines to the text of a relation: lines that held on all pairs of runs from the start on rows that are allowed, which
-/// are drawn from a seed, edges and the numbers of the texts first. Where a scan left a pair unrelated there is none.
+/// are drawn from a seed, edges and the numbers of the texts first, as many as the effort allows. Where a scan left a pair unrelated there is none.
 pub fn suggest(
     alloc: Global,
     old: &Program,
     new: &Program,
     text: &[u8],
-    numbers: &[Value],
-    seed: u64,
+    wording: &Wording,
+    effort: Effort,
 ) -> Result<Suggestion, Fault>
     requires old { IsFitToRun (program_view old.now) }
     requires new { IsFitToRun (program_view new.now) }
@@ -130,5 +131,5 @@ pub fn suggest(
     ensures refused { IfErr result (IfRefused (StatesNoRelation (program_view old.now) (program_view new.now) text.now)) }
 {
     let relation = read_given(alloc, old, new, text)?;
-    Ok(suggest_for(alloc, old, new, &relation, text, numbers, seed)?)
+    Ok(suggest_for(alloc, old, new, &relation, text, wording, effort)?)
 }

@@ -2,6 +2,7 @@
 use crate::cells::{Names, add_cell, add_held, add_number, add_value, is_bool};
 use crate::counts::add_count;
 use crate::sums::{add_shaped, add_sum};
+use crate::wording::Wording;
 use line_trials::InvariantLine;
 use plc_types::Value;
 use program_tree::Program;
@@ -324,11 +325,17 @@ pub fn lines_of(
     alloc: Global,
     old: &Program,
     new: &Program,
+    wording: &Wording,
     proposals: &[Proposal],
     pairs: usize,
     most: usize,
 ) -> Result<Vec<InvariantLine>, AllocError> {
-    let names = Names { alloc, old, new };
+    let names = Names {
+        alloc,
+        old,
+        new,
+        wording,
+    };
     let mut lines = Vec::new(alloc);
     for proposal in proposals.iter().take(most) {
         lines.push(line_of(&names, proposal, pairs)?)?;
