@@ -1,7 +1,10 @@
 // Suggestions within a time. What is suggested follows from the texts, the seed and the number of pairs; of the time only that number does.
 use command_files::AcceptError;
+use outside::{SureShelf, SureSink};
+use regver_top::regver;
+use std::alloc::{AllocError, Global};
 use std::time::{Clock, Instant};
-use suggest_command::{Asked, Effort, Suggestion, suggest_for};
+use suggest_command::{Asked, Effort, Suggestion, keep_for, suggest_for};
 
 /// The bytes of three files.
 #[derive(Clone, Copy)]
@@ -68,8 +71,8 @@ fn suggest_within(
     suggest_by(rt, texts, effort)
 }
 
-/// What is suggested for three texts, as words ask for it.
-pub fn suggest_as_asked(
+// What is suggested for three texts, within a time where one is asked for.
+fn suggest_in_time(
     rt: &(impl Clock + AllocGlobal),
     texts: &Texts<'_>,
     asked: &Asked<'_>,
@@ -78,4 +81,37 @@ pub fn suggest_as_asked(
         Some(seconds) => suggest_within(rt, texts, asked.effort, seconds),
         None => suggest_by(rt, texts, asked.effort),
     }
+}
+
+// The finding that verify saves on the text of a suggestion, in memory.
+fn finding_on(alloc: Global, texts: &Texts<'_>, made: &[u8]) -> Result<Vec<u8>, AllocError> {
+    let mut shelf = SureShelf::new(alloc);
+    shelf.fill("old", texts.old)?;
+    shelf.fill("new", texts.new)?;
+    shelf.fill("relation", made)?;
+    let mut words: Vec<String> = Vec::new(alloc);
+    for word in ["regver", "verify", "old", "new", "relation", "finding"] {
+        words.push(String::from_str(alloc, word)?)?;
+    }
+    let mut out = SureSink::new(alloc);
+    let _status = regver(alloc, words, &mut shelf, &mut out);
+    Vec::from_slice(alloc, shelf.bytes("finding"))
+}
+
+/// What is suggested for three texts, as words ask for it: where lines are to be kept, those that verify drops stand in comments.
+pub fn suggest_as_asked(
+    rt: &(impl Clock + AllocGlobal),
+    texts: &Texts<'_>,
+    asked: &Asked<'_>,
+) -> Result<Suggestion, AcceptError> {
+    let suggestion = suggest_in_time(rt, texts, asked)?;
+    if !asked.keeps || suggestion.unrelated.is_some() {
+        return Ok(suggestion);
+    }
+    let alloc = rt.alloc();
+    let Ok(finding) = finding_on(alloc, texts, suggestion.text.as_slice()) else {
+        return Err(AcceptError::Memory);
+    };
+    let (old, new, relation) = (texts.old, texts.new, texts.relation);
+    keep_for(alloc, old, new, relation, suggestion, finding.as_slice())
 }

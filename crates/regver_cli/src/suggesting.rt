@@ -96,7 +96,8 @@ pub fn is_asked_for(words: &[String]) -> bool {
 /// Suggests lines for the files that the words name, of which the first is the program's own name, and returns the exit status.
 pub fn suggest(rt: &(impl Files + Print + Eprint + Clock + AllocGlobal), words: &[String]) -> u8 {
     let Some(asked) = read_words(words) else {
-        let usage = "USAGE regver-suggest [--seed N] [--pairs N] [--seconds N] OLD NEW REL";
+        let usage =
+            "USAGE regver-suggest [--seed N] [--pairs N] [--seconds N] [--kept] OLD NEW REL";
         return end(rt, usage, Status::Usage.code());
     };
     match answer(rt, &asked) {

@@ -317,7 +317,11 @@ fn line_of(
     let mut clause = String::new(names.alloc);
     add_clause(names, proposal, &mut clause)?;
     let note = note_of(names, proposal, pairs)?;
-    Ok(InvariantLine { clause, note })
+    Ok(InvariantLine {
+        clause,
+        note,
+        is_kept: true,
+    })
 }
 
 /// The lines of the first proposals, at most so many; each held on that many pairs.
