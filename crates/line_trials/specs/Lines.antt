@@ -1,5 +1,5 @@
 -- A text of a relation with INVARIANT lines behind it.
-use Rattle.std.specs.Prelude.{ℕ, Bool, List, [], ◌∷◌, ◌++◌, codes, map, string_bytes}
+use Rattle.std.specs.Prelude.{ℕ, Bool, List, [], ◌∷◌, ◌++◌, if◌then◌else◌, codes, map, string_bytes}
 use Rattle.line_trials.specs.declared.line.InvariantLine.{InvariantLine}
 
 -- the clause of an INVARIANT line, the text of a comment behind it, and whether the line stands there as a line or in a comment
