@@ -160,35 +160,52 @@ impl Spelling {
         Ok(spelling)
     }
 
-    fn declared(&self, unit: &str, name: &str) -> Result<Option<&Declared>, AllocError> {
+    // The number of a name of a unit.
+    fn find(&self, unit: &str, name: &str) -> Result<Option<usize>, AllocError> {
         let key = key_of(self.alloc, unit, name)?;
-        match self.places.get(key.as_str()) {
-            Some(place) => Ok(self.declared.get(*place)),
-            None => Ok(None),
+        Ok(self.places.get(key.as_str()).copied())
+    }
+
+    // The unit whose names stand behind the point of a variable, by its number; before the first name the PROGRAM.
+    fn unit_behind(&self, variable: Option<usize>) -> &str {
+        match variable {
+            Some(number) => match self.declared.get(number) {
+                Some(declared) => declared.kind.as_str(),
+                None => PROGRAM,
+            },
+            None => PROGRAM,
         }
+    }
+
+    // Adds a name as its declaration writes it, by its number; where there is none, as it is.
+    fn add_name(
+        &self,
+        number: Option<usize>,
+        name: &str,
+        text: &mut String,
+    ) -> Result<(), AllocError> {
+        if let Some(number) = number
+            && let Some(declared) = self.declared.get(number)
+        {
+            return text.push_str(declared.written.as_str());
+        }
+        text.push_str(name)
     }
 
     /// Adds the path of a cell of the program, each name of it as its declaration writes it; one that no text declares as it is.
     pub fn add_path(&self, path: &str, text: &mut String) -> Result<(), AllocError> {
-        let mut unit = PROGRAM;
-        for (number, name) in path.split('.').enumerate() {
-            text.push_str(if number == 0 { "" } else { "." })?;
-            match self.declared(unit, name)? {
-                Some(declared) => {
-                    text.push_str(declared.written.as_str())?;
-                    unit = declared.kind.as_str();
-                }
-                None => text.push_str(name)?,
-            }
+        let mut variable = None;
+        for (place, name) in path.split('.').enumerate() {
+            text.push_str(if place == 0 { "" } else { "." })?;
+            variable = self.find(self.unit_behind(variable), name)?;
+            self.add_name(variable, name, text)?;
         }
         Ok(())
     }
 
     /// Adds the name of a value of an enumeration as its declaration writes it.
     pub fn add_value(&self, name: &str, text: &mut String) -> Result<(), AllocError> {
-        match self.declared(TYPES, name)? {
-            Some(declared) => text.push_str(declared.written.as_str()),
-            None => text.push_str(name),
-        }
+        let number = self.find(TYPES, name)?;
+        self.add_name(number, name, text)
     }
 }
