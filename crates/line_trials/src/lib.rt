@@ -18,7 +18,7 @@ mod texts;
 mod trial;
 
 pub use line::InvariantLine;
-pub use plan::Plan;
+pub use plan::{Effort, Plan};
 pub use reading::read_given;
 pub use runs::try_runs;
 pub use trial::{Trial, try_lines};

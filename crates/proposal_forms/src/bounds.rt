@@ -72,3 +72,53 @@ pub fn add_bounds(
     }
     Ok(())
 }
+
+// Of a cell that it goes no further than it was seen to go, on each side on which the number behind that stands in the texts and it does
+// not itself: a counter that runs round stays below the number by which it is divided.
+fn add_beside(
+    cell: usize,
+    low: Value,
+    high: Value,
+    range: Range,
+    edges: &[Value],
+    found: &mut Vec<Proposal>,
+) -> Result<(), AllocError> {
+    let below = low.wrapping_sub(1);
+    if low > range.low && edges.contains(&below) && !edges.contains(&low) {
+        found.push(Proposal::AtLeast {
+            cell,
+            bound: low,
+            seen: low,
+        })?;
+    }
+    let above = high.wrapping_add(1);
+    if high < range.high && edges.contains(&above) && !edges.contains(&high) {
+        found.push(Proposal::AtMost {
+            cell,
+            bound: high,
+            seen: high,
+        })?;
+    }
+    Ok(())
+}
+
+/// Of each integer cell that is no input, that it is never at the numbers of the texts next to which it was seen.
+pub fn add_bounds_beside(
+    facts: &Facts<'_>,
+    edges: &[Value],
+    found: &mut Vec<Proposal>,
+) -> Result<(), AllocError> {
+    for class in 0..facts.classes.len() {
+        if facts.sort(class) != Sort::Integer || facts.is_of_inputs(class) {
+            continue;
+        }
+        let cell = facts.first(class);
+        if let Some(signature) = facts.signature(class)
+            && let Some(subject) = facts.subjects.get(cell)
+        {
+            let (low, high) = (signature.low, signature.high);
+            add_beside(cell, low, high, subject.range, edges, found)?;
+        }
+    }
+    Ok(())
+}

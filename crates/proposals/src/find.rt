@@ -4,9 +4,9 @@ use crate::maps::add_maps;
 use crate::unions::add_unions;
 use plc_types::Value;
 use proposal_forms::{
-    Proposal, add_apart, add_bits, add_bounds, add_counts, add_equal, add_exclusive, add_flags,
-    add_junctions, add_last_own, add_opposite, add_reaches, add_shapes, add_sums, add_sums_of_two,
-    add_sums_of_types,
+    Proposal, add_apart, add_bits, add_bounds, add_bounds_beside, add_counts, add_equal,
+    add_exclusive, add_flags, add_junctions, add_last_own, add_opposite, add_reaches, add_scaled,
+    add_shapes, add_sums, add_sums_of_two, add_sums_of_types,
 };
 use scan_model::Side;
 use seen_values::{Facts, Seen, Subject, facts_of};
@@ -28,6 +28,7 @@ fn add_ties(
     add_sums_of_two(facts, &mut left, found)?;
     add_sums_of_types(facts, found)?;
     add_sums(facts, left.as_slice(), found)?;
+    add_scaled(facts, left.as_slice(), found)?;
     add_shapes(facts, left.as_slice(), edges, found)?;
     add_junctions(facts, Side::New, found)?;
     add_junctions(facts, Side::Old, found)?;
@@ -46,6 +47,7 @@ fn add_others(
     add_counts(facts, Side::Old, found)?;
     add_counts(facts, Side::New, found)?;
     add_bounds(facts, edges, 0, found)?;
+    add_bounds_beside(facts, edges, found)?;
     add_apart(facts, found)?;
     add_exclusive(facts, Side::Old, found)?;
     add_exclusive(facts, Side::New, found)?;

@@ -9,6 +9,7 @@ mod identity;
 mod own_files;
 mod progress;
 mod std_sink;
+mod suggest_within;
 mod suggesting;
 mod words;
 

@@ -1,13 +1,13 @@
 // What the program does by the name `regver-suggest`: it prints the text of a relation with INVARIANT lines behind it. All else goes to
 // standard error, so that standard output has a relation or nothing.
 use crate::fault::tell_fault;
+use crate::suggest_within::{Texts, suggest_as_asked};
 use regver_top::Status;
 use std::io::Eprint;
 use std::rt::Files;
+use std::time::Clock;
 use std::{fs, io};
-use suggest_command::{
-    Asked, Ending, Suggestion, ending_of, ending_without, read_words, suggest_for,
-};
+use suggest_command::{Asked, Ending, Suggestion, ending_of, ending_without, read_words};
 
 // Ends without a text: standard error says why. Where it cannot be told, nothing more is tried.
 fn end(rt: &impl Eprint, line: &str, status: u8) -> u8 {
@@ -38,14 +38,12 @@ fn end_with(rt: &(impl Print + Eprint), suggestion: &Suggestion, ending: &Ending
 
 // Prints what is suggested for three texts.
 fn suggest_to(
-    rt: &(impl Print + Eprint + AllocGlobal),
-    old: &[u8],
-    new: &[u8],
-    relation: &[u8],
-    seed: u64,
+    rt: &(impl Print + Eprint + Clock + AllocGlobal),
+    texts: &Texts<'_>,
+    asked: &Asked<'_>,
 ) -> u8 {
     let alloc = rt.alloc();
-    match suggest_for(alloc, old, new, relation, seed) {
+    match suggest_as_asked(rt, texts, asked) {
         Ok(suggestion) => match ending_of(alloc, &suggestion) {
             Ok(ending) => end_with(rt, &suggestion, &ending),
             Err(_) => end_for_memory(rt),
@@ -69,11 +67,19 @@ fn read(rt: &(impl Files + Eprint + AllocGlobal), name: &str) -> io::Result<Vec<
 }
 
 // Reads the three files, and prints what is suggested for them.
-fn answer(rt: &(impl Files + Print + Eprint + AllocGlobal), asked: &Asked<'_>) -> io::Result<u8> {
+fn answer(
+    rt: &(impl Files + Print + Eprint + Clock + AllocGlobal),
+    asked: &Asked<'_>,
+) -> io::Result<u8> {
     let old = read(rt, asked.old)?;
     let new = read(rt, asked.new)?;
     let relation = read(rt, asked.relation)?;
-    Ok(suggest_to(rt, &old, &new, &relation, asked.seed))
+    let texts = Texts {
+        old: &old,
+        new: &new,
+        relation: &relation,
+    };
+    Ok(suggest_to(rt, &texts, asked))
 }
 
 /// Whether the program was called by the name that suggests, wherever it stands.
@@ -88,9 +94,10 @@ pub fn is_asked_for(words: &[String]) -> bool {
 }
 
 /// Suggests lines for the files that the words name, of which the first is the program's own name, and returns the exit status.
-pub fn suggest(rt: &(impl Files + Print + Eprint + AllocGlobal), words: &[String]) -> u8 {
+pub fn suggest(rt: &(impl Files + Print + Eprint + Clock + AllocGlobal), words: &[String]) -> u8 {
     let Some(asked) = read_words(words) else {
-        let usage = "USAGE regver-suggest [--seed N] OLD NEW REL";
+        let usage =
+            "USAGE regver-suggest [--seed N] [--pairs N] [--seconds N] [--kept] OLD NEW REL";
         return end(rt, usage, Status::Usage.code());
     };
     match answer(rt, &asked) {

@@ -3,10 +3,10 @@ use case_files::{
     Case, CaseFault, Mismatch, Word, compare, new_program_of, program_of, section_of, text_of,
 };
 use std::alloc::{AllocError, Global};
-use suggest_command::{Ending, ending_of, ending_without, suggest_for};
+use suggest_command::{Effort, Ending, ending_of, ending_without, suggest_for};
 
 fn ending(alloc: Global, old: &[u8], new: &[u8], relation: &[u8]) -> Result<Ending, AllocError> {
-    match suggest_for(alloc, old, new, relation, 1) {
+    match suggest_for(alloc, old, new, relation, Effort::of_seed(1)) {
         Ok(suggestion) => ending_of(alloc, &suggestion),
         Err(error) => ending_without(alloc, &error),
     }

@@ -6,13 +6,13 @@ ghost use Rattle.command_files.specs.front_end.Texts.{StatesProgram, StatesNoPro
 ghost use Rattle.command_files.specs.Refused.{IfRefused, IfRefusedOf};
 ghost use Rattle.suggest_command.specs.Suggested.{IsSuggestedFor, IsRefusedFor};
 
-use crate::numbers::numbers_in;
+use crate::leaving::leavings_in;
+use crate::wording::wording_in;
 use command_answers::Source;
 use command_files::{AcceptError, accept_text, fault_of};
-use plc_types::Value;
 use program_tree::Program;
 use std::alloc::Global;
-use suggestion::{Suggestion, suggest};
+use suggestion::{Effort, Leaving, Spelling, Suggestion, Wording, suggest, without_left};
 
 // The program of a text.
 fn program_of(alloc: Global, source: Source, text: &[u8]) -> Result<Program, AcceptError>
@@ -26,11 +26,15 @@ fn program_of(alloc: Global, source: Source, text: &[u8]) -> Result<Program, Acc
     }
 }
 
-// The numbers of texts that are accepted; were a text refused here, there would be none.
-fn numbers_or_none(alloc: Global, old: &[u8], new: &[u8], relation: &[u8]) -> Vec<Value> {
-    match numbers_in(alloc, old, new, relation) {
-        Ok(numbers) => numbers,
-        Err(_) => Vec::new(alloc),
+// The wording of texts that are accepted; were a text refused here, there would be none.
+fn wording_or_none(alloc: Global, old: &[u8], new: &[u8], relation: &[u8]) -> Wording {
+    match wording_in(alloc, old, new, relation) {
+        Ok(wording) => wording,
+        Err(_) => Wording {
+            numbers: Vec::new(alloc),
+            old: Spelling::new(alloc),
+            new: Spelling::new(alloc),
+        },
     }
 }
 
@@ -41,16 +45,60 @@ pub fn suggest_for(
     old: &[u8],
     new: &[u8],
     relation: &[u8],
-    seed: u64,
+    effort: Effort,
 ) -> Result<Suggestion, AcceptError>
     ensures suggested { IfOk result (IsSuggestedFor old.now new.now relation.now) }
     ensures refused { IfErr result (IfRefused (IsRefusedFor old.now new.now relation.now)) }
 {
     let old_program = program_of(alloc, Source::Old, old)?;
     let new_program = program_of(alloc, Source::New, new)?;
-    let numbers = numbers_or_none(alloc, old, new, relation);
-    let numbers = numbers.as_slice();
-    match suggest(alloc, &old_program, &new_program, relation, numbers, seed) {
+    let wording = wording_or_none(alloc, old, new, relation);
+    match suggest(
+        alloc,
+        &old_program,
+        &new_program,
+        relation,
+        &wording,
+        effort,
+    ) {
+        Ok(suggestion) => Ok(suggestion),
+        Err(fault) => Err(fault_of(Source::Relation, fault)),
+    }
+}
+
+// The scans of a finding that leave candidates; none where memory is wanting for them.
+fn leavings_or_none(alloc: Global, finding: &[u8], old: &Program, new: &Program) -> Vec<Leaving> {
+    match leavings_in(alloc, finding, old.cells.len(), new.cells.len()) {
+        Ok(scans) => scans,
+        Err(_) => Vec::new(alloc),
+    }
+}
+
+/// The same suggestion, where those lines stand in comments that a finding on its text drops, with what leads out of them.
+pub fn keep_for(
+    alloc: Global,
+    old: &[u8],
+    new: &[u8],
+    relation: &[u8],
+    suggestion: Suggestion,
+    finding: &[u8],
+) -> Result<Suggestion, AcceptError>
+    ensures suggested { IfOk result (IsSuggestedFor old.now new.now relation.now) }
+    ensures refused { IfErr result (IfRefused (IsRefusedFor old.now new.now relation.now)) }
+{
+    let old_program = program_of(alloc, Source::Old, old)?;
+    let new_program = program_of(alloc, Source::New, new)?;
+    let wording = wording_or_none(alloc, old, new, relation);
+    let scans = leavings_or_none(alloc, finding, &old_program, &new_program);
+    match without_left(
+        alloc,
+        &old_program,
+        &new_program,
+        relation,
+        &wording,
+        suggestion,
+        scans.as_slice(),
+    ) {
         Ok(suggestion) => Ok(suggestion),
         Err(fault) => Err(fault_of(Source::Relation, fault)),
     }

@@ -31,14 +31,25 @@ fn note_on_scan(alloc: Global, suggestion: &Suggestion, scan: usize) -> Result<S
     Ok(text)
 }
 
+// How many lines were added, and how many stand in comments.
+fn note_on_lines(alloc: Global, suggestion: &Suggestion) -> Result<String, AllocError> {
+    let pairs = suggestion.pairs;
+    let lines = suggestion.lines.iter().filter(|line| line.is_kept).count();
+    let others = suggestion.lines.len().saturating_sub(lines);
+    if others == 0 {
+        format!(in alloc; "{lines} lines, each of which held on {pairs} pairs")
+    } else {
+        format!(in alloc;
+            "{lines} lines that verify keeps, each of which held on {pairs} pairs; in comments {others} more that held there"
+        )
+    }
+}
+
 // How many lines were added and on how many pairs they held; or after which scan a pair was not related, with the rows that lead there.
 fn note_of(alloc: Global, suggestion: &Suggestion) -> Result<String, AllocError> {
     match suggestion.unrelated {
         Some(scan) => note_on_scan(alloc, suggestion, scan),
-        None => {
-            let (lines, pairs) = (suggestion.lines.len(), suggestion.pairs);
-            format!(in alloc; "{lines} lines, each of which held on {pairs} pairs")
-        }
+        None => note_on_lines(alloc, suggestion),
     }
 }
 

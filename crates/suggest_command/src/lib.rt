@@ -3,10 +3,11 @@
 
 mod accepted;
 mod endings;
-mod numbers;
+mod leaving;
+mod wording;
 mod words;
 
-pub use accepted::suggest_for;
+pub use accepted::{keep_for, suggest_for};
 pub use endings::{Ending, ending_of, ending_without};
-pub use suggestion::Suggestion;
+pub use suggestion::{Effort, Suggestion};
 pub use words::{Asked, read_words};

@@ -1,14 +1,17 @@
 // Cells and values of both programs, as clauses name them.
+use crate::spelling::Spelling;
+use crate::wording::Wording;
 use plc_types::{DataType, Elementary, Range, Value};
 use program_tree::{Cell, Program};
 use std::alloc::{AllocError, Global};
 
-/// The programs whose cells are numbered, OLD's from 0 on and NEW's behind them.
+/// The programs whose cells are numbered, OLD's from 0 on and NEW's behind them, and how their texts write names.
 #[derive(Clone, Copy)]
 pub struct Names<'a> {
     pub alloc: Global,
     pub old: &'a Program,
     pub new: &'a Program,
+    pub wording: &'a Wording,
 }
 
 // The cell of a number, and the word before its path.
@@ -26,11 +29,20 @@ fn cell_at<'a>(names: &Names<'a>, number: usize) -> Option<(&'static str, &'a Ce
     }
 }
 
-/// Adds `old.PATH` or `new.PATH`.
+// How the text of the program of a cell writes names.
+fn spelling_at<'a>(names: &Names<'a>, number: usize) -> &'a Spelling {
+    if number < names.old.cells.len() {
+        &names.wording.old
+    } else {
+        &names.wording.new
+    }
+}
+
+/// Adds `old.path` or `new.path`, as the program's text writes it.
 pub fn add_cell(names: &Names<'_>, number: usize, text: &mut String) -> Result<(), AllocError> {
     if let Some((word, cell)) = cell_at(names, number) {
         text.push_str(word)?;
-        text.push_str(cell.path.as_str())?;
+        spelling_at(names, number).add_path(cell.path.as_str(), text)?;
     }
     Ok(())
 }
@@ -117,7 +129,7 @@ pub fn add_value(
     match value_name(program, cell.kind, value) {
         Some(name) => {
             text.push_str(word)?;
-            text.push_str(name)
+            spelling_at(names, number).add_value(name, text)
         }
         None => add_number(names, value, text),
     }

@@ -39,12 +39,24 @@ pub fn drop_refused(lines: &mut Vec<InvariantLine>, start: usize, at: usize) {
     }
 }
 
-/// Leaves out the lines that are marked; where none is, all.
+// Whether a line stands as a line, by its number.
+fn is_kept(lines: &[InvariantLine], place: usize) -> bool {
+    match lines.get(place) {
+        Some(line) => line.is_kept,
+        None => false,
+    }
+}
+
+/// Leaves out the lines that are marked, a mark for each of those that stand in no comment; where none is, all.
 pub fn drop_failed(lines: &mut Vec<InvariantLine>, marks: &[bool]) {
     let before = lines.len();
+    let mut number = lines.iter().filter(|line| line.is_kept).count();
     for place in (0..before).rev() {
-        if place < marks.len() && marks[place] {
-            remove_at(lines, place);
+        if is_kept(lines.as_slice(), place) {
+            number = number.wrapping_sub(1);
+            if number < marks.len() && marks[number] {
+                remove_at(lines, place);
+            }
         }
     }
     if lines.len() == before {

@@ -4,7 +4,8 @@ ghost use Rattle.scan_replay.specs.Duos.{AreComparable};
 use crate::edges::edges_of;
 use crate::standing::new_lines;
 use crate::stated_line::lines_of;
-use line_trials::{InvariantLine, Plan, try_runs};
+use crate::wording::Wording;
+use line_trials::{Effort, InvariantLine, Plan, try_runs};
 use plc_types::Value;
 use program_tree::Program;
 use proposals::proposals;
@@ -33,13 +34,14 @@ pub fn propose(
     new: &Program,
     relation: &Relation,
     text: &[u8],
-    numbers: &[Value],
-    seed: u64,
+    wording: &Wording,
+    effort: Effort,
 ) -> Result<Proposed, AllocError>
     requires { AreComparable old.now new.now relation.now }
 {
     let subjects = subjects_of(alloc, old, new)?;
-    let plan = Plan::of_cells(subjects.len(), seed);
+    let plan = Plan::of_cells(subjects.len(), effort);
+    let numbers = wording.numbers.as_slice();
     let mut seen = Seen::new(alloc, subjects.len());
     let tried = try_runs(alloc, old, new, relation, numbers, &plan, &mut seen)?;
     let pairs = seen.rows();
@@ -51,7 +53,7 @@ pub fn propose(
         // As many lines more as may stand in the text already.
         let most = room.saturating_add(relation.invariants);
         let found = proposals(alloc, &seen, subjects.as_slice(), edges.as_slice(), most)?;
-        let lines = lines_of(alloc, old, new, found.as_slice(), pairs, most)?;
+        let lines = lines_of(alloc, old, new, wording, found.as_slice(), pairs, most)?;
         new_lines(alloc, text, lines, room)?
     };
     Ok(Proposed {

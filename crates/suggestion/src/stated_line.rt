@@ -2,6 +2,7 @@
 use crate::cells::{Names, add_cell, add_held, add_number, add_value, is_bool};
 use crate::counts::add_count;
 use crate::sums::{add_shaped, add_sum};
+use crate::wording::Wording;
 use line_trials::InvariantLine;
 use plc_types::Value;
 use program_tree::Program;
@@ -316,7 +317,11 @@ fn line_of(
     let mut clause = String::new(names.alloc);
     add_clause(names, proposal, &mut clause)?;
     let note = note_of(names, proposal, pairs)?;
-    Ok(InvariantLine { clause, note })
+    Ok(InvariantLine {
+        clause,
+        note,
+        is_kept: true,
+    })
 }
 
 /// The lines of the first proposals, at most so many; each held on that many pairs.
@@ -324,11 +329,17 @@ pub fn lines_of(
     alloc: Global,
     old: &Program,
     new: &Program,
+    wording: &Wording,
     proposals: &[Proposal],
     pairs: usize,
     most: usize,
 ) -> Result<Vec<InvariantLine>, AllocError> {
-    let names = Names { alloc, old, new };
+    let names = Names {
+        alloc,
+        old,
+        new,
+        wording,
+    };
     let mut lines = Vec::new(alloc);
     for proposal in proposals.iter().take(most) {
         lines.push(line_of(&names, proposal, pairs)?)?;

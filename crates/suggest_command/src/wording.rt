@@ -1,10 +1,10 @@
-// The numbers that stand in the texts.
+// The numbers that stand in the texts, and how these write names.
 use command_files::tokens_of;
 use plc_types::Value;
 use rules::Fault;
 use source_tree::{Mark, Terminal, Tok};
 use std::alloc::Global;
-use suggestion::numbers_of;
+use suggestion::{Spelling, Wording, numbers_of};
 
 // The tokens of a relation behind its first four lines, whose numbers are settings.
 fn behind_settings<'a, 'b>(toks: &'a [Tok<'b>]) -> &'a [Tok<'b>] {
@@ -30,22 +30,24 @@ fn add_numbers_of_relation(
     Ok(())
 }
 
-fn add_numbers(alloc: Global, text: &[u8], numbers: &mut Vec<Value>) -> Result<(), Fault> {
+// Adds the numbers of the text of a program, and answers how it writes names.
+fn read_text(alloc: Global, text: &[u8], numbers: &mut Vec<Value>) -> Result<Spelling, Fault> {
     let toks = tokens_of(alloc, text)?;
     numbers_of(toks.as_slice(), numbers)?;
-    Ok(())
+    Ok(Spelling::of_tokens(alloc, toks.as_slice())?)
 }
 
-/// The numbers among the tokens of three texts, but for the settings of the relation. Of what it answers nothing is asked.
-pub fn numbers_in(
+/// The numbers among the tokens of three texts, but for the settings of the relation, and the names of the programs. Of what it answers
+/// nothing is asked.
+pub fn wording_in(
     alloc: Global,
     old: &[u8],
     new: &[u8],
     relation: &[u8],
-) -> Result<Vec<Value>, Fault> {
+) -> Result<Wording, Fault> {
     let mut numbers = Vec::new(alloc);
-    add_numbers(alloc, old, &mut numbers)?;
-    add_numbers(alloc, new, &mut numbers)?;
+    let old = read_text(alloc, old, &mut numbers)?;
+    let new = read_text(alloc, new, &mut numbers)?;
     add_numbers_of_relation(alloc, relation, &mut numbers)?;
-    Ok(numbers)
+    Ok(Wording { numbers, old, new })
 }
