@@ -6,12 +6,12 @@
 #
 #   bench/fuzz.sh SECONDS OTHER [SEED]     OTHER is the command line of the other implementation; PROGRAM and SUGGEST, if they are set, are those of
 #                                          this one, and SLOW the processor seconds after which a run counts as one that does not end (20);
-#                                          LEAVING=0 makes pairs without EXIT and RETURN
+#                                          LEAVING=0 makes pairs without EXIT and RETURN; ONLY="judged .." makes rounds of these forms alone
 set -euo pipefail
 
 top=$(dirname -- "$(dirname -- "$(readlink -f -- "${BASH_SOURCE[0]}")")")
 if [ $# -lt 2 ]; then
-    sed -n '7,9p' "${BASH_SOURCE[0]}" >&2
+    sed -n '7,10p' "${BASH_SOURCE[0]}" >&2
     exit 2
 fi
 program=${PROGRAM:-$top/crates/regver_cli/out/regver_cli}

@@ -381,6 +381,7 @@ class Round:
 
 # How often each form of round comes.
 ROUNDS = ("program",) * 6 + ("made",) * 3 + ("rows",) * 3 + ("judged",) * 2 + ("verified",) * 2 + ("blown_up", "suggested")
+ROUNDS = tuple(os.environ.get("ONLY", "").split()) or ROUNDS
 
 
 def tell(fuzz, out):
