@@ -169,8 +169,8 @@ pub fn regver<S: Shelf, K: Sink>(
     ensures shown { let asked = asked_in words.items in (t : Texts) → (asking asked).Tells (S.state shelf.old) t
         → result ≡ Status.Valid → IsShownBy asked t (K.state out.old).taken (K.state out.new).taken }
 
-    // Where the answer is a verdict, a finding was saved that is judged valid with it and with the line on reach behind it, and these are those of
-    // the model, or SPENT with its log.
+    // Where the answer is a verdict, a finding was saved that is judged valid with it and with the line on reach behind it. The verdict is that of
+    // the model, or SPENT with its log; the reach is that of the model, or the finding holds the log that spends the query for one row more.
     ensures saved { let asked = asked_in words.items in (t : Texts) → (asking asked).Tells (S.state shelf.old) t
         → IsOfVerdict result → IsSavedBy (change (S.state shelf.old) (S.state shelf.new)) asked t result (K.state out.old).taken (K.state out.new).taken }
 
