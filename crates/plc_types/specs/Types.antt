@@ -13,12 +13,15 @@ elementary_types =
     ∷ types.Sint
     ∷ types.Int
     ∷ types.Dint
+    ∷ types.Lint
     ∷ types.Usint
     ∷ types.Uint
     ∷ types.Udint
+    ∷ types.Ulint
     ∷ types.Byte
     ∷ types.Word
     ∷ types.Dword
+    ∷ types.Lword
     ∷ []
 
 -- the names that the standard gives them
@@ -27,49 +30,61 @@ type_name types.Bool = codes "BOOL"
 type_name types.Sint = codes "SINT"
 type_name types.Int = codes "INT"
 type_name types.Dint = codes "DINT"
+type_name types.Lint = codes "LINT"
 type_name types.Usint = codes "USINT"
 type_name types.Uint = codes "UINT"
 type_name types.Udint = codes "UDINT"
+type_name types.Ulint = codes "ULINT"
 type_name types.Byte = codes "BYTE"
 type_name types.Word = codes "WORD"
 type_name types.Dword = codes "DWORD"
+type_name types.Lword = codes "LWORD"
 
 abbrev pub width_of : Elementary → ℕ
 width_of types.Bool = 1
 width_of types.Sint = 8
 width_of types.Int = 16
 width_of types.Dint = 32
+width_of types.Lint = 64
 width_of types.Usint = 8
 width_of types.Uint = 16
 width_of types.Udint = 32
+width_of types.Ulint = 64
 width_of types.Byte = 8
 width_of types.Word = 16
 width_of types.Dword = 32
+width_of types.Lword = 64
 
 abbrev pub is_signed : Elementary → Bool
 is_signed types.Sint = true
 is_signed types.Int = true
 is_signed types.Dint = true
+is_signed types.Lint = true
 is_signed types.Bool = false
 is_signed types.Usint = false
 is_signed types.Uint = false
 is_signed types.Udint = false
+is_signed types.Ulint = false
 is_signed types.Byte = false
 is_signed types.Word = false
 is_signed types.Dword = false
+is_signed types.Lword = false
 
 -- the integer types; the others are BOOL and the bit strings
 abbrev pub is_integer : Elementary → Bool
 is_integer types.Sint = true
 is_integer types.Int = true
 is_integer types.Dint = true
+is_integer types.Lint = true
 is_integer types.Usint = true
 is_integer types.Uint = true
 is_integer types.Udint = true
+is_integer types.Ulint = true
 is_integer types.Bool = false
 is_integer types.Byte = false
 is_integer types.Word = false
 is_integer types.Dword = false
+is_integer types.Lword = false
 
 -- the type of a name, among these
 abbrev pub type_among : List Elementary → List ℕ → Option Elementary

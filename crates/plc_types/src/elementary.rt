@@ -9,25 +9,31 @@ pub enum Elementary {
     Sint,
     Int,
     Dint,
+    Lint,
     Usint,
     Uint,
     Udint,
+    Ulint,
     Byte,
     Word,
     Dword,
+    Lword,
 }
 
-static ELEMENTARY_TYPES: [Elementary; 10] = [
+static ELEMENTARY_TYPES: [Elementary; 13] = [
     Elementary::Bool,
     Elementary::Sint,
     Elementary::Int,
     Elementary::Dint,
+    Elementary::Lint,
     Elementary::Usint,
     Elementary::Uint,
     Elementary::Udint,
+    Elementary::Ulint,
     Elementary::Byte,
     Elementary::Word,
     Elementary::Dword,
+    Elementary::Lword,
 ];
 
 // The type of a name, among these.
@@ -66,12 +72,15 @@ impl Elementary {
             Elementary::Sint => "SINT",
             Elementary::Int => "INT",
             Elementary::Dint => "DINT",
+            Elementary::Lint => "LINT",
             Elementary::Usint => "USINT",
             Elementary::Uint => "UINT",
             Elementary::Udint => "UDINT",
+            Elementary::Ulint => "ULINT",
             Elementary::Byte => "BYTE",
             Elementary::Word => "WORD",
             Elementary::Dword => "DWORD",
+            Elementary::Lword => "LWORD",
         }
     }
 
@@ -79,13 +88,14 @@ impl Elementary {
     pub fn width(self) -> u32
         ensures width { result ≡ width_of self }
         ensures some_bits { 0 < result }
-        ensures at_most_32_bits { result ≤ 32 }
+        ensures at_most_64_bits { result ≤ 64 }
     {
         match self {
             Elementary::Bool => 1,
             Elementary::Sint | Elementary::Usint | Elementary::Byte => 8,
             Elementary::Int | Elementary::Uint | Elementary::Word => 16,
             Elementary::Dint | Elementary::Udint | Elementary::Dword => 32,
+            Elementary::Lint | Elementary::Ulint | Elementary::Lword => 64,
         }
     }
 
@@ -94,9 +104,13 @@ impl Elementary {
         ensures { result ≡ is_integer self }
     {
         match self {
-            Elementary::Sint | Elementary::Int | Elementary::Dint => true,
-            Elementary::Usint | Elementary::Uint | Elementary::Udint => true,
-            Elementary::Bool | Elementary::Byte | Elementary::Word | Elementary::Dword => false,
+            Elementary::Sint | Elementary::Int | Elementary::Dint | Elementary::Lint => true,
+            Elementary::Usint | Elementary::Uint | Elementary::Udint | Elementary::Ulint => true,
+            Elementary::Bool
+            | Elementary::Byte
+            | Elementary::Word
+            | Elementary::Dword
+            | Elementary::Lword => false,
         }
     }
 
@@ -104,6 +118,9 @@ impl Elementary {
     pub fn is_signed(self) -> bool
         ensures { result ≡ is_signed self }
     {
-        matches!(self, Elementary::Sint | Elementary::Int | Elementary::Dint)
+        matches!(
+            self,
+            Elementary::Sint | Elementary::Int | Elementary::Dint | Elementary::Lint
+        )
     }
 }
