@@ -181,7 +181,6 @@ fn type_or_name(types: &[Elementary], text: &str) -> Terminal
 }
 
 // The elementary type that a text names, or a name.
-#[tactic(auto, unfolding(source_tree::specs::Terminals::type_words))]
 fn elementary_or_name(text: &str) -> Terminal
     ensures { result ≡ entry_or Name type_words (upper text.now) }
 {
