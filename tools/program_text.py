@@ -17,16 +17,21 @@ ELEMENTARY = (
     Elementary("SINT", 8, True, "integer"),
     Elementary("INT", 16, True, "integer"),
     Elementary("DINT", 32, True, "integer"),
+    Elementary("LINT", 64, True, "integer"),
     Elementary("USINT", 8, False, "integer"),
     Elementary("UINT", 16, False, "integer"),
     Elementary("UDINT", 32, False, "integer"),
+    Elementary("ULINT", 64, False, "integer"),
     Elementary("BYTE", 8, False, "bit string"),
     Elementary("WORD", 16, False, "bit string"),
     Elementary("DWORD", 32, False, "bit string"),
+    Elementary("LWORD", 64, False, "bit string"),
 )
 # The values of each.
 VALUES = {one.name: range(-2 ** (one.bits - 1), 2 ** (one.bits - 1)) if one.signed else range(2 ** one.bits)
           for one in ELEMENTARY}
+# How many there are: a range of 64 bits does not say its length.
+COUNTS = {one.name: 2 ** one.bits for one in ELEMENTARY}
 TOKEN = re.compile(
     r"""(?P<gap> [\t\n\f\r ]+ | \(\*.*?\*\) | //[^\n]* )
       | (?P<word> [A-Za-z_][A-Za-z0-9_]* )

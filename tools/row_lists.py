@@ -26,6 +26,11 @@ def numbers_of(kind):
     return range(kind.bounds[0], kind.bounds[1] + 1) if kind.bounds else VALUES[kind.base]
 
 
+def count_of(numbers):
+    """How many numbers a range has: one of 64 bits does not say its length."""
+    return numbers[-1] - numbers[0] + 1
+
+
 def constants(relation):
     """The numbers that stand in ENV lines."""
     for clause in relation.environments:
@@ -57,8 +62,8 @@ class Search:
         lists, whole = [], True
         for one, numbers in zip(self.relation.inputs, self.numbers):
             if ("OLD", one.old) not in self.read and ("NEW", one.new) not in self.read:
-                lists.append([numbers[self.chance.randrange(len(numbers))]])
-            elif len(numbers) <= MOST_NUMBERS:
+                lists.append([numbers[self.chance.randrange(count_of(numbers))]])
+            elif count_of(numbers) <= MOST_NUMBERS:
                 lists.append(list(numbers))
             else:
                 lists.append(telling(numbers, self.relation, states))
