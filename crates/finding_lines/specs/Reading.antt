@@ -37,7 +37,7 @@ pub record IsTaken {T : Type 0} (IsGood : T → Type 0) (spell : T → List ℕ)
 abbrev pub NoneTaken : {T : Type 0} → (T → Type 0) → (T → List ℕ) → List ℕ → Type 0
 NoneTaken {T} IsGood spell bytes = (x : T) (more : List ℕ) → IsGood x → Opens more → bytes ≢ spell x ++ more
 
--- numbers of 64 bits, none of them 0
+-- numbers of a finding, none of them 0
 pub record AreNonzero (ns : List ℤ) : Type 0 where
   pub numbers : AreNumbers ns
   pub nonzero : All (λ n. n ≢ pos 0) ns
