@@ -4,7 +4,7 @@ use Rattle.std.specs.Char.{digit_value}
 use Rattle.std.specs.Fmt.{decimal, signed_decimal}
 use Rattle.std.specs.Str.Parse.{AllDigits, IsNumeral, digits_value, digits_value_after}
 use Rattle.std.proofs.lemmas.Fmt.{decimal_is_IsNumeral, decimal_digit, decimal_step, decimal_injective, first_decimal}
-use Rattle.finding_lines.specs.Form.{IsNumber, IsMagnitude}
+use Rattle.finding_lines.specs.Numbers.{IsNumber, IsMagnitude}
 use Rattle.finding_lines.specs.Reading.{Opens, IsTaken, NoneTaken}
 use Rattle.finding_lines.proofs.NumberLemmas.{number-below, number-from, is-number}
 use Rattle.finding_lines.proofs.SpellingLemmas.{word-split, decimal-lacks_space}

@@ -7,7 +7,7 @@ use Rattle.std.specs.Str.Parse.{AllDigits}
 use Rattle.std.proofs.lemmas.Int.{ints}
 use Rattle.std.proofs.lemmas.Str.Parse.{digit_from_value}
 use Rattle.std.proofs.lemmas.Fmt.{decimal_is_IsNumeral, decimal_injective}
-use Rattle.finding_lines.specs.Form.{IsNumber}
+use Rattle.finding_lines.specs.Numbers.{IsNumber}
 
 pub number-below : (n : ℕ) → IsNumber (pos n) → n < 2 ^ 64
 number-below n h = let below = h.below in omega (arith, ints)

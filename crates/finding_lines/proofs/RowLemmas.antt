@@ -9,7 +9,8 @@ use Rattle.std.proofs.lemmas.List.Elements.{All-nil, All-cons, All-head, All-tai
 use Rattle.std.proofs.lemmas.Fmt.{decimal_digit}
 use Rattle.std.proofs.lemmas.Int.{ints}
 use Rattle.std.proofs.lemmas.Bool.{false≢true, ltb-true, and_parts}
-use Rattle.finding_lines.specs.Form.{IsNumber, AreNumbers, rises_from, all_positive, rises_above, are_ids}
+use Rattle.finding_lines.specs.Numbers.{IsNumber, AreNumbers}
+use Rattle.finding_lines.specs.Form.{rises_from, all_positive, rises_above, are_ids}
 use Rattle.finding_lines.specs.Spelling.{spaced, spaced_all, ended}
 use Rattle.finding_lines.specs.Reading.{Opens, IsTaken, NoneTaken, AreNonzero}
 use Rattle.finding_lines.proofs.NumberLemmas.{is-number, number-from}

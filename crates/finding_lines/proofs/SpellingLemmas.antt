@@ -8,7 +8,8 @@ use Rattle.std.proofs.lemmas.Str.Parse.{digit_from_value}
 use Rattle.std.proofs.lemmas.Fmt.{decimal_is_IsNumeral}
 use Rattle.finding_lines.specs.declared.line.Asked.{Asked}
 use Rattle.finding_lines.specs.declared.line.Asked.TheVariants as questions
-use Rattle.finding_lines.specs.Form.{IsNumber, AskedFits}
+use Rattle.finding_lines.specs.Numbers.{IsNumber}
+use Rattle.finding_lines.specs.Form.{AskedFits}
 use Rattle.finding_lines.specs.Spelling.{spaced, spaced_all, asked}
 use Rattle.finding_lines.specs.Reading.{LacksSpace, Opens, IsLabel}
 use Rattle.finding_lines.proofs.NumberLemmas.{number-below, number-from, number-spelling}

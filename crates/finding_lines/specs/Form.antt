@@ -1,24 +1,13 @@
 -- Which lines have the form of a finding's line.
-use Rattle.std.specs.Prelude.{ℕ, ◌<◌, ◌^◌, ℤ, pos, neg_ℤ, ◌≤ℤ◌, ◌<ℤ◌, Bool, true, false, ◌&&◌, nat_lt, int_lt, IsTrue, List, [], ◌∷◌, All}
+use Rattle.std.specs.Prelude.{ℕ, ℤ, pos, Bool, true, false, ◌&&◌, nat_lt, int_lt, IsTrue, List, [], ◌∷◌}
 use Rattle.std.specs.Int.RustNames.{unsigned_abs}
+use Rattle.finding_lines.specs.Numbers.{IsNumber, AreNumbers}
 use Rattle.finding_lines.specs.declared.line.Asked.{Asked}
 use Rattle.finding_lines.specs.declared.line.Asked.TheVariants as questions
 use Rattle.finding_lines.specs.declared.line.Conclusion.{Conclusion}
 use Rattle.finding_lines.specs.declared.line.Conclusion.TheVariants.{Vacuous, Related, Different, Open, Spent}
 use Rattle.finding_lines.specs.declared.line.Line.{Line}
 use Rattle.finding_lines.specs.declared.line.Line.TheVariants.{Header, Seen, Walk, Dropping, Pair, Scan, Log, Query, Derived, Deleted, End}
-
--- a number of a finding: one of 64 bits, with its sign or without one
-pub record IsNumber (n : ℤ) : Type 0 where
-  pub from : neg_ℤ (pos (2 ^ 63)) ≤ℤ n
-  pub below : n <ℤ pos (2 ^ 64)
-
--- the digits of such a number spell less than this
-abbrev pub IsMagnitude : ℕ → Type 0
-IsMagnitude n = n < 2 ^ 64
-
-abbrev pub AreNumbers : List ℤ → Type 0
-AreNumbers ns = All IsNumber ns
 
 abbrev pub AskedFits : Asked → Type 0
 AskedFits questions.First = Unit {0}

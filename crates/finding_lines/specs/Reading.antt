@@ -3,7 +3,8 @@ use Rattle.std.specs.Prelude.{◌≡◌, ◌≢◌, ℕ, ℤ, pos, List, [], ◌
 use Rattle.finding_lines.specs.declared.line.Line.{Line}
 use Rattle.finding_lines.specs.declared.line.Line.TheVariants.{Header, Seen, Walk, Dropping, Pair, Scan, Log, Query, Derived, Deleted, End}
 use Rattle.finding_lines.specs.Spelling.{spelled}
-use Rattle.finding_lines.specs.Form.{IsLine, AreNumbers}
+use Rattle.finding_lines.specs.Numbers.{AreNumbers}
+use Rattle.finding_lines.specs.Form.{IsLine}
 
 -- the good value that is spelled so, or none where no good value is
 abbrev pub Reads : {T : Type 0} → (T → Type 0) → (T → List ℕ) → List ℕ → Option T → Type 0

@@ -2,7 +2,7 @@
 ghost use Rattle.std.specs.Prelude.{◌≡◌, ◌≢◌, ◌+◌, ◌∷◌, ◌^◌, ◌<◌, ◌≤◌, ◌*◌, ◌⊎◌, ℕ, List, MatchOption};
 ghost use Rattle.std.specs.Char.{digit_value};
 ghost use Rattle.std.specs.Fmt.{decimal, signed_decimal};
-ghost use Rattle.finding_lines.specs.Form.{IsNumber, IsMagnitude};
+ghost use Rattle.finding_lines.specs.Numbers.{IsNumber, IsMagnitude};
 ghost use Rattle.finding_lines.specs.Reading.{IsTaken, NoneTaken};
 
 use plc_types::Value;

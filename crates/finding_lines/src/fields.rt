@@ -1,6 +1,7 @@
 // Numbers behind their labels, queries and verdicts.
 ghost use Rattle.std.specs.Prelude.{◌≡◌, ◌≢◌, ◌++◌, ℕ, ℤ, List, MatchOption};
-ghost use Rattle.finding_lines.specs.Form.{IsNumber, AskedFits, ConclusionFits};
+ghost use Rattle.finding_lines.specs.Numbers.{IsNumber};
+ghost use Rattle.finding_lines.specs.Form.{AskedFits, ConclusionFits};
 ghost use Rattle.finding_lines.specs.Spelling.{spaced, asked, concluded};
 ghost use Rattle.finding_lines.specs.Reading.{Reads, Opens, IsLabel, IsTaken, NoneTaken};
 ghost use Rattle.finding_lines.specs.declared.line.Asked.{Asked};

@@ -8,7 +8,7 @@ use operations::wrap_short;
 use plc_types::{Elementary, Value};
 
 // 1 where a literal is true, and 0 where it is false.
-fn bit(lit: Lit, found: &Assignment) -> u32
+fn bit(lit: Lit, found: &Assignment) -> u64
     ensures { result ≡ bit (literal_true (assigned found.now) lit) }
 {
     if found.value(lit.variable) == lit.negative {
@@ -19,8 +19,8 @@ fn bit(lit: Lit, found: &Assignment) -> u32
 }
 
 // The number that a word spells in binary.
-fn number(word: &[Lit], found: &Assignment) -> u32
-    requires { length word.now ≤ 32 }
+fn number(word: &[Lit], found: &Assignment) -> u64
+    requires { length word.now ≤ 64 }
     ensures { result ≡ number (assigned found.now) word.now }
 {
     match word.split_first() {

@@ -1,5 +1,5 @@
 use Rattle.std.proofs.Common.{sym, subst}
-use Rattle.finding_lines.specs.Form.{IsMagnitude}
+use Rattle.finding_lines.specs.Numbers.{IsMagnitude}
 use Rattle.finding_lines.proofs.DigitLemmas.{DigitsSoFar, digits-start, digits-none, digits-nothing, digits-step, stuck-zero, stuck-large}
 use Rattle.finding_lines.proofs.digits.take_magnitude.Goals as goal
 
