@@ -1,6 +1,6 @@
 // The numbers that words of free bits spell.
 use clause_core::Lit;
-use operations::wrap_short;
+use operations::wrap_value;
 use pair_circuits::{PairParts, Product};
 use plc_types::{Elementary, Value};
 use queries::{Decoded, Row};
@@ -22,7 +22,7 @@ fn number(bits: &[bool], kind: Elementary, word: &[Lit]) -> Value {
             number |= 1 << i;
         }
     }
-    wrap_short(kind, Value::from(number))
+    wrap_value(kind, Value::from(number))
 }
 
 // The numbers that the words of cells spell.

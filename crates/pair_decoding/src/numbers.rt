@@ -4,7 +4,7 @@ ghost use Rattle.plc_types.specs.Types.{width_of, is_signed};
 ghost use Rattle.word_laws.specs.Numbers.{bit, number, value};
 
 use clause_core::{Assignment, Lit};
-use operations::wrap_short;
+use operations::wrap_value;
 use plc_types::{Elementary, Value};
 
 // 1 where a literal is true, and 0 where it is false.
@@ -35,5 +35,5 @@ pub(crate) fn value(kind: Elementary, word: &[Lit], found: &Assignment) -> Value
     ensures { result ≡ value (is_signed kind) (assigned found.now) word.now }
 {
     kind.width();
-    wrap_short(kind, Value::from(number(word, found)))
+    wrap_value(kind, Value::from(number(word, found)))
 }
