@@ -59,7 +59,6 @@ LEFT_OUT = {
     "REAL": "There are no REAL numbers: scale to whole numbers, as tenths of a degree in an INT or a DINT.",
     "STRING": "There are no strings: write a number or a value of an enumeration.",
     "TIME": "There are no times: count scans, with a counter that the PROGRAM sets or with CTU.",
-    "LINT": "There are no types of 64 bits: DINT, UDINT and DWORD have 32.",
     "ARRAY": "There are no arrays: write a variable for each element, and a CASE on the index.",
     "STRUCT": "There are no structures: write a variable for each member.",
     "WHILE": "There is no WHILE and no REPEAT: write a FOR with constant bounds and an IF inside of it.",
@@ -71,7 +70,7 @@ LEFT_OUT = {
     "R_EDGE": "R_EDGE and F_EDGE are left out: write an instance of R_TRIG or F_TRIG.",
 }
 LEFT_OUT.update({word: LEFT_OUT[other] for other, words in {
-    "REAL": "LREAL", "STRING": "WSTRING", "TIME": "DATE TIME_OF_DAY TOD DATE_AND_TIME DT", "LINT": "ULINT LWORD", "WHILE": "REPEAT",
+    "REAL": "LREAL", "STRING": "WSTRING", "TIME": "DATE TIME_OF_DAY TOD DATE_AND_TIME DT", "WHILE": "REPEAT",
     "VAR_GLOBAL": "VAR_EXTERNAL VAR_ACCESS VAR_CONFIG", "RETAIN": "NON_RETAIN", "CONFIGURATION": "RESOURCE TASK",
     "R_EDGE": "F_EDGE"}.items() for word in words.split()})
 UNKNOWN = {
@@ -463,7 +462,7 @@ def of_unknown(spot):
     if word in UNKNOWN:
         return UNKNOWN[word]
     if re.fullmatch(r"(\w+)_TO_(\w+)", word):
-        return "There is no conversion {}: both types are of BOOL, SINT, INT, DINT, USINT, UINT, UDINT, BYTE, WORD, DWORD.".format(name)
+        return "There is no conversion {}: both types are of {}.".format(name, ", ".join(VALUES))
     if first(spot.behind).text == "(" and last(spot.before).upper in STARTS:
         return "{} is no instance of a block: declare it, as {} : CTU; in a VAR section.".format(name, name)
     if first(spot.behind).text == "(" and declared(spot, name):
@@ -471,7 +470,7 @@ def of_unknown(spot):
     if first(spot.behind).text == "(":
         return "{} is no FUNCTION of this file and no standard function.".format(name)
     if last(spot.before).text == ":":
-        return "{} is no type of this file: the elementary types are BOOL, SINT, INT, DINT, USINT, UINT, UDINT, BYTE, WORD, DWORD.".format(name)
+        return "{} is no type of this file: the elementary types are {}.".format(name, ", ".join(VALUES))
     if last(spot.before).text == "." and last(spot.before, 2).upper in ("OLD", "NEW"):
         return "{} has no variable and no value {}.".format(last(spot.before, 2).upper, name)
     if last(spot.before).text == ".":

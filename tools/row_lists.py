@@ -10,7 +10,7 @@ from collections import namedtuple
 
 from clause_value import judged
 from pair_scan import after_each, loaded, reader
-from program_text import VALUES, Unreadable, value_of
+from program_text import VALUES, Unreadable, count_of, value_of
 
 # So many lists are tried, each of so many rows, and behind each so many rows.
 LISTS, ROWS, TRIES = 6, 12, 4096
@@ -57,8 +57,8 @@ class Search:
         lists, whole = [], True
         for one, numbers in zip(self.relation.inputs, self.numbers):
             if ("OLD", one.old) not in self.read and ("NEW", one.new) not in self.read:
-                lists.append([numbers[self.chance.randrange(len(numbers))]])
-            elif len(numbers) <= MOST_NUMBERS:
+                lists.append([numbers[self.chance.randrange(count_of(numbers))]])
+            elif count_of(numbers) <= MOST_NUMBERS:
                 lists.append(list(numbers))
             else:
                 lists.append(telling(numbers, self.relation, states))
