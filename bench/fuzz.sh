@@ -6,12 +6,20 @@
 #
 #   bench/fuzz.sh SECONDS OTHER [SEED]     OTHER is the command line of the other implementation; PROGRAM and SUGGEST, if they are set, are those of
 #                                          this one, and SLOW the processor seconds after which a run counts as one that does not end (20);
-#                                          LEAVING=0 makes pairs without EXIT and RETURN; ONLY="judged .." makes rounds of these forms alone
+#                                          LEAVING=0 makes pairs without EXIT and RETURN, and WIDE=0 without the types of 64 bits; ONLY="judged .."
+#                                          makes rounds of these forms alone, and COUNT=N stops after N rounds
+#
+# Pairs with the types of 64 bits beside the other implementation, 200 to be replayed and 200 to be verified:
+#
+#   COUNT=200 ONLY=made bench/fuzz.sh 3600 OTHER 1
+#   COUNT=200 ONLY=made_verified bench/fuzz.sh 3600 OTHER 1
+#
+# `bench/fuzz_scans.sh` puts 200 programs to the interpreter, to the flat form and to the nodes.
 set -euo pipefail
 
 top=$(dirname -- "$(dirname -- "$(readlink -f -- "${BASH_SOURCE[0]}")")")
 if [ $# -lt 2 ]; then
-    sed -n '7,10p' "${BASH_SOURCE[0]}" >&2
+    sed -n '7,11p' "${BASH_SOURCE[0]}" >&2
     exit 2
 fi
 program=${PROGRAM:-$top/crates/regver_cli/out/regver_cli}

@@ -7,7 +7,7 @@ is None, and what depends on one is told only where it is the same for all its v
 import re
 from collections import namedtuple
 
-from program_text import COUNTS, VALUES, Unreadable, value_of
+from program_text import VALUES, Unreadable, count_of, value_of
 
 # A number, None where it is not known, and the name of its type or the names of its enumeration, None likewise.
 Value = namedtuple("Value", "number base")
@@ -28,7 +28,7 @@ def wrapped(number, base):
     values = VALUES.get(base) if isinstance(base, str) else None
     if values is None:
         return number if number in range(128) else None
-    return (number - values[0]) % COUNTS[base] + values[0]
+    return (number - values[0]) % count_of(values) + values[0]
 
 
 def quotient(one, other):
@@ -158,7 +158,7 @@ def shifted(name, number, amount, base):
     """What SHL, SHR, ROL and ROR give of a bit string of a known type."""
     if base not in VALUES or amount not in range(65):
         return None
-    width = (COUNTS[base] - 1).bit_length()
+    width = (count_of(VALUES[base]) - 1).bit_length()
     if name in ("ROL", "ROR"):
         left = (amount if name == "ROL" else -amount) % width
         return wrapped(number << left | number >> width - left, base)

@@ -462,7 +462,7 @@ def of_unknown(spot):
     if word in UNKNOWN:
         return UNKNOWN[word]
     if re.fullmatch(r"(\w+)_TO_(\w+)", word):
-        return "There is no conversion {}: both types are of BOOL, SINT, INT, DINT, LINT, USINT, UINT, UDINT, ULINT, BYTE, WORD, DWORD, LWORD.".format(name)
+        return "There is no conversion {}: both types are of {}.".format(name, ", ".join(VALUES))
     if first(spot.behind).text == "(" and last(spot.before).upper in STARTS:
         return "{} is no instance of a block: declare it, as {} : CTU; in a VAR section.".format(name, name)
     if first(spot.behind).text == "(" and declared(spot, name):
@@ -470,7 +470,7 @@ def of_unknown(spot):
     if first(spot.behind).text == "(":
         return "{} is no FUNCTION of this file and no standard function.".format(name)
     if last(spot.before).text == ":":
-        return "{} is no type of this file: the elementary types are BOOL, SINT, INT, DINT, LINT, USINT, UINT, UDINT, ULINT, BYTE, WORD, DWORD, LWORD.".format(name)
+        return "{} is no type of this file: the elementary types are {}.".format(name, ", ".join(VALUES))
     if last(spot.before).text == "." and last(spot.before, 2).upper in ("OLD", "NEW"):
         return "{} has no variable and no value {}.".format(last(spot.before, 2).upper, name)
     if last(spot.before).text == ".":

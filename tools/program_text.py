@@ -27,7 +27,7 @@ ELEMENTARY = (
     Elementary("DWORD", 32, False, "bit string"),
     Elementary("LWORD", 64, False, "bit string"),
 )
-# The values of each.
+# The values of each. The range of a type of 64 bits has more numbers than len tells of: ask count_of.
 VALUES = {one.name: range(-2 ** (one.bits - 1), 2 ** (one.bits - 1)) if one.signed else range(2 ** one.bits)
           for one in ELEMENTARY}
 # How many there are: a range of 64 bits does not say its length.
@@ -44,6 +44,11 @@ Token = namedtuple("Token", "form upper text line place")
 # What a variable is declared as. The base is the name of an elementary type or the tuple of an enumeration's values.
 Type = namedtuple("Type", "base bounds")
 Variable = namedtuple("Variable", "name type")
+
+
+def count_of(numbers):
+    """How many numbers a range of step 1 has, which may be more than len tells of."""
+    return numbers.stop - numbers.start
 
 
 class Named(str):

@@ -10,7 +10,7 @@ from collections import namedtuple
 
 from clause_value import judged
 from pair_scan import after_each, loaded, reader
-from program_text import VALUES, Unreadable, value_of
+from program_text import VALUES, Unreadable, count_of, value_of
 
 # So many lists are tried, each of so many rows, and behind each so many rows.
 LISTS, ROWS, TRIES = 6, 12, 4096

@@ -28,7 +28,7 @@ def fault_of(text, count):
         if not isinstance(row, list):
             return "Row {} is no list: write [..] around its numbers.".format(number)
         for place, one in enumerate(row, 1):
-            whole = isinstance(one, tuple) and re.fullmatch(r"0|-?[1-9][0-9]*", one[1]) and -2 ** 63 <= int(one[1]) < 2 ** 63
+            whole = isinstance(one, tuple) and re.fullmatch(r"0|-?[1-9][0-9]*", one[1]) and -2 ** 63 <= int(one[1]) < 2 ** 64
             if not whole:
                 shown = one[1] if isinstance(one, tuple) else {list: "a list", dict: "an object"}.get(type(one)) or json.dumps(one)
                 hint = "; write 1 for TRUE and 0 for FALSE" if isinstance(one, bool) else ""

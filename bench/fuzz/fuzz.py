@@ -4,6 +4,7 @@ fuzz.py CASES SECONDS SEED PROGRAM OTHER [SUGGEST]: CASES is a folder of case fi
 OTHER and SUGGEST, the program that suggests INVARIANT lines, are command lines, parted by spaces.
 """
 
+import itertools
 import os
 import random
 import re
@@ -18,8 +19,9 @@ from texts import blown_up, made_pair
 
 SECTIONS = ("old", "new", "relation", "trace", "accept", "finding")
 TOKEN = re.compile(r"[A-Za-z_][A-Za-z_0-9]*#?|[0-9][0-9A-F_#]*|:=|=>|<=|>=|<>|\*\*|\.\.|\(\*|\*\)|\s+|.", re.S)
-EDGES = (0, 1, 2, 3, 7, 127, 128, 255, 256, 4095, 4096, 4097, 32767, 32768, 65535, 2147483647, 4294967295, 9223372036854775807)
+EDGES = (0, 1, 2, 3, 7, 127, 128, 255, 256, 4095, 4096, 4097, 32767, 32768, 65535, 2147483647, 4294967295, 2**63 - 1, 2**63, 2**64 - 1, 2**64)
 SLOW = int(os.environ.get("SLOW", 20))
+COUNT = int(os.environ.get("COUNT", 0))
 STATUSES = range(0, 12)
 SOON = 1_000_000
 
@@ -361,6 +363,9 @@ class Round:
         origin, pair = self.pair()
         self.decided(f"{origin} pairs, verified", self.files(pair))
 
+    def made_verified(self):
+        self.decided("made pairs, verified", self.files(made_pair(self.changes.random)))
+
     def suggested(self):
         """What is suggested for a pair is accepted by both, with the same verdict; what is refused, the other refuses too."""
         if len(self.programs.commands) < 3:
@@ -399,14 +404,14 @@ def main(folder, seconds, seed, *programs):
         fuzz = Round(Programs(place, end, *programs), pairs, texts, traces, changes)
         said = time.monotonic()
         try:
-            while True:
+            for _ in range(COUNT) if COUNT else itertools.repeat(None):
                 getattr(fuzz, changes.random.choice(ROUNDS))()
                 if time.monotonic() > said + 60:
                     said = time.monotonic()
                     tell(fuzz, sys.stderr)
         except Over as over:
             print(f"% at the end: {over}")
-            tell(fuzz, sys.stdout)
+        tell(fuzz, sys.stdout)
     return 1 if fuzz.differences else 0
 
 

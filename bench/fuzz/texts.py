@@ -8,12 +8,17 @@ import sys
 sys.path.append(os.path.join(os.path.dirname(os.path.abspath(__file__)), "..", "..", "tools"))
 from program_text import ELEMENTARY, VALUES
 
-RANGES = {name: (values[0], values[-1]) for name, values in VALUES.items()}
-RANGES.update({"Level": (0, 9), "Light": (0, 2)})
-INTEGERS = tuple(one.name for one in ELEMENTARY if one.sort == "integer")
-BITS = tuple(one.name for one in ELEMENTARY if one.sort == "bit string")
-LIGHTS = ("Red", "Amber", "Green")
 LEAVING = os.environ.get("LEAVING", "1") != "0"
+WIDE = os.environ.get("WIDE", "1") != "0"
+KNOWN = tuple(one for one in ELEMENTARY if WIDE or one.bits < 64)
+RANGES = {one.name: (VALUES[one.name][0], VALUES[one.name][-1]) for one in KNOWN}
+RANGES.update({"Level": (0, 9), "Light": (0, 2)})
+INTEGERS = tuple(one.name for one in KNOWN if one.sort == "integer")
+BITS = tuple(one.name for one in KNOWN if one.sort == "bit string")
+# The types of 64 bits, and what is told apart in one: the ends of the types of 32 bits, and of the range that has a sign.
+WIDEST = tuple(one.name for one in KNOWN if one.bits == 64)
+TELLING = (2**31 - 1, 2**31, 2**32 - 1, 2**32, 2**63 - 1, 2**63, -(2**31), -(2**32))
+LIGHTS = ("Red", "Amber", "Green")
 TYPES = "TYPE Light : (Red, Amber, Green); Level : INT (0..9); END_TYPE"
 LIBRARY = (
     "FUNCTION twice : INT VAR_INPUT x, y : INT; END_VAR VAR t : R_TRIG; END_VAR t(CLK := x > y); twice := x + y; IF t.Q THEN twice := twice + x; END_IF; END_FUNCTION",
@@ -37,6 +42,7 @@ class Program:
     def __init__(self, pick):
         self.pick, self.variables, self.loops, self.around = pick, {}, 0, 0
         kinds = ("BOOL", "BOOL", "INT", "SINT", pick.choice(tuple(RANGES)))
+        kinds += (pick.choice(WIDEST),) if WIDE else ()
         self.inputs = self.declared("i", kinds, pick.randint(0, 3))
         self.outputs = self.declared("o", kinds, pick.randint(1, 3))
         self.inner = self.declared("v", kinds, pick.randint(0, 3))
@@ -55,7 +61,16 @@ class Program:
         if kind == "Light":
             return self.pick.choice((*LIGHTS, "Light#Red"))
         number = self.pick.choice((0, 1, 2, 3, 7, low, high, self.pick.randint(low, high)))
+        if kind in WIDEST and self.pick.randrange(3) == 0:
+            number = self.pick.choice([one for one in TELLING if low <= one <= high])
         return f"{own(kind)}#{number}"
+
+    def product(self, kind, depth):
+        """A product, quotient or rest in a type of 64 bits. One side has 8 bits, so that verify decides it with few derivations."""
+        narrow = self.pick.choice(("SINT", "USINT", "BYTE"))
+        sides = [f"{narrow}_TO_{kind}({self.expression(narrow, depth - 1)})", self.literal(kind)]
+        self.pick.shuffle(sides)
+        return f"({sides[0]} {self.pick.choice(('*', '/', 'MOD'))} {sides[1]})"
 
     def condition(self, depth):
         pick = self.pick
@@ -88,7 +103,8 @@ class Program:
             return f"LIMIT({self.literal(kind)}, {one}, {other})"
         if kind in BITS:
             if form == 4:
-                return f"{pick.choice(('SHL', 'SHR', 'ROL', 'ROR'))}({one}, {pick.choice((0, 1, 3, 8, 31, 64))})"
+                amounts = (0, 1, 3, 8, 31, 64) + ((32, 33, 63) if kind in WIDEST else ())
+                return f"{pick.choice(('SHL', 'SHR', 'ROL', 'ROR'))}({one}, {pick.choice(amounts)})"
             return f"({one} {pick.choice(('AND', 'OR', 'XOR'))} {other})" if form < 8 else f"NOT ({one})"
         if form == 4 and kind == "INT":
             return pick.choice((f"twice({one}, {other})", f"twice(y := {one}, x := {other})", "count.CV", "delay.y"))
@@ -96,6 +112,10 @@ class Program:
             return f"ABS({one})"
         if form == 6:
             return f"-({one})"
+        if form == 7 and kind in WIDEST:
+            return self.product(kind, depth)
+        if form == 8 and kind in WIDEST:
+            return f"({one} {pick.choice('+-')} {other})"
         return f"({one} {pick.choice(('+', '+', '-', '-', '*', '/', 'MOD'))} {other})"
 
     def expression(self, kind, depth):
@@ -114,9 +134,12 @@ class Program:
         return f"{target} := {self.expression(self.variables[target], 3)};"
 
     def selection(self, depth):
-        kind = self.pick.choice(("INT", "SINT", "Light"))
+        kind = self.pick.choice(("INT", "SINT", "Light", *(("LINT", "ULINT") if WIDE else ())))
         if kind == "Light":
             labels = self.pick.choice((("Red", "Amber"), ("Red..Amber",), ("Light#Green", "Red")))
+        elif kind in WIDEST:
+            low, high = RANGES[kind]
+            labels = self.pick.choice((("0", f"1, 3..{high}"), (f"{low}", "2147483648..4294967296"), (f"1..{2**63 - 1}", f"{low}")))
         else:
             labels = self.pick.choice((("0", "1, 3..5"), ("-1", "2"), ("0..100", "-128..-1")))
         entries = " ".join(f"{label}: {self.statements(depth - 1)}" for label in labels)
@@ -180,7 +203,7 @@ class Program:
         for word, variables in (("VAR_INPUT", self.inputs), ("VAR_OUTPUT", self.outputs), ("VAR", self.inner), ("VAR_TEMP", self.temporary)):
             if variables:
                 parts.append(f"{word} {' '.join(f'{name} : {kind};' for name, kind in variables.items())} END_VAR")
-        loops = "".join(f" n{number} : INT;" for number in range(self.loops))
+        loops = "".join(f" n{number} : {'LINT' if WIDE and number % 2 else 'INT'};" for number in range(self.loops))
         parts.append(f"VAR edge : R_TRIG; count : CTU; delay : Delay;{loops} END_VAR")
         return "\n".join([*parts, body, "END_PROGRAM\n"])
 

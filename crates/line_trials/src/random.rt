@@ -51,9 +51,13 @@ impl Random {
 
     // Any number of a range.
     fn inside(&mut self, range: Range) -> Value {
-        let count = range.high.wrapping_sub(range.low).cast_unsigned();
-        let offset = self.below(count.wrapping_add(1));
-        range.low.wrapping_add(offset.cast_signed())
+        let count = range.high.wrapping_sub(range.low).wrapping_add(1);
+        // A range of 64 bits has one number more than a count of 64 bits tells.
+        let offset = match u64::try_from(count) {
+            Ok(count) => self.below(count),
+            Err(_) => self.next(),
+        };
+        range.low.wrapping_add(offset as Value)
     }
 
     /// A number of a range: an edge, a number of the texts or one beside it, or any, each about as often.

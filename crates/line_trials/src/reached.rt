@@ -1,7 +1,7 @@
 // Where runs reached values that cells had not had before, so that others go on from there.
 use crate::random::Random;
 use plc_types::Value;
-use seen_values::{Classes, mixed};
+use seen_values::{Classes, mixed, mixed_value};
 use std::alloc::{AllocError, Global};
 
 // How many values of a cell are of interest.
@@ -44,7 +44,7 @@ impl Reached {
     pub fn note(&mut self, row: &[Value], scans: usize) -> Result<(), AllocError> {
         let mut is_new = false;
         for (cell, value) in row.iter().enumerate() {
-            let key = mixed(mixed(1, cell as u64), value.cast_unsigned());
+            let key = mixed_value(mixed(1, cell as u64), *value);
             if cell >= self.counts.len() {
                 self.counts.push(0)?;
             }

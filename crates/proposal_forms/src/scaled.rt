@@ -1,6 +1,6 @@
 // Integer cells that move by a whole multiple of what a cell of the other program moves by: degrees and tenths of degrees.
 use crate::proposal::Proposal;
-use crate::sums::can_be_written;
+use crate::sums::{can_be_written, group_of_both};
 use plc_types::Value;
 use seen_values::{Facts, Sort};
 use std::alloc::AllocError;
@@ -10,9 +10,6 @@ const MOST_CLASSES: usize = 64;
 
 // The greatest factor that sums of several cells of one type have, which are looked for elsewhere.
 const MOST_ELSEWHERE: Value = 4;
-
-// The number of the type in which cells of different types are added, where none of theirs will do.
-const DINT_GROUP: u64 = 4;
 
 // A cell, one of the other program, and how many times as far the first one goes.
 #[derive(Clone, Copy)]
@@ -113,10 +110,11 @@ fn add_class(
             continue;
         }
         if let Some(scale) = scale_of(facts, class, *other) {
-            let group = if facts.group(class) == facts.group(*other) {
-                facts.group(class)
+            let (one, two) = (facts.group(class), facts.group(*other));
+            let group = if one == two {
+                one
             } else {
-                DINT_GROUP
+                group_of_both(one, two)
             };
             add_scale(facts, group, scale, found)?;
             facts.tie(class);

@@ -3,7 +3,7 @@ use crate::proposal::{Proposal, Shape};
 use crate::sums::can_be_written;
 use plc_types::Value;
 use scan_model::Side;
-use seen_values::{Classes, Facts, Sort, key_of, mixed};
+use seen_values::{Classes, Facts, Sort, key_of, mixed_value};
 use std::alloc::AllocError;
 
 // How many columns are made of cells and numbers.
@@ -59,8 +59,8 @@ fn column_of(facts: &Facts<'_>, made: Shaped) -> Column {
         let value = value_made(made.shape, made.number, seen.value(row, made.cell));
         let above = value.wrapping_sub(first);
         let below = first.wrapping_sub(value);
-        column.above = mixed(column.above, above.cast_unsigned());
-        column.below = mixed(column.below, below.cast_unsigned());
+        column.above = mixed_value(column.above, above);
+        column.below = mixed_value(column.below, below);
         column.is_constant = column.is_constant && above == 0;
     }
     column

@@ -1,8 +1,10 @@
 // Sums of integer cells, and counts of BOOL cells.
 use crate::proposal::Proposal;
-use plc_types::Value;
+use plc_types::{Elementary, Value};
 use scan_model::Side;
-use seen_values::{Affine, Classes, Facts, Signature, Sort, affine_relations, key_of};
+use seen_values::{
+    Affine, Classes, Facts, Signature, Sort, affine_relations, key_of, number_of, type_of,
+};
 use std::alloc::AllocError;
 
 // Of how many cells of a type sums are looked for.
@@ -10,15 +12,34 @@ const MOST_CELLS: usize = 64;
 
 /// Whether a number can be written where values have this integer type.
 pub fn can_be_written(group: u64, number: Value) -> bool {
-    let most = match group {
-        2 => 127,
-        3 => 32_767,
-        4 => 2_147_483_647,
-        5 => 255,
-        6 => 65_535,
+    let most: Value = match type_of(group) {
+        Some(Elementary::Sint) => 127,
+        Some(Elementary::Int) => 32_767,
+        Some(Elementary::Dint) => 2_147_483_647,
+        Some(Elementary::Lint) => 9_223_372_036_854_775_807,
+        Some(Elementary::Usint) => 255,
+        Some(Elementary::Uint) => 65_535,
+        Some(Elementary::Ulint) => 18_446_744_073_709_551_615,
         _ => 4_294_967_295,
     };
     number <= most && number >= -most
+}
+
+// Whether the values of a type have 64 bits.
+fn is_wide(group: u64) -> bool {
+    match type_of(group) {
+        Some(kind) => kind.width() == 64,
+        None => false,
+    }
+}
+
+/// The number of the type in which cells of these two are added, where neither will do: DINT, or LINT where one of them has 64 bits.
+pub fn group_of_both(one: u64, other: u64) -> u64 {
+    number_of(if is_wide(one) || is_wide(other) {
+        Elementary::Lint
+    } else {
+        Elementary::Dint
+    })
 }
 
 // A cell, and a multiple of an earlier one, give a constant.
@@ -85,15 +106,20 @@ pub fn add_sums_of_two(
     Ok(())
 }
 
-// The number of the first type of words, behind those of integers.
-const FIRST_WORD: u64 = 8;
-
 /// Whether the values of a class are numbers, where words count as such.
 pub fn is_number(facts: &Facts<'_>, class: usize) -> bool {
     match facts.sort(class) {
         Sort::Integer => true,
-        Sort::Other => facts.group(class) >= FIRST_WORD,
+        Sort::Other => type_of(facts.group(class)).is_some(),
         Sort::Bool | Sort::Enumeration => false,
+    }
+}
+
+// The number of the type of a cell.
+fn group_of_cell(facts: &Facts<'_>, cell: usize) -> u64 {
+    match facts.subjects.get(cell) {
+        Some(subject) => subject.group,
+        None => 0,
     }
 }
 
@@ -129,7 +155,8 @@ pub fn add_sums_of_types(
         };
         if let Some(other) = other {
             let cell = facts.across(class, other);
-            add_two(facts, 4, cell, other, factor, found)?;
+            let group = group_of_both(facts.group(class), group_of_cell(facts, other));
+            add_two(facts, group, cell, other, factor, found)?;
             facts.tie(class);
         }
         moved.add(key_of(0, signature.above), class)?;
@@ -154,7 +181,11 @@ pub fn add_sums(
     left: &[usize],
     found: &mut Vec<Proposal>,
 ) -> Result<(), AllocError> {
-    for group in 2..8u64 {
+    for kind in Elementary::all() {
+        let group = number_of(*kind);
+        if !kind.is_integer() {
+            continue;
+        }
         let cells = cells_of(facts, left, group)?;
         for affine in affine_relations(facts.alloc, facts.seen, cells.as_slice())? {
             if can_be_written(group, affine.constant) {

@@ -1,18 +1,13 @@
 // Bits of words: those that go with BOOL cells, and those that never change.
 use crate::proposal::Proposal;
-use plc_types::Value;
-use seen_values::{Facts, Sort, key_of, mixed};
+use plc_types::{Elementary, Value};
+use seen_values::{Facts, Sort, key_of, mixed, number_of, type_of};
 use std::alloc::AllocError;
 
-// The number of the type BOOL among those of types.
-const BOOL_GROUP: u64 = 1;
-
 // How many bits the words of a type have; 0 where it is none of words.
-fn width_of(group: u64) -> usize {
-    match group {
-        8 => 8,
-        9 => 16,
-        10 => 32,
+fn width_of(group: u64) -> u32 {
+    match type_of(group) {
+        Some(kind) if kind != Elementary::Bool && !kind.is_integer() => kind.width(),
         _ => 0,
     }
 }
@@ -48,9 +43,10 @@ fn add_bit(
 ) -> Result<(), AllocError> {
     let cell = facts.first(class);
     let (sum, opposite) = sums_of(facts, cell, mask);
-    let (flags, negated) = match facts.classes.find(key_of(BOOL_GROUP, sum)) {
+    let group = number_of(Elementary::Bool);
+    let (flags, negated) = match facts.classes.find(key_of(group, sum)) {
         Some(flags) => (flags, false),
-        None => match facts.classes.find(key_of(BOOL_GROUP, opposite)) {
+        None => match facts.classes.find(key_of(group, opposite)) {
             Some(flags) => (flags, true),
             None => return Ok(()),
         },

@@ -9,12 +9,12 @@ const SIGNED_PRIME: Value = 2_147_483_647;
 
 /// The residue of a number.
 pub fn residue(value: Value) -> u64 {
-    value.wrapping_rem_euclid(SIGNED_PRIME).unsigned_abs()
+    value.wrapping_rem_euclid(SIGNED_PRIME) as u64
 }
 
 /// The whole number nearest to 0 that has this residue.
 pub fn nearest(residue: u64) -> Value {
-    let value = (residue % PRIME).cast_signed();
+    let value = (residue % PRIME) as Value;
     if value > SIGNED_PRIME / 2 {
         value.wrapping_sub(SIGNED_PRIME)
     } else {

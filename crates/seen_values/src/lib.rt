@@ -26,5 +26,5 @@ pub use facts::{Facts, facts_of, key_of};
 pub use few::{few_values, indicator};
 pub use relations::{Affine, affine_relations};
 pub use seen::Seen;
-pub use signature::{Signature, mixed, signatures};
-pub use subject::{Sort, Subject, subjects_of};
+pub use signature::{Signature, mixed, mixed_value, signatures};
+pub use subject::{Sort, Subject, number_of, subjects_of, type_of};

@@ -11,6 +11,9 @@ const MOST_ROWS: usize = 1_500;
 // The largest coefficient.
 const MOST_TIMES: Value = 4;
 
+// The multiples of a relation that are tried: up to the largest coefficient.
+static MULTIPLES: [Value; 4] = [1, 2, 3, 4];
+
 // How many cells a relation has at most.
 const MOST_CELLS: usize = 6;
 
@@ -107,8 +110,8 @@ fn small_relation_at(
     cells: &[usize],
     place: usize,
 ) -> Result<Option<Affine>, AllocError> {
-    for times in 1..MOST_TIMES + 1 {
-        if let Some(affine) = relation_at(alloc, basis, cells, place, times)?
+    for times in MULTIPLES.iter() {
+        if let Some(affine) = relation_at(alloc, basis, cells, place, *times)?
             && affine.terms.len() > 1
             && holds_throughout(seen, &affine)
         {

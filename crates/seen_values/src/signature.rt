@@ -21,8 +21,14 @@ pub fn mixed(sum: u64, number: u64) -> u64 {
     (sum.rotate_left(5) ^ number).wrapping_mul(0x517c_c1b7_2722_0a95)
 }
 
-fn mixed_value(sum: u64, value: Value) -> u64 {
-    mixed(sum, value.cast_unsigned())
+// The last 64 bits of a value, or of the difference of two. What differs by 2^64 is told apart by the trials.
+fn last_bits(value: Value) -> u64 {
+    (value.cast_unsigned() & 0xffff_ffff_ffff_ffff) as u64
+}
+
+/// A checksum with one value more, or with the difference of two.
+pub fn mixed_value(sum: u64, value: Value) -> u64 {
+    mixed(sum, last_bits(value))
 }
 
 impl Signature {

@@ -47,8 +47,8 @@ fn sort_of(kind: DataType) -> Sort {
     }
 }
 
-// A number for each elementary type: its place in the table of these, from 1.
-fn number_of(kind: Elementary) -> u64 {
+/// A number for each elementary type: its place in the table of these, from 1.
+pub fn number_of(kind: Elementary) -> u64 {
     let mut number = 1u64;
     for other in Elementary::all() {
         if *other == kind {
@@ -57,6 +57,16 @@ fn number_of(kind: Elementary) -> u64 {
         number = number.wrapping_add(1);
     }
     number
+}
+
+/// The elementary type of this number; none of the number of an enumeration.
+pub fn type_of(group: u64) -> Option<Elementary> {
+    for kind in Elementary::all() {
+        if number_of(*kind) == group {
+            return Some(*kind);
+        }
+    }
+    None
 }
 
 // A checksum of the names of an enumeration's values.

@@ -12,10 +12,8 @@ const MOST_TOKENS: usize = 100_000;
 pub fn numbers_of(toks: &[Tok<'_>], numbers: &mut Vec<Value>) -> Result<(), AllocError> {
     let mut is_behind_minus = false;
     for tok in toks.iter().take(MOST_TOKENS) {
-        if let Terminal::Number(number) = tok.terminal
-            && number < 0x1_0000_0000
-        {
-            let value = number.cast_signed();
+        if let Terminal::Number(number) = tok.terminal {
+            let value = number as Value;
             numbers.push(value)?;
             if is_behind_minus {
                 numbers.push(value.wrapping_neg())?;

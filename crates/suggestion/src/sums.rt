@@ -44,16 +44,18 @@ fn add_side(
 }
 
 // The type in which cells of several types are added: that of the integer cell that goes furthest, or DINT where it lacks values of
-// others; none where all are of one type.
+// others, or LINT where one of them has 64 bits; none where all are of one type.
 fn common_kind(names: &Names<'_>, terms: &[(Value, usize)]) -> Option<Elementary> {
     let mut kind = None;
     let mut high: Value = 0;
     let mut low: Value = 0;
     let mut are_alike = true;
+    let mut is_wide = false;
     let mut first = None;
     for (_, cell) in terms.iter() {
         let other = kind_at(names, *cell)?;
         are_alike = are_alike && (first.is_none() || first == Some(other));
+        is_wide = is_wide || other.width() == 64;
         first = Some(other);
         let range = range_at(names, *cell);
         low = low.min(range.low);
@@ -67,6 +69,7 @@ fn common_kind(names: &Names<'_>, terms: &[(Value, usize)]) -> Option<Elementary
     }
     match kind {
         Some(kind) if kind.is_integer() && (kind.is_signed() || low >= 0) => Some(kind),
+        _ if is_wide => Some(Elementary::Lint),
         _ => Some(Elementary::Dint),
     }
 }

@@ -14,7 +14,7 @@ sys.path[:0] = [TOOLS, os.path.join(TOOLS, "tests")]
 import pair_scan
 from over_cases import accepted, sections_of
 from program_cells import Units, prelude
-from program_text import text_of
+from program_text import count_of, text_of
 from relation_text import relation_of
 from row_lists import numbers_of
 from verifier import built
@@ -29,7 +29,7 @@ HEAD = "RELATION 1; FAULTS FREE; DEPTH 1; CONFLICTS 1; {} RELATE TRUE;"
 def numbers(kind, chance):
     values = numbers_of(kind)
     small = [number for number in (0, 1, 2, 3) if number in values]
-    return chance.choice(small + [values[0], values[-1], values[chance.randrange(len(values))]])
+    return chance.choice(small + [values[0], values[-1], values[chance.randrange(count_of(values))]])
 
 
 def replayed(text, relation, rows):
