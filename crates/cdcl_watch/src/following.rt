@@ -17,38 +17,23 @@ pub(crate) struct Following<'g> {
     guide: Option<&'g Guide>,
     /// How many of its clauses were gone through.
     count: usize,
-    /// In how many clauses of the guide each variable stands.
-    shares: Vec<u32>,
-    /// The literals of the present clause but its first, each behind the share of its variable.
-    ranked: Vec<(u32, u32)>,
     /// The literals of the present clause, in the order in which they are made false.
     codes: Vec<Code>,
-}
-
-/// In how many clauses of a guide each variable stands; none of them where there is no guide.
-fn count_shares(
-    alloc: Global,
-    variables: u32,
-    guide: Option<&Guide>,
-) -> Result<Vec<u32>, AllocError> {
-    let Some(guide) = guide else {
-        return Ok(Vec::new(alloc));
-    };
-    let mut shares = vec![in alloc; 0u32; variables as usize + 1]?;
-    for code in guide.codes() {
-        let share = read(shares.as_slice(), code.variable(), 0);
-        write(
-            shares.as_mut_slice(),
-            code.variable(),
-            share.saturating_add(1),
-        );
-    }
-    Ok(shares)
 }
 
 /// The decision that was made above a level.
 fn decision_above(propagator: &Propagator, level: u32) -> Code {
     propagator.literal_at(propagator.start_above(level))
+}
+
+/// Whether a literal stands among others.
+fn has(codes: &[Code], code: Code) -> bool {
+    for other in codes {
+        if other.number == code.number {
+            return true;
+        }
+    }
+    false
 }
 
 /// Whether a literal is false, and was so at a level already.
@@ -124,19 +109,12 @@ fn bring_forward(codes: &mut [Code], place: usize) {
 
 impl<'g> Following<'g> {
     /// At the first clause of a guide, if there is one.
-    pub fn new(
-        alloc: Global,
-        variables: u32,
-        guide: Option<&'g Guide>,
-    ) -> Result<Following<'g>, AllocError> {
-        let shares = count_shares(alloc, variables, guide)?;
-        Ok(Following {
+    pub fn new(alloc: Global, guide: Option<&'g Guide>) -> Following<'g> {
+        Following {
             guide,
             count: 0,
-            shares,
-            ranked: Vec::new(alloc),
             codes: Vec::new(alloc),
-        })
+        }
     }
 
     /// Whether no clause is left.
@@ -144,22 +122,31 @@ impl<'g> Following<'g> {
         self.guide.is_none()
     }
 
-    /// Takes the literals of a clause, its first one last. The others come by falling shares, so that clauses that follow each other
-    /// begin with the same decisions, and then by falling numbers: a gate follows from its operands, which have lower numbers, rather
-    /// than they from the gate, so it is made false before them.
-    fn take(&mut self, clause: &[Code]) -> Result<(), AllocError> {
+    /// Takes those literals of a clause that the first decisions make false, in turn.
+    fn take_decided(&mut self, propagator: &Propagator, clause: &[Code]) -> Result<(), AllocError> {
+        for level in 0..propagator.level() {
+            let code = decision_above(propagator, level).negated();
+            if !has(clause, code) {
+                break;
+            }
+            self.codes.push(code)?;
+        }
+        Ok(())
+    }
+
+    /// Takes the literals of a clause, its first one last. Those come first that the decisions which stand make false, so that these
+    /// decisions stay; then the others, the last first: a gate follows from its operands, which have lower numbers, rather than they
+    /// from the gate, so it is made false before them.
+    fn take(&mut self, propagator: &Propagator, clause: &[Code]) -> Result<(), AllocError> {
         self.codes.clear();
-        self.ranked.clear();
         let Some((first, others)) = clause.split_first() else {
             return Ok(());
         };
-        for code in others {
-            let share = read(self.shares.as_slice(), code.variable(), 0);
-            self.ranked.push((share, code.number))?;
-        }
-        self.ranked.sort_unstable();
-        for (_, number) in self.ranked.iter().rev() {
-            self.codes.push(Code { number: *number })?;
+        self.take_decided(propagator, others)?;
+        for code in others.iter().rev() {
+            if !has(self.codes.as_slice(), *code) {
+                self.codes.push(*code)?;
+            }
         }
         self.codes.push(*first)?;
         Ok(())
@@ -193,7 +180,7 @@ impl<'g> Following<'g> {
         };
         for place in self.count..guide.len() {
             self.count = place + 1;
-            self.take(guide.clause(place))?;
+            self.take(propagator, guide.clause(place))?;
             let conflict = self.derive(propagator)?;
             if conflict.is_some() {
                 return Ok(conflict);

@@ -1,4 +1,4 @@
-// First runs from the start, then the search, once a query gave a row.
+// First runs from the start, then the search: at once where there is much to search, else once a query gave a row.
 ghost use Rattle.gates.specs.Order.{IsOrdered};
 
 use crate::candidate_search::CandidateSearch;
@@ -9,6 +9,12 @@ use queries::{CandidateSet, Decoded};
 use std::alloc::{AllocError, Global};
 use std::mem;
 
+/// From so many candidates on a whole query may take as long as the search.
+const MANY_CANDIDATES: usize = 256;
+
+/// It does not where there are fewer gates than this for each of them.
+const GATES_A_CANDIDATE: usize = 8;
+
 /// A search for the greatest inductive set: first by runs from the start, then candidate by candidate.
 #[derive(Drop)]
 pub struct InductiveSearch<'p> {
@@ -17,12 +23,23 @@ pub struct InductiveSearch<'p> {
     pub(crate) runs: Runs<'p>,
     // whether the runs may still propose rows
     has_runs: bool,
-    // whether a query gave a row: where the first one is refuted, no search is wanted
+    // whether a query gave a row: where the first one is refuted, and there is little to search, no search is wanted
     is_wanted: bool,
     // the free bits of the start with an allowed row, until the search begins; none where it is not to begin
     start: Vec<bool>,
     limit: u32,
     pub(crate) search: Option<CandidateSearch<'p>>,
+}
+
+// How many candidates are in a set.
+fn size_of(set: &CandidateSet) -> usize {
+    let mut size = 0usize;
+    for number in 0..set.count() {
+        if set.has(number) {
+            size = size.wrapping_add(1);
+        }
+    }
+    size
 }
 
 impl<'p> InductiveSearch<'p> {
@@ -91,13 +108,19 @@ impl<'p> InductiveSearch<'p> {
         Ok(())
     }
 
+    // Whether a search of a set takes less time than a whole query, most likely.
+    fn has_much(&self, set: &CandidateSet) -> bool {
+        let size = size_of(set);
+        size >= MANY_CANDIDATES && self.product.circuit.count() / GATES_A_CANDIDATE >= size
+    }
+
     /// The next row of the search, which begins where it is wanted and has not begun.
     pub(crate) fn next_found(
         &mut self,
         alloc: Global,
         set: &CandidateSet,
     ) -> Result<Option<Decoded>, AllocError> {
-        if self.is_wanted {
+        if self.search.is_none() && (self.is_wanted || self.has_much(set)) {
             self.begin_search(alloc, set)?;
         }
         match &mut self.search {
