@@ -63,7 +63,10 @@ fn delete_by(checker: &mut Checker, id: Value) -> bool
     ensures may { result ≡ may_delete checker.old (hint_of id) }
     ensures left { IsTrue result → checker.new ≡ without checker.old (hint_of id) }
 {
-    checker.delete(short_hint(id) as usize).is_ok()
+    match checker.delete(short_hint(id) as usize) {
+        Ok(_) => true,
+        Err(_) => false,
+    }
 }
 
 // Deletes the clauses of some numbers, one after the other, as far as they may be; whether all may be.
