@@ -1,3 +1,4 @@
 pub mod Endings
 pub mod Given
 pub mod Weights
+pub mod Turning

@@ -1,2 +1,3 @@
 pub mod Outcomes
 pub mod Scopes
+pub mod Turning

@@ -1,6 +1,5 @@
 // Cells and their ranges.
-ghost use Rattle.std.specs.Prelude.{◌≡◌, ◌||◌, ◌++◌, ◌<◌, pos, length, IsTrue, FitsSigned, slice_set, slice_index_or};
-ghost use Rattle.std.specs.Int.{w64};
+ghost use Rattle.std.specs.Prelude.{◌≡◌, ◌||◌, ◌++◌, ◌<◌, pos, length, slice_set, slice_index_or};
 ghost use Rattle.plc_types.specs.Types.{in_range};
 ghost use Rattle.meaning.specs.Effects.{range_at, with_fault, stored};
 
@@ -81,14 +80,6 @@ pub fn is_in_range(value: Value, range: Range) -> bool
     ensures { result ≡ in_range value range }
 {
     range.low <= value && value <= range.high
-}
-
-/// The same of any number; one in the range is a Value.
-pub fn is_within(value: i128, range: Range) -> bool
-    ensures value { result ≡ in_range value range }
-    ensures fits { IsTrue result → FitsSigned w64 value }
-{
-    i128::from(range.low) <= value && value <= i128::from(range.high)
 }
 
 /// Whether one of two holds.

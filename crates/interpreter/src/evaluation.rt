@@ -11,7 +11,7 @@ use crate::answers::answer;
 use crate::cells::read_of_two;
 use crate::scope::{Reading, Scope};
 use operations::{
-    apply, apply_unary, call_of_one, call_of_three, divides_by_zero, joined, wrap_short,
+    apply, apply_unary, call_of_one, call_of_three, divides_by_zero, joined, wrap_value,
 };
 use plc_types::{Elementary, Function, Operator, Value};
 use program_tree::{Operand, TypedExpr};
@@ -232,7 +232,7 @@ fn wrapped(kind: Elementary, given: Evaluated) -> Evaluated
     ensures fault { result.fault ≡ given.fault }
 {
     Evaluated {
-        value: wrap_short(kind, given.value),
+        value: wrap_value(kind, given.value),
         fault: given.fault,
     }
 }

@@ -2,3 +2,4 @@ pub mod Products
 pub mod Quotients
 pub mod Wrapped
 pub mod Ranges
+pub mod Multiples

@@ -16,15 +16,15 @@ under : (a m q r : ℕ) → a ≡ q * m + r → r < m → negsuc a ≡ pos (m - 
 under a m q r e small = omega (arith, ints)
 
 -- a number differs from its remainder by a multiple
-remainder_differs : (z : ℤ) (m : ℕ) → 0 < m → DiffersByMultiple (pos m) z (int_rem_euclid z (pos m))
+pub remainder_differs : (z : ℤ) (m : ℕ) → 0 < m → DiffersByMultiple (pos m) z (int_rem_euclid z (pos m))
 remainder_differs (pos a) m some = (pos (a / m), over a m (a / m) (a % m) (omega arith))
 remainder_differs (negsuc a) m some = (negsuc (a / m), under a m (a / m) (a % m) (omega arith) (omega arith))
 
-remainder_not_negative : (z : ℤ) (m : ℕ) → pos 0 ≤ℤ int_rem_euclid z (pos m)
+pub remainder_not_negative : (z : ℤ) (m : ℕ) → pos 0 ≤ℤ int_rem_euclid z (pos m)
 remainder_not_negative (pos a) m = omega (arith, ints)
 remainder_not_negative (negsuc a) m = omega (arith, ints)
 
-remainder_below : (z : ℤ) (m : ℕ) → 0 < m → int_rem_euclid z (pos m) <ℤ pos m
+pub remainder_below : (z : ℤ) (m : ℕ) → 0 < m → int_rem_euclid z (pos m) <ℤ pos m
 remainder_below (pos a) m some = omega (arith, ints)
 remainder_below (negsuc a) m some = omega (arith, ints)
 

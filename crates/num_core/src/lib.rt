@@ -7,4 +7,4 @@ mod wrapping;
 
 pub use division::{quot, rem};
 pub use int_type::IntType;
-pub use wrapping::{fits, wrap};
+pub use wrapping::{fits, mul, wrap};

@@ -1,6 +1,6 @@
 // Numbers in a type's range, and numbers wrapped to its width and sign.
 
-ghost use Rattle.std.specs.Prelude.{◌≡◌, ◌↔◌, ℤ, IsTrue};
+ghost use Rattle.std.specs.Prelude.{◌≡◌, ◌↔◌, ◌*ℤ◌, ℤ, IsTrue};
 ghost use Rattle.num_core.specs.Ranges.{Fits};
 ghost use Rattle.num_core.specs.Wrapping.{wrap, Wraps};
 
@@ -19,6 +19,13 @@ pub fn wrap(v: i128, t: IntType) -> i128
     } else {
         remainder
     }
+}
+
+/// The product of `a` and `b`, kept in the width and sign of `t`. Two numbers of 64 bits have a product of up to 128.
+pub fn mul(a: i128, b: i128, t: IntType) -> i128
+    ensures { result ≡ wrap t.width t.signed (a *ℤ b) }
+{
+    wrap(a.wrapping_mul(b), t)
 }
 
 /// Whether `v` lies in the type's range, its subrange included.

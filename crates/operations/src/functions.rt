@@ -1,10 +1,10 @@
 // What standard functions make of values.
-ghost use Rattle.std.specs.Prelude.{◌≡◌, [], ◌∷◌, pos, ◌<◌, ◌≤◌, ◌^◌, ◌*◌, unsigned_abs};
+ghost use Rattle.std.specs.Prelude.{◌≡◌, [], ◌∷◌, pos, ◌<◌, ◌≤◌, ◌^◌, ◌%◌, unsigned_abs};
 ghost use Rattle.plc_types.specs.Types.{width_of, wrap_to};
 ghost use Rattle.meaning.specs.Values.{called, converted, limited, selected, lesser, greater, shifted, rotated, moved_left, moved_right};
 ghost use Rattle.operations.specs.Joined.{joined};
 
-use crate::wrapping::{truth, wrap_bits, wrap_short, wrap_wide};
+use crate::wrapping::{truth, wrap_bits, wrap_value};
 use plc_types::{Elementary, Function, Shift, Value};
 
 /// What a function makes of one value.
@@ -14,8 +14,8 @@ pub fn call_of_one(function: Function, kind: Elementary, value: Value) -> Value
     match function {
         Function::Convert(_) => convert(kind, value),
         Function::Absolute => wrap_bits(kind, value.unsigned_abs()),
-        Function::Minimum | Function::Maximum => wrap_short(kind, value),
-        Function::Limit | Function::Select => wrap_short(kind, 0),
+        Function::Minimum | Function::Maximum => wrap_value(kind, value),
+        Function::Limit | Function::Select => wrap_value(kind, 0),
         Function::Shift(shift, amount) => move_bits(shift, amount, kind, value),
     }
 }
@@ -31,11 +31,11 @@ pub fn call_of_three(
     ensures { result ≡ called function kind (one ∷ two ∷ three ∷ []) }
 {
     match function {
-        Function::Minimum => wrap_short(kind, lesser(lesser(one, two), three)),
-        Function::Maximum => wrap_short(kind, greater(greater(one, two), three)),
-        Function::Limit => wrap_short(kind, limited(one, two, three)),
-        Function::Select => wrap_short(kind, selected(one, two, three)),
-        Function::Convert(_) | Function::Absolute | Function::Shift(_, _) => wrap_short(kind, 0),
+        Function::Minimum => wrap_value(kind, lesser(lesser(one, two), three)),
+        Function::Maximum => wrap_value(kind, greater(greater(one, two), three)),
+        Function::Limit => wrap_value(kind, limited(one, two, three)),
+        Function::Select => wrap_value(kind, selected(one, two, three)),
+        Function::Convert(_) | Function::Absolute | Function::Shift(_, _) => wrap_value(kind, 0),
     }
 }
 
@@ -59,7 +59,7 @@ fn convert(kind: Elementary, value: Value) -> Value
 {
     match kind {
         Elementary::Bool => truth(value != 0),
-        _ => wrap_short(kind, value),
+        _ => wrap_value(kind, value),
     }
 }
 
@@ -92,14 +92,14 @@ fn move_bits(shift: Shift, amount: u8, kind: Elementary, value: Value) -> Value
     ensures { result ≡ wrap_to kind (pos (shifted shift (width_of kind) amount (unsigned_abs value))) }
 {
     let bits = shifted(shift, kind.width(), u32::from(amount), value.unsigned_abs());
-    wrap_wide(kind, bits as i128)
+    wrap_bits(kind, bits)
 }
 
-fn shifted(shift: Shift, width: u32, amount: u32, bits: u64) -> u128
+// The bits below the 128th: a type has no others.
+fn shifted(shift: Shift, width: u32, amount: u32, bits: u128) -> u128
     requires some_bits { 0 < width }
-    requires at_most_32_bits { width ≤ 32 }
-    ensures value { result ≡ shifted shift width amount bits }
-    ensures bounded { result < 2 ^ 100 }
+    requires at_most_64_bits { width ≤ 64 }
+    ensures { result ≡ shifted shift width amount bits % 2 ^ 128 }
 {
     match shift {
         Shift::Left => {
@@ -121,36 +121,34 @@ fn shifted(shift: Shift, width: u32, amount: u32, bits: u64) -> u128
     }
 }
 
-fn rotated(width: u32, amount: u32, bits: u64) -> u128
-    requires at_most_32_bits { width ≤ 32 }
+fn rotated(width: u32, amount: u32, bits: u128) -> u128
+    requires at_most_64_bits { width ≤ 64 }
     requires within { amount ≤ width }
-    ensures value { result ≡ rotated width amount bits }
-    ensures bounded { result < 2 ^ 100 }
+    ensures { result ≡ rotated width amount bits % 2 ^ 128 }
 {
-    moved_left(amount, bits) + moved_right(width - amount, bits)
+    moved_left(amount, bits).wrapping_add(moved_right(width - amount, bits))
 }
 
-fn moved_left(amount: u32, bits: u64) -> u128
-    requires { amount ≤ 32 }
-    ensures value { result ≡ moved_left amount bits }
-    ensures bounded { result < 2 ^ 96 }
+fn moved_left(amount: u32, bits: u128) -> u128
+    requires { amount ≤ 64 }
+    ensures { result ≡ moved_left amount bits % 2 ^ 128 }
 {
-    u128::from(bits) * power_of_two(amount)
+    bits.wrapping_mul(power_of_two(amount))
 }
 
-fn moved_right(amount: u32, bits: u64) -> u128
-    requires { amount ≤ 32 }
+fn moved_right(amount: u32, bits: u128) -> u128
+    requires { amount ≤ 64 }
     ensures value { result ≡ moved_right amount bits }
-    ensures bounded { result < 2 ^ 64 }
+    ensures whole { result ≡ moved_right amount bits % 2 ^ 128 }
 {
-    u128::from(bits) / power_of_two(amount)
+    bits / power_of_two(amount)
 }
 
 fn power_of_two(exponent: u32) -> u128
-    requires { exponent ≤ 32 }
+    requires { exponent ≤ 64 }
     ensures value { result ≡ 2 ^ exponent }
     ensures positive { 0 < result }
-    ensures bounded { result ≤ 2 ^ 32 }
+    ensures bounded { result ≤ 2 ^ 64 }
 {
     1u128 << exponent
 }

@@ -7,4 +7,4 @@ mod wrapping;
 
 pub use functions::{call_of_one, call_of_three, joined};
 pub use operators::{apply, apply_unary, divides_by_zero};
-pub use wrapping::wrap_short;
+pub use wrapping::wrap_value;

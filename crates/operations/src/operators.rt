@@ -5,8 +5,7 @@ ghost use Rattle.num_core.specs.Division.{quot, rem};
 ghost use Rattle.plc_types.specs.Types.{wrap_to};
 ghost use Rattle.meaning.specs.Values.{unary_applied, unary_result, or_zero, applied, divides_by_zero};
 
-use crate::wrapping::{truth, wrap_bits, wrap_short, wrap_wide};
-use num_core::{quot, rem};
+use crate::wrapping::{truth, wrap_bits, wrap_value};
 use plc_types::{Elementary, Operator, UnaryOperator, Value};
 
 /// Whether an operator meets a divisor of 0.
@@ -17,7 +16,7 @@ pub fn divides_by_zero(operator: Operator, right: Value) -> bool
     matches!(operator, Operator::Divide | Operator::Mod) && right == 0
 }
 
-/// What a unary operator makes of a value. Only a value at the edge of 64 bits needs more than 64.
+/// What a unary operator makes of a value.
 #[inline(always)]
 pub fn apply_unary(operator: UnaryOperator, kind: Elementary, value: Value) -> Value
     ensures { result ≡ unary_applied operator kind value }
@@ -31,16 +30,7 @@ pub fn apply_unary(operator: UnaryOperator, kind: Elementary, value: Value) -> V
 fn negated(kind: Elementary, value: Value) -> Value
     ensures { result ≡ wrap_to kind (neg_ℤ value) }
 {
-    match value.checked_neg() {
-        Some(negated) => wrap_short(kind, negated),
-        None => wrap_wide(kind, exact_negation(value)),
-    }
-}
-
-fn exact_negation(value: Value) -> i128
-    ensures { result ≡ neg_ℤ value }
-{
-    -i128::from(value)
+    wrap_value(kind, value.wrapping_neg())
 }
 
 // Each bit turned. FALSE and TRUE need not be wrapped.
@@ -50,11 +40,11 @@ fn turned(kind: Elementary, value: Value) -> Value
     match (kind, value) {
         (Elementary::Bool, 0) => 1,
         (Elementary::Bool, 1) => 0,
-        _ => wrap_short(kind, -1 - value),
+        _ => wrap_value(kind, -1 - value),
     }
 }
 
-/// What an operator makes of two values. What does not fit 64 bits is worked out in 128.
+/// What an operator makes of two values. A result is kept in 128 bits before it is wrapped to its type, which takes nothing from it.
 #[inline(always)]
 pub fn apply(operator: Operator, kind: Elementary, left: Value, right: Value) -> Value
     ensures { result ≡ applied operator kind left right }
@@ -81,57 +71,35 @@ pub fn apply(operator: Operator, kind: Elementary, left: Value, right: Value) ->
 fn sum(kind: Elementary, left: Value, right: Value) -> Value
     ensures { result ≡ wrap_to kind (left +ℤ right) }
 {
-    match left.checked_add(right) {
-        Some(sum) => wrap_short(kind, sum),
-        None => wrap_wide(kind, exact_sum(left, right)),
-    }
-}
-
-fn exact_sum(left: Value, right: Value) -> i128
-    ensures { result ≡ left +ℤ right }
-{
-    i128::from(left) + i128::from(right)
+    wrap_value(kind, left.wrapping_add(right))
 }
 
 #[inline(always)]
 fn difference(kind: Elementary, left: Value, right: Value) -> Value
     ensures { result ≡ wrap_to kind (left -ℤ right) }
 {
-    match left.checked_sub(right) {
-        Some(difference) => wrap_short(kind, difference),
-        None => wrap_wide(kind, exact_difference(left, right)),
-    }
+    wrap_value(kind, left.wrapping_sub(right))
 }
 
-fn exact_difference(left: Value, right: Value) -> i128
-    ensures { result ≡ left -ℤ right }
-{
-    i128::from(left) - i128::from(right)
-}
-
+// The product of two numbers of 64 bits without a sign has more than 127 bits.
 #[inline(always)]
 fn product(kind: Elementary, left: Value, right: Value) -> Value
     ensures { result ≡ wrap_to kind (left *ℤ right) }
 {
-    match left.checked_mul(right) {
-        Some(product) => wrap_short(kind, product),
-        None => wrap_wide(kind, exact_product(left, right)),
-    }
+    wrap_value(kind, left.wrapping_mul(right))
 }
 
-fn exact_product(left: Value, right: Value) -> i128
-    ensures { result ≡ left *ℤ right }
-{
-    i128::from(left) * i128::from(right)
-}
-
+// A quotient by -1 is the negation: of the least number of 128 bits it has one bit more.
 #[inline(always)]
 fn quotient(kind: Elementary, left: Value, right: Value) -> Value
     ensures { result ≡ wrap_to kind (or_zero (quot left right)) }
 {
-    match left.checked_div(right) {
-        Some(quotient) => wrap_short(kind, quotient),
-        None => wrap_wide(kind, quot(i128::from(left), i128::from(right)).unwrap_or(0)),
+    if right == 0 {
+        wrap_value(kind, 0)
+    } else if right == -1 {
+        negated(kind, left)
+    } else {
+        wrap_value(kind, left / right)
     }
 }
 
@@ -139,8 +107,9 @@ fn quotient(kind: Elementary, left: Value, right: Value) -> Value
 fn remainder(kind: Elementary, left: Value, right: Value) -> Value
     ensures { result ≡ wrap_to kind (or_zero (rem left right)) }
 {
-    match left.checked_rem(right) {
-        Some(remainder) => wrap_short(kind, remainder),
-        None => wrap_wide(kind, rem(i128::from(left), i128::from(right)).unwrap_or(0)),
+    if right == 0 {
+        wrap_value(kind, 0)
+    } else {
+        wrap_value(kind, left.wrapping_rem(right))
     }
 }

@@ -80,7 +80,7 @@ abbrev pub left_out_words : List (List ℕ)
 left_out_words =
     codes "REAL" ∷ codes "LREAL" ∷ codes "STRING" ∷ codes "WSTRING"
     ∷ codes "DATE" ∷ codes "TIME" ∷ codes "TIME_OF_DAY" ∷ codes "TOD" ∷ codes "DATE_AND_TIME" ∷ codes "DT"
-    ∷ codes "LINT" ∷ codes "ULINT" ∷ codes "LWORD" ∷ codes "ARRAY" ∷ codes "STRUCT"
+    ∷ codes "ARRAY" ∷ codes "STRUCT"
     ∷ codes "WHILE" ∷ codes "REPEAT"
     ∷ codes "VAR_IN_OUT" ∷ codes "VAR_EXTERNAL" ∷ codes "VAR_ACCESS" ∷ codes "VAR_GLOBAL" ∷ codes "VAR_CONFIG"
     ∷ codes "RETAIN" ∷ codes "NON_RETAIN" ∷ codes "AT"

@@ -63,11 +63,7 @@ static WORDS_I: [(&str, Terminal); 2] = [
     ("INITIAL_STEP", Terminal::Part(PartWord::InitialStep)),
 ];
 
-static WORDS_L: [(&str, Terminal); 3] = [
-    ("LREAL", Terminal::LeftOut),
-    ("LINT", Terminal::LeftOut),
-    ("LWORD", Terminal::LeftOut),
-];
+static WORDS_L: [(&str, Terminal); 1] = [("LREAL", Terminal::LeftOut)];
 
 static WORDS_M: [(&str, Terminal); 1] = [("MOD", Terminal::Operator(Operator::Mod))];
 
@@ -106,8 +102,6 @@ static WORDS_T: [(&str, Terminal); 9] = [
     ("TOD", Terminal::LeftOut),
     ("TASK", Terminal::LeftOut),
 ];
-
-static WORDS_U: [(&str, Terminal); 1] = [("ULINT", Terminal::LeftOut)];
 
 static WORDS_V: [(&str, Terminal); 9] = [
     ("VAR", Terminal::Mark(Mark::Var)),
@@ -149,7 +143,6 @@ fn words_with(letter: u8) -> &'static [(&'static str, Terminal)]
         b'R' => &WORDS_R,
         b'S' => &WORDS_S,
         b'T' => &WORDS_T,
-        b'U' => &WORDS_U,
         b'V' => &WORDS_V,
         b'W' => &WORDS_W,
         b'X' => &WORDS_X,
@@ -188,7 +181,6 @@ fn type_or_name(types: &[Elementary], text: &str) -> Terminal
 }
 
 // The elementary type that a text names, or a name.
-#[tactic(auto, unfolding(source_tree::specs::Terminals::type_words))]
 fn elementary_or_name(text: &str) -> Terminal
     ensures { result ≡ entry_or Name type_words (upper text.now) }
 {

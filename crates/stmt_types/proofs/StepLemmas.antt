@@ -1,17 +1,15 @@
 -- The turns of a FOR by one division, and their values by the first and the one that ends it.
-use Rattle.std.proofs.Common.{◌≡◌, ℕ, zero, suc, ◌+◌, ◌*◌, ◌/◌, ◌%◌, ◌<◌, Bool, true, false, ◌&&◌, if◌then◌else◌, ◌⊎◌, inl, inr, ◌^◌, ◌≤◌, min, refl, sym, ap, ◌∙◌, arith}
+use Rattle.std.proofs.Common.{◌≡◌, ℕ, zero, suc, ◌+◌, ◌*◌, ◌/◌, ◌%◌, ◌<◌, Bool, true, false, ◌&&◌, if◌then◌else◌, ◌⊎◌, inl, inr, ◌↔◌, ◌≤◌, min, refl, sym, ap, ◌∙◌, arith, rules, tests}
 use Rattle.std.proofs.Math.IntN.{ℤ, pos, negsuc, neg_ℤ, suc_ℤ-*ℤ, pos-*ℤ-pos, pos-*ℤ-negsuc}
-use Rattle.std.proofs.Math.Nat.{suc-mul}
-use Rattle.std.proofs.lemmas.Nat.{mul-le}
-use Rattle.std.proofs.lemmas.Bool.{and_parts, and_from}
+use Rattle.std.proofs.Math.Nat.{suc-mul, le-div_iff_mul-le}
+use Rattle.std.proofs.lemmas.Bool.{false≢true}
 use Rattle.std.proofs.lemmas.Int.{ints}
-use Rattle.std.specs.Prelude.{◌+ℤ◌, ◌-ℤ◌, ◌*ℤ◌, ◌≤ℤ◌, ◌<ℤ◌, int_le, int_lt, unsigned_abs, ◌≢◌}
-use mir.Syntax.{w128}
-use mir.Val.{SFits, to_z, of_z}
+use Rattle.std.specs.Prelude.{◌+ℤ◌, ◌-ℤ◌, ◌*ℤ◌, ◌≤ℤ◌, ◌<ℤ◌, int_le, int_lt, nat_le, unsigned_abs, ◌≢◌}
 use Rattle.plc_types.specs.declared.range.Range.{Range}
 use Rattle.plc_types.specs.Types.{in_range}
-use Rattle.plc_types.proofs.InRange.{le_from, le_to, between}
+use Rattle.plc_types.proofs.InRange.{le_from, le_to, bounds, between}
 use Rattle.typing.specs.Constants.{goes_on, turns_within, turn_count, are_in_range}
+use Rattle.stmt_types.specs.Steps.{steps_within}
 
 le_false : (x y : ℤ) → y <ℤ x → int_le x y ≡ false
 le_false x y h = grind (arith, ints)
@@ -144,31 +142,68 @@ by_ends (suc count) v step r =
     ∙ sym (middle (in_range v r) (in_range (v +ℤ step) r) (in_range ((v +ℤ step) +ℤ (pos count *ℤ step)) r) (between v (v +ℤ step) ((v +ℤ step) +ℤ (pos count *ℤ step)) r (in_one_direction count v step)))
     ∙ ap (λ (b : Bool). in_range v r && b) (by_ends count (v +ℤ step) step r)
 
-pub by_values : (count : ℕ) (v step : ℤ) (r : Range) (first end : ℤ) (b : Bool) → b ≡ (in_range first r && in_range end r) → first ≡ v → end ≡ v +ℤ (pos count *ℤ step) → b ≡ are_in_range count v step r
-by_values count v step r first end b is first_is end_is =
-    is ∙ ap (λ (x : ℤ). in_range x r && in_range end r) first_is ∙ ap (λ (x : ℤ). in_range v r && in_range x r) end_is ∙ by_ends count v step r
+-- ---- steps up to an end
 
--- how far so many steps lead
-pub far : (count : ℕ) (step : ℤ) → count ≤ 65535 → neg_ℤ (pos (2 ^ 63)) ≤ℤ step → step ≤ℤ pos (2 ^ 63) → (neg_ℤ (pos (65535 * 2 ^ 63)) ≤ℤ (pos count *ℤ step)) × ((pos count *ℤ step) ≤ℤ pos (65535 * 2 ^ 63))
-far count (pos s) few low high =
-    let e : pos count *ℤ pos s ≡ pos (count * s) = pos-*ℤ-pos count s in
-    let within : s ≤ 2 ^ 63 = omega (arith, ints) in
-    let most : count * s ≤ 65535 * 2 ^ 63 = mul-le count s 65535 (2 ^ 63) few within in
-    (omega (arith, ints), omega (arith, ints))
-far count (negsuc k) few low high =
-    let e : pos count *ℤ negsuc k ≡ neg_ℤ (pos (count * suc k)) = pos-*ℤ-negsuc count k in
-    let within : suc k ≤ 2 ^ 63 = omega (arith, ints) in
-    let most : count * suc k ≤ 65535 * 2 ^ 63 = mul-le count (suc k) 65535 (2 ^ 63) few within in
-    (omega (arith, ints), omega (arith, ints))
+same_tests : (a b : Bool) → (a ≡ true → b ≡ true) → (b ≡ true → a ≡ true) → a ≡ b
+same_tests true b to from = sym (to refl)
+same_tests false true to from = absurd (false≢true (from refl))
+same_tests false false to from = refl
 
-pub fits : (x : ℤ) → neg_ℤ (pos (65535 * 2 ^ 63)) ≤ℤ x → x ≤ℤ pos (65535 * 2 ^ 63) → SFits w128 x
-fits x low high = omega (arith, ints)
+-- n steps stay where n times their size is no more than what is left
+many_fit : (n size left : ℕ) (x y : ℤ) → 0 < size → pos left ≡ y -ℤ x → nat_le n (left / size) ≡ int_le (x +ℤ pos (n * size)) y
+many_fit n size left x y some is =
+    let fits : (n ≤ left / size) ↔ (n * size ≤ left) = le-div_iff_mul-le some in
+    same_tests (nat_le n (left / size)) (int_le (x +ℤ pos (n * size)) y)
+    (λ h. let below : n ≤ left / size = search (rules, tests, arith) in let most : n * size ≤ left = fits.0 below in le_to (x +ℤ pos (n * size)) y (omega (arith, ints)))
+    (λ h. let below : (x +ℤ pos (n * size)) ≤ℤ y = le_from (x +ℤ pos (n * size)) y h in let most : n ≤ left / size = fits.1 (omega (arith, ints)) in search (rules, tests, arith))
 
-pub product : (a b c d : ℤ) → a ≡ c → b ≡ d → a *ℤ b ≡ c *ℤ d
-product a b c d h k = rw (h, k) refl
+-- from a value of a range, so many steps up stay in it where they do not pass its high
+up_in : (n s : ℕ) (v : ℤ) (r : Range) → 0 < s → in_range v r ≡ true → nat_le n (steps_within v (pos s) r) ≡ in_range (v +ℤ (pos n *ℤ pos s)) r
+up_in n s v r some is =
+    let b = bounds v r is in
+    let up : int_lt (pos 0) (pos s) ≡ true = grind (arith, ints) in
+    let e : pos n *ℤ pos s ≡ pos (n * s) = pos-*ℤ-pos n s in
+    let left : pos (unsigned_abs (r.high -ℤ v)) ≡ r.high -ℤ v = abs_up (r.high -ℤ v) (omega (arith, ints, b.1)) in
+    let low : int_le r.low (v +ℤ pos (n * s)) ≡ true = le_to r.low (v +ℤ pos (n * s)) (omega (arith, ints, b.0)) in
+    ap (λ (b : Bool). nat_le n (unsigned_abs ((if b then r.high else r.low) -ℤ v) / s)) up
+    ∙ many_fit n s (unsigned_abs (r.high -ℤ v)) v r.high some left
+    ∙ ap (λ (b : Bool). b && int_le (v +ℤ pos (n * s)) r.high) (sym low)
+    ∙ ap (λ (x : ℤ). in_range (v +ℤ x) r) (sym e)
 
-pub sum_fits : (f q p : ℤ) → q ≡ p → neg_ℤ (pos (2 ^ 63)) ≤ℤ f → f ≤ℤ pos (2 ^ 63) → neg_ℤ (pos (65535 * 2 ^ 63)) ≤ℤ p → p ≤ℤ pos (65535 * 2 ^ 63) → SFits w128 (f +ℤ to_z w128 (of_z w128 q))
-sum_fits f q p is f_low f_high low high = omega (arith, ints)
+-- and so many steps down where they do not pass its low
+down_in : (n k : ℕ) (v : ℤ) (r : Range) → in_range v r ≡ true → nat_le n (steps_within v (negsuc k) r) ≡ in_range (v +ℤ (pos n *ℤ negsuc k)) r
+down_in n k v r is =
+    let b = bounds v r is in
+    let down : int_lt (pos 0) (negsuc k) ≡ false = grind (arith, ints) in
+    let e : pos n *ℤ negsuc k ≡ neg_ℤ (pos (n * suc k)) = pos-*ℤ-negsuc n k in
+    let size = unsigned_abs (r.low -ℤ v) in
+    let none : r.low -ℤ v +ℤ pos size ≡ pos 0 = abs_down (r.low -ℤ v) (omega (arith, ints, b.0)) in
+    let left : pos size ≡ v -ℤ r.low = omega (arith, ints) in
+    let high : int_le (v +ℤ neg_ℤ (pos (n * suc k))) r.high ≡ true = le_to (v +ℤ neg_ℤ (pos (n * suc k))) r.high (omega (arith, ints, b.1)) in
+    ap (λ (b : Bool). nat_le n (unsigned_abs ((if b then r.high else r.low) -ℤ v) / suc k)) down
+    ∙ many_fit n (suc k) size r.low v (omega arith) left
+    ∙ moved r.low v (n * suc k)
+    ∙ and_true (int_le r.low (v +ℤ neg_ℤ (pos (n * suc k))))
+    ∙ ap (λ (b : Bool). int_le r.low (v +ℤ neg_ℤ (pos (n * suc k))) && b) (sym high)
+    ∙ ap (λ (x : ℤ). in_range (v +ℤ x) r) (sym e)
+  where
+    moved : (x y : ℤ) (p : ℕ) → int_le (x +ℤ pos p) y ≡ int_le x (y +ℤ neg_ℤ (pos p))
+    moved x y p =
+        same_tests (int_le (x +ℤ pos p) y) (int_le x (y +ℤ neg_ℤ (pos p)))
+        (λ h. let order : (x +ℤ pos p) ≤ℤ y = le_from (x +ℤ pos p) y h in le_to x (y +ℤ neg_ℤ (pos p)) (omega (arith, ints)))
+        (λ h. let order : x ≤ℤ (y +ℤ neg_ℤ (pos p)) = le_from x (y +ℤ neg_ℤ (pos p)) h in le_to (x +ℤ pos p) y (omega (arith, ints)))
+    and_true : (b : Bool) → b ≡ (b && true)
+    and_true true = refl
+    and_true false = refl
 
-pub sum_is : (f q p first : ℤ) → q ≡ p → f ≡ first → neg_ℤ (pos (2 ^ 63)) ≤ℤ f → f ≤ℤ pos (2 ^ 63) → neg_ℤ (pos (65535 * 2 ^ 63)) ≤ℤ p → p ≤ℤ pos (65535 * 2 ^ 63) → to_z w128 (of_z w128 (f +ℤ to_z w128 (of_z w128 q))) ≡ first +ℤ p
-sum_is f q p first is f_is f_low f_high low high = omega (arith, ints)
+-- the values of all turns are in a range where the first is, and there are so many steps from it on
+pub by_steps : (count : ℕ) (v step : ℤ) (r : Range) → step ≢ pos 0 → (in_range v r && nat_le count (steps_within v step r)) ≡ are_in_range count v step r
+by_steps count v step r some = test (in_range v r) (nat_le count (steps_within v step r)) (in_range (v +ℤ (pos count *ℤ step)) r) (λ is. in_direction step some is) ∙ by_ends count v step r
+  where
+    test : (x a b : Bool) → (x ≡ true → a ≡ b) → (x && a) ≡ (x && b)
+    test false a b h = refl
+    test true a b h = h refl
+    in_direction : (step : ℤ) → step ≢ pos 0 → in_range v r ≡ true → nat_le count (steps_within v step r) ≡ in_range (v +ℤ (pos count *ℤ step)) r
+    in_direction (pos zero) some is = absurd (some refl)
+    in_direction (pos (suc k)) some is = up_in count (suc k) v r (omega arith) is
+    in_direction (negsuc k) some is = down_in count k v r is

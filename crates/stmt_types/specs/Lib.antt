@@ -1,2 +1,3 @@
 pub mod SeenLabels
 pub mod ExitOutcomes
+pub mod Steps

@@ -1,7 +1,8 @@
 // How many turns a FOR has, and whether it may have them.
-ghost use Rattle.std.specs.Prelude.{◌≡◌, ◌+◌, ◌+ℤ◌, ◌*ℤ◌, ◌&&◌, pos, min};
+ghost use Rattle.std.specs.Prelude.{◌≡◌, ◌≢◌, ◌+◌, pos, min};
 ghost use Rattle.plc_types.specs.Types.{in_range};
 ghost use Rattle.typing.specs.Constants.{goes_on, turn_count, are_in_range, broken_by_turns};
+ghost use Rattle.stmt_types.specs.Steps.{end_towards, steps_within};
 
 use plc_types::{Range, Value};
 use rules::Rule;
@@ -21,10 +22,10 @@ fn goes_on(value: Value, last: Value, step: Value) -> bool
 }
 
 // The first turn and so many more; 4,097 stand for any greater number.
-fn with_first(more: u64) -> u16
+fn with_first(more: u128) -> u16
     ensures { result ≡ min 4097 (more + 1) }
 {
-    if more < u64::from(MOST_TURNS) {
+    if more < u128::from(MOST_TURNS) {
         more as u16 + 1
     } else {
         MOST_TURNS + 1
@@ -44,36 +45,34 @@ pub fn turn_count(first: Value, last: Value, step: Value) -> u16
     with_first(last.abs_diff(first) / step.unsigned_abs())
 }
 
-fn in_range(value: i128, range: Range) -> bool
+fn in_range(value: Value, range: Range) -> bool
     ensures { result ≡ in_range value range }
 {
-    i128::from(range.low) <= value && value <= i128::from(range.high)
+    range.low <= value && value <= range.high
 }
 
-fn are_both_in_range(first: i128, end: i128, range: Range) -> bool
-    ensures { result ≡ (in_range first range && in_range end range) }
+// The end of a range in the direction of a step.
+fn end_towards(step: Value, range: Range) -> Value
+    ensures { result ≡ end_towards step range }
 {
-    in_range(first, range) && in_range(end, range)
+    if 0 < step { range.high } else { range.low }
 }
 
-// The value that so many steps lead to.
-fn end_of(count: u16, first: Value, step: Value) -> i128
-    ensures { result ≡ first +ℤ (pos count *ℤ step) }
+// How many steps lead from a value of a range no further than its end in their direction.
+fn steps_within(first: Value, step: Value, range: Range) -> u128
+    requires { step ≢ pos 0 }
+    ensures { result ≡ steps_within first step range }
 {
-    let first = i128::from(first);
-    let count = i128::from(count);
-    let step = i128::from(step);
-    let far = count * step;
-    first + far
+    end_towards(step, range).abs_diff(first) / step.unsigned_abs()
 }
 
-// Whether the value of each of so many turns, and the one that ends the FOR, lie in a range: the first and the last of
-// these values do.
+// Whether the value of each of so many turns, and the one that ends the FOR, lie in a range: the first of these values
+// does, and there are so many steps from it on. So no value is worked out that could be past any number.
 fn are_in_range(count: u16, first: Value, step: Value, range: Range) -> bool
+    requires { step ≢ pos 0 }
     ensures { result ≡ are_in_range count first step range }
 {
-    let end = end_of(count, first, step);
-    are_both_in_range(i128::from(first), end, range)
+    in_range(first, range) && u128::from(count) <= steps_within(first, step, range)
 }
 
 /// The rule that the turns of a FOR break, whose control variable has a range.

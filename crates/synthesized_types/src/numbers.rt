@@ -21,13 +21,13 @@ pub fn range(kind: Elementary) -> Range
 {
     let numbers = numbers_of(kind);
     Range {
-        low: numbers.lo as Value,
-        high: numbers.hi as Value,
+        low: numbers.lo,
+        high: numbers.hi,
     }
 }
 
 /// Whether a number is a value of a type.
-pub fn is_value_of(value: i128, kind: Elementary) -> bool
+pub fn is_value_of(value: Value, kind: Elementary) -> bool
     ensures { result ≡ in_range value (range_of kind) }
 {
     let numbers = numbers_of(kind);
@@ -35,8 +35,8 @@ pub fn is_value_of(value: i128, kind: Elementary) -> bool
 }
 
 /// What is left of a number when it is kept in a type.
-pub fn wrapped(value: i128, kind: Elementary) -> Value
+pub fn wrapped(value: Value, kind: Elementary) -> Value
     ensures { result ≡ wrap_to kind value }
 {
-    wrap(value, numbers_of(kind)) as Value
+    wrap(value, numbers_of(kind))
 }

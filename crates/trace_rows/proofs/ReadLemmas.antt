@@ -15,7 +15,7 @@ use Rattle.json.specs.declared.token.Token.TheVariants.{BeginObject, EndObject, 
 use Rattle.json.proofs.Grammar.{value_is, value-begin_array, items_end, items_more}
 use Rattle.serde_json.specs.Data.{Data, null, boolean, number, string, array, object, Items, no_items, item, Members, no_members, Num}
 use Rattle.serde_json.specs.Read.{number_of, of_json, of_items, of_members, converted, max_depth, read}
-use Rattle.serde_json.specs.Find.{as_array, as_i64}
+use Rattle.serde_json.specs.Find.{as_array, as_integer}
 use Rattle.trace_rows.specs.Traces.{number_in, numbers_in, of_width, row_in, rows_in, trace_in}
 use Rattle.trace_rows.specs.Rows.{rows_of}
 use Rattle.trace_rows.specs.Reading.{by_data, after_begin_array, number_depth, row_depth, number_read, numbers_read, row_read, rows_read, IsAdded}
@@ -177,7 +177,7 @@ array_value depth ts r some e = ap (value depth) (array_is ts r e) ∙ value-beg
 
 -- ---- a number
 
-of_data : (o : Option Num) → option_and_then number_in (option_map number o) ≡ option_and_then as_i64 o
+of_data : (o : Option Num) → option_and_then number_in (option_map number o) ≡ option_and_then as_integer o
 of_data None = refl
 of_data (Some x) = refl
 
@@ -185,7 +185,7 @@ met : (read : Option (ℤ × List Token)) (r : List Token) (o : Option ℤ) → 
 met read r None e = e
 met read r (Some z) e = e
 
-pub number_first : (ts r : List Token) (s : List ℕ) (o : Option ℤ) → ts ≡ Token.number s ∷ r → o ≡ option_and_then as_i64 (number_of s) → MatchOption o (number_read ts ≡ None) (λ z. number_read ts ≡ Some (z, r))
+pub number_first : (ts r : List Token) (s : List ℕ) (o : Option ℤ) → ts ≡ Token.number s ∷ r → o ≡ option_and_then as_integer (number_of s) → MatchOption o (number_read ts ≡ None) (λ z. number_read ts ≡ Some (z, r))
 number_first ts r s o e is =
     met (number_read ts) r o (ap number_read e ∙ ap (converted (by_data number_in)) (value_is number_depth (Token.number s ∷ r)) ∙ ap (option_map (λ z. (z, r))) (of_data (number_of s) ∙ sym is))
 

@@ -3,11 +3,11 @@ use Rattle.std.specs.Prelude.{◌≡◌, ℕ, List, [], ◌∷◌, length, drop,
 use Rattle.source_tree.specs.Tokens.{mark_len}
 use Rattle.serde_json.specs.Data.{Data, Items, no_items, item}
 use Rattle.serde_json.specs.Read.{read}
-use Rattle.serde_json.specs.Find.{as_array, as_number, as_i64}
+use Rattle.serde_json.specs.Find.{as_array, as_number, as_integer}
 
--- a whole number, of 64 bits with a sign
+-- a whole number of 64 bits, with a sign or without: from -2^63 to 2^64 - 1
 abbrev pub number_in : Data → Option ℤ
-number_in d = option_and_then as_i64 (as_number d)
+number_in d = option_and_then as_integer (as_number d)
 
 abbrev pub numbers_in : Items → Option (List ℤ)
 numbers_in no_items = Some []

@@ -1,5 +1,5 @@
-use Rattle.std.proofs.Common.{rules, tests, to_z, of_z, ◌∷◌, ◌≡◌, ◌≢◌, ◌+◌, ◌*◌, ◌+ℤ◌, arith, refl, sym, ap, ◌∙◌, length, take}
-use Rattle.std.specs.Int.{w64, w128}
+use Rattle.std.proofs.Common.{rules, tests, to_z, of_z, ◌∷◌, ◌≡◌, ◌≢◌, ◌+◌, ◌*◌, ◌+ℤ◌, arith, refl, sym, subst, ap, ◌∙◌, ℤ, length, take}
+use Rattle.std.specs.Int.{w128}
 use Rattle.std.proofs.lemmas.Int.{ints}
 use Rattle.std.proofs.lemmas.List.{length-take-le}
 use Rattle.program_tree.specs.declared.typed.TypedStmt.TheFolds.{fold-roll-TypedStmt}
@@ -11,6 +11,8 @@ use Rattle.meaning.specs.Effects.{on, returned, effect_of, effect_of_all}
 use Rattle.meaning.specs.Calls.{given}
 use Rattle.meaning.specs.Room.{room_of, markings_in_all}
 use Rattle.interpreter.specs.Scopes.{callees_here, cells_read}
+use Rattle.interpreter.specs.Turning.{value_after, StandsFor}
+use Rattle.interpreter.proofs.Turning.{next_after}
 use Rattle.operations.proofs.Calls.{called_is}
 use Rattle.meaning.proofs.Sizes.{all_nodes, body_nodes, called_nodes}
 use Rattle.interpreter.proofs.Weights.{weight_here}
@@ -117,7 +119,7 @@ answers::fill-returns-in-Some-clause-state t c =
     let v = value_of (callees_here scope) scope.base (expr_view c.in-Some.first.now) cells in
     let all : values_of (callees_here scope) scope.base (arguments_view c.args.inputs.now) cells ≡ v ∷ vs = ap (λ l. values_of (callees_here scope) scope.base (arguments_view l) cells) split in
     let len : length c.store.new.state ≡ n = c.store.auto.state ∙ length-take-le n c.fill-fault.new.stack (omega arith) in
-    let same : to_z w64 (of_z w64 c.evaluate_in-first.result.value) ≡ v = search (rules, ints) in
+    let same : to_z w128 (of_z w128 c.evaluate_in-first.result.value) ≡ v = search (rules, ints) in
     given-more c.args.ranges.now c.args.place n v _ vs _ c.store.new.state _ (take n c.fill-fault.new.stack) c.args.start.now c.requires.behind_fault len same c.store.ensures c.fill-fault.ensures.state all
 
 pub statements::run_block-run_all-requires : goal.statements::run_block-run_all-requires
@@ -157,17 +159,21 @@ statements::run-returns-in-Chart-clause-effect t c =
     ran ∙ sym (ap (λ d. effect_of (callees_here scope) scope.ranges.now scope.base d c.args.cells.now) is)
 
 pub turns::run_turns-loop-preserved : goal.turns::run_turns-loop-preserved
-turns::run_turns-loop-preserved t c = record {
-  rest = effect_of_turns-turn _ _ _ _ _ _ _ (effect_of_all (callees_here c.args.scope.now) c.args.scope.now.ranges.now c.args.scope.now.base (stmts_view c.args.body.now)) _ _ (on c.run_all.new.cells) _ c.loop-test.true c.range_at-range.ensures (omega (arith, ints)) c.set_control.ensures c.in-On.ensures.effect ∙ c.loop.invariant.rest;
-  low = omega (arith, ints);
-  high = omega (arith, ints);
-  room = omega arith;
-}
+turns::run_turns-loop-preserved t c =
+    let v = value_after c.args.turns.first c.args.turns.step c.loop.counter in
+    let same : to_z w128 (of_z w128 c.args.turns.step) ≡ c.args.turns.step = omega (arith, ints) in
+    let next : value_after c.args.turns.first c.args.turns.step (c.loop.counter + 1) ≡ v +ℤ c.args.turns.step = next_after c.args.turns.first c.args.turns.step c.loop.counter in
+    record {
+      rest = effect_of_turns-turn _ _ _ _ _ _ _ (effect_of_all (callees_here c.args.scope.now) c.args.scope.now.ranges.now c.args.scope.now.base (stmts_view c.args.body.now)) _ _ (on c.run_all.new.cells) _ c.loop-test.true c.range_at-range.ensures next (c.set_control.ensures c.args.turns.step v c.loop.invariant.stands) c.in-On.ensures.effect ∙ c.loop.invariant.rest;
+      stands = subst (λ (x : ℤ). StandsFor c.next_value-value.result c.args.turns.step x) (sym next) (subst (λ (x : ℤ). StandsFor c.next_value-value.result x (v +ℤ x)) same (c.next_value-value.ensures v (subst (λ (x : ℤ). StandsFor c.loop.value x v) (sym same) c.loop.invariant.stands)));
+      room = omega arith;
+    }
 
 pub turns::run_turns-returns-in-Return-clause-effect : goal.turns::run_turns-returns-in-Return-clause-effect
 turns::run_turns-returns-in-Return-clause-effect t c =
-    effect_of_turns-turn _ _ _ _ _ (to_z w128 c.loop.value-bits +ℤ c.args.turns.step) c.args.turns.step (effect_of_all (callees_here c.args.scope.now) c.args.scope.now.ranges.now c.args.scope.now.base (stmts_view c.args.body.now)) _ _ (returned c.run_all.new.cells) _
-    c.loop-test.true c.range_at-range.ensures refl c.set_control.ensures c.in-Return.ensures.effect ∙ c.loop.invariant.rest
+    let v = value_after c.args.turns.first c.args.turns.step c.loop.counter in
+    effect_of_turns-turn _ _ _ _ v (v +ℤ c.args.turns.step) c.args.turns.step (effect_of_all (callees_here c.args.scope.now) c.args.scope.now.ranges.now c.args.scope.now.base (stmts_view c.args.body.now)) _ _ (returned c.run_all.new.cells) _
+    c.loop-test.true c.range_at-range.ensures refl (c.set_control.ensures c.args.turns.step v c.loop.invariant.stands) c.in-Return.ensures.effect ∙ c.loop.invariant.rest
 
 pub charts::run_chart-returns-clause-state : goal.charts::run_chart-returns-clause-state
 charts::run_chart-returns-clause-state t c =

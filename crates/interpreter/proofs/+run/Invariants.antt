@@ -1,4 +1,4 @@
-use Rattle.std.proofs.Common.{◌≡◌, ◌≤◌, ◌+◌, ◌-◌, ◌*◌, ◌^◌, ◌||◌, pos, neg_ℤ, false, ◌≤ℤ◌, drop, length}
+use Rattle.std.proofs.Common.{◌≡◌, ◌≤◌, ◌+◌, ◌-◌, ◌*◌, ◌||◌, false, drop, length}
 use Rattle.program_tree.specs.View.{expr_view, operands_view, arguments_view, stmt_view, stmts_view, choices_view, entries_view, actions_view, transitions_view}
 use Rattle.meaning.specs.Values.{value_on, any_faults, values_of, one_faults}
 use Rattle.operations.specs.Joined.{joined_on}
@@ -7,6 +7,7 @@ use Rattle.meaning.specs.Effects.{effect_of_all, effect_of_choices, effect_of_en
 use Rattle.meaning.specs.Flags.{exited_after, entered_after, fault_after}
 use Rattle.meaning.specs.Room.{markings_in_all, markings_in_choices, markings_in_entries, markings_in_actions}
 use Rattle.interpreter.specs.Scopes.{callees_here, cells_read}
+use Rattle.interpreter.specs.Turning.{value_after, StandsFor}
 use Rattle.meaning.proofs.Sizes.{nodes, operand_nodes, all_nodes, transition_nodes, statement_nodes, body_nodes, choice_nodes, entry_nodes, action_nodes}
 use Rattle.interpreter.proofs.Weights.{weight_here}
 use Rattle.interpreter.proofs.+run.Given as goal
@@ -76,14 +77,13 @@ invariant-charts::fire_all-loop-transition l = record {
   room : length l.stack ≡ length l.initial.stack;
 }
 
--- and the running value is within 2 ^ 63 of 0 for the first value, and as much again for each turn
+-- and what is kept of the running value stands for it
 
 abbrev pub invariant-turns::run_turns-loop : goal.invariant-turns::run_turns-loop
 invariant-turns::run_turns-loop l = record {
-  rest : effect_of_turns l.scope.ranges.now (l.turns.count - l.counter) l.control l.value l.turns.step (effect_of_all (callees_here l.scope) l.scope.ranges.now l.scope.base (stmts_view l.body)) l.cells
+  rest : effect_of_turns l.scope.ranges.now (l.turns.count - l.counter) l.control (value_after l.turns.first l.turns.step l.counter) l.turns.step (effect_of_all (callees_here l.scope) l.scope.ranges.now l.scope.base (stmts_view l.body)) l.cells
       ≡ effect_of_turns l.scope.ranges.now l.turns.count l.control l.turns.first l.turns.step (effect_of_all (callees_here l.scope) l.scope.ranges.now l.scope.base (stmts_view l.body)) l.initial.cells;
-  low : neg_ℤ (pos ((l.counter + 1) * 2 ^ 63)) ≤ℤ l.value;
-  high : l.value ≤ℤ pos ((l.counter + 1) * 2 ^ 63);
+  stands : StandsFor l.value l.turns.step (value_after l.turns.first l.turns.step l.counter);
   room : length l.stack ≡ length l.initial.stack;
 }
 

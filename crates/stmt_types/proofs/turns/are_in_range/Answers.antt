@@ -1,15 +1,18 @@
-use Rattle.std.proofs.Common.{◌≡◌, ◌∙◌, arith}
+use Rattle.std.proofs.Common.{◌≡◌, ◌∙◌, sym, ap, ap₂, arith, true, Bool, ◌&&◌, ℕ, ℤ}
+use Rattle.std.specs.Prelude.{nat_le}
 use Rattle.std.proofs.lemmas.Int.{ints}
-use Rattle.stmt_types.proofs.StepLemmas.{by_values}
+use Rattle.plc_types.specs.Types.{in_range}
+use Rattle.stmt_types.specs.Steps.{steps_within}
+use Rattle.stmt_types.proofs.StepLemmas.{by_steps}
 use Rattle.stmt_types.proofs.turns.are_in_range.Goals as goal
-use Rattle.std.proofs.Math.IntN.{pos, ◌+ℤ◌, ◌*ℤ◌}
-use mir.Syntax.{w64, w128}
+use mir.Syntax.{w128}
 use mir.Val.{to_z, of_z}
 
-pub returns : goal.returns
-returns c =
-    let first : to_z w64 (of_z w64 c.args.first) ≡ c.args.first = omega (arith, ints) in
-    let step : to_z w64 (of_z w64 c.args.step) ≡ c.args.step = omega (arith, ints) in
-    let kept : to_z w128 (of_z w128 c.end_of-end.result) ≡ c.end_of-end.result = omega (arith, ints) in
-    let far : c.end_of-end.result ≡ c.args.first +ℤ (pos c.args.count *ℤ c.args.step) = c.end_of-end.ensures ∙ (λ i. first i +ℤ (pos c.args.count *ℤ step i)) in
-    by_values c.args.count c.args.first c.args.step c.args.range _ _ c.are_both_in_range.result c.are_both_in_range.ensures (omega (arith, ints)) (kept ∙ far)
+pub returns-then-in_range : goal.returns-then-in_range
+returns-then-in_range c =
+    let r = c.args.range in
+    let first : to_z w128 (of_z w128 c.args.first) ≡ c.args.first = omega (arith, ints) in
+    let step : to_z w128 (of_z w128 c.args.step) ≡ c.args.step = omega (arith, ints) in
+    let within : in_range c.args.first r ≡ true = ap (λ (x : ℤ). in_range x r) (sym first) ∙ sym c.in_range.ensures ∙ c.if-in_range.true in
+    let steps : c.steps_within.result ≡ steps_within c.args.first c.args.step r = c.steps_within.ensures ∙ ap₂ (λ (x y : ℤ). steps_within x y r) first step in
+    ap₂ nat_le c.from.ensures steps ∙ ap (λ (b : Bool). b && nat_le c.args.count (steps_within c.args.first c.args.step r)) (sym within) ∙ by_steps c.args.count c.args.first c.args.step r c.requires
