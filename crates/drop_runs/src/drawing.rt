@@ -14,7 +14,7 @@ fn draw_any(free: &mut [u64x4], random: &mut Random, word: &[Lit]) {
 }
 
 // Draws a number up to a greatest one: as many bits as that has, the highest of which is taken back where the number is greater.
-fn draw_up_to(free: &mut [u64x4], random: &mut Random, word: &[Lit], greatest: u64) {
+fn draw_up_to(free: &mut [u64x4], random: &mut Random, word: &[Lit], greatest: u128) {
     let mut rest = greatest;
     let mut greater = no_lane();
     for bit in word {

@@ -1,6 +1,6 @@
 // The numbers that words of free bits spell.
 use clause_core::Lit;
-use operations::wrap_short;
+use operations::wrap_value;
 use pair_circuits::{PairParts, Product};
 use plc_types::{Elementary, Value};
 use queries::{Decoded, Row};
@@ -13,16 +13,16 @@ fn value_of(bits: &[bool], bit: Lit) -> bool {
     bits.get(place).copied().unwrap_or(false)
 }
 
-// The number of a type that a word spells, of which at most 32 bits are read.
+// The number of a type that a word spells, of which at most 64 bits are read.
 fn number(bits: &[bool], kind: Elementary, word: &[Lit]) -> Value {
-    let mut number = 0u32;
-    let count = word.len().min(32);
+    let mut number = 0u64;
+    let count = word.len().min(64);
     for i in 0..count {
         if value_of(bits, word[i]) {
             number |= 1 << i;
         }
     }
-    wrap_short(kind, Value::from(number))
+    wrap_value(kind, Value::from(number))
 }
 
 // The numbers that the words of cells spell.

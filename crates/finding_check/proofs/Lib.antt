@@ -1,3 +1,4 @@
+pub mod DeletionLemmas
 pub mod HintLemmas
 pub mod RoomLemmas
 pub mod Standing

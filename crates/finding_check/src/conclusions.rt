@@ -7,6 +7,7 @@ ghost use Rattle.finding_check.specs.Rooms.{IsSmall};
 
 use finding_lines::Conclusion;
 use pair_trial::Trial;
+use plc_types::Value;
 use queries::CandidateSet;
 
 /// RELATED by a set.
@@ -15,7 +16,7 @@ pub fn related_by(trial: &Trial, set: &CandidateSet) -> Conclusion
     ensures { result ≡ related_by (setting_in trial.now) (members set.now) }
 {
     let candidates = trial.candidates();
-    Conclusion::Related(set.size(candidates) as i64, candidates as i64)
+    Conclusion::Related(set.size(candidates) as Value, candidates as Value)
 }
 
 /// OPEN by a set.
@@ -25,9 +26,9 @@ pub fn open_by(trial: &Trial, set: &CandidateSet) -> Conclusion
 {
     let candidates = trial.candidates();
     Conclusion::Open(
-        set.size(candidates) as i64,
-        candidates as i64,
-        trial.depth() as i64,
+        set.size(candidates) as Value,
+        candidates as Value,
+        Value::from(trial.depth()),
     )
 }
 

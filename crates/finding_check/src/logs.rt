@@ -4,15 +4,15 @@ ghost use Rattle.clause_core.specs.Clauses.{rises};
 ghost use Rattle.clause_core.specs.Freshness.{IsFresh};
 ghost use Rattle.scan_model.specs.Pairs.{Pair};
 ghost use Rattle.derivation_check.specs.Checks.{held_of};
-ghost use Rattle.derivation_check.specs.Deletions.{may_delete_all, without_all};
+ghost use Rattle.derivation_check.specs.Deletions.{may_delete, may_delete_all, without, without_all};
 ghost use Rattle.finding_lines.specs.declared.line.Line.TheVariants as lines;
 ghost use Rattle.queries.specs.Questions.{query_view, IsQueryOf};
-ghost use Rattle.judgement.specs.Steps.{opened, accepts, with_derived, hints_of, is_empty};
+ghost use Rattle.judgement.specs.Steps.{opened, accepts, with_derived, hint_of, hints_of, is_empty};
 ghost use Rattle.judgement.specs.Tests.{in_log_next, deleting};
 ghost use Rattle.finding_check.specs.Stages.{place_behind, place_in, place_of, moved_of};
 ghost use Rattle.finding_check.specs.StepMoves.{log_moved, spent_moved, spent_next, IsToldFresh};
 
-use crate::numbers::{number_of, step_of};
+use crate::numbers::{short_hint, step_of};
 use crate::stage::{Behind, Moved, Spending, Stage};
 use clause_core::Step;
 use derivation_check::{Checker, StepFault};
@@ -57,21 +57,32 @@ fn stage_in(spending: Spending, checker: Checker, left: u64) -> Stage
     }
 }
 
+// Deletes the clause of a number, if it may be; whether it may be.
+fn delete_by(checker: &mut Checker, id: Value) -> bool
+    requires { length (held_of checker.old) < 2 ^ 32 }
+    ensures may { result ≡ may_delete checker.old (hint_of id) }
+    ensures left { IsTrue result → checker.new ≡ without checker.old (hint_of id) }
+{
+    checker.delete(short_hint(id) as usize).is_ok()
+}
+
 // Deletes the clauses of some numbers, one after the other, as far as they may be; whether all may be.
 fn delete_all(checker: &mut Checker, ids: &[Value]) -> bool
+    requires { length (held_of checker.old) < 2 ^ 32 }
     ensures may { result ≡ may_delete_all checker.old (hints_of ids.now) }
     ensures left { IsTrue result → checker.new ≡ without_all checker.old (hints_of ids.now) }
 {
     for id in ids {
-        let Ok(_) = checker.delete(number_of(*id)) else {
+        if !delete_by(checker, *id) {
             return false;
-        };
+        }
     }
     true
 }
 
 /// The numbers of deletions in a log that is to refute a query.
 pub fn log_deletions(mut checker: Checker, behind: Behind, ids: &[Value]) -> Moved
+    requires { length (held_of checker) < 2 ^ 32 }
     ensures { (pair : Pair) → moved_of result pair ≡ in_log_next checker (place_behind behind) (lines.Deleted ids.now) }
 {
     if delete_all(&mut checker, ids) {
@@ -83,6 +94,7 @@ pub fn log_deletions(mut checker: Checker, behind: Behind, ids: &[Value]) -> Mov
 
 /// The numbers of deletions in a log that is to spend a query, so many steps to come.
 pub fn spent_deletions(spending: Spending, mut checker: Checker, left: u64, ids: &[Value]) -> Moved
+    requires { length (held_of checker) < 2 ^ 32 }
     ensures { (pair : Pair) → moved_of result pair ≡ deleting checker ids.now (λ held. place_in spending held left) }
 {
     if delete_all(&mut checker, ids) {

@@ -2,7 +2,7 @@
 ghost use Rattle.std.specs.Prelude.{◌≡◌, ◌<◌, true, false, length, pos, slice_index_or, IfOk, MatchOption};
 ghost use Rattle.std.specs.Int.RustNames.{unsigned_abs};
 ghost use Rattle.clause_core.specs.Clauses.{rises};
-ghost use Rattle.judgement.specs.Steps.{literal_of, clause_of, hint_of};
+ghost use Rattle.judgement.specs.Steps.{literal_of, clause_of};
 ghost use Rattle.finding_check.specs.Numbers.{short_hint, short_hints};
 
 use clause_core::{Clause, Hints, Lit, Step, is_rising};
@@ -16,7 +16,7 @@ fn literal_at(variables: u32, numbers: &[Value], place: usize) -> Option<Lit>
 {
     let number = numbers[place];
     let variable = number.unsigned_abs();
-    if variable > variables as u64 {
+    if variable > u128::from(variables) {
         return None;
     }
     Some(Lit {
@@ -62,7 +62,8 @@ pub fn clause_of(
     }
 }
 
-fn short_hint(number: Value) -> u32
+/// The number of a clause, as a D line or an X line gives it: one that is not above 0, or has more than 32 bits, is that of none.
+pub fn short_hint(number: Value) -> u32
     ensures { result ≡ short_hint number }
 {
     if 0 <= number && number < 0x1_0000_0000 {
@@ -70,13 +71,6 @@ fn short_hint(number: Value) -> u32
     } else {
         0
     }
-}
-
-/// The number of a clause, as an X line gives it: one that is not above 0 is that of none.
-pub fn number_of(number: Value) -> usize
-    ensures { result ≡ hint_of number }
-{
-    if 0 <= number { number as usize } else { 0 }
 }
 
 /// The hints of some numbers.

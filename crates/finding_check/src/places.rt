@@ -82,18 +82,17 @@ fn at_header<Q: Queries>(
 }
 
 fn is_walk(rows: u64, asked: Asked) -> bool
-    requires { rows < 2 ^ 63 }
     ensures { result ≡ is_walk rows asked }
 {
     match asked {
-        Asked::Walk(other) => 0 <= other && other as u64 == rows,
+        Asked::Walk(other) => other == Value::from(rows),
         _ => false,
     }
 }
 
 // Behind so many rows, some, a list of one row more is asked for.
 fn asks_for_more(rows: u64, asked: Asked) -> bool
-    requires { rows < 2 ^ 63 - 1 }
+    requires { rows < 2 ^ 64 - 1 }
     ensures { result ≡ (nat_lt 0 rows && is_walk (rows + 1) asked) }
 {
     if rows == 0 {
@@ -215,11 +214,10 @@ fn at_kept<Q: Queries>(
 }
 
 fn is_deep(scans: u64, asked: Asked) -> bool
-    requires { scans < 2 ^ 63 }
     ensures { result ≡ is_deep scans asked }
 {
     match asked {
-        Asked::Deep(other) => 0 <= other && other as u64 == scans,
+        Asked::Deep(other) => other == Value::from(scans),
         _ => false,
     }
 }
@@ -332,7 +330,7 @@ fn end_query(trial: &Trial, reach: Reach, asked: Asked, left: u64, conclusion: C
     ensures { (pair : Pair) (d : Derivation) → (told : Bool) × IsTold (setting_in trial.now) (in_query reach asked d left) (lines.End conclusion) told
         × (moved_of result pair ≡ in_query_next (setting_in trial.now) reach asked d left told (lines.End conclusion)) }
 {
-    let verdict = Conclusion::Spent(asked, trial.conflicts() as i64);
+    let verdict = Conclusion::Spent(asked, Value::from(trial.conflicts()));
     let is_same = conclusion == verdict;
     if left != 0 {
         return Moved::Fails(Reason::B10);

@@ -144,7 +144,7 @@ pub fn scan_row(trial: &mut Trial, reach: Reach, scans: u64, more: u64, row: &[V
         if trial.related() {
             return Moved::Fails(Reason::B8);
         }
-        let verdict = Conclusion::Different(scans as i64);
+        let verdict = Conclusion::Different(Value::from(scans));
         return Moved::Goes(Stage::End(reach, verdict));
     }
     if !trial.related() {

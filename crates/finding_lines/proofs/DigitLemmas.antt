@@ -1,15 +1,17 @@
 -- Numbers, read digit by digit.
-use Rattle.std.proofs.Common.{◌≡◌, ◌≢◌, ℕ, zero, suc, ◌<◌, ◌≤◌, ◌+◌, ◌*◌, ◌/◌, ◌%◌, ◌^◌, ℤ, pos, negsuc, List, [], ◌∷◌, ◌++◌, length, get_or, refl, ap, sym, ◌∙◌, subst, arith, append_assoc, length-append}
+use Rattle.std.proofs.Common.{◌≡◌, ◌≢◌, ℕ, zero, suc, ◌<◌, ◌≤◌, ◌+◌, ◌*◌, ◌/◌, ◌%◌, ◌^◌, ℤ, pos, negsuc, List, [], ◌∷◌, ◌++◌, length, get_or, refl, ap, sym, ◌∙◌, subst, arith, ◌⊎◌, append_assoc, length-append}
 use Rattle.std.specs.Char.{digit_value}
 use Rattle.std.specs.Fmt.{decimal, signed_decimal}
 use Rattle.std.specs.Str.Parse.{AllDigits, IsNumeral, digits_value, digits_value_after}
 use Rattle.std.proofs.lemmas.Fmt.{decimal_is_IsNumeral, decimal_digit, decimal_step, decimal_injective, first_decimal}
-use Rattle.finding_lines.specs.Form.{IsNumber, IsMagnitude}
+use Rattle.finding_lines.specs.Numbers.{IsNumber, IsMagnitude}
 use Rattle.finding_lines.specs.Reading.{Opens, IsTaken, NoneTaken}
+use Rattle.finding_lines.proofs.NumberLemmas.{number-below, number-from, is-number}
 use Rattle.finding_lines.proofs.SpellingLemmas.{word-split, decimal-lacks_space}
 
 -- digits were read, and what follows them is what is left of a magnitude's digits
 pub record DigitsSoFar (bytes : List ℕ) (number : ℕ) (rest : List ℕ) : Type 0 where
+  pub fits : IsMagnitude number
   pub whole : bytes ≡ decimal number ++ rest
   pub left : (n : ℕ) (more : List ℕ) → IsMagnitude n → Opens more → bytes ≡ decimal n ++ more → (ds : List ℕ) × AllDigits 10 ds × (rest ≡ ds ++ more) × (decimal n ≡ decimal number ++ ds) × (n ≡ digits_value_after 10 number ds)
 
@@ -26,6 +28,7 @@ one-digit c d small e = decimal_digit d small ∙ ap (λ z. z ∷ []) (sym e)
 
 pub digits-start : (bytes rest : List ℕ) (c d : ℕ) → bytes ≡ c ∷ rest → d < 10 → c ≡ 48 + d → digit_value c ≡ d → DigitsSoFar bytes d rest
 digits-start bytes rest c d whole small e is = record {
+  fits = omega arith;
   whole = whole ∙ ap (λ z. z ++ rest) (sym (one-digit c d small e));
   left = λ n more h opens f. let k = decimal_is_IsNumeral n (omega arith) in start-left bytes rest (decimal n) more n c d whole (one-digit c d small e) is k.0 k.1 f;
 }
@@ -46,7 +49,7 @@ digits-nothing bytes none n more h opens e =
     let size = ap length e ∙ length-append (decimal n) more in
     omega (arith, k, size, none)
 
-next-digit : (number b d : ℕ) → number ≢ 0 → number ≤ 922337203685477580 → d < 10 → b ≡ 48 + d → decimal (number * 10 + d) ≡ decimal number ++ b ∷ []
+next-digit : (number b d : ℕ) → number ≢ 0 → number * 10 + d < 2 ^ 64 → d < 10 → b ≡ 48 + d → decimal (number * 10 + d) ≡ decimal number ++ b ∷ []
 next-digit number b d some few small e =
     let m : ℕ = number * 10 + d in
     let front : m / 10 ≡ number = omega arith in
@@ -62,10 +65,11 @@ next-left rest back (x ∷ ds) more b is apart opens all e =
     let tails : back ≡ ds ++ more = cc in
     (ds, ap (λ z. z ∷ ds) heads, omega (arith, all.0, ap digit_value heads), all.1, tails)
 
-pub digits-step : (bytes rest back : List ℕ) (number b d : ℕ) → DigitsSoFar bytes number rest → rest ≡ b ∷ back → b ≢ 32 → d < 10 → b ≡ 48 + d → digit_value b ≡ d → number ≢ 0 → number ≤ 922337203685477580 → DigitsSoFar bytes (number * 10 + d) back
+pub digits-step : (bytes rest back : List ℕ) (number b d : ℕ) → DigitsSoFar bytes number rest → rest ≡ b ∷ back → b ≢ 32 → d < 10 → b ≡ 48 + d → digit_value b ≡ d → number ≢ 0 → IsMagnitude (number * 10 + d) → DigitsSoFar bytes (number * 10 + d) back
 digits-step bytes rest back number b d so is apart small e value some few =
     let next = next-digit number b d some few small e in
     record {
+      fits = few;
       whole = so.whole ∙ ap (λ z. decimal number ++ z) is ∙ sym (append_assoc (decimal number) (b ∷ []) back) ∙ ap (λ z. z ++ back) (sym next);
       left = λ n more h opens f.
           let l = so.left n more h opens f in
@@ -108,24 +112,15 @@ value-grows n [] = omega arith
 value-grows n (c ∷ cs) = omega (arith, value-grows (n * 10 + digit_value c) cs)
 
 -- too many digits
-pub stuck-large : (bytes rest back : List ℕ) (number b : ℕ) → DigitsSoFar bytes number rest → rest ≡ b ∷ back → b ≢ 32 → 922337203685477580 < number → NoneTaken IsMagnitude decimal bytes
-stuck-large bytes rest back number b so is apart many n more h opens e =
+pub stuck-large : (bytes rest back : List ℕ) (number b d : ℕ) → DigitsSoFar bytes number rest → rest ≡ b ∷ back → b ≢ 32 → digit_value b ≡ d → 2 ^ 64 ≤ number * 10 + d → NoneTaken IsMagnitude decimal bytes
+stuck-large bytes rest back number b d so is apart digit many n more h opens e =
     let l = so.left n more h opens e in
     let k = next-left rest back l.0 more b is apart opens l.1 l.2 in
     let value = l.4 ∙ ap (digits_value_after 10 number) k.1 in
     omega (arith, value, value-grows (number * 10 + digit_value b) k.0)
 
-pub stuck-end : (bytes rest : List ℕ) (number : ℕ) → DigitsSoFar bytes number rest → 2 ^ 63 < number → NoneTaken IsMagnitude decimal bytes
-stuck-end bytes rest number so many n more h opens e =
-    let l = so.left n more h opens e in
-    omega (arith, l.4, value-grows number l.0)
-
-pub digits-end : (bytes rest rest' : List ℕ) (number m : ℕ) → DigitsSoFar bytes number rest → m ≡ number → rest' ≡ rest → IsMagnitude number → Opens rest → IsTaken IsMagnitude decimal bytes m rest'
-digits-end bytes rest rest' number m so same also h opens = record {
-  good = omega arith;
-  opens = subst Opens (sym also) opens;
-  whole = so.whole ∙ ap (λ z. decimal z ++ rest) (sym same) ∙ ap (λ z. decimal m ++ z) (sym also);
-}
+pub digits-end : (bytes rest : List ℕ) (number : ℕ) → DigitsSoFar bytes number rest → Opens rest → IsTaken IsMagnitude decimal bytes number rest
+digits-end bytes rest number so opens = record { good = so.fits; opens = opens; whole = so.whole }
 
 -- the magnitude in front is determined
 magnitude-split : (m n : ℕ) (a b : List ℕ) → IsMagnitude m → IsMagnitude n → Opens a → Opens b → decimal m ++ a ≡ decimal n ++ b → m ≡ n
@@ -136,22 +131,21 @@ magnitude-split m n a b fm fn oa ob e =
 -- numbers behind a minus
 pub minus-none : (bytes digits : List ℕ) → bytes ≡ 45 ∷ digits → NoneTaken IsMagnitude decimal digits → NoneTaken IsNumber signed_decimal bytes
 minus-none bytes digits whole none (pos n) more fits opens e =
-    let s = fits.sfits in
-    digits-none bytes digits 45 whole (omega arith) n more (omega arith) opens e
+    digits-none bytes digits 45 whole (omega arith) n more (number-below n fits) opens e
 minus-none bytes digits whole none (negsuc n) more fits opens e =
-    let s = fits.sfits in
+    let from = number-from n fits in
     let tails : digits ≡ decimal (suc n) ++ more = cc in
     none (suc n) more (omega arith) opens tails
 
-pub minus-zero : (bytes digits rest : List ℕ) (m : ℕ) → bytes ≡ 45 ∷ digits → IsTaken IsMagnitude decimal digits m rest → m ≡ 0 → NoneTaken IsNumber signed_decimal bytes
-minus-zero bytes digits rest m whole taken zero_is (pos n) more fits opens e =
-    let s = fits.sfits in
-    digits-none bytes digits 45 whole (omega arith) n more (omega arith) opens e
-minus-zero bytes digits rest m whole taken zero_is (negsuc n) more fits opens e =
-    let s = fits.sfits in
+-- there is no number of that magnitude below 0
+pub minus-wrong : (bytes digits rest : List ℕ) (m : ℕ) → bytes ≡ 45 ∷ digits → IsTaken IsMagnitude decimal digits m rest → (m ≡ 0) ⊎ (2 ^ 63 < m) → NoneTaken IsNumber signed_decimal bytes
+minus-wrong bytes digits rest m whole taken wrong (pos n) more fits opens e =
+    digits-none bytes digits 45 whole (omega arith) n more (number-below n fits) opens e
+minus-wrong bytes digits rest m whole taken wrong (negsuc n) more fits opens e =
+    let from = number-from n fits in
     let tails : digits ≡ decimal (suc n) ++ more = cc in
     let same = magnitude-split m (suc n) rest more taken.good (omega arith) taken.opens opens (sym taken.whole ∙ tails) in
-    omega (arith, same, zero_is)
+    omega (arith, same, wrong)
 
 pub minus-taken : (bytes digits rest : List ℕ) (m : ℕ) (n : ℤ) → bytes ≡ 45 ∷ digits → IsTaken IsMagnitude decimal digits m rest → IsNumber n → signed_decimal n ≡ 45 ∷ decimal m → IsTaken IsNumber signed_decimal bytes n rest
 minus-taken bytes digits rest m n whole taken fits is = record {
@@ -162,19 +156,12 @@ minus-taken bytes digits rest m n whole taken fits is = record {
 
 -- and without one
 pub plus-none : (bytes : List ℕ) → ((more : List ℕ) → bytes ≢ 45 ∷ more) → NoneTaken IsMagnitude decimal bytes → NoneTaken IsNumber signed_decimal bytes
-plus-none bytes bare none (pos n) more fits opens e = let s = fits.sfits in none n more (omega arith) opens e
+plus-none bytes bare none (pos n) more fits opens e = none n more (number-below n fits) opens e
 plus-none bytes bare none (negsuc n) more fits opens e = bare (decimal (suc n) ++ more) e
 
-pub plus-large : (bytes rest : List ℕ) (m : ℕ) → ((more : List ℕ) → bytes ≢ 45 ∷ more) → IsTaken IsMagnitude decimal bytes m rest → 2 ^ 63 ≤ m → NoneTaken IsNumber signed_decimal bytes
-plus-large bytes rest m bare taken large (pos n) more fits opens e =
-    let s = fits.sfits in
-    let same = magnitude-split m n rest more taken.good (omega arith) taken.opens opens (sym taken.whole ∙ e) in
-    omega (arith, same, large)
-plus-large bytes rest m bare taken large (negsuc n) more fits opens e = bare (decimal (suc n) ++ more) e
-
-pub plus-taken : (bytes rest : List ℕ) (m : ℕ) (n : ℤ) → IsTaken IsMagnitude decimal bytes m rest → IsNumber n → n ≡ pos m → IsTaken IsNumber signed_decimal bytes n rest
-plus-taken bytes rest m n taken fits is = record {
-  good = fits;
+pub plus-taken : (bytes rest : List ℕ) (m : ℕ) (n : ℤ) → IsTaken IsMagnitude decimal bytes m rest → n ≡ pos m → IsTaken IsNumber signed_decimal bytes n rest
+plus-taken bytes rest m n taken is = record {
+  good = subst IsNumber (sym is) (is-number m taken.good);
   opens = taken.opens;
   whole = taken.whole ∙ ap (λ z. signed_decimal z ++ rest) (sym is);
 }

@@ -14,9 +14,11 @@ use Rattle.finding_lines.specs.declared.line.Conclusion.TheVariants.{Vacuous, Re
 use Rattle.finding_lines.specs.declared.line.Version.TheVariants.{One, Two}
 use Rattle.finding_lines.specs.declared.line.Line.{Line}
 use Rattle.finding_lines.specs.declared.line.Line.TheVariants.{Header, Seen, Walk, Dropping, Pair, Scan, Log, Query, Derived, Deleted, End}
-use Rattle.finding_lines.specs.Form.{IsNumber, AreNumbers, AskedFits, ConclusionFits, IsLine}
+use Rattle.finding_lines.specs.Numbers.{IsNumber, AreNumbers}
+use Rattle.finding_lines.specs.Form.{AskedFits, ConclusionFits, IsLine}
 use Rattle.finding_lines.specs.Spelling.{spaced, spaced_all, asked, concluded, ended, derived, spelled}
 use Rattle.finding_lines.specs.Reading.{LacksFeed}
+use Rattle.finding_lines.proofs.NumberLemmas.{number-below, number-from}
 
 -- a test of literals
 has_none : List ℕ → Bool
@@ -40,9 +42,9 @@ digits (d ∷ ds) h =
     All-cons (λ b. b ≢ 10) d ds (λ e. omega (arith, at, e)) (digits ds h.1)
 
 number : (n : ℤ) → IsNumber n → LacksFeed (signed_decimal n)
-number (pos n) h = let s = h.sfits in digits (decimal n) (decimal_is_IsNumeral n (omega arith)).0.1
+number (pos n) h = digits (decimal n) (decimal_is_IsNumeral n (number-below n h)).0.1
 number (negsuc n) h =
-    let s = h.sfits in
+    let from = number-from n h in
     All-cons (λ b. b ≢ 10) 45 (decimal (suc n)) (λ e. omega (arith, e)) (digits (decimal (suc n)) (decimal_is_IsNumeral (suc n) (omega arith)).0.1)
 
 spaced-lacks : (n : ℤ) → IsNumber n → LacksFeed (spaced n)

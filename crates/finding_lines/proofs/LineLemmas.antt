@@ -10,7 +10,8 @@ use Rattle.finding_lines.specs.declared.line.Version.TheVariants.{One, Two}
 use Rattle.finding_lines.specs.declared.line.Version.{Version}
 use Rattle.finding_lines.specs.declared.line.Line.{Line}
 use Rattle.finding_lines.specs.declared.line.Line.TheVariants.{Header, Seen, Walk, Dropping, Pair, Scan, Log, Query, Derived, Deleted, End}
-use Rattle.finding_lines.specs.Form.{IsNumber, AreNumbers, AskedFits, ConclusionFits, IsLine}
+use Rattle.finding_lines.specs.Numbers.{IsNumber, AreNumbers}
+use Rattle.finding_lines.specs.Form.{AskedFits, ConclusionFits, IsLine}
 use Rattle.finding_lines.specs.Spelling.{spaced, spaced_all, asked, concluded, ended, derived, spelled}
 use Rattle.finding_lines.specs.Reading.{ReadsLine}
 use Rattle.finding_lines.proofs.SpellingLemmas.{spaced-split, spaced-alone, Opens-spaced_all, asked-alone, asked-split}

@@ -12,7 +12,8 @@ use Rattle.finding_lines.specs.declared.line.Conclusion.TheVariants.{Vacuous, Re
 use Rattle.finding_lines.specs.declared.line.Version.TheVariants.{One, Two}
 use Rattle.finding_lines.specs.declared.line.Line.{Line}
 use Rattle.finding_lines.specs.declared.line.Line.TheVariants.{Header, Seen, Walk, Dropping, Pair, Scan, Log, Query, Derived, Deleted, End}
-use Rattle.finding_lines.specs.Form.{IsNumber, AreNumbers, AskedFits, ConclusionFits, IsEnding, IsLine, rises_from, all_positive, are_ids}
+use Rattle.finding_lines.specs.Numbers.{IsNumber, AreNumbers}
+use Rattle.finding_lines.specs.Form.{AskedFits, ConclusionFits, IsEnding, IsLine, rises_from, all_positive, are_ids}
 use Rattle.finding_lines.specs.Spelling.{spaced, spaced_all, asked, concluded, ended, derived, spelled}
 use Rattle.finding_lines.specs.Reading.{Opens, IsLabel, IsTaken, NoneTaken, AreNonzero, HasNoRow, Reads}
 use Rattle.finding_lines.proofs.SpellingLemmas.{spaced-split, spaced-alone, Opens-label, asked-split, asked-alone}

@@ -1,5 +1,6 @@
 -- Rows of numbers, read from the left.
-use Rattle.std.proofs.Common.{◌≡◌, ◌≢◌, ℕ, ◌<◌, ℤ, pos, negsuc, List, [], ◌∷◌, ◌++◌, length, true, refl, ap, sym, ◌∙◌, arith, append_assoc, lit<, of_z, w64}
+use Rattle.std.proofs.Common.{◌≡◌, ◌≢◌, ℕ, ◌<◌, ℤ, pos, negsuc, List, [], ◌∷◌, ◌++◌, length, true, refl, ap, sym, ◌∙◌, arith, append_assoc, lit<, of_z}
+use Rattle.std.specs.Int.{w128}
 use Rattle.std.specs.Prelude.{codes, nat_lt, int_lt, ◌<ℤ◌, ◌≤ℤ◌}
 use Rattle.std.specs.Int.RustNames.{unsigned_abs}
 use Rattle.std.specs.List.{All}
@@ -8,9 +9,11 @@ use Rattle.std.proofs.lemmas.List.Elements.{All-nil, All-cons, All-head, All-tai
 use Rattle.std.proofs.lemmas.Fmt.{decimal_digit}
 use Rattle.std.proofs.lemmas.Int.{ints}
 use Rattle.std.proofs.lemmas.Bool.{false≢true, ltb-true, and_parts}
-use Rattle.finding_lines.specs.Form.{IsNumber, AreNumbers, rises_from, all_positive, rises_above, are_ids}
+use Rattle.finding_lines.specs.Numbers.{IsNumber, AreNumbers}
+use Rattle.finding_lines.specs.Form.{rises_from, all_positive, rises_above, are_ids}
 use Rattle.finding_lines.specs.Spelling.{spaced, spaced_all, ended}
 use Rattle.finding_lines.specs.Reading.{Opens, IsTaken, NoneTaken, AreNonzero}
+use Rattle.finding_lines.proofs.NumberLemmas.{is-number, number-from}
 use Rattle.finding_lines.proofs.SpellingLemmas.{spaced-split, Opens-spaced_all}
 
 pub spaced_all-push : (ns : List ℤ) (n : ℤ) (more : List ℕ) → spaced_all (ns ++ n ∷ []) ++ more ≡ spaced_all ns ++ (spaced n ++ more)
@@ -23,7 +26,7 @@ pub zero-spelled : spaced (pos 0) ≡ codes " 0"
 zero-spelled = ap (λ s. 32 ∷ s) (decimal_digit 0 (lit< tt))
 
 pub zero-fits : IsNumber (pos 0)
-zero-fits = record { sfits = lit< tt }
+zero-fits = is-number 0 (lit< tt)
 
 -- numbers were read, and what is left of a row of numbers is one
 pub record RowSoFar (bytes : List ℕ) (numbers : List ℤ) (rest : List ℕ) : Type 0 where
@@ -176,6 +179,6 @@ ids-nonzero [] good h = absurd (false≢true h)
 ids-nonzero (n ∷ ns) good h = record { numbers = good; nonzero = above-nonzero (pos 0) (n ∷ ns) (omega (arith, ints)) h }
 
 -- the test whether a number is 0
-pub zero-from : (n : ℤ) → IsNumber n → of_z w64 n ≡ 0 → n ≡ pos 0
+pub zero-from : (n : ℤ) → IsNumber n → of_z w128 n ≡ 0 → n ≡ pos 0
 zero-from (pos n) fits e = ap pos e
-zero-from (negsuc n) fits e = let s = fits.sfits in absurd (omega arith)
+zero-from (negsuc n) fits e = let from = number-from n fits in absurd (omega arith)

@@ -5,12 +5,14 @@ use Rattle.std.specs.Str.Parse.{AllDigits}
 use Rattle.std.proofs.lemmas.List.{append-nil}
 use Rattle.std.proofs.lemmas.List.Elements.{All-nil, All-cons, All-head, All-tail}
 use Rattle.std.proofs.lemmas.Str.Parse.{digit_from_value}
-use Rattle.std.proofs.lemmas.Fmt.{decimal_is_IsNumeral, signed_decimal_injective}
+use Rattle.std.proofs.lemmas.Fmt.{decimal_is_IsNumeral}
 use Rattle.finding_lines.specs.declared.line.Asked.{Asked}
 use Rattle.finding_lines.specs.declared.line.Asked.TheVariants as questions
-use Rattle.finding_lines.specs.Form.{IsNumber, AskedFits}
+use Rattle.finding_lines.specs.Numbers.{IsNumber}
+use Rattle.finding_lines.specs.Form.{AskedFits}
 use Rattle.finding_lines.specs.Spelling.{spaced, spaced_all, asked}
 use Rattle.finding_lines.specs.Reading.{LacksSpace, Opens, IsLabel}
+use Rattle.finding_lines.proofs.NumberLemmas.{number-below, number-from, number-spelling}
 
 digits-lack_space : (ds : List ℕ) → AllDigits 10 ds → LacksSpace ds
 digits-lack_space [] h = All-nil _
@@ -22,9 +24,9 @@ pub decimal-lacks_space : (n : ℕ) → n < 2 ^ 64 → LacksSpace (decimal n)
 decimal-lacks_space n h = digits-lack_space (decimal n) (decimal_is_IsNumeral n h).0.1
 
 pub number-lacks_space : (n : ℤ) → IsNumber n → LacksSpace (signed_decimal n)
-number-lacks_space (pos n) h = let s = h.sfits in decimal-lacks_space n (omega arith)
+number-lacks_space (pos n) h = decimal-lacks_space n (number-below n h)
 number-lacks_space (negsuc n) h =
-    let s = h.sfits in
+    let from = number-from n h in
     All-cons (λ b. b ≢ 32) 45 (decimal (suc n)) (λ e. omega (arith, e)) (decimal-lacks_space (suc n) (omega arith))
 
 -- what stands before the first space is determined
@@ -44,7 +46,7 @@ pub spaced-split : (m n : ℤ) (a b : List ℕ) → IsNumber m → IsNumber n �
 spaced-split m n a b fm fn oa ob e =
     let tails : signed_decimal m ++ a ≡ signed_decimal n ++ b = cc in
     let parts = word-split (signed_decimal m) a (signed_decimal n) b (number-lacks_space m fm) (number-lacks_space n fn) oa ob tails in
-    (signed_decimal_injective m n fm.sfits fn.sfits parts.0, parts.1)
+    (number-spelling m n fm fn parts.0, parts.1)
 
 -- a number where nothing follows
 pub spaced-alone : (m n : ℤ) (a : List ℕ) → IsNumber m → IsNumber n → Opens a → spaced m ++ a ≡ spaced n → (m ≡ n) × (a ≡ [])

@@ -1,24 +1,13 @@
 -- Which lines have the form of a finding's line.
-use Rattle.std.specs.Prelude.{ℕ, ◌≤◌, ◌^◌, ℤ, pos, Bool, true, false, ◌&&◌, nat_lt, int_lt, IsTrue, List, [], ◌∷◌, All, FitsSigned}
-use Rattle.std.specs.Int.{w64}
+use Rattle.std.specs.Prelude.{ℕ, ℤ, pos, Bool, true, false, ◌&&◌, nat_lt, int_lt, IsTrue, List, [], ◌∷◌}
 use Rattle.std.specs.Int.RustNames.{unsigned_abs}
+use Rattle.finding_lines.specs.Numbers.{IsNumber, AreNumbers}
 use Rattle.finding_lines.specs.declared.line.Asked.{Asked}
 use Rattle.finding_lines.specs.declared.line.Asked.TheVariants as questions
 use Rattle.finding_lines.specs.declared.line.Conclusion.{Conclusion}
 use Rattle.finding_lines.specs.declared.line.Conclusion.TheVariants.{Vacuous, Related, Different, Open, Spent}
 use Rattle.finding_lines.specs.declared.line.Line.{Line}
 use Rattle.finding_lines.specs.declared.line.Line.TheVariants.{Header, Seen, Walk, Dropping, Pair, Scan, Log, Query, Derived, Deleted, End}
-
--- a number of 64 bits with its sign
-abbrev pub IsNumber : ℤ → Type 0
-IsNumber n = FitsSigned w64 n
-
--- the magnitude of a number of 64 bits with its sign
-abbrev pub IsMagnitude : ℕ → Type 0
-IsMagnitude n = n ≤ 2 ^ 63
-
-abbrev pub AreNumbers : List ℤ → Type 0
-AreNumbers ns = All IsNumber ns
 
 abbrev pub AskedFits : Asked → Type 0
 AskedFits questions.First = Unit {0}
@@ -34,7 +23,7 @@ ConclusionFits (Different d) = IsNumber d
 ConclusionFits (Open k c n) = IsNumber k × IsNumber c × IsNumber n
 ConclusionFits (Spent q n) = AskedFits q × IsNumber n
 
--- each number of the line has 64 bits with its sign, as every number of a Line that a program holds
+-- each number of the line is one of a finding
 abbrev pub Fits : Line → Type 0
 Fits (Header version) = Unit {0}
 Fits (Seen inputs) = AreNumbers inputs

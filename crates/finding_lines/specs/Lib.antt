@@ -1,3 +1,4 @@
 pub mod Spelling
 pub mod Form
+pub mod Numbers
 pub mod Reading

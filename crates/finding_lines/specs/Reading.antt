@@ -3,7 +3,8 @@ use Rattle.std.specs.Prelude.{◌≡◌, ◌≢◌, ℕ, ℤ, pos, List, [], ◌
 use Rattle.finding_lines.specs.declared.line.Line.{Line}
 use Rattle.finding_lines.specs.declared.line.Line.TheVariants.{Header, Seen, Walk, Dropping, Pair, Scan, Log, Query, Derived, Deleted, End}
 use Rattle.finding_lines.specs.Spelling.{spelled}
-use Rattle.finding_lines.specs.Form.{IsLine, AreNumbers}
+use Rattle.finding_lines.specs.Numbers.{AreNumbers}
+use Rattle.finding_lines.specs.Form.{IsLine}
 
 -- the good value that is spelled so, or none where no good value is
 abbrev pub Reads : {T : Type 0} → (T → Type 0) → (T → List ℕ) → List ℕ → Option T → Type 0
@@ -37,7 +38,7 @@ pub record IsTaken {T : Type 0} (IsGood : T → Type 0) (spell : T → List ℕ)
 abbrev pub NoneTaken : {T : Type 0} → (T → Type 0) → (T → List ℕ) → List ℕ → Type 0
 NoneTaken {T} IsGood spell bytes = (x : T) (more : List ℕ) → IsGood x → Opens more → bytes ≢ spell x ++ more
 
--- numbers of 64 bits, none of them 0
+-- numbers of a finding, none of them 0
 pub record AreNonzero (ns : List ℤ) : Type 0 where
   pub numbers : AreNumbers ns
   pub nonzero : All (λ n. n ≢ pos 0) ns

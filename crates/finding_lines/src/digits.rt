@@ -1,17 +1,14 @@
 // Numbers, read in one pass over their digits.
-ghost use Rattle.std.specs.Prelude.{◌≡◌, ◌≢◌, ◌+◌, ◌∷◌, ◌^◌, ◌<◌, ◌≤◌, ℕ, List, pos, MatchOption};
+ghost use Rattle.std.specs.Prelude.{◌≡◌, ◌≢◌, ◌+◌, ◌∷◌, ◌^◌, ◌<◌, ◌≤◌, ◌*◌, ◌⊎◌, ℕ, List, MatchOption};
 ghost use Rattle.std.specs.Char.{digit_value};
 ghost use Rattle.std.specs.Fmt.{decimal, signed_decimal};
-ghost use Rattle.finding_lines.specs.Form.{IsNumber, IsMagnitude};
+ghost use Rattle.finding_lines.specs.Numbers.{IsNumber, IsMagnitude};
 ghost use Rattle.finding_lines.specs.Reading.{IsTaken, NoneTaken};
 
 use plc_types::Value;
 
-/// The magnitude of the least number of 64 bits with a sign.
-const MOST: u64 = 0x8000_0000_0000_0000;
-
-/// A number past this and one more digit are past the magnitudes of 64 bits with a sign.
-const MOST_WITH_DIGIT: u64 = 922_337_203_685_477_580;
+/// The magnitude of the least number.
+const MOST_BELOW_ZERO: u64 = 0x8000_0000_0000_0000;
 
 /// What follows the byte, if the bytes begin with it.
 #[inline(always)]
@@ -33,15 +30,12 @@ fn digit_of(byte: u8) -> Option<u64>
     Some((byte - b'0') as u64)
 }
 
+/// The number with one digit more, if that is a magnitude.
 #[inline(always)]
-fn up_to_most(number: u64, rest: &[u8]) -> Option<(u64, &[u8])>
-    ensures { MatchOption result (2 ^ 63 < number) (λ p. (p.0 ≡ number) × (p.1.now ≡ rest.now) × IsMagnitude number) }
+fn with_digit(number: u64, digit: u64) -> Option<u64>
+    ensures { MatchOption result (2 ^ 64 ≤ number * 10 + digit) (λ n. (n ≡ number * 10 + digit) × IsMagnitude n) }
 {
-    if number > MOST {
-        None
-    } else {
-        Some((number, rest))
-    }
+    number.checked_mul(10)?.checked_add(digit)
 }
 
 /// The magnitude in front, without a zero before other digits.
@@ -54,40 +48,27 @@ fn take_magnitude(bytes: &[u8]) -> Option<(u64, &[u8])>
     let mut rest = behind;
     'digits: while let Some((byte, more)) = rest.split_first() {
         if *byte == b' ' {
-            return up_to_most(number, rest);
+            return Some((number, rest));
         }
         let digit = digit_of(*byte)?;
-        if number == 0 || number > MOST_WITH_DIGIT {
+        if number == 0 {
             return None;
         }
-        number = number * 10 + digit;
+        number = with_digit(number, digit)?;
         rest = more;
     }
-    up_to_most(number, rest)
+    Some((number, rest))
 }
 
-/// The number of that magnitude below 0, unless the magnitude is 0.
+/// The number of that magnitude below 0, unless there is none.
 #[inline(always)]
 fn negative(magnitude: u64) -> Option<Value>
-    requires { IsMagnitude magnitude }
-    ensures { MatchOption result (magnitude ≡ 0) (λ n. IsNumber n × (signed_decimal n ≡ 45 ∷ decimal magnitude)) }
+    ensures { MatchOption result ((magnitude ≡ 0) ⊎ (2 ^ 63 < magnitude)) (λ n. IsNumber n × (signed_decimal n ≡ 45 ∷ decimal magnitude)) }
 {
-    if magnitude == 0 {
+    if magnitude == 0 || magnitude > MOST_BELOW_ZERO {
         None
     } else {
         Some(-1 - (magnitude - 1) as Value)
-    }
-}
-
-/// The number of that magnitude from 0 on, if it has 64 bits.
-#[inline(always)]
-fn positive(magnitude: u64) -> Option<Value>
-    ensures { MatchOption result (2 ^ 63 ≤ magnitude) (λ n. IsNumber n × (n ≡ pos magnitude)) }
-{
-    if magnitude < MOST {
-        Some(magnitude as Value)
-    } else {
-        None
     }
 }
 
@@ -101,6 +82,5 @@ pub fn take_signed(bytes: &[u8]) -> Option<(Value, &[u8])>
         return Some((number, rest));
     }
     let (magnitude, rest) = take_magnitude(bytes)?;
-    let number = positive(magnitude)?;
-    Some((number, rest))
+    Some((magnitude as Value, rest))
 }

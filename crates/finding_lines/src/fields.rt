@@ -1,6 +1,7 @@
 // Numbers behind their labels, queries and verdicts.
 ghost use Rattle.std.specs.Prelude.{◌≡◌, ◌≢◌, ◌++◌, ℕ, ℤ, List, MatchOption};
-ghost use Rattle.finding_lines.specs.Form.{IsNumber, AskedFits, ConclusionFits};
+ghost use Rattle.finding_lines.specs.Numbers.{IsNumber};
+ghost use Rattle.finding_lines.specs.Form.{AskedFits, ConclusionFits};
 ghost use Rattle.finding_lines.specs.Spelling.{spaced, asked, concluded};
 ghost use Rattle.finding_lines.specs.Reading.{Reads, Opens, IsLabel, IsTaken, NoneTaken};
 ghost use Rattle.finding_lines.specs.declared.line.Asked.{Asked};
@@ -21,7 +22,7 @@ pub fn take_number(bytes: &[u8]) -> Option<(Value, &[u8])>
 }
 
 /// The number in front, behind a label.
-pub fn take_labelled<'a>(bytes: &'a [u8], label: &[u8]) -> Option<(i64, &'a [u8])>
+pub fn take_labelled<'a>(bytes: &'a [u8], label: &[u8]) -> Option<(Value, &'a [u8])>
     ensures { MatchOption result ((n : ℤ) (more : List ℕ) → IsNumber n → Opens more → bytes.now ≢ label.now ++ (spaced n ++ more))
         (λ p. IsNumber p.0 × Opens p.1.now × (bytes.now ≡ label.now ++ (spaced p.0 ++ p.1.now))) }
 {
@@ -31,7 +32,7 @@ pub fn take_labelled<'a>(bytes: &'a [u8], label: &[u8]) -> Option<(i64, &'a [u8]
 }
 
 /// The number behind a label, where nothing follows.
-pub fn read_labelled(bytes: &[u8], label: &[u8]) -> Option<i64>
+pub fn read_labelled(bytes: &[u8], label: &[u8]) -> Option<Value>
     ensures { MatchOption result ((n : ℤ) → IsNumber n → bytes.now ≢ label.now ++ spaced n)
         (λ n. IsNumber n × (bytes.now ≡ label.now ++ spaced n)) }
 {
@@ -40,7 +41,7 @@ pub fn read_labelled(bytes: &[u8], label: &[u8]) -> Option<i64>
 }
 
 /// Two numbers behind their labels, where nothing follows.
-pub fn read_two(bytes: &[u8], first: &[u8], second: &[u8]) -> Option<(i64, i64)>
+pub fn read_two(bytes: &[u8], first: &[u8], second: &[u8]) -> Option<(Value, Value)>
     requires { IsLabel second.now }
     ensures { MatchOption result ((m n : ℤ) → IsNumber m → IsNumber n → bytes.now ≢ first.now ++ (spaced m ++ (second.now ++ spaced n)))
         (λ p. IsNumber p.0 × IsNumber p.1 × (bytes.now ≡ first.now ++ (spaced p.0 ++ (second.now ++ spaced p.1)))) }
@@ -81,7 +82,7 @@ pub fn read_asked(bytes: &[u8], keyword: &[u8]) -> Option<Asked>
 }
 
 /// The query that was spent, and the number of derivations.
-pub fn read_spent(bytes: &[u8]) -> Option<(Asked, i64)>
+pub fn read_spent(bytes: &[u8]) -> Option<(Asked, Value)>
     ensures { MatchOption result ((q : Asked) (n : ℤ) → AskedFits q → IsNumber n → bytes.now ≢ concluded (Conclusion.Spent q n))
         (λ p. AskedFits p.0 × IsNumber p.1 × (bytes.now ≡ concluded (Conclusion.Spent p.0 p.1))) }
 {
@@ -92,7 +93,7 @@ pub fn read_spent(bytes: &[u8]) -> Option<(Asked, i64)>
 }
 
 /// How many candidates are kept, of how many, and the depth.
-pub fn read_open(bytes: &[u8]) -> Option<(i64, i64, i64)>
+pub fn read_open(bytes: &[u8]) -> Option<(Value, Value, Value)>
     ensures { MatchOption result ((k c n : ℤ) → IsNumber k → IsNumber c → IsNumber n → bytes.now ≢ concluded (Conclusion.Open k c n))
         (λ p. IsNumber p.0 × IsNumber p.1 × IsNumber p.2 × (bytes.now ≡ concluded (Conclusion.Open p.0 p.1 p.2))) }
 {

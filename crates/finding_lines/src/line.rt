@@ -1,5 +1,6 @@
 // The forms of a line.
 use crate::numbers::Numbers;
+use plc_types::Value;
 
 /// Which version a finding is of.
 #[derive(Clone, Copy, PartialEq, Eq)]
@@ -20,9 +21,9 @@ pub enum Asked {
     /// For a step out of the relation.
     Goal,
     /// For a break after that many scans.
-    Deep(i64),
+    Deep(Value),
     /// For that many rows which are allowed, one after the other from the start.
-    Walk(i64),
+    Walk(Value),
 }
 
 /// The verdict at a finding's end, with its numbers as they are written.
@@ -31,13 +32,13 @@ pub enum Conclusion {
     /// No first row is allowed.
     Vacuous,
     /// Related for ever: how many candidates are kept, and of how many.
-    Related(i64, i64),
+    Related(Value, Value),
     /// The least number of scans after which the pair is not related.
-    Different(i64),
+    Different(Value),
     /// How many candidates are kept, of how many, and how many scans were searched.
-    Open(i64, i64, i64),
+    Open(Value, Value, Value),
     /// A query took as many derivations as it may.
-    Spent(Asked, i64),
+    Spent(Asked, Value),
 }
 
 /// A line of a finding.

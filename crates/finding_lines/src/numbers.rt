@@ -1,10 +1,11 @@
 ghost use Rattle.std.specs.Prelude.{◌≡◌, ◌++◌, ◌∷◌, [], IfOk, OnErr, OnOk};
+ghost use Rattle.finding_lines.specs.Numbers.{IsNumber, AreNumbers};
 
 use plc_types::Value;
 use std::alloc::{AllocError, Global};
 use std::marker::Model;
 
-/// Whole numbers in their order: contracts see the list of them.
+/// Numbers of a finding in their order: contracts see the list of them.
 #[derive(Drop)]
 pub struct Numbers {
     numbers: Vec<Value>,
@@ -12,10 +13,13 @@ pub struct Numbers {
 
 impl Model for Numbers {
     ghost use Rattle.std.specs.Prelude.{List, ℤ};
+    ghost use Rattle.finding_lines.specs.Numbers.{AreNumbers};
 
     ghost Value = { List ℤ };
 
     ghost view = { λ n. n.numbers.items };
+
+    ghost invariant = { λ n. AreNumbers n.numbers.items };
 }
 
 impl Numbers {
@@ -39,7 +43,8 @@ impl Numbers {
     /// The numbers in their order.
     #[inline]
     pub fn as_slice(&self) -> &[Value]
-        ensures { result.now ≡ self.now }
+        ensures same { result.now ≡ self.now }
+        ensures numbers { AreNumbers self.now }
     {
         self.numbers.as_slice()
     }
@@ -47,6 +52,7 @@ impl Numbers {
     /// Adds a number behind the others.
     #[inline(always)]
     pub fn push(&mut self, number: Value) -> Result<(), AllocError>
+        requires { IsNumber number }
         ensures ok { OnOk result (self.new ≡ self.old ++ number ∷ []) }
         ensures err { OnErr result (self.new ≡ self.old) }
     {

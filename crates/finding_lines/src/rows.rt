@@ -1,6 +1,7 @@
 // Rows of numbers.
 ghost use Rattle.std.specs.Prelude.{◌≡◌, ◌≢◌, ◌↔◌, ◌++◌, ℕ, ℤ, pos, List, codes, IfOk, IsTrue, MatchOption};
-ghost use Rattle.finding_lines.specs.Form.{AreNumbers, rises_from, all_positive, rises_above, are_ids};
+ghost use Rattle.finding_lines.specs.Numbers.{AreNumbers};
+ghost use Rattle.finding_lines.specs.Form.{rises_from, all_positive, rises_above, are_ids};
 ghost use Rattle.finding_lines.specs.Spelling.{spaced, spaced_all, ended, derived};
 ghost use Rattle.finding_lines.specs.Reading.{Reads, AreNonzero, IsTaken, NoneTaken};
 

@@ -32,7 +32,7 @@ fn show_row(text: &mut String, keyword: &str, numbers: &[Value]) -> Result<(), A
     show_numbers(text, numbers)
 }
 
-fn show_labelled(text: &mut String, label: &str, number: i64) -> Result<(), AllocError>
+fn show_labelled(text: &mut String, label: &str, number: Value) -> Result<(), AllocError>
     ensures { OnOk result (string_bytes text.new ≡ string_bytes text.old ++ (label.now ++ spaced number)) }
 {
     text.push_str(label)?;
@@ -42,9 +42,9 @@ fn show_labelled(text: &mut String, label: &str, number: i64) -> Result<(), Allo
 fn show_two(
     text: &mut String,
     first: &str,
-    one: i64,
+    one: Value,
     second: &str,
-    two: i64,
+    two: Value,
 ) -> Result<(), AllocError>
     ensures { OnOk result (string_bytes text.new ≡ string_bytes text.old ++ (first.now ++ (spaced one ++ (second.now ++ spaced two)))) }
 {
@@ -55,11 +55,11 @@ fn show_two(
 fn show_three(
     text: &mut String,
     first: &str,
-    one: i64,
+    one: Value,
     second: &str,
-    two: i64,
+    two: Value,
     third: &str,
-    three: i64,
+    three: Value,
 ) -> Result<(), AllocError>
     ensures { OnOk result (string_bytes text.new ≡ string_bytes text.old ++ (first.now ++ (spaced one ++ (second.now ++ (spaced two ++ (third.now ++ spaced three)))))) }
 {
@@ -85,7 +85,7 @@ fn show_spent(
     keyword: &str,
     query: Asked,
     label: &str,
-    number: i64,
+    number: Value,
 ) -> Result<(), AllocError>
     ensures { OnOk result (string_bytes text.new ≡ string_bytes text.old ++ (keyword.now ++ (asked query ++ (label.now ++ spaced number)))) }
 {

@@ -3,6 +3,7 @@ ghost use Rattle.std.specs.Prelude.{◌≡◌, map, IfOk, OnOk};
 ghost use Rattle.serde_json.specs.Data.{number, put};
 ghost use Rattle.serde_json.specs.Find.{of_integer};
 ghost use Rattle.serde_json.specs.View.{view, members_view};
+ghost use Rattle.finding_lines.specs.Numbers.{IsNumber, AreNumbers};
 ghost use Rattle.program_tree.specs.View.{cells_view};
 ghost use Rattle.scan_model.specs.Candidates.{paths_of};
 ghost use Rattle.finding_report.specs.Names.{input_name};
@@ -23,9 +24,15 @@ fn add_number(
     name: &str,
     value: plc_types::Value,
 ) -> Result<(), AllocError>
+    requires { IsNumber value }
     ensures { OnOk result (members_view members.new.entries ≡ put name.now (number (of_integer value)) (members_view members.old.entries)) }
 {
-    serde_json::put(members, alloc, name, Value::from(value))
+    let number = if value < 0 {
+        Value::from(value as i64)
+    } else {
+        Value::from(value as u64)
+    };
+    serde_json::put(members, alloc, name, number)
 }
 
 /// The values of cells.
@@ -34,6 +41,7 @@ pub(crate) fn cells_value(
     cells: &[Cell],
     values: &[plc_types::Value],
 ) -> Result<Value, AllocError>
+    requires { AreNumbers values.now }
     ensures { IfOk result (λ v. view v ≡ numbers_at (paths_of (cells_view cells.now)) values.now) }
 {
     let mut members = Map::new(alloc);
@@ -56,6 +64,7 @@ fn row_value(
     inputs: &[InputLine],
     row: &[plc_types::Value],
 ) -> Result<Value, AllocError>
+    requires { AreNumbers row.now }
     ensures { IfOk result (λ v. view v ≡ numbers_at (map (input_name (cells_view old.now) (cells_view new.now)) inputs.now) row.now) }
 {
     let mut members = Map::new(alloc);
@@ -72,6 +81,7 @@ pub(crate) fn inputs_value(
     compared: &Compared<'_>,
     row: &[plc_types::Value],
 ) -> Result<Value, AllocError>
+    requires { AreNumbers row.now }
     ensures { IfOk result (λ v. view v ≡ inputs_of (comparison_in compared.now) row.now) }
 {
     row_value(

@@ -2,6 +2,7 @@
 ghost use Rattle.std.specs.Prelude.{◌≡◌, ◌++◌, ◌∷◌, List, codes, IfOk, OnOk, map, take, drop, if◌then◌else◌};
 ghost use Rattle.serde_json.specs.Data.{Data, string, object, member, no_members};
 ghost use Rattle.serde_json.specs.View.{view};
+ghost use Rattle.finding_lines.specs.Numbers.{AreNumbers};
 ghost use Rattle.queries.specs.Sets.{members};
 ghost use Rattle.finding_report.specs.Reports.{break_of, kept_of, names_among, scans_of, texts};
 ghost use Rattle.finding_report.specs.Views.{comparison_in};
@@ -17,8 +18,11 @@ use std::alloc::{AllocError, Global};
 
 // The first numbers, at most so many, and those behind them.
 fn split(numbers: &[plc_types::Value], count: usize) -> (&[plc_types::Value], &[plc_types::Value])
+    requires { AreNumbers numbers.now }
     ensures first { result.0.now ≡ take count numbers.now }
     ensures rest { result.1.now ≡ drop count numbers.now }
+    ensures first_numbers { AreNumbers result.0.now }
+    ensures other_numbers { AreNumbers result.1.now }
 {
     if count <= numbers.len() {
         numbers.split_at(count)
@@ -40,6 +44,7 @@ fn pair_value(
     compared: &Compared<'_>,
     numbers: &[plc_types::Value],
 ) -> Result<Value, AllocError>
+    requires { AreNumbers numbers.now }
     ensures { IfOk result (λ v. view v ≡ break_of (comparison_in compared.now) (Some numbers.now)) }
 {
     let (old, rest) = split(numbers, compared.old_cells());

@@ -3,10 +3,11 @@ ghost use Rattle.std.specs.Prelude.{◌≡◌, IfOk, string_bytes};
 ghost use Rattle.finding_report.specs.Reports.{verdict_text};
 
 use finding_lines::{Asked, Conclusion};
+use plc_types::Value;
 use std::alloc::{AllocError, Global};
 
 // `SPENT query q conflicts n`.
-fn spent_text(alloc: Global, asked: Asked, conflicts: i64) -> Result<String, AllocError>
+fn spent_text(alloc: Global, asked: Asked, conflicts: Value) -> Result<String, AllocError>
     ensures { IfOk result (λ text. string_bytes text ≡ verdict_text (Conclusion.Spent asked conflicts)) }
 {
     match asked {

@@ -2,6 +2,7 @@ pub mod Alike
 pub mod Going
 pub mod StepLines
 pub mod LogRuns
+pub mod RowNumbers
 pub mod RowPasses
 pub mod Openings
 pub mod Whole

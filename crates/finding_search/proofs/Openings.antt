@@ -1,10 +1,11 @@
 -- Lines that open a finding or a log, and numbers that fit.
-use Rattle.std.proofs.Common.{◌≡◌, ◌≢◌, ℕ, suc, ◌+◌, ◌^◌, ◌<◌, ◌≤◌, Bool, true, false, ◌&&◌, refl, arith, pos, w64}
+use Rattle.std.proofs.Common.{◌≡◌, ◌≢◌, ℕ, suc, ◌+◌, ◌^◌, ◌<◌, ◌≤◌, Bool, true, false, ◌&&◌, refl, arith, pos}
 use Rattle.std.specs.Prelude.{if◌then◌else◌, nat_lt}
 use Rattle.std.proofs.lemmas.Bool.{eq-eqb, lt-ltb, false≢true, ltb-true, and_from}
-use Rattle.std.proofs.lemmas.Int.{fits_signed_from_abs}
 use Rattle.clause_core.specs.Formula.{Formula}
-use Rattle.finding_lines.specs.Form.{IsNumber, IsEnding}
+use Rattle.finding_lines.specs.Numbers.{IsNumber}
+use Rattle.finding_lines.specs.Form.{IsEnding}
+use Rattle.finding_lines.proofs.NumberLemmas.{is-number}
 use Rattle.finding_lines.specs.declared.line.Asked.{Asked}
 use Rattle.finding_lines.specs.declared.line.Asked.TheVariants.{First, Step, Goal, Deep, Walk}
 use Rattle.finding_lines.specs.declared.line.Conclusion.{Conclusion}
@@ -25,9 +26,9 @@ use Rattle.judgement.specs.declared.answers.Reach.TheVariants.{Untold, Unwalked,
 use Rattle.finding_search.specs.Passing.{Passes}
 use Rattle.finding_search.proofs.LogRuns.{when-true, either_version}
 
--- a number below 2 ^ 63 has 64 bits with its sign
-pub IsNumber-few : (n : ℕ) → n < 2 ^ 63 → IsNumber (pos n)
-IsNumber-few n few = fits_signed_from_abs w64 (pos n) few
+-- a number of 64 bits is one of a finding
+pub IsNumber-few : (n : ℕ) → n < 2 ^ 64 → IsNumber (pos n)
+IsNumber-few n few = is-number n few
 
 module _ (s : Setting) (formula : QueryData → Formula) where
   pub header_passes : Passes s formula at_top (lines.Header Two) (at_header Unwalked)

@@ -1,4 +1,5 @@
 pub mod Desks
+pub mod Numbered
 pub mod Passing
 pub mod Shown
 pub mod Writes

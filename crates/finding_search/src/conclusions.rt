@@ -10,6 +10,7 @@ ghost use Rattle.judgement.specs.Tests.{related_by, open_by};
 
 use finding_lines::{Asked, Conclusion};
 use pair_trial::Trial;
+use plc_types::Value;
 use queries::CandidateSet;
 
 /// How many clauses a query may take: CONFLICTS.
@@ -32,7 +33,7 @@ pub fn related_by(trial: &Trial, set: &CandidateSet) -> Conclusion
     ensures ending { IsEnding result }
 {
     let candidates = trial.candidates();
-    Conclusion::Related(set.size(candidates) as i64, candidates as i64)
+    Conclusion::Related(set.size(candidates) as Value, candidates as Value)
 }
 
 /// OPEN by a set.
@@ -45,9 +46,9 @@ pub fn open_by(trial: &Trial, set: &CandidateSet) -> Conclusion
 {
     let candidates = trial.candidates();
     Conclusion::Open(
-        set.size(candidates) as i64,
-        candidates as i64,
-        trial.depth() as i64,
+        set.size(candidates) as Value,
+        candidates as Value,
+        Value::from(trial.depth()),
     )
 }
 
@@ -58,7 +59,7 @@ pub fn different_at(scans: u64) -> Conclusion
     ensures fits { ConclusionFits result }
     ensures ending { IsEnding result }
 {
-    Conclusion::Different(scans as i64)
+    Conclusion::Different(Value::from(scans))
 }
 
 /// SPENT after so many steps.
@@ -67,7 +68,7 @@ pub fn spent_by(asked: Asked, limit: u32) -> Conclusion
     ensures same { result ≡ conclusions.Spent asked (pos limit) }
     ensures fits { ConclusionFits result }
 {
-    Conclusion::Spent(asked, limit as i64)
+    Conclusion::Spent(asked, Value::from(limit))
 }
 
 /// The query for a break of so many scans.
@@ -76,7 +77,7 @@ pub fn deep_at(scans: u64) -> Asked
     ensures same { result ≡ questions.Deep (pos scans) }
     ensures fits { AskedFits result }
 {
-    Asked::Deep(scans as i64)
+    Asked::Deep(Value::from(scans))
 }
 
 /// The query for one row more than so many.
@@ -85,5 +86,5 @@ pub fn walk_behind(rows: u64) -> Asked
     ensures same { result ≡ questions.Walk (pos (rows + 1)) }
     ensures fits { AskedFits result }
 {
-    Asked::Walk(rows as i64 + 1)
+    Asked::Walk(Value::from(rows + 1))
 }

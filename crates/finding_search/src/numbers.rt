@@ -1,8 +1,10 @@
 // The numbers of lines.
-ghost use Rattle.std.specs.Prelude.{◌≡◌, ◌<◌, ◌++◌, ◌∷◌, [], length, map, pos, slice_index_or, IfOk, OnOk};
+ghost use Rattle.std.specs.Prelude.{◌≡◌, ◌++◌, map, pos, IfOk, OnOk};
 ghost use Rattle.clause_core.specs.declared.log.Entry.TheVariants.{Derived, Deleted};
-ghost use Rattle.finding_lines.specs.Form.{IsNumber, AreNumbers, Fits};
+ghost use Rattle.finding_lines.specs.Numbers.{IsNumber, AreNumbers};
+ghost use Rattle.finding_lines.specs.Form.{Fits};
 ghost use Rattle.invariant_prune.specs.Answers.{pair_of};
+ghost use Rattle.finding_search.specs.Numbered.{HasNumbers};
 ghost use Rattle.finding_search.specs.Shown.{number_of, numbers_of, line_of};
 
 use clause_core::{Entry, Lit, Step};
@@ -11,37 +13,19 @@ use plc_types::Value;
 use queries::{Decoded, Row};
 use std::alloc::{AllocError, Global};
 
-// Adds a number behind the others.
-fn push(numbers: &mut Numbers, number: Value) -> Result<(), AllocError>
-    ensures added { OnOk result (numbers.new ≡ numbers.old ++ number ∷ []) }
-    ensures fits { IsNumber number }
-{
-    numbers.push(number)
-}
-
-// Adds the number at a place.
-fn push_at(numbers: &mut Numbers, more: &[Value], place: usize) -> Result<(), AllocError>
-    requires { place < length more.now }
-    ensures added { OnOk result (numbers.new ≡ numbers.old ++ slice_index_or more.now place (pos 0) ∷ []) }
-    ensures fits { IsNumber (slice_index_or more.now place (pos 0)) }
-{
-    push(numbers, more[place])
-}
-
 // Adds numbers behind the others.
 fn add_all(numbers: &mut Numbers, more: &[Value]) -> Result<(), AllocError>
-    requires { AreNumbers numbers.old }
-    ensures added { OnOk result (numbers.new ≡ numbers.old ++ more.now) }
-    ensures fit { OnOk result (AreNumbers numbers.new) }
+    ensures { OnOk result (numbers.new ≡ numbers.old ++ more.now) }
 {
-    for place in 0..more.len() {
-        push_at(numbers, more, place)?;
+    for number in more {
+        numbers.push(*number)?;
     }
     Ok(())
 }
 
 /// The numbers of a row.
 pub fn row_numbers(alloc: Global, row: &Row) -> Result<Numbers, AllocError>
+    requires { AreNumbers row.now }
     ensures same { IfOk result (λ numbers. numbers ≡ row.now) }
     ensures fit { IfOk result (λ numbers. AreNumbers numbers) }
 {
@@ -52,6 +36,8 @@ pub fn row_numbers(alloc: Global, row: &Row) -> Result<Numbers, AllocError>
 
 /// The numbers of a pair and a row.
 pub fn pair_numbers(alloc: Global, found: &Decoded, row: &Row) -> Result<Numbers, AllocError>
+    requires found { HasNumbers found.now }
+    requires row { AreNumbers row.now }
     ensures same { IfOk result (λ numbers. numbers ≡ numbers_of (pair_of found.now) row.now) }
     ensures fit { IfOk result (λ numbers. AreNumbers numbers) }
 {
@@ -63,9 +49,10 @@ pub fn pair_numbers(alloc: Global, found: &Decoded, row: &Row) -> Result<Numbers
 }
 
 fn literal_number(literal: Lit) -> Value
-    ensures { result ≡ number_of literal }
+    ensures same { result ≡ number_of literal }
+    ensures fits { IsNumber result }
 {
-    let number = literal.variable as Value;
+    let number = Value::from(literal.variable);
     if literal.negative { -number } else { number }
 }
 
@@ -75,9 +62,16 @@ fn literal_numbers(alloc: Global, literals: &[Lit]) -> Result<Numbers, AllocErro
 {
     let mut numbers = Numbers::new(alloc);
     for literal in literals {
-        push(&mut numbers, literal_number(*literal))?;
+        numbers.push(literal_number(*literal))?;
     }
     Ok(numbers)
+}
+
+fn clause_number(number: u32) -> Value
+    ensures same { result ≡ pos number }
+    ensures fits { IsNumber result }
+{
+    Value::from(number)
 }
 
 fn hint_numbers(alloc: Global, hints: &[u32]) -> Result<Numbers, AllocError>
@@ -86,7 +80,7 @@ fn hint_numbers(alloc: Global, hints: &[u32]) -> Result<Numbers, AllocError>
 {
     let mut numbers = Numbers::new(alloc);
     for hint in hints {
-        push(&mut numbers, *hint as Value)?;
+        numbers.push(clause_number(*hint))?;
     }
     Ok(numbers)
 }
@@ -107,7 +101,7 @@ pub fn deletion_line(alloc: Global, number: u32) -> Result<Line, AllocError>
     ensures fits { IfOk result (λ line. Fits line) }
 {
     let mut numbers = Numbers::new(alloc);
-    push(&mut numbers, number as Value)?;
+    numbers.push(clause_number(number))?;
     Ok(Line::Deleted(numbers))
 }
 

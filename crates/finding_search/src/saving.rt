@@ -22,6 +22,7 @@ ghost use Rattle.judgement.specs.declared.answers.Judged.TheVariants.{Valid};
 ghost use Rattle.judgement.specs.declared.answers.Reach.{Reach};
 ghost use Rattle.judgement.specs.declared.answers.Reach.TheVariants.{Untold, Unwalked};
 ghost use Rattle.finding_search.specs.Desks.{Desk, desk};
+ghost use Rattle.finding_search.specs.Numbered.{AreNumberRows, HasNumbers};
 ghost use Rattle.finding_search.specs.Passing.{Passes, IsPartOfFinding, IsFull};
 ghost use Rattle.finding_search.specs.Shown.{numbers_of};
 ghost use Rattle.finding_search.specs.Writes.{Writes};
@@ -51,7 +52,8 @@ fn write_pair<S: Shelf>(
     shelf: &mut S,
     found: &Decoded,
 ) -> Result<(), WriteErr>
-    requires { length found.now.rows.items ≡ 1 }
+    requires one { length found.now.rows.items ≡ 1 }
+    requires numbers { HasNumbers found.now }
     ensures { (s : Setting) (formula : QueryData → Formula) (from to : Place)
         → ((row : Row) → found.now.rows.items ≡ row ∷ [] → Passes s formula from (lines.Pair (numbers_of (pair_of found.now) row)) to)
         → Writes s formula (desk (S.state shelf.old) writer.old) from
@@ -167,7 +169,8 @@ fn write_seen<S: Shelf>(
     shelf: &mut S,
     found: &Decoded,
 ) -> Result<(), WriteErr>
-    requires { length found.now.rows.items ≡ 1 }
+    requires one { length found.now.rows.items ≡ 1 }
+    requires numbers { AreNumberRows found.now.rows.items }
     ensures { (s : Setting) (formula : QueryData → Formula) (from to : Place)
         → ((row : Row) → found.now.rows.items ≡ row ∷ [] → Passes s formula from (lines.Seen row) to)
         → Writes s formula (desk (S.state shelf.old) writer.old) from

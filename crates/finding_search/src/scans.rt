@@ -7,6 +7,7 @@ ghost use Rattle.queries.specs.Questions.{QueryData};
 ghost use Rattle.judgement.specs.Places.{Place, at_end, finished};
 ghost use Rattle.judgement.specs.declared.answers.Reach.{Reach};
 ghost use Rattle.finding_search.specs.Desks.{desk};
+ghost use Rattle.finding_search.specs.Numbered.{AreNumberRows};
 ghost use Rattle.finding_search.specs.Passing.{Runs};
 ghost use Rattle.finding_search.specs.Shown.{scans_of};
 ghost use Rattle.finding_search.specs.Writes.{Writes};
@@ -27,6 +28,7 @@ fn write_scans<S: Shelf>(
     shelf: &mut S,
     rows: &[Row],
 ) -> Result<(), WriteErr>
+    requires { AreNumberRows rows.now }
     ensures { (s : Setting) (formula : QueryData → Formula) (from to : Place) → Runs s formula from (scans_of rows.now) to
         → Writes s formula (desk (S.state shelf.old) writer.old) from
         (desk (S.state shelf.new) writer.new) (λ _. to) result }
@@ -46,7 +48,8 @@ pub fn write_break<S: Shelf>(
     rows: &[Row],
     scans: u64,
 ) -> Result<Conclusion, WriteErr>
-    requires { scans ≤ 64 }
+    requires few { scans ≤ 64 }
+    requires numbers { AreNumberRows rows.now }
     ensures { (s : Setting) (formula : QueryData → Formula) (from : Place) (reach : Reach)
         → Runs s formula from (scans_of rows.now) (at_end reach (conclusions.Different (pos scans)))
         → Writes s formula (desk (S.state shelf.old) writer.old) from

@@ -10,6 +10,7 @@ ghost use Rattle.judgement.specs.Tests.{after_walk};
 ghost use Rattle.judgement.specs.declared.answers.Reach.TheVariants.{Untold};
 ghost use Rattle.reach_search.specs.Walks.{EndsSo, IsWalk};
 ghost use Rattle.finding_search.specs.Desks.{desk};
+ghost use Rattle.finding_search.specs.Numbered.{AreNumberRows};
 ghost use Rattle.finding_search.specs.Passing.{Runs};
 ghost use Rattle.finding_search.specs.Shown.{walks_of};
 ghost use Rattle.finding_search.specs.Writes.{Writes};
@@ -33,6 +34,7 @@ fn write_rows<S: Shelf>(
     shelf: &mut S,
     rows: &[Row],
 ) -> Result<(), WriteErr>
+    requires { AreNumberRows rows.now }
     ensures { (s : Setting) (formula : QueryData → Formula) (from to : Place) → Runs s formula from (walks_of rows.now) to
         → Writes s formula (desk (S.state shelf.old) writer.old) from
         (desk (S.state shelf.new) writer.new) (λ _. to) result }
@@ -81,7 +83,8 @@ pub fn write_walk<S: Shelf>(
     shelf: &mut S,
     walk: &Walk,
 ) -> Result<Reach, WriteErr>
-    requires { length walk.now.rows.items ≤ 64 }
+    requires few { length walk.now.rows.items ≤ 64 }
+    requires numbers { AreNumberRows walk.now.rows.items }
     ensures writes { (c : Comparison) (formula : QueryData → Formula) (limit : ℕ) → IsComparison c → (setting_of c).conflicts ≡ limit
         → IsWalk c formula limit walk.now
         → Writes (setting_of c) formula (desk (S.state shelf.old) writer.old) (at_walks 0 (setting_of c).start)

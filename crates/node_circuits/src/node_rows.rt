@@ -22,7 +22,7 @@ pub(crate) fn constant_word(
 ) -> Result<Vec<Lit>, GateFault>
     ensures { Makes (node_of [] (Node.Constant kind value) circuit.old) circuit.old circuit.new result }
 {
-    let Ok(word) = constant(alloc, kind.width() as usize, i128::from(value)) else {
+    let Ok(word) = constant(alloc, kind.width() as usize, value) else {
         return Err(GateFault::Memory);
     };
     circuit.count();

@@ -86,14 +86,7 @@ pub(crate) fn range_test(
 ) -> Result<Vec<Lit>, GateFault>
     ensures { Makes (one_bit (outside_of signed a.now range.low range.high circuit.old)) circuit.old circuit.new result }
 {
-    let bit = outside(
-        alloc,
-        circuit,
-        signed,
-        a,
-        i128::from(range.low),
-        i128::from(range.high),
-    )?;
+    let bit = outside(alloc, circuit, signed, a, range.low, range.high)?;
     let Ok(word) = one_bit(alloc, bit) else {
         return Err(GateFault::Memory);
     };

@@ -11,7 +11,7 @@ use word_circuits::constant;
 fn initial_word(alloc: Global, cell: CellShape) -> Result<Vec<Lit>, AllocError>
     ensures { IfOk result (λ w. w.items ≡ initial_word cell) }
 {
-    constant(alloc, cell.kind.width() as usize, i128::from(cell.initial))
+    constant(alloc, cell.kind.width() as usize, cell.initial)
 }
 
 // The words of the first values of cells.

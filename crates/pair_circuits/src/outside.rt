@@ -28,8 +28,8 @@ fn outside_cell(
         circuit,
         cell.kind.is_signed(),
         word,
-        i128::from(cell.range.low),
-        i128::from(cell.range.high),
+        cell.range.low,
+        cell.range.high,
     )
 }
 

@@ -11,14 +11,14 @@ use Rattle.word_laws.proofs.Numbers.{number-lt}
 use Rattle.word_laws.proofs.Multiples.{differs_same}
 use Rattle.word_laws.proofs.Values.{value_wraps_at}
 
--- a word of at most 32 bits spells a number below 2 to the 32
-number_small : (v : ℕ → Bool) (w : List Lit) → length w ≤ 32 → number v w < 2 ^ 32
+-- a word of at most 64 bits spells a number below 2 to the 64
+number_small : (v : ℕ → Bool) (w : List Lit) → length w ≤ 64 → number v w < 2 ^ 64
 number_small v w few =
     let below = number-lt v w in
-    let most : 2 ^ length w ≤ 2 ^ 32 = pow-le-pow_right (omega arith) few in
+    let most : 2 ^ length w ≤ 2 ^ 64 = pow-le-pow_right (omega arith) few in
     omega (arith, below, most)
 
-pub spelled_small : (v : ℕ → Bool) (l : Lit) (rest : List Lit) → length (l ∷ rest) ≤ 32 → bit (literal_true v l) + 2 * number v rest < 2 ^ 32
+pub spelled_small : (v : ℕ → Bool) (l : Lit) (rest : List Lit) → length (l ∷ rest) ≤ 64 → bit (literal_true v l) + 2 * number v rest < 2 ^ 64
 spelled_small v l rest few = number_small v (l ∷ rest) few
 
 -- read as one of a type, it is that number wrapped to the type

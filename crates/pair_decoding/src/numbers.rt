@@ -4,11 +4,11 @@ ghost use Rattle.plc_types.specs.Types.{width_of, is_signed};
 ghost use Rattle.word_laws.specs.Numbers.{bit, number, value};
 
 use clause_core::{Assignment, Lit};
-use operations::wrap_short;
+use operations::wrap_value;
 use plc_types::{Elementary, Value};
 
 // 1 where a literal is true, and 0 where it is false.
-fn bit(lit: Lit, found: &Assignment) -> u32
+fn bit(lit: Lit, found: &Assignment) -> u64
     ensures { result ≡ bit (literal_true (assigned found.now) lit) }
 {
     if found.value(lit.variable) == lit.negative {
@@ -19,8 +19,8 @@ fn bit(lit: Lit, found: &Assignment) -> u32
 }
 
 // The number that a word spells in binary.
-fn number(word: &[Lit], found: &Assignment) -> u32
-    requires { length word.now ≤ 32 }
+fn number(word: &[Lit], found: &Assignment) -> u64
+    requires { length word.now ≤ 64 }
     ensures { result ≡ number (assigned found.now) word.now }
 {
     match word.split_first() {
@@ -35,5 +35,5 @@ pub(crate) fn value(kind: Elementary, word: &[Lit], found: &Assignment) -> Value
     ensures { result ≡ value (is_signed kind) (assigned found.now) word.now }
 {
     kind.width();
-    wrap_short(kind, Value::from(number(word, found)))
+    wrap_value(kind, Value::from(number(word, found)))
 }

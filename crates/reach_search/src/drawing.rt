@@ -6,11 +6,14 @@ use queries::Row;
 use scan_model::InputLine;
 use std::alloc::{AllocError, Global};
 
-// Any number of a range.
+/// How far above the least number of a range one is drawn at most.
+const FARTHEST: Value = 0xffff_ffff_ffff_fffe;
+
+// Any number of a range, but for the last of 2^64.
 fn inside(random: &mut Random, range: Range) -> Value {
-    let count = range.high.wrapping_sub(range.low).cast_unsigned();
-    let offset = random.below(count.wrapping_add(1));
-    range.low.wrapping_add(offset.cast_signed())
+    let span = range.high.wrapping_sub(range.low).clamp(0, FARTHEST);
+    let offset = random.below(span as u64 + 1);
+    range.low.wrapping_add(Value::from(offset))
 }
 
 // A number that is drawn: in every second turn mostly the last one, else an edge of the range or any.

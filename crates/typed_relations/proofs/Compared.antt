@@ -3,7 +3,7 @@ use Rattle.std.proofs.Common.{◌≡◌, ◌∙◌, ℕ, true, refl, ap, sym, Li
 use Rattle.std.specs.Prelude.{◌&&◌, All, slice_get}
 use Rattle.std.proofs.lemmas.Bool.{false≢true, and_parts, leb-true}
 use Rattle.std.proofs.lemmas.Option.{get_or_from_slice_get}
-use Rattle.std.proofs.lemmas.List.Elements.{All-weaker}
+use Rattle.std.proofs.lemmas.List.Elements.{All-weaker, All-map}
 use denote.Enum.Bare.{same_true}
 use Rattle.plc_types.specs.contracts.elementary.Elementary.{the_type}
 use Rattle.plc_types.specs.declared.elementary.Elementary.TheVariants as types
@@ -12,14 +12,16 @@ use Rattle.plc_types.specs.declared.data_type.DataType.TheVariants as kinds
 use Rattle.plc_types.specs.DataTypes.{carrier, is_same_type}
 use Rattle.plc_types.specs.Enumerations.{paired_number, paired_type, names_at}
 use Rattle.program_tree.specs.Tree.{CellData, ProgramData}
+use Rattle.program_tree.specs.Places.{of_cell, IsTypedPlace}
 use Rattle.scan_model.specs.declared.relation.InputLine.{InputLine}
 use Rattle.scan_model.specs.declared.relation.InputLine.TheVariants.{Both, Old, New}
-use Rattle.queries.specs.Comparisons.{Comparison, IsComparison}
+use Rattle.queries.specs.Comparisons.{Comparison, HasTypedPlaces, IsComparison}
 use Rattle.query_formulas.specs.CellShapes.{cell_at}
 use Rattle.query_formula_laws.specs.TypedComparisons.{NamesAlike}
 use Rattle.relation_file.specs.Inputs.{is_same_flag, is_same_range}
 use Rattle.relation_file.specs.WellFormed.{IsAlike}
-use Rattle.typed_relations.specs.Readings.{AreRead}
+use Rattle.typed_programs.specs.Programs.{IsTypedCell}
+use Rattle.typed_relations.specs.Readings.{IsReadProgram, AreRead}
 
 -- cells of one type in a pair have numbers of one elementary type
 same_carrier : (old new : List (List (List ℕ))) (a b : DataType) → is_same_type a (paired_type old new b) ≡ true → carrier a ≡ carrier b
@@ -55,8 +57,13 @@ names_alike old new (New range q) h = tt
 pub all_alike : (c : Comparison) → AreRead c → All (NamesAlike c.old c.new) c.relation.inputs
 all_alike c r = All-weaker (IsAlike c.old c.new) (NamesAlike c.old c.new) (names_alike c.old c.new) c.relation.inputs r.well_formed.alike
 
+typed_places : (p : ProgramData) → IsReadProgram p → HasTypedPlaces p
+typed_places p h = All-map IsTypedPlace of_cell p.cells (All-weaker IsTypedCell (λ c. IsTypedPlace (of_cell c)) (λ c typed. typed.place) p.cells h.typed.cells)
+
 pub is_comparison : (c : Comparison) → AreRead c → IsComparison c
 is_comparison c r = record {
+  old_places = typed_places c.old r.old;
+  new_places = typed_places c.new r.new;
   relatable = record { old_is_program = r.old.is_program; new_is_program = r.new.is_program; belongs = r.belongs };
   listed = r.well_formed.candidates;
   few = leb-true (length c.relation.candidates) 4096 r.few;

@@ -15,7 +15,7 @@ returns-in-Derived-clause-moved g c =
     let pair = c.args.trial.now.pair in
     let f = g.Q.Queries.formula c.args.queries.now in
     let e : lines.Derived c.as_slice.result.now c.as_slice-in-Derived.result.now ≡ c.args.line.now =
-    ap (λ l. lines.Derived l c.as_slice-in-Derived.result.now) c.as_slice.ensures ∙ ap (λ h. lines.Derived c.in-Derived.literals h) c.as_slice-in-Derived.ensures ∙ sym c.in-Derived.is
+    ap (λ l. lines.Derived l c.as_slice-in-Derived.result.now) c.as_slice.ensures.same ∙ ap (λ h. lines.Derived c.in-Derived.literals h) c.as_slice-in-Derived.ensures.same ∙ sym c.in-Derived.is
     in
     IfOk-map c.spent_step.result
     (λ moved h. (

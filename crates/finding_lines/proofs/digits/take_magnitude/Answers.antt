@@ -1,5 +1,6 @@
-use Rattle.finding_lines.proofs.DigitLemmas.{digits-start, digits-none, digits-nothing, digits-step, stuck-zero, stuck-large}
-use Rattle.finding_lines.proofs.digits.take_magnitude.Goals.{then-number-eq0-via-then-number-eq0, then-number-eq0-via-else-number-eq0+then-number-gt-MOST_WITH_DIGIT}
+use Rattle.std.proofs.Common.{sym, subst}
+use Rattle.finding_lines.specs.Numbers.{IsMagnitude}
+use Rattle.finding_lines.proofs.DigitLemmas.{DigitsSoFar, digits-start, digits-none, digits-nothing, digits-step, stuck-zero, stuck-large}
 use Rattle.finding_lines.proofs.digits.take_magnitude.Goals as goal
 
 pub returns-in_err-first : goal.returns-in_err-first
@@ -17,14 +18,16 @@ digits-init c =
 
 pub returns-then-number-eq0 : goal.returns-then-number-eq0
 returns-then-number-eq0 c =
-    let so = c.digits.invariant in
-    let next = c.in-Some.ensures.cases.0 in
-    elim c.then-number-eq0.branch [
-      | then-number-eq0-via-then-number-eq0 w ↦ stuck-zero c.args.bytes.now c.digits.rest.now c.in-Some.more.now c.digits.number c.in-Some.byte.now so next c.if-byte-eq32.false w.if-number-eq0.true
-      | then-number-eq0-via-else-number-eq0+then-number-gt-MOST_WITH_DIGIT w ↦ stuck-large c.args.bytes.now c.digits.rest.now c.in-Some.more.now c.digits.number c.in-Some.byte.now so next c.if-byte-eq32.false w.if-number-gt-MOST_WITH_DIGIT.true
-    ]
+    stuck-zero c.args.bytes.now c.digits.rest.now c.in-Some.more.now c.digits.number c.in-Some.byte.now c.digits.invariant c.in-Some.ensures.cases.0 c.if-byte-eq32.false c.if-number-eq0.true
+
+pub returns-in_err-number-2 : goal.returns-in_err-number-2
+returns-in_err-number-2 c =
+    rw c.from_residual-in_err-number-2.ensures
+    (stuck-large c.args.bytes.now c.digits.rest.now c.in-Some.more.now c.digits.number c.in-Some.byte.now c.in_ok-digit.digit c.digits.invariant c.in-Some.ensures.cases.0 c.if-byte-eq32.false c.in_ok-digit.ensures.2 c.in_err-number-2.ensures)
 
 pub digits-preserved : goal.digits-preserved
 digits-preserved c =
     let digit = c.in_ok-digit.ensures in
-    digits-step c.args.bytes.now c.digits.rest.now c.in-Some.more.now c.digits.number c.in-Some.byte.now c.in_ok-digit.digit c.digits.invariant c.in-Some.ensures.cases.0 c.if-byte-eq32.false digit.0 digit.1 digit.2 c.if-number-eq0.false c.if-number-gt-MOST_WITH_DIGIT.false
+    let more = c.in_ok-number-2.ensures in
+    subst (λ n. DigitsSoFar c.args.bytes.now n c.in-Some.more.now) (sym more.0)
+    (digits-step c.args.bytes.now c.digits.rest.now c.in-Some.more.now c.digits.number c.in-Some.byte.now c.in_ok-digit.digit c.digits.invariant c.in-Some.ensures.cases.0 c.if-byte-eq32.false digit.0 digit.1 digit.2 c.if-number-eq0.false (subst IsMagnitude more.0 more.1))

@@ -1,4 +1,4 @@
-use Rattle.finding_lines.proofs.DigitLemmas.{minus-none, minus-zero, plus-large}
+use Rattle.finding_lines.proofs.DigitLemmas.{minus-none, minus-wrong}
 use Rattle.finding_lines.proofs.digits.take_signed.Goals as goal
 
 pub returns-in_err-magnitude : goal.returns-in_err-magnitude
@@ -7,9 +7,4 @@ returns-in_err-magnitude c = rw c.from_residual.ensures (minus-none c.args.bytes
 pub returns-in_err-number : goal.returns-in_err-number
 returns-in_err-number c =
     rw c.from_residual-in_err-number.ensures
-    (minus-zero c.args.bytes.now c.in-Some.digits.now c.in_ok-magnitude.rest.now c.in_ok-magnitude.magnitude c.in-Some.ensures c.in_ok-magnitude.ensures c.in_err-number.ensures)
-
-pub returns-in_err-number-2 : goal.returns-in_err-number-2
-returns-in_err-number-2 c =
-    rw c.from_residual-in_err-number-2.ensures
-    (plus-large c.args.bytes.now c.in_ok-magnitude-2.rest.now c.in_ok-magnitude-2.magnitude c.in_default.ensures c.in_ok-magnitude-2.ensures c.in_err-number-2.ensures)
+    (minus-wrong c.args.bytes.now c.in-Some.digits.now c.in_ok-magnitude.rest.now c.in_ok-magnitude.magnitude c.in-Some.ensures c.in_ok-magnitude.ensures c.in_err-number.ensures)

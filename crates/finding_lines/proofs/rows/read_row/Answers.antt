@@ -1,5 +1,5 @@
 use Rattle.std.proofs.lemmas.Result.{IfOk-weaker}
-use Rattle.finding_lines.specs.Form.{AreNumbers}
+use Rattle.finding_lines.specs.Numbers.{AreNumbers}
 use Rattle.finding_lines.specs.Spelling.{spaced_all}
 use Rattle.finding_lines.specs.Reading.{Reads}
 use Rattle.finding_lines.proofs.ReadLemmas.{ReadsRow, row-behind}

@@ -1,4 +1,5 @@
-use Rattle.std.proofs.Common.{◌≡◌, ◌∙◌, ◌<◌, ◌≤◌, pos, length, get_or, ap, sym, string_bytes, rules, arith, w64, to_z, of_z, to_z-of_z, FitsSigned}
+use Rattle.std.proofs.Common.{◌≡◌, ◌∙◌, ◌<◌, ◌≤◌, pos, length, get_or, ap, sym, string_bytes, rules, arith, to_z, of_z, to_z-of_z, FitsSigned}
+use Rattle.std.specs.Int.{w128}
 use Rattle.std.specs.Prelude.{min}
 use Rattle.std.proofs.lemmas.List.{get_or-map, length-map}
 use Rattle.serde_json.specs.Data.{object}
@@ -20,10 +21,10 @@ loop-place-preserved c =
     let below : i < length cells = omega arith in
     let inside : i < length values = omega arith in
     let seen : i < length (cells_view cells) = grind (arith, length-map) in
-    let fits : FitsSigned w64 first = search rules in
-    numbers_next (λ (d : CellData). d.path) (cells_view cells) values i (members_view c.loop-place.members.entries) (cell_view cell) c.as_str.result.now (to_z w64 (of_z w64 first)) first
+    let fits : FitsSigned w128 first = search rules in
+    numbers_next (λ (d : CellData). d.path) (cells_view cells) values i (members_view c.loop-place.members.entries) (cell_view cell) c.as_str.result.now (to_z w128 (of_z w128 first)) first
     (members_view c.add_number.new.members.entries) seen (ap cell_view c.index-cells-place.is ∙ sym (get_or-map cell_view cells i cell (cell_view cell) below)) (c.as_str.ensures.value ∙ ap (λ (x : Cell). string_bytes x.path) (sym c.index-cells-place.is))
-    (left_value values i inside) (to_z-of_z {w = w64} {z = first} fits) c.in_ok-add_number.ensures
+    (left_value values i inside) (to_z-of_z {w = w128} {z = first} fits) c.in_ok-add_number.ensures
     ∙ c.loop-place.invariant
 
 pub returns : goal.returns

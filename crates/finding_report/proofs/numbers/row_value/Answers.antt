@@ -1,4 +1,5 @@
-use Rattle.std.proofs.Common.{◌∙◌, ◌<◌, ◌≤◌, pos, length, get_or, ap, sym, rules, arith, w64, to_z, of_z, to_z-of_z, FitsSigned}
+use Rattle.std.proofs.Common.{◌∙◌, ◌<◌, ◌≤◌, pos, length, get_or, ap, sym, rules, arith, to_z, of_z, to_z-of_z, FitsSigned}
+use Rattle.std.specs.Int.{w128}
 use Rattle.std.specs.Prelude.{min}
 use Rattle.std.proofs.lemmas.List.{get_or_default}
 use Rattle.serde_json.specs.Data.{object}
@@ -21,10 +22,10 @@ loop-place-preserved c =
     let first = get_or row i (pos 0) in
     let below : i < length inputs = omega arith in
     let inside : i < length row = omega arith in
-    let fits : FitsSigned w64 first = search rules in
-    numbers_next (input_name (cells_view c.args.old.now) (cells_view c.args.new.now)) inputs row i (members_view c.loop-place.members.entries) line c.as_str.result.now (to_z w64 (of_z w64 first))
+    let fits : FitsSigned w128 first = search rules in
+    numbers_next (input_name (cells_view c.args.old.now) (cells_view c.args.new.now)) inputs row i (members_view c.loop-place.members.entries) line c.as_str.result.now (to_z w128 (of_z w128 first))
     first (members_view c.add_number.new.members.entries) below (get_or_default inputs i none line below) (c.as_str.ensures.value ∙ c.in_ok-name.ensures) (left_value row i inside)
-    (to_z-of_z {w = w64} {z = first} fits) c.in_ok-add_number.ensures
+    (to_z-of_z {w = w128} {z = first} fits) c.in_ok-add_number.ensures
     ∙ c.loop-place.invariant
 
 pub returns : goal.returns

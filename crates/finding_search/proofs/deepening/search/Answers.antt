@@ -5,6 +5,7 @@ use Rattle.finding_lines.specs.declared.line.Conclusion.TheVariants.{Different, 
 use Rattle.finding_lines.specs.Form.{IsEnding}
 use Rattle.finding_lines.specs.declared.line.Line.TheVariants as lines
 use Rattle.scan_model.specs.InRange.{Row}
+use Rattle.scan_model.specs.Pairs.{start}
 use Rattle.queries.specs.Comparisons.{Comparison}
 use Rattle.queries.specs.Questions.{deep, IsQueryOf}
 use Rattle.queries.specs.Meaning.{Answers}
@@ -15,10 +16,12 @@ use Rattle.judgement.specs.Steps.{opened}
 use Rattle.judgement.specs.Places.{at_deep, at_end, in_log, in_query, finished}
 use Rattle.judgement.specs.Tests.{after_deep}
 use Rattle.invariant_prune.specs.Answers.{pair_of}
+use Rattle.finding_search.specs.Numbered.{AreNumberRows}
 use Rattle.finding_search.specs.Passing.{Passes, Runs}
 use Rattle.finding_search.specs.Shown.{scans_of}
 use Rattle.finding_search.proofs.Going.{Writes-then, Writes-exit, Writes-short, Writes-answer, Writes-nothing}
 use Rattle.finding_search.proofs.Openings.{log_deep, query_deep, end_passes, after_deep-less, after_deep-all, after_deep-told}
+use Rattle.finding_search.proofs.RowNumbers.{break-numbers}
 use Rattle.finding_search.proofs.RowPasses.{break_runs, some_depth, most_depth}
 use Rattle.finding_search.proofs.deepening.search.Goals as goal
 
@@ -48,10 +51,17 @@ pub returns-in_err-found : goal.returns-in_err-found
 returns-in_err-found g c reach told =
     Writes-short (setting_in c.args.trial.now) (g.Q.Queries.formula c.args.queries.now) _ _ _ _ _ _ _ c.from_residual.ensures.1 (c.depths.invariant reach told)
 
-pub write_break-requires : goal.write_break-requires
-write_break-requires g c =
+pub write_break-requires-clause-few : goal.write_break-requires-clause-few
+write_break-requires-clause-few g c =
     let most = most_depth (comparison_of c.args.trial.now) c.requires.comparison in
     omega (arith, most, c.depths-test.true, c.depth-none-end.ensures)
+
+pub write_break-requires-clause-numbers : goal.write_break-requires-clause-numbers
+write_break-requires-clause-numbers g c =
+    let k = comparison_of c.args.trial.now in
+    let a = rw c.in-Found.is at c.in_ok-found.ensures in
+    let b = subst (λ (x : Comparison). Answers x (deep (c.depths.none + 1)) (pair_of c.in-Found.found) c.in-Found.found.rows.items) c.requires.compared a in
+    subst AreNumberRows (sym c.deref.ensures.value) (break-numbers k c.requires.comparison c.in-Found.found.rows.items (start k.old k.new) b.1)
 
 pub returns-in-Found : goal.returns-in-Found
 returns-in-Found g c reach told =

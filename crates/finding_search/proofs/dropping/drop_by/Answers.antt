@@ -1,10 +1,21 @@
-use Rattle.std.proofs.Common.{ap, refl}
+use Rattle.std.proofs.Common.{ap, refl, arith, List, length}
+use Rattle.scan_model.specs.InRange.{Row}
 use Rattle.queries.specs.Sets.{members}
-use Rattle.pair_trial.specs.Trials.{setting_in}
+use Rattle.pair_trial.specs.Trials.{comparison_of, setting_in}
 use Rattle.judgement.specs.Places.{at_drops}
 use Rattle.finding_search.proofs.Going.{Writes-exit, Writes-answer}
+use Rattle.finding_search.proofs.RowNumbers.{step-numbers, row_at}
 use Rattle.finding_search.proofs.DropLemmas.{left_by, passes_read, fewer_read, in_range_read, allowed_read, kept_read}
 use Rattle.finding_search.proofs.dropping.drop_by.Goals as goal
+
+pub pair_numbers-numbers-requires : goal.pair_numbers-numbers-requires
+pair_numbers-numbers-requires g c =
+    let numbers = step-numbers (comparison_of c.args.trial.now) c.requires.comparison (members c.args.set.now) c.args.found.now c.requires.found in
+    let one = ap (λ (rows : List Row). length rows) c.requires.found.1 in
+    record {
+      found = numbers;
+      row = row_at c.args.found.now.rows.items 0 c.index-row.result.now (omega (arith, one)) c.index-row.ensures numbers.rows;
+    }
 
 pub returns-in_err-write_line-clause-writes : goal.returns-in_err-write_line-clause-writes
 returns-in_err-write_line-clause-writes g c reach formula =

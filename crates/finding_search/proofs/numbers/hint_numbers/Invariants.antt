@@ -1,5 +1,5 @@
 use Rattle.std.proofs.Common.{◌≡◌, map, take, pos}
-use Rattle.finding_lines.specs.Form.{AreNumbers}
+use Rattle.finding_lines.specs.Numbers.{AreNumbers}
 use Rattle.finding_search.proofs.numbers.hint_numbers.Given as goal
 
 abbrev pub invariant-loop-hint : goal.invariant-loop-hint

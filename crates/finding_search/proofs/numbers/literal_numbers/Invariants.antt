@@ -1,5 +1,5 @@
 use Rattle.std.proofs.Common.{◌≡◌, map, take}
-use Rattle.finding_lines.specs.Form.{AreNumbers}
+use Rattle.finding_lines.specs.Numbers.{AreNumbers}
 use Rattle.finding_search.specs.Shown.{number_of}
 use Rattle.finding_search.proofs.numbers.literal_numbers.Given as goal
 

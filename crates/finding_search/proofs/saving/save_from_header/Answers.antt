@@ -11,8 +11,16 @@ use Rattle.invariant_prune.specs.Answers.{pair_of}
 use Rattle.finding_search.proofs.Going.{Writes-then, Writes-exit}
 use Rattle.finding_search.proofs.Openings.{log_first, query_first, end_passes}
 use Rattle.finding_search.proofs.LogRuns.{unwalked_told}
+use Rattle.finding_search.proofs.RowNumbers.{first-numbers}
 use Rattle.finding_search.proofs.RowPasses.{seen_found}
 use Rattle.finding_search.proofs.saving.save_from_header.Goals as goal
+
+pub write_seen-requires-clause-numbers : goal.write_seen-requires-clause-numbers
+write_seen-requires-clause-numbers g c =
+    let k = comparison_of c.args.trial.now in
+    let a = rw c.in-Found.is at c.in_ok-found.ensures in
+    first-numbers k c.requires.comparison (pair_of c.in-Found.found) c.in-Found.found.rows.items
+    (subst (λ (x : Comparison). Answers x first (pair_of c.in-Found.found) c.in-Found.found.rows.items) c.requires.compared a)
 
 pub returns-in_err-write_seen-in-Found-clause-writes : goal.returns-in_err-write_seen-in-Found-clause-writes
 returns-in_err-write_seen-in-Found-clause-writes g c =

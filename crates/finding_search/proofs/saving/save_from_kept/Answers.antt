@@ -15,8 +15,16 @@ use Rattle.invariant_prune.specs.Answers.{pair_of}
 use Rattle.finding_search.specs.Passing.{Passes}
 use Rattle.finding_search.proofs.Going.{Writes-then, Writes-exit}
 use Rattle.finding_search.proofs.Openings.{log_goal, query_goal, end_passes}
+use Rattle.finding_search.proofs.RowNumbers.{goal-numbers}
 use Rattle.finding_search.proofs.RowPasses.{pair_found}
 use Rattle.finding_search.proofs.saving.save_from_kept.Goals as goals
+
+pub write_pair-requires-clause-numbers : goals.write_pair-requires-clause-numbers
+write_pair-requires-clause-numbers g c =
+    let k = comparison_of c.args.trial.now in
+    let a = rw c.in-Found.is at c.in_ok-found.ensures.answer in
+    goal-numbers k c.requires.comparison (members c.args.set.now) c.in-Found.found
+    (subst (λ (x : Comparison). Answers x (goal (members c.args.set.now)) (pair_of c.in-Found.found) c.in-Found.found.rows.items) c.requires.compared a)
 
 pub returns-in_err-write_pair-in-Found : goals.returns-in_err-write_pair-in-Found
 returns-in_err-write_pair-in-Found g c reach told =

@@ -1,5 +1,6 @@
 use Rattle.std.proofs.Common.{◌≡◌, ap, sym, subst, List, length, arith}
 use Rattle.scan_model.specs.InRange.{Row}
+use Rattle.scan_model.specs.Pairs.{start}
 use Rattle.scan_replay.specs.Duos.{Compared}
 use Rattle.queries.specs.Comparisons.{IsComparison}
 use Rattle.pair_trial.specs.Trials.{comparison_of, setting_in}
@@ -7,6 +8,7 @@ use Rattle.judgement.specs.Places.{finished}
 use Rattle.invariant_prune.specs.Answers.{pair_of}
 use Rattle.finding_search.proofs.Going.{Writes-then, Writes-exit}
 use Rattle.finding_search.proofs.DropLemmas.{starts_then}
+use Rattle.finding_search.proofs.RowNumbers.{walk-numbers}
 use Rattle.finding_search.proofs.RowPasses.{read_row, seen_allowed}
 use Rattle.finding_search.proofs.saving.save_from_seen.Goals as goal
 
@@ -18,8 +20,13 @@ reach-requires-clause-allowed g c =
     seen_allowed k (g.Q.Queries.formula c.args.queries.now) c.requires.comparison (pair_of c.args.seen.now) rows c.requires.seen c.index.result.now
     (read_row rows c.index.result.now one c.index.ensures)
 
-pub write_walk-requires : goal.write_walk-requires
-write_walk-requires g c = let most = c.in_ok-walk.ensures.walk.most in let few = c.requires.comparison.depth in omega (arith, most, few)
+pub write_walk-requires-clause-few : goal.write_walk-requires-clause-few
+write_walk-requires-clause-few g c = let most = c.in_ok-walk.ensures.walk.most in let few = c.requires.comparison.depth in omega (arith, most, few)
+
+pub write_walk-requires-clause-numbers : goal.write_walk-requires-clause-numbers
+write_walk-requires-clause-numbers g c =
+    let k = comparison_of c.args.trial.now in
+    walk-numbers k c.requires.comparison c.in_ok-walk.walk.rows.items (start k.old k.new) c.in_ok-walk.ensures.walk.allowed
 
 pub returns-in_err-told-clause-writes : goal.returns-in_err-told-clause-writes
 returns-in_err-told-clause-writes g c =
