@@ -17,15 +17,67 @@ pub(crate) struct Following<'g> {
     guide: Option<&'g Guide>,
     /// How many of its clauses were gone through.
     count: usize,
+    /// In how many clauses of the guide each variable stands.
+    shares: Vec<u32>,
+    /// The literals of the present clause but its first, each behind the share of its variable.
+    ranked: Vec<(u32, u32)>,
     /// The literals of the present clause, in the order in which they are made false.
     codes: Vec<Code>,
 }
 
-/// Takes all decisions back, and propagates what was learned.
-fn begin(propagator: &mut Propagator) -> Result<Option<ClauseRef>, AllocError>
+/// In how many clauses of a guide each variable stands; none of them where there is no guide.
+fn count_shares(
+    alloc: Global,
+    variables: u32,
+    guide: Option<&Guide>,
+) -> Result<Vec<u32>, AllocError> {
+    let Some(guide) = guide else {
+        return Ok(Vec::new(alloc));
+    };
+    let mut shares = vec![in alloc; 0u32; variables as usize + 1]?;
+    for code in guide.codes() {
+        let share = read(shares.as_slice(), code.variable(), 0);
+        write(
+            shares.as_mut_slice(),
+            code.variable(),
+            share.saturating_add(1),
+        );
+    }
+    Ok(shares)
+}
+
+/// The decision that was made above a level.
+fn decision_above(propagator: &Propagator, level: u32) -> Code {
+    propagator.literal_at(propagator.start_above(level))
+}
+
+/// Whether a literal is false, and was so at a level already.
+fn is_false_at(propagator: &Propagator, code: Code, level: u32) -> bool {
+    propagator.value(code) == Truth::False && propagator.cause(code).level <= level
+}
+
+/// Up to which level the decisions are those by which the literals of a clause are made false in turn.
+fn common_level(propagator: &Propagator, codes: &[Code]) -> u32 {
+    let mut level = 0u32;
+    for code in codes {
+        if level >= propagator.level() {
+            break;
+        }
+        if decision_above(propagator, level).number == code.negated().number {
+            level = level.wrapping_add(1);
+        } else if !is_false_at(propagator, *code, level) {
+            break;
+        }
+    }
+    level
+}
+
+/// Takes back the decisions that do not make the literals of a clause false in turn, and propagates what was learned.
+fn begin(propagator: &mut Propagator, codes: &[Code]) -> Result<Option<ClauseRef>, AllocError>
     ensures { Keeps propagator.old propagator.new }
 {
-    propagator.go_back(0);
+    let level = common_level(propagator, codes);
+    propagator.go_back(level);
     propagator.propagate()
 }
 
@@ -72,12 +124,19 @@ fn bring_forward(codes: &mut [Code], place: usize) {
 
 impl<'g> Following<'g> {
     /// At the first clause of a guide, if there is one.
-    pub fn new(alloc: Global, guide: Option<&'g Guide>) -> Following<'g> {
-        Following {
+    pub fn new(
+        alloc: Global,
+        variables: u32,
+        guide: Option<&'g Guide>,
+    ) -> Result<Following<'g>, AllocError> {
+        let shares = count_shares(alloc, variables, guide)?;
+        Ok(Following {
             guide,
             count: 0,
+            shares,
+            ranked: Vec::new(alloc),
             codes: Vec::new(alloc),
-        }
+        })
     }
 
     /// Whether no clause is left.
@@ -85,13 +144,24 @@ impl<'g> Following<'g> {
         self.guide.is_none()
     }
 
-    /// Takes the literals of a clause, the last first. A gate follows from its operands, which have lower numbers, rather than they
-    /// from the gate: so it is made false before them.
+    /// Takes the literals of a clause, its first one last. The others come by falling shares, so that clauses that follow each other
+    /// begin with the same decisions, and then by falling numbers: a gate follows from its operands, which have lower numbers, rather
+    /// than they from the gate, so it is made false before them.
     fn take(&mut self, clause: &[Code]) -> Result<(), AllocError> {
         self.codes.clear();
-        for code in clause.iter().rev() {
-            self.codes.push(*code)?;
+        self.ranked.clear();
+        let Some((first, others)) = clause.split_first() else {
+            return Ok(());
+        };
+        for code in others {
+            let share = read(self.shares.as_slice(), code.variable(), 0);
+            self.ranked.push((share, code.number))?;
         }
+        self.ranked.sort_unstable();
+        for (_, number) in self.ranked.iter().rev() {
+            self.codes.push(Code { number: *number })?;
+        }
+        self.codes.push(*first)?;
         Ok(())
     }
 
@@ -101,7 +171,7 @@ impl<'g> Following<'g> {
         ensures { Keeps propagator.old propagator.new }
     {
         for _ in 0..self.codes.len().min(MOST_ORDERS) {
-            let mut conflict = begin(propagator)?;
+            let mut conflict = begin(propagator, self.codes.as_slice())?;
             let mut met = 0usize;
             if conflict.is_none() {
                 conflict = make_false(propagator, self.codes.as_slice(), &mut met)?;

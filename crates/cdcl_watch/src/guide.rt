@@ -40,6 +40,11 @@ impl Guide {
         self.ends.len()
     }
 
+    /// The literals of all clauses.
+    pub(crate) fn codes(&self) -> &[Code] {
+        self.codes.as_slice()
+    }
+
     /// The literals of the clause at a place; none past the end.
     pub(crate) fn clause(&self, place: usize) -> &[Code] {
         let start = match place {

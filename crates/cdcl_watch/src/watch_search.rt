@@ -155,7 +155,7 @@ impl<'g> WatchSearch<'g> {
             analysis: Analysis::new(alloc, variables)?,
             explanation: Explanation::new(alloc, variables)?,
             order,
-            following: Following::new(alloc, guide),
+            following: Following::new(alloc, variables, guide)?,
             count: 0,
             is_learned: false,
             conflicts: 0,

@@ -1,10 +1,10 @@
 -- How many tokens a text has at most, and how many lines tokens are.
-use Rattle.std.proofs.Common.{◌≡◌, ℕ, suc, ◌+◌, ◌*◌, ◌≤◌, true, sym, ◌∙◌, ap, List, [], ◌∷◌, length, drop, length-append, length-drop, arith}
+use Rattle.std.proofs.Common.{◌≡◌, ℕ, suc, ◌+◌, ◌*◌, ◌≤◌, true, sym, ◌∙◌, ap, List, [], ◌∷◌, ◌++◌, length, drop, length-append, length-drop, arith}
 use Rattle.std.specs.Prelude.{Option, Some, None}
 use Rattle.std.proofs.lemmas.Bool.{false≢true}
 use Rattle.std.proofs.lemmas.List.{length-map}
 use Rattle.program_tree.specs.Tree.{ProgramData}
-use Rattle.scan_model.specs.Pairs.{RelationData}
+use Rattle.scan_model.specs.Pairs.{InputLine, RelationData}
 use Rattle.source_tree.specs.declared.token.TokenClass.{TokenClass}
 use Rattle.source_tree.specs.declared.token.TokenClass.TheVariants.{Word, Number, Sign}
 use Rattle.source_tree.specs.declared.token.Mark.TheVariants.{Semicolon}
@@ -16,7 +16,7 @@ use Rattle.st_lexer.specs.Lexing.{lexeme_of, lexemes_of}
 use Rattle.command_files.specs.front_end.Texts.{HasTokens}
 use Rattle.relation_lines.specs.declared.line.Condition.{Condition}
 use Rattle.relation_lines.specs.declared.line.Condition.TheVariants as conditions
-use Rattle.relation_lines.specs.Lines.{LineData}
+use Rattle.relation_lines.specs.Lines.{ContentData, setting, faults, paired, single, clause, LineData}
 use Rattle.relation_lines.specs.Prints.{print_content, print_line, print_lines}
 use Rattle.candidates.specs.Candidates.{before}
 use Rattle.relation_file.specs.Relations.{input_of, inputs_in, clause_of, clauses_in}
@@ -63,9 +63,20 @@ one_before None xs k h = omega arith
 one_before (Some x) xs k h = omega arith
 
 module _ (old new : ProgramData) where
-  inputs_few : (ls : List LineData) → length (inputs_in old new ls) ≤ length ls
+  -- an INPUT line has four symbols at least
+  input_few : (c : ContentData) (xs : List InputLine) → 4 * length (before (input_of old new c) xs) ≤ suc (length (print_content c ++ mark Semicolon ∷ [])) + 4 * length xs
+  input_few (setting s value at) xs = omega arith
+  input_few (faults equal at) xs = omega arith
+  input_few (paired a at b) xs = omega (arith, one_before (input_of old new (paired a at b)) xs (length xs) (omega arith))
+  input_few (single s at a) xs = omega (arith, one_before (input_of old new (single s at a)) xs (length xs) (omega arith))
+  input_few (clause c e) xs = omega arith
+
+  inputs_few : (ls : List LineData) → 4 * length (inputs_in old new ls) ≤ length (print_lines ls)
   inputs_few [] = omega arith
-  inputs_few (l ∷ ls) = one_before (input_of old new l.content) (inputs_in old new ls) (length ls) (inputs_few ls)
+  inputs_few (l ∷ ls) =
+      let rest = inputs_few ls in
+      let one = input_few l.content (inputs_in old new ls) in
+      omega (arith, rest, one, length-append (print_line l) (print_lines ls))
 
   clauses_few : (wanted : Condition) (ls : List LineData) → length (clauses_in old new wanted ls) ≤ length ls
   clauses_few wanted [] = omega arith
@@ -81,6 +92,6 @@ module _ (old new : ProgramData) where
       let inputs_are : length rel.inputs ≡ length (inputs_in old new is.lines) = ap (λ (r : RelationData). length r.inputs) is.stated in
       let environment_is : length rel.environment ≡ length (clauses_in old new conditions.Environment is.lines) = ap (λ (r : RelationData). length r.environment) is.stated in
       record {
-        inputs = omega (arith, tokens, lines, printed, inputs, inputs_are, h.short);
+        inputs = omega (arith, tokens, printed, inputs, inputs_are, h.short);
         environment = omega (arith, tokens, lines, printed, environment, environment_is, h.short);
       }

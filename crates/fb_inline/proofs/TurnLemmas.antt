@@ -53,9 +53,9 @@ stays-turn count counter v more step r below is_more h =
     subst (λ (w : ℤ). stay_from (count - (counter + 1)) w step r ≡ true) (sym is_more)
     (later-fit false (count - (counter + 1)) v step r (subst (λ (n : ℕ). stay_from n v step r ≡ true) left h))
 
--- so the next value is of 64 bits
+-- so the next value is one of a type
 pub next-bounds : (p : Scratch) (count counter : ℕ) (v step : ℤ) → IsTypedPlace p → counter < count → stay_from (count - counter) v step p.range ≡ true
-    → (neg_ℤ (pos (2 ^ 32)) ≤ℤ (v +ℤ step)) × ((v +ℤ step) ≤ℤ pos (2 ^ 32))
+    → (neg_ℤ (pos (2 ^ 64)) ≤ℤ (v +ℤ step)) × ((v +ℤ step) ≤ℤ pos (2 ^ 64))
 next-bounds p count counter v step typed below h =
     let later = stays-turn count counter v (v +ℤ step) step p.range below refl h in
     let next = (and_parts (in_range (v +ℤ step) p.range) (in_range (v +ℤ step +ℤ pos (count - (counter + 1)) *ℤ step) p.range) later).0 in

@@ -264,7 +264,7 @@ module _ (scope : FlatScope) where
     control-placed = let t = opened h in let within = t.fits.within in let low = t.claim.0.1 in named-place scope t.pous t.b t.fits turns.control (omega (arith, within, low))
 
     pub turn-bounds : (counter : ℕ) (v : ℤ) → counter < turns.count → ((r : Range) → turns_stay turns r ≡ true → stay_from (turns.count - counter) v turns.step r ≡ true)
-        → (neg_ℤ (pos (2 ^ 32)) ≤ℤ (v +ℤ turns.step)) × ((v +ℤ turns.step) ≤ℤ pos (2 ^ 32))
+        → (neg_ℤ (pos (2 ^ 64)) ≤ℤ (v +ℤ turns.step)) × ((v +ℤ turns.step) ≤ℤ pos (2 ^ 64))
     turn-bounds counter v below stays =
         let t = opened h in
         let p = place_at t.b.places turns.control in

@@ -7,7 +7,7 @@ use Rattle.plc_types.specs.declared.elementary.Elementary.{Elementary}
 use Rattle.plc_types.specs.declared.elementary.Elementary.TheVariants as types
 use Rattle.plc_types.specs.Types.{width_of}
 use Rattle.plc_types.specs.Enumerations.{paired_type}
-use Rattle.plc_types.proofs.Widths.{at_most_32_bits}
+use Rattle.plc_types.proofs.Widths.{at_most_64_bits}
 use Rattle.program_tree.specs.Tree.{Expression, CellData}
 use Rattle.scan_model.specs.Pairs.{CandidateData}
 use Rattle.scan_model.specs.Candidates.{numbered, same_cells, relate_clauses, initial_values, exclusive_steps, paths_of, candidates_of}
@@ -51,12 +51,12 @@ few_cells c is =
 
 -- ---- bits
 
-pub narrow_cell : (c : CellShape) → width_of c.kind ≤ 32
-narrow_cell c = at_most_32_bits c.kind
+pub narrow_cell : (c : CellShape) → width_of c.kind ≤ 64
+narrow_cell c = at_most_64_bits c.kind
 
-bits_few : (cs : List CellShape) → bits_of cs ≤ 32 * length cs
+bits_few : (cs : List CellShape) → bits_of cs ≤ 64 * length cs
 bits_few [] = omega arith
-bits_few (c ∷ cs) = let w = at_most_32_bits c.kind in let rest = bits_few cs in omega (arith, w, rest)
+bits_few (c ∷ cs) = let w = at_most_64_bits c.kind in let rest = bits_few cs in omega (arith, w, rest)
 
 -- there is a shape for each INPUT line
 pub length-lines : (c : Comparison) → length (shapes_of (lines_cells c)) ≡ length c.relation.inputs

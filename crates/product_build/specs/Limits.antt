@@ -28,5 +28,5 @@ pub data HasManyGates (c : Comparison) (old new : ScanData) : Type 0 where
 
 -- a relation file is too short for more INPUT lines and ENV clauses than these
 pub record HasFewLines (c : Comparison) : Type 0 where
-  pub inputs : length c.relation.inputs ≤ 524288
+  pub inputs : length c.relation.inputs ≤ 262144
   pub environment : length c.relation.environment ≤ 524288

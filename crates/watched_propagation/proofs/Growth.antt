@@ -1,5 +1,5 @@
 -- A propagator, when a clause is added, when a clause comes to watch, and when the trail changes.
-use Rattle.std.proofs.Common.{◌≡◌, ◌≢◌, ℕ, zero, suc, ◌<◌, ◌≤◌, ◌+◌, ◌-◌, List, [], ◌∷◌, ◌++◌, length, get_or, take, refl, sym, ◌∙◌, ap, subst, ⊎_elim, IsTrue, set, arith}
+use Rattle.std.proofs.Common.{◌≡◌, ◌≢◌, ℕ, zero, suc, ◌<◌, ◌≤◌, ◌+◌, ◌-◌, List, [], ◌∷◌, ◌++◌, length, get_or, take, refl, sym, ◌∙◌, ap, subst, ◌⊎◌, inl, inr, ⊎_elim, IsTrue, set, arith}
 use Rattle.std.specs.List.{Contains}
 use Rattle.std.proofs.lemmas.Bool.{cases_lt}
 use Rattle.std.proofs.lemmas.List.{get_or_append_left, get_or_past, get_or-set_same, get_or-set_other, length-append, length-set, take_at, take-append-le}
@@ -8,10 +8,11 @@ use Rattle.watched_propagation.specs.declared.watch.Pair.{Pair}
 use Rattle.watched_propagation.specs.declared.watch.Watch.{Watch}
 use Rattle.propagation_trail.specs.Codes.{negated}
 use Rattle.propagation_trail.specs.Trails.{TrailState, assigned}
-use Rattle.watched_propagation.specs.Watching.{no_pair, clause_in, pair_in, is_part, IsCovered, IsWatch, IsSettled, below_level, IsWatching, KeepsWatched, KeepsWatching}
+use Rattle.watched_propagation.specs.Watching.{no_pair, clause_in, pair_in, is_part, IsCovered, IsWatch, IsSettled, below_level, IsDone, IsWatching, KeepsWatched, KeepsLasting, KeepsWatching}
 use Rattle.watched_propagation.specs.Propagations.{IsPropagator, IsWatchable, IsLearnable}
 use Rattle.propagation_trail.proofs.Tables.{cases_eq}
 use Rattle.watched_propagation.proofs.Settling.{Contains-take, Contains-clause, IsWatching-clauses}
+use Rattle.watched_propagation.proofs.Lasting.{IsDone-kept, IsDone-clause}
 
 -- pairs of which each watches no more than before
 IsWatching-less : (clauses : List (List ℕ)) (pairs others : List Pair) (lists : List (List Watch)) (t : TrailState) → ((k w : ℕ) → IsWatch (pair_in others k) w → IsWatch (pair_in pairs k) w) → IsWatching clauses pairs lists t → IsWatching clauses others lists t
@@ -42,7 +43,7 @@ push-none (p ∷ ps) (suc k) = push-none ps k
 pub add_loose : (clauses : List (List ℕ)) (pairs : List Pair) (lists : List (List Watch)) (t : TrailState) (loose : List ℕ) (k : ℕ) → IsPropagator clauses pairs lists t loose → IsPropagator clauses pairs lists t (loose ++ k ∷ [])
 add_loose clauses pairs lists t loose k h = record {
   watching = h.watching;
-  unwatched = λ j lt e n. Contains-append_left loose (k ∷ []) j (h.unwatched j lt e n);
+  unwatched = λ j lt e n. ⊎_elim (λ m. inl (Contains-append_left loose (k ∷ []) j m)) (λ d. inr d) (h.unwatched j lt e n);
   paired = h.paired;
   few = h.few;
 }
@@ -69,33 +70,30 @@ pub add_clause : (clauses : List (List ℕ)) (pairs : List Pair) (lists : List (
 add_clause clauses pairs lists t loose c lt h = record {
   watching = IsWatching-clauses clauses (clauses ++ c ∷ []) pairs lists t (Contains-clause clauses c) h.watching;
   unwatched = λ j l e n. ⊎_elim
-      (λ less. h.unwatched j less e (λ by. n (IsCovered-more clauses c j less by)))
-      (λ le. let same : length clauses ≡ j = omega (arith, length-append clauses (c ∷ []), l) in subst (Contains (loose ++ length clauses ∷ [])) same (Contains-push loose (length clauses)))
+      (λ less. ⊎_elim (λ m. inl m) (λ d. inr (IsDone-clause t clauses c j d)) (h.unwatched j less e (λ by. n (IsCovered-more clauses c j less by))))
+      (λ le. let same : length clauses ≡ j = omega (arith, length-append clauses (c ∷ []), l) in inl (subst (Contains (loose ++ length clauses ∷ [])) same (Contains-push loose (length clauses))))
       (cases_lt j (length clauses));
   paired = let s = length-append clauses (c ∷ []) in omega arith;
   few = h.few;
 }
 
 -- the watches or the trail go on
-pub go_on : (clauses : List (List ℕ)) (pairs others : List Pair) (lists next : List (List Watch)) (t s : TrailState) (loose : List ℕ) → IsWatching clauses others next s → KeepsWatched pairs others → length pairs ≤ length others → length s.values ≡ length t.values → IsPropagator clauses pairs lists t loose → IsPropagator clauses others next s loose
-go_on clauses pairs others lists next t s loose w k le size h = record {
+pub go_on : (clauses : List (List ℕ)) (pairs others : List Pair) (lists next : List (List Watch)) (t s : TrailState) (loose : List ℕ) → IsWatching clauses others next s → KeepsWatched pairs others → length pairs ≤ length others → KeepsLasting t s → length s.values ≡ length t.values → IsPropagator clauses pairs lists t loose → IsPropagator clauses others next s loose
+go_on clauses pairs others lists next t s loose w k le lasting size h = record {
   watching = w;
-  unwatched = λ j lt e n. h.unwatched j lt (k j e) n;
+  unwatched = λ j lt e n. ⊎_elim (λ m. inl m) (λ d. inr (IsDone-kept t s (clause_in clauses j) lasting d)) (h.unwatched j lt (k j e) n);
   paired = let p = h.paired in omega arith;
   few = let f = h.few in omega arith;
 }
 
-pub go_on_trail : (clauses : List (List ℕ)) (pairs : List Pair) (lists : List (List Watch)) (t s : TrailState) (loose : List ℕ) → KeepsWatching t s → length s.values ≡ length t.values → IsPropagator clauses pairs lists t loose → IsPropagator clauses pairs lists s loose
-go_on_trail clauses pairs lists t s loose k size h = go_on clauses pairs pairs lists lists t s loose (k clauses pairs lists h.watching) (λ _ e. e) (omega arith) size h
+pub go_on_trail : (clauses : List (List ℕ)) (pairs : List Pair) (lists : List (List Watch)) (t s : TrailState) (loose : List ℕ) → KeepsWatching t s → KeepsLasting t s → length s.values ≡ length t.values → IsPropagator clauses pairs lists t loose → IsPropagator clauses pairs lists s loose
+go_on_trail clauses pairs lists t s loose k lasting size h = go_on clauses pairs pairs lists lists t s loose (k clauses pairs lists h.watching) (λ _ e. e) (omega arith) lasting size h
 
--- a clause that watches is loose no more
-pub take_loose : (clauses : List (List ℕ)) (pairs : List Pair) (lists : List (List Watch)) (t : TrailState) (loose front rest : List ℕ) (k : ℕ) → loose ≡ front ++ k ∷ [] → rest ≡ take (length loose - 1) loose → (pair_in pairs k).first ≢ (pair_in pairs k).second → IsPropagator clauses pairs lists t loose → IsPropagator clauses pairs lists t rest
+-- a clause that watches, or of which a literal stays true, is loose no more
+pub take_loose : (clauses : List (List ℕ)) (pairs : List Pair) (lists : List (List Watch)) (t : TrailState) (loose front rest : List ℕ) (k : ℕ) → loose ≡ front ++ k ∷ [] → rest ≡ take (length loose - 1) loose → ((pair_in pairs k).first ≢ (pair_in pairs k).second) ⊎ IsDone t (clause_in clauses k) → IsPropagator clauses pairs lists t loose → IsPropagator clauses pairs lists t rest
 take_loose clauses pairs lists t loose front rest k is left n h = record {
   watching = h.watching;
-  unwatched = λ j lt e no. ⊎_elim
-      (λ m. subst (λ z. Contains z j) (sym same) m)
-      (λ r. absurd (n (subst (λ z. (pair_in pairs z).first ≡ (pair_in pairs z).second) (sym r) e)))
-      (Contains-push_cases front k j (subst (λ z. Contains z j) is (h.unwatched j lt e no)));
+  unwatched = λ j lt e no. ⊎_elim (λ m. among j e (Contains-push_cases front k j (subst (λ z. Contains z j) is m))) (λ d. inr d) (h.unwatched j lt e no);
   paired = h.paired;
   few = h.few;
 }
@@ -105,6 +103,24 @@ take_loose clauses pairs lists t loose front rest k is left n h = record {
 
     same : rest ≡ front
     same = left ∙ ap (take (length loose - 1)) is ∙ take_at front (k ∷ []) (length loose - 1) (let e = size in omega arith)
+
+    among : (j : ℕ) → (pair_in pairs j).first ≡ (pair_in pairs j).second → Contains front j ⊎ (k ≡ j) → Contains rest j ⊎ IsDone t (clause_in clauses j)
+    among j e (inl m) = inl (subst (λ z. Contains z j) (sym same) m)
+    among j e (inr r) = ⊎_elim
+        (λ two. absurd (two (subst (λ z. (pair_in pairs z).first ≡ (pair_in pairs z).second) (sym r) e)))
+        (λ d. inr (subst (λ z. IsDone t (clause_in clauses z)) r d))
+        n
+
+-- where no decision stands, what is true stays so
+pub done_bottom : (t : TrailState) (clause : List ℕ) (one : ℕ) → t.starts ≡ [] → Contains clause one → Contains t.literals one → IsDone t clause
+done_bottom t clause one starts m on = record {
+  literal = one;
+  inside = m;
+  lasting = record {
+    true_now = on;
+    true_before = λ j l. let e : length t.starts ≡ 0 = ap length starts in absurd (omega arith);
+  };
+}
 
 -- where no decision stands, what is not false may be watched, and anything beside a literal that is true
 pub watchable_bottom : (t : TrailState) (one w : ℕ) → t.starts ≡ [] → (Contains t.literals (negated w) → Contains t.literals one) → IsWatchable t one w

@@ -220,7 +220,7 @@ IsClosed-watching clauses pairs lists t loose h done c l k d lt =
     each_from (suc left) k inside le = ⊎_elim
         (λ e. ⊎_elim
         (λ (c : IsCovered clauses k). Neither-part t.values (clause_in clauses c.by) (clause_in clauses k) c.part (each_from left c.by c.within (let later = c.later in omega arith)))
-        (λ no. true_one k (l k (h.unwatched k inside e no)))
+        (λ no. ⊎_elim (λ m. true_one k (l k m)) (λ d. true_one k (record { literal = d.literal; inside = d.inside; among = d.lasting.true_now })) (h.unwatched k inside e no))
         (covered_or_not clauses k))
         (λ n. watched k n)
         (cases_eq (pair_in pairs k).first (pair_in pairs k).second)

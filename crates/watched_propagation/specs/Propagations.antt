@@ -24,7 +24,7 @@ AreSmall literals = All (λ l. l.variable < 2 ^ 31) literals
 -- how a propagator is kept
 pub record IsPropagator (clauses : List (List ℕ)) (pairs : List Pair) (lists : List (List Watch)) (t : TrailState) (loose : List ℕ) : Type 0 where
   pub watching : IsWatching clauses pairs lists t
-  pub unwatched : IsLoose clauses pairs loose
+  pub unwatched : IsLoose clauses pairs t loose
   pub paired : length clauses ≤ length pairs
   pub few : length t.values ≤ 2 ^ 31
 

@@ -84,9 +84,24 @@ pub record IsCovered (clauses : List (List ℕ)) (k : ℕ) : Type 0 where
   pub within : by < length clauses
   pub part : IsTrue (is_part (clause_in clauses by) (clause_in clauses k))
 
--- a clause that watches nothing, and that no later one is a part of, stands among the loose ones
-abbrev pub IsLoose : List (List ℕ) → List Pair → List ℕ → Type 0
-IsLoose clauses pairs loose = (k : ℕ) → k < length clauses → (pair_in pairs k).first ≡ (pair_in pairs k).second → (IsCovered clauses k → ⊥) → Contains loose k
+-- the literal is true, and was so when each decision was made: so it stays true
+pub record IsLasting (t : TrailState) (c : ℕ) : Type 0 where
+  pub true_now : Contains t.literals c
+  pub true_before : (j : ℕ) → j < length t.starts → Contains (below_level t j) c
+
+-- a literal of the clause stays true
+pub record IsDone (t : TrailState) (clause : List ℕ) : Type 0 where
+  pub literal : ℕ
+  pub inside : Contains clause literal
+  pub lasting : IsLasting t literal
+
+-- a clause that watches nothing, and that no later one is a part of, stands among the loose ones, where no literal of it stays true
+abbrev pub IsLoose : List (List ℕ) → List Pair → TrailState → List ℕ → Type 0
+IsLoose clauses pairs t loose = (k : ℕ) → k < length clauses → (pair_in pairs k).first ≡ (pair_in pairs k).second → (IsCovered clauses k → ⊥) → Contains loose k ⊎ IsDone t (clause_in clauses k)
+
+-- what stays true goes on to
+abbrev pub KeepsLasting : TrailState → TrailState → Type 0
+KeepsLasting t s = (c : ℕ) → IsLasting t c → IsLasting s c
 
 -- the trail may go on so: the invariant stays, whatever the clauses are
 abbrev pub KeepsWatching : TrailState → TrailState → Type 0

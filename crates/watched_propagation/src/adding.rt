@@ -1,9 +1,11 @@
 // New clauses.
 
-ghost use Rattle.std.specs.Prelude.{◌≡◌, ℕ, ◌<◌, ◌≤◌, ◌++◌, ◌∷◌, [], List, length, map, IsTrue, IfOk, OnOk};
+ghost use Rattle.std.specs.Prelude.{◌≡◌, ℕ, ◌<◌, ◌≤◌, ◌++◌, ◌∷◌, [], List, length, map, Contains, IsTrue, IfOk, OnOk};
 ghost use Rattle.clause_core.specs.Clauses.{rank};
+ghost use Rattle.watched_propagation.specs.declared.watch.Pair.{Pair};
 ghost use Rattle.watched_propagation.specs.declared.watch.Watch.{Watch};
 ghost use Rattle.propagation_trail.specs.Trails.{TrailState};
+ghost use Rattle.watched_propagation.specs.Watching.{clause_in};
 ghost use Rattle.watched_propagation.specs.Propagations.{AreSmall, IsLearnable, IsPropagator, IsWatchable};
 
 use crate::arena::Arena;
@@ -61,40 +63,28 @@ fn watch_last(
     Ok(())
 }
 
-/// A literal of a clause beside this one; this one where there is none.
-fn literal_beside(codes: &[u32], one: u32) -> u32 {
-    for code in codes {
-        if *code != one {
-            return *code;
-        }
-    }
-    one
-}
-
-/// Makes the only literal of the last clause that is not false true, and lets the clause watch it beside another
-/// literal, where there is one.
+/// Makes the only literal of the last clause that is not false true, where no decision stands: so the clause stays true, and
+/// need not be looked at again.
 fn assert_last(
     arena: &Arena,
-    pairs: &mut Vec<Pair>,
-    lists: &mut [WatchList],
     trail: &mut Trail,
     loose: &mut Vec<usize>,
     place: usize,
     one: u32,
 ) -> Result<(), AllocError>
-    requires propagator { IsPropagator arena.now pairs.old.items lists.old trail.old loose.old.items }
-    requires paired { place < length pairs.old.items }
+    requires inside { Contains (clause_in arena.now place) one }
     requires last { (front : List ℕ) × (loose.old.items ≡ front ++ place ∷ []) }
     requires bottom { trail.old.starts ≡ [] }
-    ensures propagator { IsPropagator arena.now pairs.new.items lists.new trail.new loose.new.items }
+    ensures kept { (pairs : List Pair) (lists : List (List Watch))
+        → IsPropagator arena.now pairs lists trail.old loose.old.items
+        → IsPropagator arena.now pairs lists trail.new loose.new.items }
     ensures size { length trail.new.values ≡ length trail.old.values }
 {
     let _ = assume(trail, one, ClauseRef::at(low(place)))?;
-    if !trail.is_true(one) {
-        return Ok(());
+    if trail.is_true(one) {
+        let _ = loose.pop();
     }
-    let other = literal_beside(arena.codes(place), one);
-    watch_last(arena, pairs, lists, trail, loose, place, one, other)
+    Ok(())
 }
 
 /// Adds a clause where all decisions are taken back; its place where all its literals are false.
@@ -123,7 +113,7 @@ pub(crate) fn add_given(
         watch_last(arena, pairs, lists, trail, loose, place, one, other)?;
         return Ok(None);
     }
-    assert_last(arena, pairs, lists, trail, loose, place, one)?;
+    assert_last(arena, trail, loose, place, one)?;
     Ok(None)
 }
 

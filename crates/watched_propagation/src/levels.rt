@@ -4,7 +4,7 @@ ghost use Rattle.std.specs.Prelude.{◌≡◌, ◌<◌, ◌*◌, [], length, Con
 ghost use Rattle.clause_core.specs.declared.truth.Truth.{Truth};
 ghost use Rattle.propagation_trail.specs.Codes.{negated, truth};
 ghost use Rattle.propagation_trail.specs.Trails.{Grown, assigned};
-ghost use Rattle.watched_propagation.specs.Watching.{KeepsWatching};
+ghost use Rattle.watched_propagation.specs.Watching.{KeepsLasting, KeepsWatching};
 
 use clause_core::Truth;
 use propagation_trail::{ClauseRef, Trail};
@@ -13,6 +13,7 @@ use std::alloc::AllocError;
 /// Takes back the decisions above a level, if there are some.
 pub(crate) fn go_back(trail: &mut Trail, level: usize)
     ensures kept { KeepsWatching trail.old trail.new }
+    ensures lasting { KeepsLasting trail.old trail.new }
     ensures size { length trail.new.values ≡ length trail.old.values }
     ensures none { level ≡ 0 → trail.new.starts ≡ [] }
 {
@@ -35,6 +36,7 @@ pub(crate) fn is_open(trail: &Trail, code: u32) -> bool
 #[inline(always)]
 pub(crate) fn assume(trail: &mut Trail, code: u32, reason: ClauseRef) -> Result<bool, AllocError>
     ensures kept { KeepsWatching trail.old trail.new }
+    ensures lasting { KeepsLasting trail.old trail.new }
     ensures grown { Grown trail.old trail.new }
     ensures size { length trail.new.values ≡ length trail.old.values }
     ensures assigned { IfOk result (λ b. IsTrue b → trail.new ≡ assigned trail.old code) }
@@ -49,6 +51,7 @@ pub(crate) fn assume(trail: &mut Trail, code: u32, reason: ClauseRef) -> Result<
 /// Begins a level by making a literal true, where it has no value and all was propagated; whether it did.
 pub(crate) fn decide(trail: &mut Trail, code: u32) -> Result<bool, AllocError>
     ensures kept { KeepsWatching trail.old trail.new }
+    ensures lasting { KeepsLasting trail.old trail.new }
     ensures size { length trail.new.values ≡ length trail.old.values }
 {
     if !trail.is_propagated() || !is_open(trail, code) {

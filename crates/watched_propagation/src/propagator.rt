@@ -27,8 +27,8 @@ pub struct Propagator {
     pairs: Vec<Pair>,
     lists: Vec<WatchList>,
     trail: Trail,
-    /// The places of the clauses that watch nothing: those of one literal, those that were false when they
-    /// came, and what could not be watched.
+    /// The places of the clauses that watch nothing and of which no literal stays true: those that were false when they came,
+    /// and what could not be watched.
     loose: Vec<usize>,
 }
 

@@ -3,7 +3,7 @@
 ghost use Rattle.std.specs.Prelude.{◌≡◌, ◌≢◌, ℕ, ◌<◌, ◌≤◌, ◌+◌, ◌-◌, ◌*◌, length, Some, slice_get, slice_index_or, Contains, IsTrue, IfOk, IfSome, OnOk};
 ghost use Rattle.propagation_trail.specs.Codes.{negated};
 ghost use Rattle.propagation_trail.specs.Trails.{Grown};
-ghost use Rattle.watched_propagation.specs.Watching.{clause_in, pair_in, list_in, watch_in, IsWatch, IsWatching, KeepsWatched};
+ghost use Rattle.watched_propagation.specs.Watching.{clause_in, pair_in, list_in, watch_in, IsWatch, IsWatching, KeepsLasting, KeepsWatched};
 ghost use Rattle.watched_propagation.specs.Visits.{IsOther, IsReplacement, IsSettledAs, IsVisiting, IsVisitedAs, IsVisitedUnless};
 
 use crate::arena::Arena;
@@ -309,6 +309,7 @@ fn propagate_next(
     requires next { slice_get trail.old.literals trail.old.head ≡ Some code }
     requires within { code < 2 * length trail.old.values }
     ensures watching { IsWatching arena.now pairs.new lists.new trail.new }
+    ensures lasting { KeepsLasting trail.old trail.new }
     ensures size { length trail.new.values ≡ length trail.old.values }
     ensures kept { KeepsWatched pairs.old pairs.new }
 {
@@ -328,6 +329,7 @@ pub(crate) fn propagate(
 ) -> Result<Option<u32>, AllocError>
     requires watching { IsWatching arena.now pairs.old lists.old trail.old }
     ensures watching { IsWatching arena.now pairs.new lists.new trail.new }
+    ensures lasting { KeepsLasting trail.old trail.new }
     ensures size { length trail.new.values ≡ length trail.old.values }
     ensures kept { KeepsWatched pairs.old pairs.new }
 {

@@ -1,4 +1,4 @@
-use Rattle.std.proofs.Common.{◌≡◌, ◌<◌, ◌++◌, length, get_or, sym, ◌∙◌, ap, subst, arith}
+use Rattle.std.proofs.Common.{◌≡◌, ◌<◌, ◌+◌, ◌++◌, length, get_or, sym, ◌∙◌, ap, subst, arith}
 use Rattle.std.specs.List.{Contains}
 use Rattle.std.proofs.lemmas.List.{get_or_append_left, length-append}
 use Rattle.std.proofs.lemmas.Option.{get_or_from_slice_get, slice_get_within}
@@ -6,6 +6,7 @@ use Rattle.propagation_trail.specs.Codes.{negated}
 use Rattle.watched_propagation.specs.Watching.{pair_in, IsWatch}
 use Rattle.propagation_trail.proofs.Signs.{negated-negated}
 use Rattle.watched_propagation.proofs.Settling.{IsWatching-advance}
+use Rattle.watched_propagation.proofs.Lasting.{KeepsLasting-grown, KeepsLasting-head}
 use Rattle.watched_propagation.proofs.Turns.{visited_unless}
 use Rattle.watched_propagation.proofs.visit.propagate_next.Goals as goal
 
@@ -41,3 +42,14 @@ returns-then-is_none-clause-watching c =
     let visited = visited_unless arena c.visit.new.pairs s.literals c.negated.result c.in_ok-conflict.conflict none c.in_ok-conflict.ensures.visited in
     IsWatching-advance arena c.visit.new.pairs c.visit.new.lists s c.advance.new.self code c.advance.ensures less here
     (λ k i. visited.each k (subst (IsWatch (pair_in c.visit.new.pairs k)) (sym c.negated.ensures) i)) c.visit.ensures.watching
+
+pub returns-in_err-conflict-clause-lasting : goal.returns-in_err-conflict-clause-lasting
+returns-in_err-conflict-clause-lasting c = KeepsLasting-grown c.args.trail.now c.visit.new.trail c.visit.ensures.grown
+
+pub returns-else-is_none-clause-lasting : goal.returns-else-is_none-clause-lasting
+returns-else-is_none-clause-lasting c = KeepsLasting-grown c.args.trail.now c.visit.new.trail c.visit.ensures.grown
+
+pub returns-then-is_none-clause-lasting : goal.returns-then-is_none-clause-lasting
+returns-then-is_none-clause-lasting c = λ x h.
+    let s = c.visit.new.trail in
+    KeepsLasting-head s c.advance.new.self (s.head + 1) c.advance.ensures x (KeepsLasting-grown c.args.trail.now s c.visit.ensures.grown x h)
