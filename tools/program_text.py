@@ -30,8 +30,6 @@ ELEMENTARY = (
 # The values of each. The range of a type of 64 bits has more numbers than len tells of: ask count_of.
 VALUES = {one.name: range(-2 ** (one.bits - 1), 2 ** (one.bits - 1)) if one.signed else range(2 ** one.bits)
           for one in ELEMENTARY}
-# How many there are: a range of 64 bits does not say its length.
-COUNTS = {one.name: 2 ** one.bits for one in ELEMENTARY}
 TOKEN = re.compile(
     r"""(?P<gap> [\t\n\f\r ]+ | \(\*.*?\*\) | //[^\n]* )
       | (?P<word> [A-Za-z_][A-Za-z0-9_]* )

@@ -26,11 +26,6 @@ def numbers_of(kind):
     return range(kind.bounds[0], kind.bounds[1] + 1) if kind.bounds else VALUES[kind.base]
 
 
-def count_of(numbers):
-    """How many numbers a range has: one of 64 bits does not say its length."""
-    return numbers[-1] - numbers[0] + 1
-
-
 def constants(relation):
     """The numbers that stand in ENV lines."""
     for clause in relation.environments:
