@@ -192,6 +192,7 @@ down_in n k v r is =
         same_tests (int_le (x +ℤ pos p) y) (int_le x (y +ℤ neg_ℤ (pos p)))
         (λ h. let order : (x +ℤ pos p) ≤ℤ y = le_from (x +ℤ pos p) y h in le_to x (y +ℤ neg_ℤ (pos p)) (omega (arith, ints)))
         (λ h. let order : x ≤ℤ (y +ℤ neg_ℤ (pos p)) = le_from x (y +ℤ neg_ℤ (pos p)) h in le_to (x +ℤ pos p) y (omega (arith, ints)))
+
     and_true : (b : Bool) → b ≡ (b && true)
     and_true true = refl
     and_true false = refl
@@ -203,6 +204,7 @@ by_steps count v step r some = test (in_range v r) (nat_le count (steps_within v
     test : (x a b : Bool) → (x ≡ true → a ≡ b) → (x && a) ≡ (x && b)
     test false a b h = refl
     test true a b h = h refl
+
     in_direction : (step : ℤ) → step ≢ pos 0 → in_range v r ≡ true → nat_le count (steps_within v step r) ≡ in_range (v +ℤ (pos count *ℤ step)) r
     in_direction (pos zero) some is = absurd (some refl)
     in_direction (pos (suc k)) some is = up_in count (suc k) v r (omega arith) is
