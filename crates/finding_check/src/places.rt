@@ -85,7 +85,7 @@ fn is_walk(rows: u64, asked: Asked) -> bool
     ensures { result ≡ is_walk rows asked }
 {
     match asked {
-        Asked::Walk(other) => other == Value::from(rows),
+        Asked::Walk(other) => 0 <= other && other as u128 == u128::from(rows),
         _ => false,
     }
 }
@@ -217,7 +217,7 @@ fn is_deep(scans: u64, asked: Asked) -> bool
     ensures { result ≡ is_deep scans asked }
 {
     match asked {
-        Asked::Deep(other) => other == Value::from(scans),
+        Asked::Deep(other) => 0 <= other && other as u128 == u128::from(scans),
         _ => false,
     }
 }

@@ -15,6 +15,7 @@ use std::alloc::{AllocError, Global};
 
 // Adds numbers behind the others.
 fn add_all(numbers: &mut Numbers, more: &[Value]) -> Result<(), AllocError>
+    requires { AreNumbers more.now }
     ensures { OnOk result (numbers.new ≡ numbers.old ++ more.now) }
 {
     for number in more {
