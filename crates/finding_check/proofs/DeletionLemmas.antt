@@ -1,10 +1,9 @@
 -- Numbers of deletions that are cut short name the same derived clauses.
-use Rattle.std.proofs.Common.{◌≡◌, ℕ, ◌-◌, ◌^◌, ◌<◌, ◌≤◌, Bool, true, false, List, length, refl, sym, ap, ◌∙◌, arith, ℤ, inl, inr, length-append}
-use Rattle.std.specs.Prelude.{nat_lt, if◌then◌else◌, Option, Some, None, slice_get}
+use Rattle.std.proofs.Common.{◌≡◌, ℕ, ◌+◌, ◌^◌, ◌<◌, Bool, true, false, length, refl, sym, ap, ◌∙◌, arith, ℤ, inl, inr, length-append}
+use Rattle.std.specs.Prelude.{nat_lt, if◌then◌else◌, None, slice_get}
 use Rattle.std.proofs.lemmas.Bool.{false≢true, cases_lt, lt-ltb, ltb-true, and_right}
 use Rattle.std.proofs.lemmas.Option.{slice_get_past}
 use Rattle.std.proofs.lemmas.List.{length-set}
-use Rattle.clause_core.specs.declared.literal.Lit.{Lit}
 use Rattle.derivation_check.specs.Checks.{Derivation, held_of}
 use Rattle.derivation_check.specs.Deletions.{derived_place, derived_at, may_delete_clause, may_delete, without}
 use Rattle.judgement.specs.Steps.{hint_of}
