@@ -4,7 +4,8 @@ use Rattle.std.specs.Prelude.{Option, Some, None}
 use Rattle.std.proofs.lemmas.Bool.{false≢true}
 use Rattle.std.proofs.lemmas.List.{length-map}
 use Rattle.program_tree.specs.Tree.{ProgramData}
-use Rattle.scan_model.specs.Pairs.{InputLine, RelationData}
+use Rattle.scan_model.specs.declared.relation.InputLine.{InputLine}
+use Rattle.scan_model.specs.Pairs.{RelationData}
 use Rattle.source_tree.specs.declared.token.TokenClass.{TokenClass}
 use Rattle.source_tree.specs.declared.token.TokenClass.TheVariants.{Word, Number, Sign}
 use Rattle.source_tree.specs.declared.token.Mark.TheVariants.{Semicolon}

@@ -8,14 +8,14 @@ use Rattle.finding_search.proofs.RowNumbers.{step-numbers, row_at}
 use Rattle.finding_search.proofs.DropLemmas.{left_by, passes_read, fewer_read, in_range_read, allowed_read, kept_read}
 use Rattle.finding_search.proofs.dropping.drop_by.Goals as goal
 
-pub pair_numbers-numbers-requires : goal.pair_numbers-numbers-requires
-pair_numbers-numbers-requires g c =
+pub pair_numbers-requires-clause-found : goal.pair_numbers-requires-clause-found
+pair_numbers-requires-clause-found g c = step-numbers (comparison_of c.args.trial.now) c.requires.comparison (members c.args.set.now) c.args.found.now c.requires.found
+
+pub pair_numbers-requires-clause-row : goal.pair_numbers-requires-clause-row
+pair_numbers-requires-clause-row g c =
     let numbers = step-numbers (comparison_of c.args.trial.now) c.requires.comparison (members c.args.set.now) c.args.found.now c.requires.found in
     let one = ap (λ (rows : List Row). length rows) c.requires.found.1 in
-    record {
-      found = numbers;
-      row = row_at c.args.found.now.rows.items 0 c.index-row.result.now (omega (arith, one)) c.index-row.ensures numbers.rows;
-    }
+    row_at c.args.found.now.rows.items 0 c.index-row.result.now (omega (arith, one)) c.index-row.ensures numbers.rows
 
 pub returns-in_err-write_line-clause-writes : goal.returns-in_err-write_line-clause-writes
 returns-in_err-write_line-clause-writes g c reach formula =

@@ -5,8 +5,8 @@ use Rattle.finding_search.proofs.RowNumbers.{row_at}
 use Rattle.finding_search.proofs.RowPasses.{read_row}
 use Rattle.finding_search.proofs.saving.write_pair.Goals as goal
 
-pub pair_numbers-numbers-requires-clause-row : goal.pair_numbers-numbers-requires-clause-row
-pair_numbers-numbers-requires-clause-row g c = row_at c.args.found.now.rows.items 0 c.index.result.now (let one = c.requires.one in omega (arith, one)) c.index.ensures c.requires.numbers.rows
+pub pair_numbers-requires-clause-row : goal.pair_numbers-requires-clause-row
+pair_numbers-requires-clause-row g c = row_at c.args.found.now.rows.items 0 c.index.result.now (let one = c.requires.one in omega (arith, one)) c.index.ensures c.requires.numbers.rows
 
 pub returns : goal.returns
 returns g c s formula from to passes =

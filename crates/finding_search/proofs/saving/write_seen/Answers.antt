@@ -5,8 +5,8 @@ use Rattle.finding_search.proofs.RowNumbers.{row_at}
 use Rattle.finding_search.proofs.RowPasses.{read_row}
 use Rattle.finding_search.proofs.saving.write_seen.Goals as goal
 
-pub row_numbers-numbers-requires : goal.row_numbers-numbers-requires
-row_numbers-numbers-requires g c = row_at c.args.found.now.rows.items 0 c.index.result.now (let one = c.requires.one in omega (arith, one)) c.index.ensures c.requires.numbers
+pub row_numbers-requires : goal.row_numbers-requires
+row_numbers-requires g c = row_at c.args.found.now.rows.items 0 c.index.result.now (let one = c.requires.one in omega (arith, one)) c.index.ensures c.requires.numbers
 
 pub returns : goal.returns
 returns g c s formula from to passes =

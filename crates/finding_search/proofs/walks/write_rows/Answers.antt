@@ -4,8 +4,8 @@ use Rattle.finding_search.proofs.RowNumbers.{row_at}
 use Rattle.finding_search.proofs.Going.{Writes-then, Writes-exit, Writes-short, next_of}
 use Rattle.finding_search.proofs.walks.write_rows.Goals as goal
 
-pub row_numbers-numbers-requires : goal.row_numbers-numbers-requires
-row_numbers-numbers-requires g c = row_at c.args.rows.now c.loop-row.row-index c.row-item.result c.loop-row-test.true c.row-item.is c.requires
+pub row_numbers-requires : goal.row_numbers-requires
+row_numbers-requires g c = row_at c.args.rows.now c.loop-row.row-index c.row-item.result c.loop-row-test.true c.row-item.is c.requires
 
 pub returns-in_err-numbers : goal.returns-in_err-numbers
 returns-in_err-numbers g c s formula from to runs = Writes-short s formula _ _ _ _ _ _ _ c.from_residual.ensures.1 (c.loop-row.invariant s formula from to runs).2
